@@ -1,0 +1,4 @@
+//! Stub.
+#![tactic(auto)]
+
+pub fn nothing() {}

@@ -1,0 +1,269 @@
+//! The messages of descriptor.proto, as far as a parser of source files fills them in. Each type is
+//! named after its message and each field after the message's field; an optional field is an
+//! `Option`, a repeated one a list.
+
+ghost use Rattle.std.specs.Prelude.{◌≡◌, [], None, false};
+ghost use Rattle.protox_descriptor.specs.declared.descriptor.DescriptorProto.{roll-DescriptorProto};
+
+use crate::values::{Items, Text};
+use std::alloc::Global;
+
+pub mod descriptor_proto;
+pub mod enum_descriptor_proto;
+pub mod field_descriptor_proto;
+mod options;
+pub mod source_code_info;
+pub mod uninterpreted_option;
+
+pub use options::{
+    EnumOptions, EnumValueOptions, ExtensionRangeOptions, FieldOptions, FileOptions,
+    MessageOptions, MethodOptions, OneofOptions, ServiceOptions, UninterpretedOption,
+};
+
+/// The message `FileDescriptorProto`: one source file.
+#[derive(PartialEq, Debug, Drop)]
+pub struct FileDescriptorProto {
+    pub name: Option<Text>,
+    pub package: Option<Text>,
+    /// The imported files, in order.
+    pub dependency: Items<Text>,
+    /// The places of public imports in `dependency`, from 0.
+    pub public_dependency: Items<i32>,
+    /// The places of weak imports in `dependency`, from 0.
+    pub weak_dependency: Items<i32>,
+    pub message_type: Items<DescriptorProto>,
+    pub enum_type: Items<EnumDescriptorProto>,
+    pub service: Items<ServiceDescriptorProto>,
+    pub extension: Items<FieldDescriptorProto>,
+    pub options: Option<FileOptions>,
+    pub source_code_info: Option<SourceCodeInfo>,
+    /// None for proto2, else `proto3`.
+    pub syntax: Option<Text>,
+}
+
+impl FileDescriptorProto {
+    /// Nothing set. It takes no memory: `alloc` serves later growths.
+    pub fn new(alloc: Global) -> FileDescriptorProto
+        ensures { result ≡ record { name = None; «package» = None; dependency = []; public_dependency = []; weak_dependency = []; message_type = []; enum_type = []; service = []; extension = []; options = None; source_code_info = None; syntax = None } }
+    {
+        FileDescriptorProto {
+            name: None,
+            package: None,
+            dependency: Items::new(alloc),
+            public_dependency: Items::new(alloc),
+            weak_dependency: Items::new(alloc),
+            message_type: Items::new(alloc),
+            enum_type: Items::new(alloc),
+            service: Items::new(alloc),
+            extension: Items::new(alloc),
+            options: None,
+            source_code_info: None,
+            syntax: None,
+        }
+    }
+}
+
+/// The message `DescriptorProto`: a message type.
+#[derive(PartialEq, Debug, Drop)]
+pub struct DescriptorProto {
+    pub name: Option<Text>,
+    pub field: Items<FieldDescriptorProto>,
+    pub extension: Items<FieldDescriptorProto>,
+    pub nested_type: Items<DescriptorProto>,
+    pub enum_type: Items<EnumDescriptorProto>,
+    pub extension_range: Items<descriptor_proto::ExtensionRange>,
+    pub oneof_decl: Items<OneofDescriptorProto>,
+    pub options: Option<MessageOptions>,
+    pub reserved_range: Items<descriptor_proto::ReservedRange>,
+    pub reserved_name: Items<Text>,
+}
+
+impl DescriptorProto {
+    /// Nothing set. It takes no memory: `alloc` serves later growths.
+    pub fn new(alloc: Global) -> DescriptorProto
+        ensures { result ≡ roll-DescriptorProto (record { name = None; field = []; extension = []; nested_type = []; enum_type = []; extension_range = []; oneof_decl = []; options = None; reserved_range = []; reserved_name = [] }) }
+    {
+        DescriptorProto {
+            name: None,
+            field: Items::new(alloc),
+            extension: Items::new(alloc),
+            nested_type: Items::new(alloc),
+            enum_type: Items::new(alloc),
+            extension_range: Items::new(alloc),
+            oneof_decl: Items::new(alloc),
+            options: None,
+            reserved_range: Items::new(alloc),
+            reserved_name: Items::new(alloc),
+        }
+    }
+}
+
+/// The message `FieldDescriptorProto`: a field of a message, or an extension.
+#[derive(PartialEq, Debug, Drop)]
+pub struct FieldDescriptorProto {
+    pub name: Option<Text>,
+    pub number: Option<i32>,
+    /// The number of a `field_descriptor_proto::Label`.
+    pub label: Option<i32>,
+    /// The number of a `field_descriptor_proto::FieldType`; the message's field `type`.
+    pub field_type: Option<i32>,
+    pub type_name: Option<Text>,
+    pub extendee: Option<Text>,
+    pub default_value: Option<Text>,
+    /// The place of the field's oneof in `oneof_decl`, from 0.
+    pub oneof_index: Option<i32>,
+    pub json_name: Option<Text>,
+    pub options: Option<FieldOptions>,
+    pub proto3_optional: Option<bool>,
+}
+
+impl FieldDescriptorProto {
+    /// Nothing set. It takes no memory.
+    pub fn new(_alloc: Global) -> FieldDescriptorProto
+        ensures { result ≡ record { name = None; number = None; label = None; field_type = None; type_name = None; extendee = None; default_value = None; oneof_index = None; json_name = None; options = None; proto3_optional = None } }
+    {
+        FieldDescriptorProto {
+            name: None,
+            number: None,
+            label: None,
+            field_type: None,
+            type_name: None,
+            extendee: None,
+            default_value: None,
+            oneof_index: None,
+            json_name: None,
+            options: None,
+            proto3_optional: None,
+        }
+    }
+}
+
+/// The message `OneofDescriptorProto`: a oneof of a message.
+#[derive(PartialEq, Debug, Drop)]
+pub struct OneofDescriptorProto {
+    pub name: Option<Text>,
+    pub options: Option<OneofOptions>,
+}
+
+impl OneofDescriptorProto {
+    /// Nothing set. It takes no memory.
+    pub fn new(_alloc: Global) -> OneofDescriptorProto
+        ensures { result ≡ record { name = None; options = None } }
+    {
+        OneofDescriptorProto {
+            name: None,
+            options: None,
+        }
+    }
+}
+
+/// The message `EnumDescriptorProto`: an enum type.
+#[derive(PartialEq, Debug, Drop)]
+pub struct EnumDescriptorProto {
+    pub name: Option<Text>,
+    pub value: Items<EnumValueDescriptorProto>,
+    pub options: Option<EnumOptions>,
+    pub reserved_range: Items<enum_descriptor_proto::EnumReservedRange>,
+    pub reserved_name: Items<Text>,
+}
+
+impl EnumDescriptorProto {
+    /// Nothing set. It takes no memory: `alloc` serves later growths.
+    pub fn new(alloc: Global) -> EnumDescriptorProto
+        ensures { result ≡ record { name = None; value = []; options = None; reserved_range = []; reserved_name = [] } }
+    {
+        EnumDescriptorProto {
+            name: None,
+            value: Items::new(alloc),
+            options: None,
+            reserved_range: Items::new(alloc),
+            reserved_name: Items::new(alloc),
+        }
+    }
+}
+
+/// The message `EnumValueDescriptorProto`: a value of an enum.
+#[derive(PartialEq, Debug, Drop)]
+pub struct EnumValueDescriptorProto {
+    pub name: Option<Text>,
+    pub number: Option<i32>,
+    pub options: Option<EnumValueOptions>,
+}
+
+impl EnumValueDescriptorProto {
+    /// Nothing set. It takes no memory.
+    pub fn new(_alloc: Global) -> EnumValueDescriptorProto
+        ensures { result ≡ record { name = None; number = None; options = None } }
+    {
+        EnumValueDescriptorProto {
+            name: None,
+            number: None,
+            options: None,
+        }
+    }
+}
+
+/// The message `ServiceDescriptorProto`: a service.
+#[derive(PartialEq, Debug, Drop)]
+pub struct ServiceDescriptorProto {
+    pub name: Option<Text>,
+    pub method: Items<MethodDescriptorProto>,
+    pub options: Option<ServiceOptions>,
+}
+
+impl ServiceDescriptorProto {
+    /// Nothing set. It takes no memory: `alloc` serves later growths.
+    pub fn new(alloc: Global) -> ServiceDescriptorProto
+        ensures { result ≡ record { name = None; method = []; options = None } }
+    {
+        ServiceDescriptorProto {
+            name: None,
+            method: Items::new(alloc),
+            options: None,
+        }
+    }
+}
+
+/// The message `MethodDescriptorProto`: a method of a service.
+#[derive(PartialEq, Debug, Drop)]
+pub struct MethodDescriptorProto {
+    pub name: Option<Text>,
+    pub input_type: Option<Text>,
+    pub output_type: Option<Text>,
+    pub options: Option<MethodOptions>,
+    pub client_streaming: Option<bool>,
+    pub server_streaming: Option<bool>,
+}
+
+impl MethodDescriptorProto {
+    /// Nothing set. It takes no memory.
+    pub fn new(_alloc: Global) -> MethodDescriptorProto
+        ensures { result ≡ record { name = None; input_type = None; output_type = None; options = None; client_streaming = None; server_streaming = None } }
+    {
+        MethodDescriptorProto {
+            name: None,
+            input_type: None,
+            output_type: None,
+            options: None,
+            client_streaming: None,
+            server_streaming: None,
+        }
+    }
+}
+
+/// The message `SourceCodeInfo`: where in the source each part of a descriptor stands.
+#[derive(PartialEq, Debug, Drop)]
+pub struct SourceCodeInfo {
+    pub location: Items<source_code_info::Location>,
+}
+
+impl SourceCodeInfo {
+    /// Nothing set. It takes no memory: `alloc` serves later growths.
+    pub fn new(alloc: Global) -> SourceCodeInfo
+        ensures { result ≡ record { location = [] } }
+    {
+        SourceCodeInfo {
+            location: Items::new(alloc),
+        }
+    }
+}

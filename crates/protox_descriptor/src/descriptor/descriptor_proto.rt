@@ -1,0 +1,50 @@
+//! The messages that stand inside `DescriptorProto`.
+
+ghost use Rattle.std.specs.Prelude.{◌≡◌, None};
+
+use super::ExtensionRangeOptions;
+use std::alloc::Global;
+
+/// The message `DescriptorProto.ExtensionRange`: numbers set aside for extensions.
+#[derive(PartialEq, Debug, Drop)]
+pub struct ExtensionRange {
+    /// The first number.
+    pub start: Option<i32>,
+    /// One past the last number.
+    pub end: Option<i32>,
+    pub options: Option<ExtensionRangeOptions>,
+}
+
+impl ExtensionRange {
+    /// Nothing set. It takes no memory.
+    pub fn new(_alloc: Global) -> ExtensionRange
+        ensures { result ≡ record { start = None; end = None; options = None } }
+    {
+        ExtensionRange {
+            start: None,
+            end: None,
+            options: None,
+        }
+    }
+}
+
+/// The message `DescriptorProto.ReservedRange`: numbers that no field may use.
+#[derive(PartialEq, Debug, Drop)]
+pub struct ReservedRange {
+    /// The first number.
+    pub start: Option<i32>,
+    /// One past the last number.
+    pub end: Option<i32>,
+}
+
+impl ReservedRange {
+    /// Nothing set. It takes no memory.
+    pub fn new(_alloc: Global) -> ReservedRange
+        ensures { result ≡ record { start = None; end = None } }
+    {
+        ReservedRange {
+            start: None,
+            end: None,
+        }
+    }
+}

@@ -1,0 +1,195 @@
+//! The options messages of descriptor.proto. A parser does not interpret options: each message holds
+//! them as they are written, and of the known fields only `map_entry`, which a map field sets.
+
+ghost use Rattle.std.specs.Prelude.{◌≡◌, [], None};
+
+use super::uninterpreted_option;
+use crate::values::{Items, Text};
+use std::alloc::Global;
+
+/// The message `FileOptions`: the options of a file.
+#[derive(PartialEq, Debug, Drop)]
+pub struct FileOptions {
+    pub uninterpreted_option: Items<UninterpretedOption>,
+}
+
+impl FileOptions {
+    /// Nothing set. It takes no memory: `alloc` serves later growths.
+    pub fn new(alloc: Global) -> FileOptions
+        ensures { result ≡ record { uninterpreted_option = [] } }
+    {
+        FileOptions {
+            uninterpreted_option: Items::new(alloc),
+        }
+    }
+}
+
+/// The message `MessageOptions`: the options of a message type.
+#[derive(PartialEq, Debug, Drop)]
+pub struct MessageOptions {
+    /// True on the entry message of a map field.
+    pub map_entry: Option<bool>,
+    pub uninterpreted_option: Items<UninterpretedOption>,
+}
+
+impl MessageOptions {
+    /// Nothing set. It takes no memory: `alloc` serves later growths.
+    pub fn new(alloc: Global) -> MessageOptions
+        ensures { result ≡ record { map_entry = None; uninterpreted_option = [] } }
+    {
+        MessageOptions {
+            map_entry: None,
+            uninterpreted_option: Items::new(alloc),
+        }
+    }
+}
+
+/// The message `FieldOptions`: the options of a field.
+#[derive(PartialEq, Debug, Drop)]
+pub struct FieldOptions {
+    pub uninterpreted_option: Items<UninterpretedOption>,
+}
+
+impl FieldOptions {
+    /// Nothing set. It takes no memory: `alloc` serves later growths.
+    pub fn new(alloc: Global) -> FieldOptions
+        ensures { result ≡ record { uninterpreted_option = [] } }
+    {
+        FieldOptions {
+            uninterpreted_option: Items::new(alloc),
+        }
+    }
+}
+
+/// The message `OneofOptions`: the options of a oneof.
+#[derive(PartialEq, Debug, Drop)]
+pub struct OneofOptions {
+    pub uninterpreted_option: Items<UninterpretedOption>,
+}
+
+impl OneofOptions {
+    /// Nothing set. It takes no memory: `alloc` serves later growths.
+    pub fn new(alloc: Global) -> OneofOptions
+        ensures { result ≡ record { uninterpreted_option = [] } }
+    {
+        OneofOptions {
+            uninterpreted_option: Items::new(alloc),
+        }
+    }
+}
+
+/// The message `EnumOptions`: the options of an enum.
+#[derive(PartialEq, Debug, Drop)]
+pub struct EnumOptions {
+    pub uninterpreted_option: Items<UninterpretedOption>,
+}
+
+impl EnumOptions {
+    /// Nothing set. It takes no memory: `alloc` serves later growths.
+    pub fn new(alloc: Global) -> EnumOptions
+        ensures { result ≡ record { uninterpreted_option = [] } }
+    {
+        EnumOptions {
+            uninterpreted_option: Items::new(alloc),
+        }
+    }
+}
+
+/// The message `EnumValueOptions`: the options of a value of an enum.
+#[derive(PartialEq, Debug, Drop)]
+pub struct EnumValueOptions {
+    pub uninterpreted_option: Items<UninterpretedOption>,
+}
+
+impl EnumValueOptions {
+    /// Nothing set. It takes no memory: `alloc` serves later growths.
+    pub fn new(alloc: Global) -> EnumValueOptions
+        ensures { result ≡ record { uninterpreted_option = [] } }
+    {
+        EnumValueOptions {
+            uninterpreted_option: Items::new(alloc),
+        }
+    }
+}
+
+/// The message `ServiceOptions`: the options of a service.
+#[derive(PartialEq, Debug, Drop)]
+pub struct ServiceOptions {
+    pub uninterpreted_option: Items<UninterpretedOption>,
+}
+
+impl ServiceOptions {
+    /// Nothing set. It takes no memory: `alloc` serves later growths.
+    pub fn new(alloc: Global) -> ServiceOptions
+        ensures { result ≡ record { uninterpreted_option = [] } }
+    {
+        ServiceOptions {
+            uninterpreted_option: Items::new(alloc),
+        }
+    }
+}
+
+/// The message `MethodOptions`: the options of a method.
+#[derive(PartialEq, Debug, Drop)]
+pub struct MethodOptions {
+    pub uninterpreted_option: Items<UninterpretedOption>,
+}
+
+impl MethodOptions {
+    /// Nothing set. It takes no memory: `alloc` serves later growths.
+    pub fn new(alloc: Global) -> MethodOptions
+        ensures { result ≡ record { uninterpreted_option = [] } }
+    {
+        MethodOptions {
+            uninterpreted_option: Items::new(alloc),
+        }
+    }
+}
+
+/// The message `ExtensionRangeOptions`: the options of a range of extension numbers.
+#[derive(PartialEq, Debug, Drop)]
+pub struct ExtensionRangeOptions {
+    pub uninterpreted_option: Items<UninterpretedOption>,
+}
+
+impl ExtensionRangeOptions {
+    /// Nothing set. It takes no memory: `alloc` serves later growths.
+    pub fn new(alloc: Global) -> ExtensionRangeOptions
+        ensures { result ≡ record { uninterpreted_option = [] } }
+    {
+        ExtensionRangeOptions {
+            uninterpreted_option: Items::new(alloc),
+        }
+    }
+}
+
+/// The message `UninterpretedOption`: an option as it is written, a name and one value by its kind.
+#[derive(PartialEq, Debug, Drop)]
+pub struct UninterpretedOption {
+    /// The parts of the name, between its dots.
+    pub name: Items<uninterpreted_option::NamePart>,
+    pub identifier_value: Option<Text>,
+    pub positive_int_value: Option<u64>,
+    pub negative_int_value: Option<i64>,
+    /// The text of a float literal, with its sign.
+    pub double_value: Option<Text>,
+    pub string_value: Option<Items<u8>>,
+    pub aggregate_value: Option<Text>,
+}
+
+impl UninterpretedOption {
+    /// Nothing set. It takes no memory: `alloc` serves later growths.
+    pub fn new(alloc: Global) -> UninterpretedOption
+        ensures { result ≡ record { name = []; identifier_value = None; positive_int_value = None; negative_int_value = None; double_value = None; string_value = None; aggregate_value = None } }
+    {
+        UninterpretedOption {
+            name: Items::new(alloc),
+            identifier_value: None,
+            positive_int_value: None,
+            negative_int_value: None,
+            double_value: None,
+            string_value: None,
+            aggregate_value: None,
+        }
+    }
+}

@@ -1,0 +1,6 @@
+//! The values that a parsed Protocol Buffers file is made of, and the messages of descriptor.proto
+//! over them, with their tags and the rules for their names.
+#![tactic(auto)]
+
+pub mod descriptor;
+pub mod values;

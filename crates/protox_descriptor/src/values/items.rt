@@ -1,0 +1,148 @@
+ghost use Rattle.std.specs.Prelude.{◌≡◌, ◌^◌, ◌<◌, [], ◌∷◌, ◌++◌, ◌==◌, take, length, slice_get, IfOk, OnOk, OnErr};
+ghost use Rattle.std.specs.Option.{option_copied};
+ghost use Rattle.std.specs.Slice.Iter.{iter_rest};
+ghost use Rattle.std.specs.Iterator.Adapters.{IterYieldsInOrder, IterYieldsInReverse};
+ghost use Rattle.std.specs.Cmp.Lexicographic.{pointwise, lists_per};
+
+use std::alloc::{AllocError, Global};
+use std::fmt;
+use std::marker::Model;
+use std::slice::Iter;
+
+/// A list that owns its elements. Contracts see it as the list of them.
+#[derive(Drop)]
+pub struct Items<T> {
+    elements: Vec<T>,
+}
+
+impl<T> Model for Items<T> {
+    ghost use Rattle.std.specs.Prelude.{List};
+    ghost use Rattle.std.specs.Coded.{coded_list};
+
+    ghost Value = { List T };
+
+    ghost coded = { coded_list T.code };
+
+    ghost view = { λ list. list.elements.items };
+}
+
+impl<T> Items<T> {
+    /// The empty list. It takes no memory: `alloc` serves later growths.
+    pub fn new(alloc: Global) -> Items<T>
+        ensures { result ≡ [] }
+    {
+        Items {
+            elements: Vec::new(alloc),
+        }
+    }
+
+    /// The vector as a list, with no copy.
+    pub fn from_vec(elements: Vec<T>) -> Items<T>
+        ensures { result ≡ elements.items }
+    {
+        Items { elements }
+    }
+
+    /// The list as a vector, with no copy.
+    pub fn into_vec(self) -> Vec<T>
+        ensures { result.items ≡ self }
+    {
+        let Items { elements } = self;
+        elements
+    }
+
+    /// The elements, lent.
+    pub fn as_slice(&self) -> &[T]
+        ensures { result.now ≡ self.now }
+    {
+        self.elements.as_slice()
+    }
+
+    /// The number of elements.
+    pub fn len(&self) -> usize
+        ensures { result ≡ length self.now }
+    {
+        self.elements.len()
+    }
+
+    /// Whether there is no element.
+    pub fn is_empty(&self) -> bool
+        ensures { result ≡ (length self.now == 0) }
+    {
+        self.elements.is_empty()
+    }
+
+    /// The element at `index`, counted from 0, or None past the end.
+    pub fn get(&self, index: usize) -> Option<&T>
+        ensures { option_copied result ≡ slice_get self.now index }
+    {
+        self.elements.get(index)
+    }
+
+    /// The elements in order, each lent; or from the back.
+    pub fn iter(&self) -> Iter<'_, T>
+        ensures rest { iter_rest result ≡ self.now }
+        ensures bound { length (iter_rest result) < 2 ^ 64 }
+        ensures runs { IterYieldsInOrder T }
+        ensures runs_back { IterYieldsInReverse T }
+    {
+        self.elements.as_slice().iter()
+    }
+}
+
+impl<T: Drop> Items<T> {
+    /// Appends `element`. On `AllocError` the list is unchanged, and the element is gone.
+    pub fn push(&mut self, element: T) -> Result<(), AllocError>
+        ensures ok { OnOk result (self.new ≡ self.old ++ element ∷ []) }
+        ensures err { OnErr result (self.new ≡ self.old) }
+    {
+        self.elements.push(element)?;
+        Ok(())
+    }
+
+    /// Drops the elements past the first `len`, if there are more.
+    pub fn truncate(&mut self, len: usize)
+        ensures { self.new ≡ take len self.old }
+    {
+        self.elements.truncate(len);
+    }
+}
+
+impl<T: Copy> Items<T> {
+    /// A list of its own with the elements of `elements`, or `AllocError`.
+    pub fn from_slice(alloc: Global, elements: &[T]) -> Result<Items<T>, AllocError>
+        ensures { IfOk result (λ made. made ≡ elements.now) }
+    {
+        Ok(Items {
+            elements: Vec::from_slice(alloc, elements)?,
+        })
+    }
+
+    /// Appends `more`. On `AllocError` the list is unchanged.
+    pub fn extend_from_slice(&mut self, more: &[T]) -> Result<(), AllocError>
+        ensures ok { OnOk result (self.new ≡ self.old ++ more.now) }
+        ensures err { OnErr result (self.new ≡ self.old) }
+    {
+        self.elements.extend_from_slice(more)
+    }
+}
+
+impl<T: PartialEq> PartialEq for Items<T> {
+    ghost eq = { pointwise T.eq };
+
+    ghost laws = { lists_per T.laws };
+
+    fn eq(&self, other: &Items<T>) -> bool {
+        self.elements == other.elements
+    }
+}
+
+impl<T: fmt::Debug> fmt::Debug for Items<T> {
+    ghost use Rattle.std.specs.Fmt.{debug_list};
+
+    ghost debug_output = { debug_list T.debug_output };
+
+    fn fmt<W: fmt::Write>(&self, f: &mut fmt::Formatter<W>) -> fmt::Result {
+        fmt::Debug::fmt(&self.elements, f)
+    }
+}

@@ -3,3 +3,5 @@ pub mod Spelling
 pub mod Keywords
 pub mod Depth
 pub mod Spells
+pub mod Ast
+pub mod Checks

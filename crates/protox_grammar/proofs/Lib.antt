@@ -9,3 +9,6 @@ pub mod Forms
 pub mod Parts
 pub mod Messages
 pub mod Main
+pub mod Loops
+pub mod Shows
+pub mod Tests

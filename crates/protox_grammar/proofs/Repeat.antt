@@ -14,7 +14,7 @@ use Rattle.protox_grammar.proofs.Laws.{IsSpelled, ahead-past}
 use Rattle.protox_grammar.proofs.Sets.{starts-within}
 use Rattle.protox_grammar.proofs.Reading.{left_of, Begins, Took, IsRead, bind_err, cut-same, ok-err, err-ok, chosen, true-false, same-head, head-starts, head-stops, stops-head}
 
-some-rows : {M : Type 0} (f : Set) (ys : Rows M) → Starts false f ys → 0 < length ys
+pub some-rows : {M : Type 0} (f : Set) (ys : Rows M) → Starts false f ys → 0 < length ys
 some-rows f [] h = absurd cc
 some-rows f (y ∷ ys) h = omega arith
 

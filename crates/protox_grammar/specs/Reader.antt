@@ -1,5 +1,5 @@
 -- MACHINERY. Reading rows from left to right, up to the first row that doesn't fit.
-use Rattle.std.specs.Prelude.{ℕ, zero, suc, List, [], ◌∷◌, length, Bool, false, if◌then◌else◌, ◌==◌, Option, Some, None, Result, Ok, Err}
+use Rattle.std.specs.Prelude.{◌≡◌, ◌<◌, ℕ, zero, suc, List, [], ◌∷◌, length, Bool, true, false, ◌||◌, if◌then◌else◌, ◌==◌, Option, Some, None, Result, Ok, Err}
 use Rattle.std.specs.Str.{bytes_eq}
 use Rattle.protox_lex.specs.Shapes.{Shape, Ident, Int, Str, Mark, Row, Rows}
 
@@ -12,6 +12,19 @@ abbrev pub is_token : Shape → Shape → Bool
 is_token (Ident w) (Ident t) = bytes_eq t w
 is_token (Mark a) (Mark b) = b == a
 is_token _ _ = false
+
+-- the word is one of these
+abbrev pub any_word : List (List ℕ) → List ℕ → Bool
+any_word [] t = false
+any_word (w ∷ ws) t = bytes_eq t w || any_word ws t
+
+abbrev pub is_word_of : List (List ℕ) → Shape → Bool
+is_word_of ws (Ident t) = any_word ws t
+is_word_of ws _ = false
+
+abbrev pub is_string : Shape → Bool
+is_string (Str t) = true
+is_string _ = false
 
 infixl 10 ◌>>=◌
 abbrev pub ◌>>=◌ : {A B : Type 0} → Result A Refusal → (A → Result B Refusal) → Result B Refusal
@@ -59,6 +72,10 @@ either p a b xs = if head_in p xs then a xs else b xs
 abbrev pub unstarted : {M A : Type 0} → (Shape → Bool) → Reader M A → Reader M A
 unstarted p a xs = if head_in p xs then refuse xs else a xs
 
+-- what may be absent
+abbrev pub optional : {M A : Type 0} → (Shape → Bool) → Reader M A → Reader M (Option A)
+optional p a xs = either p (mapped Some a) (λ ys. Ok (None, ys)) xs
+
 abbrev pub nothing : {M : Type 0} → Reader M (Unit {0})
 nothing xs = Ok (tt, xs)
 
@@ -69,6 +86,18 @@ star_at p a (suc n) xs = if head_in p xs then (a xs >>= λ x. star_at p a n x.1 
 
 unfoldable pub star : {M A : Type 0} → (Shape → Bool) → Reader M A → Reader M (List A)
 star p a xs = star_at p a (suc (length xs)) xs
+
+-- what is gathered, one after another
+abbrev pub folded : {A B : Type 0} → (B → A → B) → B → List A → B
+folded add b [] = b
+folded add b (x ∷ xs) = folded add (add b x) xs
+
+abbrev pub gathered : {M A B : Type 0} → (B → A → B) → B → Result (List A × Rows M) Refusal → Result (B × Rows M) Refusal
+gathered add b read = read >>= λ x. Ok (folded add b x.0, x.1)
+
+-- each reading takes a row
+abbrev pub Consumes : {M A : Type 0} → Reader M A → Type 0
+Consumes {M} {A} a = (xs : Rows M) (x : A × Rows M) → a xs ≡ Ok x → length x.1 < length xs
 
 -- ---- values
 

@@ -1,0 +1,3 @@
+pub mod Reads
+pub mod Outcome
+pub mod Notes

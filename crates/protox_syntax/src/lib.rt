@@ -1,0 +1,12 @@
+//! Reads the rows of a source into the syntax tree.
+#![tactic(auto)]
+
+mod expected;
+mod fields;
+mod leaf;
+mod messages;
+mod names;
+mod notes;
+mod refused;
+mod statements;
+mod strings;

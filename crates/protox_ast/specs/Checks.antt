@@ -1,6 +1,6 @@
 -- What is asked of the nodes of a file while it is read.
-use Rattle.std.specs.Prelude.{◌≡◌, ℕ, Bool, true, not, ◌&&◌, ◌||◌, ◌==◌, if◌then◌else◌, List, [], ◌∷◌, codes, length, ◌⊎◌}
-use Rattle.std.specs.List.{list_all, list_any}
+use Rattle.std.specs.Prelude.{◌≡◌, ℕ, Bool, true, not, ◌&&◌, ◌||◌, ◌==◌, List, codes, length}
+use Rattle.std.specs.List.{list_all, list_any, slice_split}
 use Rattle.std.specs.Str.{bytes_eq}
 use Rattle.std.specs.Str.Lossy.{utf8_valid_len}
 use Rattle.protox_lex.specs.Faults.{Span}
@@ -16,18 +16,13 @@ is_known_syntax value = bytes_eq value (codes "proto2") || bytes_eq value (codes
 abbrev pub is_text : List ℕ → Bool
 is_text bytes = utf8_valid_len bytes == length bytes
 
--- the first component of a path, with the others: slashes part them
-abbrev pub put_first : ℕ → List (List ℕ) → List (List ℕ)
-put_first b [] = (b ∷ []) ∷ []
-put_first b (c ∷ cs) = (b ∷ c) ∷ cs
-
+-- the parts of a path between its slashes
 abbrev pub components : List ℕ → List (List ℕ)
-components [] = [] ∷ []
-components (b ∷ bs) = if b == 47 then [] ∷ components bs else put_first b (components bs)
+components path = slice_split (λ b. b == 47) path
 
 -- a component isn't empty, `.` or `..`, and holds no backslash
 abbrev pub is_plain_component : List ℕ → Bool
-is_plain_component c = not (bytes_eq c []) && (not (bytes_eq c (codes ".")) && (not (bytes_eq c (codes "..")) && not (list_any (λ b. b == 92) c)))
+is_plain_component c = not (length c == 0) && (not (bytes_eq c (codes ".")) && (not (bytes_eq c (codes "..")) && not (list_any (λ b. b == 92) c)))
 
 abbrev pub is_import_path : List ℕ → Bool
 is_import_path path = list_all is_plain_component (components path)

@@ -28,9 +28,9 @@ use Rattle.protox_grammar.proofs.Forms.{mark-laws, seq-laws}
 use Rattle.protox_grammar.proofs.Parts as parts
 use Rattle.protox_grammar.proofs.Messages as messages
 use Rattle.protox_syntax.specs.Reads as reads
-use Rattle.protox_syntax.specs.declared.statements.Statement.{Statement}
-use Rattle.protox_syntax.specs.declared.statements.Statement.TheVariants as statement
-use Rattle.protox_syntax.specs.declared.statements.Statements.{Statements}
+use Rattle.protox_syntax.specs.declared.statement_types.Statement.{Statement}
+use Rattle.protox_syntax.specs.declared.statement_types.Statement.TheVariants as statement
+use Rattle.protox_syntax.specs.declared.statement_types.Statements.{Statements}
 
 -- some place
 abbrev here : Span

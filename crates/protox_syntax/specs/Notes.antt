@@ -15,9 +15,12 @@ use Rattle.protox_syntax.specs.declared.refused.Refused.TheVariants.{OutOfMemory
 use Rattle.protox_syntax.specs.Reads.{Reads, is_word, is_mark, the, sign, is_import_kind, import_kind_at, strings_at, statement_at}
 
 -- unless memory ran out, these were added
+abbrev pub AddsTo : Refused → List Note → List Note → List Note → Type 0
+AddsTo OutOfMemory old added new = Unit {0}
+AddsTo (At left expected) old added new = new ≡ old ++ added
+
 abbrev pub Adds : {X : Type 0} → Result X Refused → List Note → List Note → List Note → Type 0
-Adds (Err OutOfMemory) old added new = Unit {0}
-Adds (Err (At left expected)) old added new = new ≡ old ++ added
+Adds (Err e) old added new = AddsTo e old added new
 Adds (Ok x) old added new = new ≡ old ++ added
 
 abbrev pub is_invalid : Shape → Bool

@@ -24,9 +24,9 @@ use Rattle.protox_ast.specs.declared.ast.MessageItem.TheVariants as item
 use Rattle.protox_ast.specs.declared.ast.MessageBody.{MessageBody, roll-MessageBody}
 use Rattle.protox_ast.specs.declared.ast.Message.{Message, roll-Message}
 use Rattle.protox_ast.specs.declared.ast.FileItem.TheVariants as file_item
-use Rattle.protox_syntax.specs.declared.statements.Statement.{Statement}
-use Rattle.protox_syntax.specs.declared.statements.Statement.TheVariants as statement
-use Rattle.protox_syntax.specs.declared.statements.Statements.{Statements}
+use Rattle.protox_syntax.specs.declared.statement_types.Statement.{Statement}
+use Rattle.protox_syntax.specs.declared.statement_types.Statement.TheVariants as statement
+use Rattle.protox_syntax.specs.declared.statement_types.Statements.{Statements}
 
 abbrev pub Reads : Type 0 → Type 0
 Reads A = Reader Span A

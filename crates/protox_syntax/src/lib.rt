@@ -8,5 +8,6 @@ mod messages;
 mod names;
 mod notes;
 mod refused;
+mod statement_types;
 mod statements;
 mod strings;

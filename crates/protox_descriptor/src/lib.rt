@@ -2,5 +2,7 @@
 //! over them, with their tags and the rules for their names.
 #![tactic(auto)]
 
+pub mod case;
 pub mod descriptor;
+pub mod tag;
 pub mod values;

@@ -5,4 +5,6 @@
 pub mod case;
 pub mod descriptor;
 pub mod tag;
+#[cfg(test)]
+mod tests;
 pub mod values;

@@ -1,0 +1,5 @@
+pub mod Shapes
+pub mod Faults
+pub mod FaultTexts
+pub mod Tokens
+pub mod Printed

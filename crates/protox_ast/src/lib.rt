@@ -1,0 +1,6 @@
+//! The syntax tree of a source.
+#![tactic(auto)]
+
+pub mod ast;
+#[cfg(test)]
+mod tests;

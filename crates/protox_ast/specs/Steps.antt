@@ -1,5 +1,5 @@
 -- A function of whole trees, by what each level gives of what the levels in it give.
-use Rattle.std.specs.Prelude.{◌≡◌, List, map}
+use Rattle.std.specs.Prelude.{◌≡◌, map}
 use Rattle.std.proofs.Common.{ap, sym, ◌∙◌}
 use Rattle.protox_lex.specs.Faults.{Span}
 use Rattle.protox_ast.specs.declared.ast.Enum.{Enum}

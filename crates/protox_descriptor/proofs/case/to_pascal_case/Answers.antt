@@ -1,4 +1,4 @@
-use Rattle.std.proofs.Common.{arith, false, refl}
+use Rattle.std.proofs.Common.{false, refl}
 use Rattle.protox_descriptor.proofs.Pascal.{pascal_pushed}
 use Rattle.protox_descriptor.proofs.case.to_pascal_case.Goals as goal
 

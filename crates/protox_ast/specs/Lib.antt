@@ -1,3 +1,8 @@
+pub mod Names
+pub mod Numbers
+pub mod Printed
+pub mod Steps
+pub mod Types
 pub mod Tree
 pub mod Spelling
 pub mod Keywords

@@ -1,4 +1,6 @@
-//! Stub.
+//! The syntax tree of a source.
 #![tactic(auto)]
 
-pub fn nothing() {}
+pub mod ast;
+#[cfg(test)]
+mod tests;

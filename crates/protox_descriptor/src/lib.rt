@@ -2,5 +2,9 @@
 //! over them, with their tags and the rules for their names.
 #![tactic(auto)]
 
+pub mod case;
 pub mod descriptor;
+pub mod tag;
+#[cfg(test)]
+mod tests;
 pub mod values;

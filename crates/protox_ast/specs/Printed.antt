@@ -1,0 +1,45 @@
+-- How the nodes of a tree are printed.
+use Rattle.std.specs.Prelude.{ℕ, ◌/◌, ◌%◌, ◌==◌, if◌then◌else◌, List, [], ◌∷◌, flat_map, codes}
+use Rattle.std.specs.Char.{digit_char}
+use Rattle.std.specs.Fmt.{decimal}
+use Rattle.std.specs.Int.{is_in_range}
+use Rattle.protox_ast.specs.declared.ast.Int.{Int}
+use Rattle.protox_ast.specs.declared.ast.Syntax.{Syntax}
+use Rattle.protox_ast.specs.declared.ast.Syntax.TheVariants.{Proto2, Proto3}
+use Rattle.protox_ast.specs.declared.ast.OptionValue.{OptionValue}
+use Rattle.protox_ast.specs.declared.ast.OptionValue.TheVariants as value
+
+abbrev pub syntax_text : Syntax → List ℕ
+syntax_text Proto2 = codes "proto2"
+syntax_text Proto3 = codes "proto3"
+
+-- in decimal, with a minus sign where it is written, before 0 too
+abbrev pub int_text : Int → List ℕ
+int_text int = if int.negative then 45 ∷ decimal int.value else decimal int.value
+
+-- three octal digits
+abbrev pub octal : ℕ → List ℕ
+octal byte = digit_char (byte / 64) ∷ digit_char (byte / 8 % 8) ∷ digit_char (byte % 8) ∷ []
+
+-- a byte of a string: itself where it is printable, else an escape
+abbrev pub printed_byte : ℕ → List ℕ
+printed_byte byte =
+    if byte == 9 then codes "\\t"
+    else if byte == 13 then codes "\\r"
+    else if byte == 10 then codes "\\n"
+    else if byte == 92 then codes "\\\\"
+    else if byte == 39 then codes "\\'"
+    else if byte == 34 then codes "\\\""
+    else if is_in_range 32 126 byte then byte ∷ []
+    else 92 ∷ octal byte
+
+-- a byte of a printed string between quotes
+abbrev pub quoted_byte : ℕ → List ℕ
+quoted_byte byte = if byte == 92 then codes "\\\\" else if byte == 34 then codes "\\\"" else byte ∷ []
+
+abbrev pub value_text : OptionValue → List ℕ
+value_text (value.Ident negative ident span) = if negative then 45 ∷ ident.value else ident.value
+value_text (value.Int int) = int_text int
+value_text (value.Float float) = float.value
+value_text (value.String string) = flat_map printed_byte string.value
+value_text (value.Aggregate text span) = text

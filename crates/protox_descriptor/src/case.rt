@@ -1,0 +1,55 @@
+//! The rules for names, and the spelling of a map's entry message.
+
+ghost use Rattle.std.specs.Prelude.{◌≡◌, ◌↔◌, IsTrue, All, IfOk};
+ghost use Rattle.std.specs.String.{string_bytes};
+ghost use Rattle.protox_descriptor.specs.Case.{IsIdentByte, IsIdent, IsGroupName, pascal_case};
+
+use std::alloc::{AllocError, Global};
+
+/// Whether `name` is an ASCII letter and then ASCII letters, digits and `_`.
+pub fn is_valid_ident(name: &str) -> bool
+    ensures { IsTrue result ↔ IsIdent name.now }
+{
+    match name.as_bytes() {
+        [first, rest @ ..] => first.is_ascii_alphabetic() && are_ident_bytes(rest),
+        [] => false,
+    }
+}
+
+/// Whether `name` is an ASCII capital and then ASCII letters, digits and `_`.
+pub fn is_valid_group_name(name: &str) -> bool
+    ensures { IsTrue result ↔ IsGroupName name.now }
+{
+    match name.as_bytes() {
+        [first, rest @ ..] => first.is_ascii_uppercase() && are_ident_bytes(rest),
+        [] => false,
+    }
+}
+
+fn are_ident_bytes(bytes: &[u8]) -> bool
+    ensures { IsTrue result ↔ All IsIdentByte bytes.now }
+{
+    bytes
+        .iter()
+        .all(|byte| byte.is_ascii_alphanumeric() || *byte == b'_')
+}
+
+/// `name` without its `_`, its first character and each first one after `_` as an ASCII capital:
+/// `FooBar` for `foo_bar`. Or `AllocError`.
+pub fn to_pascal_case(alloc: Global, name: &str) -> Result<String, AllocError>
+    ensures { IfOk result (λ pascal. string_bytes pascal ≡ pascal_case name.now) }
+{
+    let mut pascal = String::new(alloc);
+    let mut raised = true;
+    for letter in name.chars() {
+        if letter == '_' {
+            raised = true;
+        } else if raised {
+            pascal.push(letter.to_ascii_uppercase())?;
+            raised = false;
+        } else {
+            pascal.push(letter)?;
+        }
+    }
+    Ok(pascal)
+}

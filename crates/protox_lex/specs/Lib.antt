@@ -14,3 +14,6 @@ pub mod Scanning
 pub mod Found
 pub mod Lexing
 pub mod Pieces
+pub mod Table
+pub mod Grouping
+pub mod TableView

@@ -3,6 +3,7 @@
 
 pub use crate::lexer::Lexer;
 pub use crate::token::{EqFloat, Token};
+pub use crate::token_table::{Row, TokenTable};
 
 pub const SYNTAX: &str = "syntax";
 

@@ -42,7 +42,7 @@ pub(crate) fn mark(byte: u8) -> Option<Token<'static>>
     Some(token)
 }
 
-fn append(
+pub(crate) fn append(
     errors: &mut Vec<ParseErrorKind>,
     mut faults: Vec<ParseErrorKind>,
 ) -> Result<(), AllocError>

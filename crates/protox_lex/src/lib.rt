@@ -3,8 +3,10 @@
 
 mod bytes;
 mod comment;
+mod copying;
 pub mod error;
 mod found;
+mod groups;
 pub mod laws;
 pub mod lex;
 mod lexer;
@@ -12,3 +14,4 @@ mod number;
 mod scan;
 mod string;
 mod token;
+mod token_table;

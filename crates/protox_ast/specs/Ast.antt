@@ -7,7 +7,6 @@ use Rattle.bstr.specs.Utf8.{lossy_chars}
 use Rattle.protox_lex.specs.Faults.{Span}
 use Rattle.protox_ast.specs.declared.ast.Comments.{Comments}
 use Rattle.protox_ast.specs.declared.ast.Ident.{Ident}
-use Rattle.protox_ast.specs.declared.ast.FullIdent.{FullIdent}
 use Rattle.protox_ast.specs.declared.ast.TypeName.{TypeName}
 use Rattle.protox_ast.specs.declared.ast.Int.{Int}
 use Rattle.protox_ast.specs.declared.ast.Syntax.{Syntax}
@@ -56,8 +55,8 @@ text_of bytes = encode_utf8_all (lossy_chars bytes)
 abbrev pub ident : t.Word Span → Ident
 ident x = record { value = x.0; span = x.1 }
 
-abbrev pub fullident : t.FullIdent Span → FullIdent
-fullident x = record { parts = ident x.first ∷ map (λ y. ident y.1) x.others }
+abbrev pub fullident : t.FullIdent Span → List Ident
+fullident x = ident x.first ∷ map (λ y. ident y.1) x.others
 
 abbrev pub last_part : t.FullIdent Span → Span
 last_part x = last_place (λ (y : Span × t.Word Span). y.1.1) x.first.1 x.others

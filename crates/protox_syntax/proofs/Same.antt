@@ -63,7 +63,7 @@ pushed f bs [] = sym (append-nil bs)
 pushed f bs (x ∷ xs) = pushed f (bs ++ f x ∷ []) xs ∙ append_assoc bs (f x ∷ []) (map f xs)
 
 abbrev part_list : tree.FullIdent Span → List ident_type.Ident
-part_list x = (ast.fullident x).parts
+part_list x = ast.fullident x
 
 dot-class : (x : Shape) → reads.is_mark s.dot x ≡ only 42 (class x)
 dot-class = mark-class s.dot 42 refl (lit< tt)
@@ -81,7 +81,7 @@ abbrev name_and_span : tree.TypeName Span → type_name.TypeName × Span
 name_and_span x = (ast.typename x, ast.typename_span x)
 
 abbrev dotted : Option Span → tree.FullIdent Span → type_name.TypeName × Span
-dotted d n = (record { leading_dot = option_map (λ m. m) d; name = record { parts = part_list n } }, reads.name_span (option_map (λ m. m) d) (part_list n))
+dotted d n = (record { leading_dot = option_map (λ m. m) d; name = part_list n }, reads.name_span (option_map (λ m. m) d) (part_list n))
 
 dotted-is : (d : Option Span) (n : tree.FullIdent Span) → dotted d n ≡ name_and_span (record { leading_dot = d; name = n })
 dotted-is None n = ap (λ e. (ast.typename (record { leading_dot = None; name = n }), ast.join n.first.1 e)) (last-part n.first.1 n.others)

@@ -3,9 +3,10 @@ use Rattle.std.proofs.Common.{◌≡◌, ℕ, ◌<◌, Bool, true, false, eqb, L
 use Rattle.std.proofs.lemmas.Bool.{eqb-true}
 use Rattle.std.proofs.lemmas.List.{length-map}
 use Rattle.protox_lex.specs.Faults.{Span}
-use Rattle.protox_lex.specs.declared.table.Row as source
+use Rattle.protox_lex.specs.declared.token_table.Row as source
 use Rattle.protox_lex.specs.Shapes.{Shape, Rows}
-use Rattle.protox_lex.specs.Table.{rows_from, row_of}
+use Rattle.protox_lex.specs.TableView.{row_of}
+use Rattle.protox_syntax.specs.Rows.{rows_from}
 use Rattle.protox_grammar.specs.Reader.{Reader, Refusal, head_in, star, gathered, ◌>>=◌, Consumes}
 use Rattle.protox_grammar.proofs.Loops.{goes_on, stops, is_done}
 use Rattle.protox_syntax.specs.declared.refused.Refused.{Refused}

@@ -63,7 +63,7 @@ name_span d [] = record { start = 0; end = 0 }
 name_span d (i ∷ is) = join (dotted_start d i.span) (last_place (λ (x : ident_type.Ident). x.span) i.span is)
 
 unfoldable pub typename_at : Reads (type_name.TypeName × Span)
-typename_at = mapped (λ x. (record { leading_dot = x.0; name = record { parts = x.1 } }, name_span x.0 x.1)) (seq (optional (is_mark dot) (sign dot)) parts_at)
+typename_at = mapped (λ x. (record { leading_dot = x.0; name = x.1 }, name_span x.0 x.1)) (seq (optional (is_mark dot) (sign dot)) parts_at)
 
 unfoldable pub integer_at : Reads (ℕ × Span)
 integer_at = leaf see_integer

@@ -4,7 +4,7 @@ ghost use Rattle.std.specs.Prelude.{◌≡◌, option_map};
 ghost use Rattle.protox_ast.specs.Ast.{scalar};
 ghost use Rattle.protox_grammar.specs.Reader.{head_in};
 ghost use Rattle.protox_grammar.specs.Rules.{find_scalar, all_scalars};
-ghost use Rattle.protox_lex.specs.Table.{rows_from};
+ghost use Rattle.protox_syntax.specs.Rows.{rows_from};
 ghost use Rattle.protox_syntax.specs.Outcome.{Gives};
 ghost use Rattle.protox_syntax.specs.Reads.{is_scalar, scalar_at, type_at, normal_at};
 
@@ -14,8 +14,7 @@ use crate::names::{ident, int, no_comments, typename};
 use crate::refused::Refused;
 use protox_ast::ast::{Field, FieldKind, Ty};
 use protox_lex::error::Span;
-use protox_lex::lex::Token;
-use protox_lex::table::Row;
+use protox_lex::lex::{Row, Token};
 use std::alloc::Global;
 
 // The scalar type that the word names.

@@ -5,14 +5,13 @@ ghost use Rattle.protox_ast.specs.Ast.{join};
 ghost use Rattle.protox_grammar.specs.Reader.{is_token, head_in, fixed};
 ghost use Rattle.protox_lex.specs.Shapes.{Ident, Mark};
 ghost use Rattle.protox_lex.specs.Tokens.{shape_of, shape_of_result};
-ghost use Rattle.protox_lex.specs.Table.{rows_from};
+ghost use Rattle.protox_syntax.specs.Rows.{rows_from};
 ghost use Rattle.protox_syntax.specs.Outcome.{Gives};
 
 use crate::expected::Expected;
 use crate::refused::Refused;
 use protox_lex::error::Span;
-use protox_lex::lex::Token;
-use protox_lex::table::Row;
+use protox_lex::lex::{Row, Token};
 
 /// From the start of the one to the end of the other.
 pub(crate) fn join(start: &Span, end: &Span) -> Span

@@ -3,7 +3,7 @@
 ghost use Rattle.std.specs.Prelude.{◌≡◌, OnOk};
 ghost use Rattle.protox_grammar.specs.Reader.{any_word, head_in, is_word_of};
 ghost use Rattle.protox_grammar.specs.Rules.{barred_words};
-ghost use Rattle.protox_lex.specs.Table.{rows_from};
+ghost use Rattle.protox_syntax.specs.Rows.{rows_from};
 ghost use Rattle.protox_syntax.specs.Outcome.{Gives};
 ghost use Rattle.protox_syntax.specs.Reads.{add, element_at, elements_at, goes_on, mbody_at, message_at};
 
@@ -15,8 +15,7 @@ use crate::refused::Refused;
 use protox_ast::ast::{Message, MessageBody, MessageItem};
 use protox_descriptor::values::Items;
 use protox_lex::error::Span;
-use protox_lex::lex::Token;
-use protox_lex::table::Row;
+use protox_lex::lex::{Row, Token};
 use std::alloc::{AllocError, Global};
 
 // Whether a word comes next that begins something else than a field without a label.

@@ -1,11 +1,11 @@
 //! Names and numbers.
 
-ghost use Rattle.std.specs.Prelude.{◌≡◌};
+ghost use Rattle.std.specs.Prelude.{◌≡◌, ◌<◌, IfOk, length};
 ghost use Rattle.protox_ast.specs.Ast.{dotted_start, last_place, no_comments};
 ghost use Rattle.protox_grammar.specs.Reader.{optional};
 ghost use Rattle.protox_ast.specs.Spelling.{dot, minus};
 ghost use Rattle.protox_ast.specs.declared.ast.Ident as ident_type;
-ghost use Rattle.protox_lex.specs.Table.{rows_from};
+ghost use Rattle.protox_syntax.specs.Rows.{rows_from};
 ghost use Rattle.protox_syntax.specs.Outcome.{Gives};
 ghost use Rattle.protox_syntax.specs.Reads.{ident_at, more_part_at, parts_at, name_span, typename_at, integer_at, int_at, is_mark, sign};
 
@@ -15,8 +15,7 @@ use crate::refused::Refused;
 use protox_ast::ast::{Comments, FullIdent, Ident, Int, TypeName};
 use protox_descriptor::values::{Items, Text};
 use protox_lex::error::Span;
-use protox_lex::lex::Token;
-use protox_lex::table::Row;
+use protox_lex::lex::{Row, Token};
 use std::alloc::Global;
 
 /// No comments: none are given to declarations yet.
@@ -67,7 +66,8 @@ fn parts<'t, 'a>(
     rows: &'t [Row<'a>],
     expected: Expected,
 ) -> Result<(Items<Ident>, &'t [Row<'a>]), Refused>
-    ensures { Gives (λ x. (x.0, rows_from x.1.now)) result (parts_at (rows_from rows.now)) }
+    ensures read { Gives (λ x. (x.0, rows_from x.1.now)) result (parts_at (rows_from rows.now)) }
+    ensures some { IfOk result (λ x. 0 < length x.0) }
 {
     let (first, after_first) = ident(alloc, rows, expected)?;
     let mut parts = Items::new(alloc);
@@ -141,7 +141,7 @@ pub(crate) fn typename<'t, 'a>(
     Ok((
         TypeName {
             leading_dot,
-            name: FullIdent { parts },
+            name: FullIdent::from_parts(parts.into_vec()),
         },
         span,
         rest,

@@ -4,13 +4,13 @@ ghost use Rattle.std.specs.Prelude.{◌≡◌, ◌++◌, ◌==◌, OnOk};
 ghost use Rattle.std.specs.List.{list_any};
 ghost use Rattle.protox_ast.specs.Checks.{is_known_syntax, is_text, is_import_path, is_plain_component};
 ghost use Rattle.protox_grammar.specs.Reader.{head_in};
-ghost use Rattle.protox_lex.specs.Table.{rows_from};
+ghost use Rattle.protox_syntax.specs.Rows.{rows_from};
 ghost use Rattle.protox_syntax.specs.Notes.{is_invalid, one_note, noted, syntax_faults, text_faults, path_faults};
 
 use crate::leaf::copied;
 use crate::strings::text_of;
 use protox_lex::error::{ParseErrorKind, Span};
-use protox_lex::table::Row;
+use protox_lex::lex::Row;
 use std::alloc::{AllocError, Global};
 
 /// A fault, and how many rows are left with the one that is looked at when it is found.

@@ -2,7 +2,7 @@
 
 ghost use Rattle.std.specs.Prelude.{◌≡◌, ◌∷◌, [], codes, OnOk};
 ghost use Rattle.protox_grammar.specs.Reader.{any_word, head_in, optional};
-ghost use Rattle.protox_lex.specs.Table.{rows_from};
+ghost use Rattle.protox_syntax.specs.Rows.{rows_from};
 ghost use Rattle.protox_syntax.specs.Outcome.{Gives};
 ghost use Rattle.protox_syntax.specs.Notes.{Adds, syntax_notes, syntax_if_any_notes, import_notes, statement_notes, statements_notes};
 ghost use Rattle.protox_syntax.specs.Reads.{add_statement, is_import_kind, import_kind_at, import_at, statement_at, statements_at, syntax_at, syntax_if_any_at};
@@ -19,8 +19,7 @@ use crate::statement_types::{Statement, Statements};
 use protox_ast::ast::{FileItem, Import, ImportKind, Syntax};
 use protox_descriptor::values::Items;
 use protox_lex::error::Span;
-use protox_lex::lex::Token;
-use protox_lex::table::Row;
+use protox_lex::lex::{Row, Token};
 use std::alloc::{AllocError, Global};
 
 fn syntax_of(value: &[u8]) -> Syntax

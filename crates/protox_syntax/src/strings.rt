@@ -3,7 +3,7 @@
 ghost use Rattle.std.specs.Prelude.{◌≡◌, IfOk};
 ghost use Rattle.protox_ast.specs.Ast.{text_of};
 ghost use Rattle.protox_grammar.specs.Reader.{head_in, is_string};
-ghost use Rattle.protox_lex.specs.Table.{rows_from};
+ghost use Rattle.protox_syntax.specs.Rows.{rows_from};
 ghost use Rattle.protox_syntax.specs.Outcome.{Gives};
 ghost use Rattle.protox_syntax.specs.Reads.{string_at, strings_at};
 
@@ -13,8 +13,7 @@ use crate::refused::Refused;
 use bstr::ByteSlice;
 use protox_descriptor::values::Text;
 use protox_lex::error::Span;
-use protox_lex::lex::Token;
-use protox_lex::table::Row;
+use protox_lex::lex::{Row, Token};
 use std::alloc::{AllocError, Global};
 
 fn sees_string(rows: &[Row<'_>]) -> bool

@@ -1,6 +1,6 @@
 use Rattle.std.proofs.Common.{sym, ◌∙◌}
 use Rattle.std.proofs.lemmas.Result.{err_from_is_err_and}
-use Rattle.protox_lex.specs.Table.{rows_from}
+use Rattle.protox_syntax.specs.Rows.{rows_from}
 use Rattle.protox_syntax.specs.Reads.{add, goes_on, element_at, elements_at}
 use Rattle.protox_syntax.proofs.Same.{element-eats}
 use Rattle.protox_syntax.proofs.Turns as turns

@@ -1,5 +1,5 @@
 use Rattle.std.proofs.Common.{◌≡◌, length}
-use Rattle.protox_lex.specs.Table.{rows_from}
+use Rattle.protox_syntax.specs.Rows.{rows_from}
 use Rattle.protox_grammar.specs.Reader.{star, gathered}
 use Rattle.protox_syntax.specs.Reads.{add, goes_on, element_at, elements_at}
 use Rattle.protox_syntax.proofs.messages.elements.Given as goal

@@ -1,5 +1,5 @@
 use Rattle.std.proofs.Common.{◌≡◌, length}
-use Rattle.protox_lex.specs.Table.{rows_from}
+use Rattle.protox_syntax.specs.Rows.{rows_from}
 use Rattle.protox_grammar.specs.Reader.{star, gathered, is_string}
 use Rattle.protox_syntax.specs.Reads.{more_string, string_at, strings_at}
 use Rattle.protox_syntax.proofs.strings.strings.Given as goal

@@ -10,3 +10,4 @@ pub mod Depth
 pub mod Spells
 pub mod Ast
 pub mod Checks
+pub mod Accepted

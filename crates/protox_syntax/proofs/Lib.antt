@@ -2,3 +2,4 @@ pub mod Turns
 pub mod Same
 pub mod Texts
 pub mod NotesTurns
+pub mod Weaving

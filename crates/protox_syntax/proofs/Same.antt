@@ -33,13 +33,13 @@ use Rattle.protox_syntax.specs.declared.statement_types.Statement.TheVariants as
 use Rattle.protox_syntax.specs.declared.statement_types.Statements.{Statements}
 
 -- some place
-abbrev here : Span
+abbrev pub here : Span
 here = record { start = 0; end = 0 }
 
-word : (w : List ℕ) → Shows (λ m. m) (fixed (Ident w)) (reads.the w)
+pub word : (w : List ℕ) → Shows (λ m. m) (fixed (Ident w)) (reads.the w)
 word w = as_is (fixed (Ident w))
 
-sign : (b : ℕ) → Shows (λ m. m) (fixed (Mark b)) (reads.sign b)
+pub sign : (b : ℕ) → Shows (λ m. m) (fixed (Mark b)) (reads.sign b)
 sign b = as_is (fixed (Mark b))
 
 -- ---- names and numbers
@@ -118,7 +118,7 @@ string-shows = as_is (leaf see_text)
 pub string-eats : Consumes reads.string_at
 string-eats = shows-eats (parts.string-laws here) string-shows
 
-abbrev joined : tree.Strings Span → List ℕ × Span
+abbrev pub joined : tree.Strings Span → List ℕ × Span
 joined x = (ast.strings_value x, ast.strings_span x)
 
 abbrev string_place : tree.Text Span → Span
@@ -135,11 +135,11 @@ strings-folded value start last (x ∷ xs) = strings-folded (value ++ x.0) start
 strings-is : (x : tree.Text Span) (xs : List (tree.Text Span)) → folded reads.more_string x (map (λ m. m) xs) ≡ joined (record { first = x; others = xs })
 strings-is x xs = ap (folded reads.more_string x) (same-map xs) ∙ strings-folded x.0 x.1 x.1 xs
 
-strings-shows : Shows joined (r.strings).read reads.strings_at
+pub strings-shows : Shows joined (r.strings).read reads.strings_at
 unfolding r.strings reads.strings_at
 strings-shows = mapped-shows _ _ joined (λ x. strings-is x.0 x.1) (seq-shows string-shows (star-shows _ _ string-class string-shows))
 
-abbrev syntax_and_span : tree.Syntax Span → syntax_type.Syntax × Span
+abbrev pub syntax_and_span : tree.Syntax Span → syntax_type.Syntax × Span
 syntax_and_span x = (ast.syntax_of (ast.strings_value x.value), ast.join x.keyword x.end)
 
 pub syntax-shows : Shows syntax_and_span (r.syntax).read reads.syntax_at
@@ -149,7 +149,7 @@ syntax-shows = mapped-shows _ _ syntax_and_span (λ x. refl) (seq-shows (word (c
 weak-class : (x : Shape) → reads.is_word (codes "weak") x ≡ only 3 (class x)
 weak-class = word-class (codes "weak") 3 refl (lit< tt)
 
-import_kind-shows : Shows ast.import_kind (r.import_kind).read reads.import_kind_at
+pub import_kind-shows : Shows ast.import_kind (r.import_kind).read reads.import_kind_at
 unfolding r.import_kind reads.import_kind_at
 import_kind-shows = left-shows r.to_import_kind ast.import_kind (two _ _ (λ x. refl) (λ x. refl))
     (either-shows _ _ weak-class (right-shows _ (word (codes "weak"))) (right-shows _ (word (codes "public"))))
@@ -179,7 +179,7 @@ normal-shows : Shows ast.normal (r.normal).read reads.normal_at
 unfolding r.normal reads.normal_at
 normal-shows = mapped-shows _ _ ast.normal (λ x. refl) (seq-shows type-shows (seq-shows ident-shows (seq-shows (sign s.equals) (seq-shows int-shows (sign s.semicolon)))))
 
-semicolon-class : (x : Shape) → reads.is_mark s.semicolon x ≡ only 56 (class x)
+pub semicolon-class : (x : Shape) → reads.is_mark s.semicolon x ≡ only 56 (class x)
 semicolon-class = mark-class s.semicolon 56 refl (lit< tt)
 
 element-shows : Shows ast.element (r.element).read reads.element_at
@@ -223,7 +223,7 @@ statement_of (tree.an_empty m) = statement.Empty
 statement_of (tree.an_import x) = statement.Import (ast.«import» x)
 statement_of (tree.a_message x) = statement.Message (ast.message x)
 
-import-class : (x : Shape) → reads.is_word (codes "import") x ≡ only 2 (class x)
+pub import-class : (x : Shape) → reads.is_word (codes "import") x ≡ only 2 (class x)
 import-class = word-class (codes "import") 2 refl (lit< tt)
 
 pub statement-shows : Shows statement_of (r.statement).read reads.statement_at
@@ -261,7 +261,7 @@ pub statements-shows : Shows statements_of (star (in_set all) (r.statement).read
 unfolding reads.statements_at
 statements-shows = shows-by (λ xs. added_statements reads.no_statements xs) (right-shows (folded reads.add_statement reads.no_statements) (star-shows reads.anything (in_set all) (λ x. refl) statement-shows))
 
-syntax-class : (x : Shape) → reads.is_word (codes "syntax") x ≡ only 0 (class x)
+pub syntax-class : (x : Shape) → reads.is_word (codes "syntax") x ≡ only 0 (class x)
 syntax-class = word-class (codes "syntax") 0 refl (lit< tt)
 
 pub syntax_if_any-shows : Shows (option_map syntax_and_span) (optional (only 0) r.syntax).read reads.syntax_if_any_at

@@ -7,6 +7,7 @@ mod leaf;
 mod messages;
 mod names;
 mod notes;
+mod progress;
 mod refused;
 mod statement_types;
 mod statements;

@@ -1,0 +1,33 @@
+-- When a source is accepted, and which syntax tree it gives.
+use Rattle.std.specs.Prelude.{◌≡◌, ◌≤◌, ℕ, List, [], length}
+use Rattle.protox_lex.specs.Faults.{Span}
+use Rattle.protox_lex.specs.Shapes.{Invalid}
+use Rattle.protox_lex.specs.Lexemes.{Lexeme, cut}
+use Rattle.protox_lex.specs.Table.{rows_of}
+use Rattle.protox_ast.specs.Tree as t
+use Rattle.protox_ast.specs.Keywords.{Each}
+use Rattle.protox_ast.specs.Spells.{Spells}
+use Rattle.protox_ast.specs.Depth.{depth}
+use Rattle.protox_ast.specs.Checks.{IsFine}
+use Rattle.protox_ast.specs.Ast as ast
+use Rattle.protox_ast.specs.declared.ast.File as file_type
+
+-- how many bytes a source may have
+abbrev pub Fits : List ℕ → Type 0
+Fits source = length source ≤ 2147483647
+
+-- a lexeme is a token, a comment or a newline, and has no fault
+abbrev pub IsClean : Lexeme → Type 0
+IsClean x = (x.faults ≡ []) × (x.shape ≡ Invalid → ⊥)
+
+-- The source fits the length limit, has no lexical fault, and its tokens spell the tree, which is at most 31 levels deep and has no fault of the parser.
+pub record IsAccepted (source : List ℕ) (f : t.File Span) : Type 0 where
+  pub fits : Fits source
+  pub spells : Spells (rows_of (cut 0 source)) f
+  pub clean : Each IsClean (cut 0 source)
+  pub levels : depth f ≤ 31
+  pub fine : IsFine f
+
+-- the syntax tree is that of a tree which the source's tokens spell
+abbrev pub IsFileOf : List ℕ → file_type.File → Type 0
+IsFileOf source file = (f : t.File Span) × IsAccepted source f × (file ≡ ast.file (length source) f)

@@ -1,0 +1,56 @@
+-- MACHINERY. The list of faults: those of the rows in their order, and among them those that are noted at nodes.
+use Rattle.std.specs.Prelude.{ℕ, zero, suc, ◌+◌, ◌-◌, List, [], ◌∷◌, ◌++◌, length, slice_index_or, slice_get, if◌then◌else◌, Option, Some, None}
+use Rattle.protox_lex.specs.Faults.{Span}
+use Rattle.protox_lex.specs.Shapes.{Row, Rows}
+use Rattle.protox_lex.specs.Printed.{printed}
+use Rattle.protox_lex.specs.Table.{Table}
+use Rattle.protox_lex.specs.declared.error.ParseErrorKind.{ParseErrorKind}
+use Rattle.protox_lex.specs.declared.error.ParseErrorKind.TheVariants.{UnexpectedToken, UnexpectedEof}
+use Rattle.protox_syntax.specs.declared.notes.Note.{Note}
+use Rattle.protox_syntax.specs.Notes.{is_invalid}
+
+-- the faults of so many rows and their gaps, from a row on
+abbrev pub released : List (List ParseErrorKind) → ℕ → ℕ → List ParseErrorKind
+released faults low zero = []
+released faults low (suc n) = released faults low n ++ slice_index_or faults (low + n) []
+
+-- the faults so far, and the next row whose faults are not among them
+pub record Progress : Type 0 where
+  pub errors : List ParseErrorKind
+  pub next : ℕ
+
+abbrev pub progress : List ParseErrorKind → ℕ → Progress
+progress errors next = record { errors = errors; next = next }
+
+-- rows are read until so many are left; the end of the source counts as a row
+abbrev pub to_read : ℕ → ℕ → ℕ → ℕ
+to_read total left next = (total - left) - next
+
+abbrev pub read_to : List (List ParseErrorKind) → ℕ → ℕ → Progress → Progress
+read_to faults total left p = progress (p.errors ++ released faults p.next (to_read total left p.next)) (p.next + to_read total left p.next)
+
+abbrev pub with_fault : Progress → ParseErrorKind → Progress
+with_fault p fault = progress (p.errors ++ fault ∷ []) p.next
+
+abbrev pub noted_in : List (List ParseErrorKind) → ℕ → Note → Progress → Progress
+noted_in faults total x p = with_fault (read_to faults total x.left p) x.fault
+
+abbrev pub play : List (List ParseErrorKind) → ℕ → List Note → Progress → Progress
+play faults total [] p = p
+play faults total (x ∷ xs) p = play faults total xs (noted_in faults total x p)
+
+abbrev pub beginning : Progress
+beginning = progress [] 0
+
+-- all faults up to where so many rows are left
+abbrev pub weave : List (List ParseErrorKind) → ℕ → List Note → ℕ → List ParseErrorKind
+weave faults total notes left = (read_to faults total left (play faults total notes beginning)).errors
+
+-- the row from which on so many are left
+abbrev pub row_at : Rows Span → ℕ → Option (Row Span)
+row_at rows left = slice_get rows (length rows - left)
+
+-- The fault of a row that isn't expected. That of an invalid one is among the row's own.
+abbrev pub refusal : List ℕ → Option (Row Span) → Option ParseErrorKind
+refusal expected None = Some (UnexpectedEof expected)
+refusal expected (Some r) = if is_invalid r.shape then None else Some (UnexpectedToken r.at expected (printed r.shape))

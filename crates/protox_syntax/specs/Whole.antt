@@ -1,0 +1,17 @@
+-- MACHINERY. What reading a whole file gives, and what is noted on the way.
+use Rattle.std.specs.Prelude.{List, [], ◌++◌, Option, Result, Ok}
+use Rattle.protox_lex.specs.Faults.{Span}
+use Rattle.protox_lex.specs.Shapes.{Rows}
+use Rattle.protox_grammar.specs.Reader.{Refusal, ◌>>=◌}
+use Rattle.protox_ast.specs.declared.ast.Syntax.{Syntax}
+use Rattle.protox_syntax.specs.declared.notes.Note.{Note}
+use Rattle.protox_syntax.specs.declared.statement_types.Statements.{Statements}
+use Rattle.protox_syntax.specs.Reads.{syntax_if_any_at, statements_at}
+use Rattle.protox_syntax.specs.Notes.{syntax_if_any_notes, statements_notes, then_notes}
+
+-- the syntax statement, and what the statements give
+abbrev pub whole : Rows Span → Result (Option (Syntax × Span) × Statements) Refusal
+whole xs = syntax_if_any_at xs >>= λ s. statements_at s.1 >>= λ f. Ok (s.0, f.0)
+
+abbrev pub all_notes : Rows Span → List Note
+all_notes xs = syntax_if_any_notes xs ++ then_notes statements_notes (syntax_if_any_at xs)

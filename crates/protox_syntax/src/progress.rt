@@ -1,0 +1,109 @@
+//! The list of faults: those of the rows in their order, and among them those that are noted at nodes.
+
+ghost use Rattle.std.specs.Prelude.{◌≡◌, ◌<◌, ◌+◌, ◌++◌, ◌^◌, OnOk, IfOk};
+ghost use Rattle.protox_syntax.specs.Rows.{rows_from};
+ghost use Rattle.protox_syntax.specs.Weave.{released, progress, read_to, play, beginning, weave, refusal, row_at};
+
+use crate::leaf::copied;
+use crate::notes::Note;
+use protox_descriptor::values::Text;
+use protox_lex::error::ParseErrorKind;
+use protox_lex::lex::{Row, TokenTable};
+use std::alloc::{AllocError, Global};
+
+// The faults of `count` rows and their gaps, from `low` on.
+fn release(
+    alloc: Global,
+    table: &TokenTable<'_>,
+    low: usize,
+    count: usize,
+    errors: &mut Vec<ParseErrorKind>,
+) -> Result<(), AllocError>
+    requires { low + count < 2 ^ 64 }
+    ensures { OnOk result (errors.new.items ≡ errors.old.items ++ released table.now.faults low count) }
+{
+    for k in 0..count {
+        table.release(alloc, low + k, false, errors)?;
+    }
+    Ok(())
+}
+
+// The faults up to where `left` of `total` rows are left. Those before `next` are there already.
+fn read_to(
+    alloc: Global,
+    table: &TokenTable<'_>,
+    total: usize,
+    left: usize,
+    next: usize,
+    errors: &mut Vec<ParseErrorKind>,
+) -> Result<usize, AllocError>
+    ensures { IfOk result (λ n. progress errors.new.items n ≡ read_to table.now.faults total left (progress errors.old.items next)) }
+{
+    let count = total.saturating_sub(left).saturating_sub(next);
+    release(alloc, table, next, count, errors)?;
+    Ok(next + count)
+}
+
+// The notes in their order, each behind the faults of the rows that are read before it.
+fn play(
+    alloc: Global,
+    table: &TokenTable<'_>,
+    total: usize,
+    notes: Vec<Note>,
+    errors: &mut Vec<ParseErrorKind>,
+) -> Result<usize, AllocError>
+    ensures { IfOk result (λ n. progress errors.new.items n ≡ play table.now.faults total notes.items (progress errors.old.items 0)) }
+{
+    let mut next = 0;
+    'notes: for note in notes {
+        next = read_to(alloc, table, total, note.left, next, errors)?;
+        errors.push(note.fault)?;
+    }
+    Ok(next)
+}
+
+/// All faults up to where `left` of `total` rows are left, the end of the source among them.
+pub(crate) fn woven(
+    alloc: Global,
+    table: &TokenTable<'_>,
+    total: usize,
+    notes: Vec<Note>,
+    left: usize,
+) -> Result<Vec<ParseErrorKind>, AllocError>
+    ensures { IfOk result (λ es. es.items ≡ weave table.now.faults total notes.items left) }
+{
+    let mut errors = Vec::new(alloc);
+    let next = play(alloc, table, total, notes, &mut errors)?;
+    read_to(alloc, table, total, left, next, &mut errors)?;
+    Ok(errors)
+}
+
+fn unexpected_end(alloc: Global, expected: &str) -> Result<ParseErrorKind, AllocError>
+    ensures { IfOk result (λ fault. fault ≡ ParseErrorKind.UnexpectedEof expected.now) }
+{
+    Ok(ParseErrorKind::UnexpectedEof {
+        expected: Text::copy(alloc, expected)?,
+    })
+}
+
+/// The fault of the row from which on `left` rows are left. That of an invalid one is among its own.
+pub(crate) fn refusal(
+    alloc: Global,
+    rows: &[Row<'_>],
+    left: usize,
+    expected: &str,
+) -> Result<Option<ParseErrorKind>, AllocError>
+    ensures { IfOk result (λ fault. fault ≡ refusal expected.now (row_at (rows_from rows.now) left)) }
+{
+    let Some(row) = rows.get(rows.len().saturating_sub(left)) else {
+        return Ok(Some(unexpected_end(alloc, expected)?));
+    };
+    let Ok(token) = &row.token else {
+        return Ok(None);
+    };
+    Ok(Some(ParseErrorKind::UnexpectedToken {
+        span: copied(&row.span),
+        expected: Text::copy(alloc, expected)?,
+        found: Text::from_string(token.to_string(alloc)?),
+    }))
+}

@@ -3,14 +3,15 @@
 
 mod bytes;
 mod comment;
-mod copying;
 pub mod error;
+mod fault_list;
 mod found;
 mod groups;
 pub mod laws;
 pub mod lex;
 mod lexer;
 mod number;
+mod piece;
 mod scan;
 mod string;
 mod token;

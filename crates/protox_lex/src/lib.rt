@@ -14,5 +14,7 @@ mod number;
 mod piece;
 mod scan;
 mod string;
+#[cfg(test)]
+mod tests;
 mod token;
 mod token_table;

@@ -11,8 +11,8 @@ use Rattle.protox_lex.specs.declared.error.ParseErrorKind.TheVariants.{Untermina
 use Rattle.protox_lex.specs.Faults.{span_from}
 use Rattle.protox_lex.specs.Lexemes.{Lexeme}
 use Rattle.protox_lex.specs.Shapes.{Str}
-use Rattle.protox_lex.specs.declared.string.Piece as code
-use Rattle.protox_lex.specs.declared.string.Piece.TheVariants as variant
+use Rattle.protox_lex.specs.declared.piece.Piece as code
+use Rattle.protox_lex.specs.declared.piece.Piece.TheVariants as variant
 use Rattle.protox_lex.specs.Pieces.{Reading, finished, piece_of}
 use Rattle.protox_lex.specs.Strings as spec
 

@@ -1,7 +1,7 @@
 -- What a clause sees of a piece.
 use Rattle.std.specs.Prelude.{ℕ, ◌+◌, ◌<◌, ◌≤◌, Bool, slice_index, ◌&&◌, nat_lt, length, map, ◌++◌, List, [], ◌∷◌, take, encode_utf8}
-use Rattle.protox_lex.specs.declared.string.Piece.{Piece}
-use Rattle.protox_lex.specs.declared.string.Piece.TheVariants as code
+use Rattle.protox_lex.specs.declared.piece.Piece.{Piece}
+use Rattle.protox_lex.specs.declared.piece.Piece.TheVariants as code
 use Rattle.std.specs.Cow.{cow_slice_items}
 use Rattle.protox_lex.specs.declared.string.Reader.{Reader}
 use Rattle.protox_lex.specs.declared.error.ParseErrorKind.{ParseErrorKind}

@@ -1,6 +1,8 @@
 //! Runs of bytes.
-ghost use Rattle.std.specs.Prelude.{◌≡◌, ◌<◌, ◌≤◌, ◌-◌, drop, length, slice_index};
+ghost use Rattle.std.specs.Prelude.{◌≡◌, ◌+◌, ◌<◌, ◌≤◌, ◌-◌, drop, length, slice_index};
 ghost use Rattle.std.specs.List.{prefix_len};
+ghost use Rattle.std.specs.Str.{IsCharBoundary};
+ghost use Rattle.protox_lex.specs.Lexemes.{blanks};
 ghost use Rattle.protox_lex.specs.Classes.{class_test};
 
 /// The byte at `index`, or 0 past the end.
@@ -77,4 +79,16 @@ pub(crate) fn skip(text: &str, n: usize) -> &str
     ensures { result.now ≡ drop n text.now }
 {
     &text[n..]
+}
+
+/// The blanks at the front, and what follows them.
+#[tactic(auto, using(crate::proofs::Boundaries::blanks_boundary))]
+pub(crate) fn skip_blanks(text: &str) -> (usize, &str)
+    ensures len { result.0 ≡ blanks text.now }
+    ensures rest { result.1.now ≡ drop (blanks text.now) text.now }
+    ensures lens { result.0 + length result.1.now ≡ length text.now }
+    ensures boundary { IsCharBoundary text.now result.0 }
+{
+    let len = run_len(text.as_bytes(), Class::Blank);
+    (len, &text[len..])
 }

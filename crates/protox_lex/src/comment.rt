@@ -66,7 +66,7 @@ fn hash_faults(
 }
 
 /// The line comment of `len` bytes at the front.
-pub(crate) fn line_comment(
+pub(crate) fn read_line_comment(
     alloc: Global,
     text: &str,
     len: usize,

@@ -9,13 +9,12 @@ ghost use Rattle.protox_lex.specs.Lexicon.{is_mark, is_quote, IsLineOpener};
 ghost use Rattle.protox_lex.specs.Found.{lexeme_of};
 ghost use Rattle.protox_lex.specs.Tokens.{shape_of, borrowed_of};
 
-use crate::comment::line_comment;
+use crate::comment::read_line_comment;
 use crate::error::ParseErrorKind;
-use crate::lexer::mark;
-use crate::number::{float, integer};
+use crate::number::{read_float, read_integer};
 use crate::scan::{Kind, scan};
-use crate::string::string;
-use crate::token::Token;
+use crate::string::read_string;
+use crate::token::{Token, mark_of};
 use std::alloc::{AllocError, Global};
 
 /// A token, where it ends, and its faults.
@@ -66,7 +65,7 @@ fn invalid(alloc: Global, text: &str, start: usize) -> Found<'_>
 }
 
 // The lexeme of a kind, of which `len` bytes match.
-fn of_kind(
+fn read_kind(
     alloc: Global,
     text: &str,
     kind: Kind,
@@ -89,21 +88,21 @@ fn of_kind(
 {
     match kind {
         Kind::Identifier => Ok(plain(alloc, Token::Ident(&text[..len]), start, len)),
-        Kind::Integer => integer(alloc, text, len, start),
-        Kind::Float => float(alloc, text, len, start, text_format),
-        Kind::Mark => match mark(text.as_bytes()[0]) {
+        Kind::Integer => read_integer(alloc, text, len, start),
+        Kind::Float => read_float(alloc, text, len, start, text_format),
+        Kind::Mark => match mark_of(text.as_bytes()[0]) {
             Some(token) => Ok(plain(alloc, token, start, len)),
             None => unreachable!(),
         },
         Kind::Newline => Ok(plain(alloc, Token::Newline, start, len)),
-        Kind::String => string(alloc, text, start),
-        Kind::LineComment => line_comment(alloc, text, len, start, text_format),
+        Kind::String => read_string(alloc, text, start),
+        Kind::LineComment => read_line_comment(alloc, text, len, start, text_format),
     }
 }
 
 /// The lexeme at the front.
 #[tactic(auto, using(crate::proofs::Boundaries::scan_boundary, crate::proofs::Boundaries::scan_mark, crate::proofs::Boundaries::scan_quote, crate::proofs::Boundaries::scan_line), unfolding(crate::specs::Lexemes::first_lexeme))]
-pub(crate) fn read(
+pub(crate) fn read_lexeme(
     alloc: Global,
     text: &str,
     start: usize,
@@ -117,7 +116,7 @@ pub(crate) fn read(
     ensures free { let x = spec.first_lexeme start text.now in x.borrowed ≡ true → faults_in text_format x.faults ≡ [] → IsOk result }
 {
     match scan(text.as_bytes()) {
-        Some((kind, len)) => of_kind(alloc, text, kind, len, start, text_format),
+        Some((kind, len)) => read_kind(alloc, text, kind, len, start, text_format),
         None => Ok(invalid(alloc, text, start)),
     }
 }

@@ -1,8 +1,12 @@
 //! Laws of the definitions that the contracts cite. Each is a function that does nothing: its
 //! contract is the law.
-ghost use Rattle.std.specs.Prelude.{◌≡◌, ◌++◌, ℕ, List, length, take};
+ghost use Rattle.std.specs.Prelude.{◌≡◌, ◌+◌, ◌++◌, ℕ, List, length, take};
+ghost use Rattle.std.specs.List.{All};
+ghost use Rattle.std.specs.Str.{IsUtf8};
+ghost use Rattle.protox_lex.specs.Faults.{LiesIn};
 ghost use Rattle.protox_lex.specs.Lexemes as spec;
 ghost use Rattle.protox_lex.specs.Pattern.{Pattern, Fits};
+ghost use Rattle.protox_lex.specs.Table.{rows_of, gaps_of, faults_of, StandBetween};
 ghost use Rattle.protox_lex.specs.Words.{IsWordOf};
 
 /// Each text has one cut into lexemes, and `cut` is it.
@@ -17,4 +21,23 @@ pub fn one_cut()
 pub fn fits_is_word()
     ensures fits { (p : Pattern) (text : List ℕ) (n : ℕ) → Fits p text n → IsWordOf p (take n text) }
     ensures word { (p : Pattern) (word rest : List ℕ) → IsWordOf p word → Fits p (word ++ rest) (length word) }
+{}
+
+/// The rows of a source stand in it, one behind the other, and each has a byte.
+#[tactic(auto, using(crate::proofs::Places::stand))]
+pub fn rows_stand_in_source()
+    ensures { (source : List ℕ) → IsUtf8 source → StandBetween 0 (length source) (rows_of (spec.cut 0 source)) }
+{}
+
+/// Each fault of a source's table lies in the source.
+#[tactic(auto, using(crate::proofs::Places::lie))]
+pub fn faults_lie_in_source()
+    ensures { (source : List ℕ) → IsUtf8 source → All (All (LiesIn (length source))) (faults_of (spec.cut 0 source)) }
+{}
+
+/// There is a gap before each row and one behind the last, and each gap has its list of faults.
+#[tactic(auto, using(crate::proofs::Tables::gaps_of_length, crate::proofs::Tables::faults_of_length))]
+pub fn gaps_surround_rows()
+    ensures gaps { (lexemes : List spec.Lexeme) → length (gaps_of lexemes) ≡ length (rows_of lexemes) + 1 }
+    ensures faults { (lexemes : List spec.Lexeme) → length (faults_of lexemes) ≡ length (rows_of lexemes) + 1 }
 {}

@@ -8,53 +8,13 @@ ghost use Rattle.protox_lex.specs.Tokens.{shape_of, shape_of_result, borrowed_of
 ghost use Rattle.protox_lex.specs.Shapes as shape;
 ghost use Rattle.protox_lex.specs.State.{State, Answers, TakesNone};
 
-use crate::bytes::{Class, run_len};
+use crate::bytes::skip_blanks;
 use crate::error::{ParseErrorKind, Span};
-use crate::found::{Found, read};
+use crate::fault_list::append;
+use crate::found::{Found, read_lexeme};
 use crate::token::Token;
 use std::alloc::{AllocError, Global};
 use std::marker::Model;
-
-pub(crate) fn mark(byte: u8) -> Option<Token<'static>>
-    ensures shape { IfSome result (λ t. shape_of t ≡ shape.Mark byte) }
-    ensures borrowed { IfSome result (λ t. borrowed_of t ≡ true) }
-    ensures found { is_mark byte ≡ true → IsSome result }
-{
-    let token = match byte {
-        b'.' => Token::Dot,
-        b'-' => Token::Minus,
-        b'+' => Token::Plus,
-        b'(' => Token::LeftParen,
-        b')' => Token::RightParen,
-        b'{' => Token::LeftBrace,
-        b'}' => Token::RightBrace,
-        b'[' => Token::LeftBracket,
-        b']' => Token::RightBracket,
-        b'<' => Token::LeftAngleBracket,
-        b'>' => Token::RightAngleBracket,
-        b',' => Token::Comma,
-        b'=' => Token::Equals,
-        b':' => Token::Colon,
-        b';' => Token::Semicolon,
-        b'/' => Token::ForwardSlash,
-        _ => return None,
-    };
-    Some(token)
-}
-
-pub(crate) fn append(
-    errors: &mut Vec<ParseErrorKind>,
-    mut faults: Vec<ParseErrorKind>,
-) -> Result<(), AllocError>
-    ensures ok { OnOk result (errors.new.items ≡ errors.old.items ++ faults.items) }
-    ensures err { OnErr result (errors.new.items ≡ errors.old.items) }
-    ensures free { faults.items ≡ [] → IsOk result }
-{
-    if !faults.is_empty() {
-        errors.append(&mut faults)?;
-    }
-    Ok(())
-}
 
 /// Cuts a text into lexemes.
 #[derive(Drop)]
@@ -101,18 +61,6 @@ impl<'a> Token<'a> {
     }
 }
 
-// The blanks at the front, and what follows them.
-#[tactic(auto, using(crate::proofs::Boundaries::blanks_boundary))]
-pub(crate) fn skip_blanks(text: &str) -> (usize, &str)
-    ensures len { result.0 ≡ spec.blanks text.now }
-    ensures rest { result.1.now ≡ drop (spec.blanks text.now) text.now }
-    ensures lens { result.0 + length result.1.now ≡ length text.now }
-    ensures boundary { IsCharBoundary text.now result.0 }
-{
-    let len = run_len(text.as_bytes(), Class::Blank);
-    (len, &text[len..])
-}
-
 // The lexeme at the front, with its faults added to `errors` as the mode has it.
 fn read_into<'a>(
     alloc: Global,
@@ -134,7 +82,7 @@ fn read_into<'a>(
         token,
         stop,
         faults,
-    } = read(alloc, text, start, text_format)?;
+    } = read_lexeme(alloc, text, start, text_format)?;
     append(errors, faults)?;
     Ok((token, stop))
 }

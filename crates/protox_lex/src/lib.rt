@@ -3,15 +3,18 @@
 
 mod bytes;
 mod comment;
-mod copying;
 pub mod error;
+mod fault_list;
 mod found;
 mod groups;
 pub mod laws;
 pub mod lex;
 mod lexer;
 mod number;
+mod piece;
 mod scan;
 mod string;
+#[cfg(test)]
+mod tests;
 mod token;
 mod token_table;

@@ -123,7 +123,7 @@ fn value_or_fault(
 }
 
 /// The integer of `len` bytes at the front.
-pub(crate) fn integer(
+pub(crate) fn read_integer(
     alloc: Global,
     text: &str,
     len: usize,
@@ -190,7 +190,7 @@ fn float_text(alloc: Global, word: &str) -> Result<CowStr<'_>, AllocError>
 }
 
 /// The float of `len` bytes at the front.
-pub(crate) fn float(
+pub(crate) fn read_float(
     alloc: Global,
     text: &str,
     len: usize,

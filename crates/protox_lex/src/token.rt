@@ -1,10 +1,11 @@
 //! Tokens, how they print, and which are equal.
-ghost use Rattle.std.specs.Prelude.{◌≡◌, ◌<◌, ◌∷◌, ◌↔◌, IsTrue, Some, flat_map};
+ghost use Rattle.std.specs.Prelude.{◌≡◌, ◌<◌, ◌∷◌, true, IfSome, IsSome, Some, flat_map};
 ghost use Rattle.std.specs.Char.{digit_char};
 ghost use Rattle.std.specs.Fmt.{DisplaysOnOk};
 ghost use Rattle.protox_lex.specs.Printed.{HasNoValue, hex_pair, printed, printed_byte};
-ghost use Rattle.protox_lex.specs.Shapes.{Ident};
-ghost use Rattle.protox_lex.specs.Tokens.{shape_of};
+ghost use Rattle.protox_lex.specs.Lexicon.{is_mark};
+ghost use Rattle.protox_lex.specs.Shapes as shape;
+ghost use Rattle.protox_lex.specs.Tokens.{shape_of, borrowed_of};
 
 use std::borrow::{CowSlice, CowStr};
 use std::fmt;
@@ -41,10 +42,38 @@ pub enum Token<'a> {
     Newline,
 }
 
+/// The mark that is this byte, or None.
+pub(crate) fn mark_of(byte: u8) -> Option<Token<'static>>
+    ensures shape { IfSome result (λ t. shape_of t ≡ shape.Mark byte) }
+    ensures borrowed { IfSome result (λ t. borrowed_of t ≡ true) }
+    ensures found { is_mark byte ≡ true → IsSome result }
+{
+    let token = match byte {
+        b'.' => Token::Dot,
+        b'-' => Token::Minus,
+        b'+' => Token::Plus,
+        b'(' => Token::LeftParen,
+        b')' => Token::RightParen,
+        b'{' => Token::LeftBrace,
+        b'}' => Token::RightBrace,
+        b'[' => Token::LeftBracket,
+        b']' => Token::RightBracket,
+        b'<' => Token::LeftAngleBracket,
+        b'>' => Token::RightAngleBracket,
+        b',' => Token::Comma,
+        b'=' => Token::Equals,
+        b':' => Token::Colon,
+        b';' => Token::Semicolon,
+        b'/' => Token::ForwardSlash,
+        _ => return None,
+    };
+    Some(token)
+}
+
 impl Token<'_> {
     /// The identifier that is this word.
     pub fn keyword(word: &'static str) -> Token<'static>
-        ensures { shape_of result ≡ Ident word.now }
+        ensures { shape_of result ≡ shape.Ident word.now }
     {
         Token::Ident(word)
     }

@@ -8,11 +8,11 @@ ghost use Rattle.protox_lex.specs.Table.{is_gap, table_of, invalid_faults};
 ghost use Rattle.protox_lex.specs.TableView.{row_of, shape_of_lent, shapes_of_lent, finished};
 ghost use Rattle.protox_lex.specs.Tokens.{shape_of, shape_of_result};
 
-use crate::copying::copy_faults;
+use crate::bytes::skip_blanks;
 use crate::error::{ParseErrorKind, Span};
-use crate::found::{Found, read};
+use crate::fault_list::{append, copy_faults};
+use crate::found::{Found, read_lexeme};
 use crate::groups::Groups;
-use crate::lexer::{append, skip_blanks};
 use crate::token::Token;
 use std::alloc::{AllocError, Global};
 use std::marker::Model;
@@ -138,7 +138,7 @@ fn draft<'a>(alloc: Global, source: &'a str) -> Result<TableDraft<'a>, AllocErro
             break;
         }
         let start = at + blanks;
-        let found = read(alloc, text, start, false)?;
+        let found = read_lexeme(alloc, text, start, false)?;
         at = found.stop;
         draft.add(start, found)?;
     }

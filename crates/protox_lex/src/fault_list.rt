@@ -1,5 +1,5 @@
-//! Copies of faults.
-ghost use Rattle.std.specs.Prelude.{◌≡◌, ◌∷◌, ◌++◌, [], IfOk, OnOk, IsOk};
+//! Lists of faults.
+ghost use Rattle.std.specs.Prelude.{◌≡◌, ◌∷◌, ◌++◌, [], IfOk, OnOk, OnErr, IsOk};
 ghost use Rattle.protox_lex.specs.Faults.{is_of_mode, faults_in};
 
 use crate::error::{ParseErrorKind, Span};
@@ -209,4 +209,19 @@ pub(crate) fn copy_faults(
         copy_into(alloc, &mut copies, fault, text_format)?;
     }
     Ok(copies)
+}
+
+/// Appends faults. On `AllocError` the list is unchanged.
+pub(crate) fn append(
+    errors: &mut Vec<ParseErrorKind>,
+    mut faults: Vec<ParseErrorKind>,
+) -> Result<(), AllocError>
+    ensures ok { OnOk result (errors.new.items ≡ errors.old.items ++ faults.items) }
+    ensures err { OnErr result (errors.new.items ≡ errors.old.items) }
+    ensures free { faults.items ≡ [] → IsOk result }
+{
+    if !faults.is_empty() {
+        errors.append(&mut faults)?;
+    }
+    Ok(())
 }

@@ -1,6 +1,8 @@
 -- When a source is accepted, and which syntax tree it gives.
-use Rattle.std.specs.Prelude.{◌≡◌, ◌≤◌, ℕ, List, [], length}
-use Rattle.protox_lex.specs.Faults.{Span}
+use Rattle.std.specs.Prelude.{◌≡◌, ◌≢◌, ◌≤◌, ℕ, List, [], length}
+use Rattle.protox_lex.specs.Faults.{Span, LiesIn}
+use Rattle.protox_lex.specs.declared.error.SyntaxFailure.{SyntaxFailure}
+use Rattle.protox_lex.specs.declared.error.SyntaxFailure.TheVariants.{Faults, OutOfMemory}
 use Rattle.protox_lex.specs.Shapes.{Invalid}
 use Rattle.protox_lex.specs.Lexemes.{Lexeme, cut}
 use Rattle.protox_lex.specs.Table.{rows_of}
@@ -27,6 +29,11 @@ pub record IsAccepted (source : List ℕ) (f : t.File Span) : Type 0 where
   pub clean : Each IsClean (cut 0 source)
   pub levels : depth f ≤ 31
   pub fine : IsFine f
+
+-- the faults of a failure lie in the source, and there are some; or memory ran out
+abbrev pub FaultsLieIn : List ℕ → SyntaxFailure → Type 0
+FaultsLieIn source OutOfMemory = Unit {0}
+FaultsLieIn source (Faults v) = Fits source × (v.items ≢ []) × Each (LiesIn (length source)) v.items
 
 -- the syntax tree is that of a tree which the source's tokens spell
 abbrev pub IsFileOf : List ℕ → file_type.File → Type 0

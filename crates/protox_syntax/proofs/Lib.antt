@@ -1,5 +1,11 @@
 pub mod Turns
 pub mod Same
+pub mod Spans
 pub mod Texts
 pub mod NotesTurns
 pub mod Weaving
+pub mod TableFaults
+pub mod Fine
+pub mod NotesLie
+pub mod Refusals
+pub mod Judged

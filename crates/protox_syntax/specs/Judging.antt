@@ -1,5 +1,6 @@
 -- MACHINERY. What reading a table answers.
 use Rattle.std.specs.Prelude.{◌≡◌, ℕ, ◌+◌, List, [], length, Option, Some, None, option_map, Result, Ok, Err}
+use Rattle.std.specs.Str.{IsUtf8}
 use Rattle.protox_lex.specs.Faults.{Span, LiesIn}
 use Rattle.protox_lex.specs.Shapes.{Rows}
 use Rattle.protox_lex.specs.Lexemes.{cut}
@@ -19,7 +20,7 @@ use Rattle.protox_syntax.specs.Weave.{released}
 
 -- the table of a source of so many bytes
 abbrev pub IsTableOf : ℕ → Table → Type 0
-IsTableOf size t = (source : List ℕ) × (length source ≡ size) × (t ≡ table_of (cut 0 source))
+IsTableOf size t = (source : List ℕ) × IsUtf8 source × (length source ≡ size) × (t ≡ table_of (cut 0 source))
 
 abbrev pub syntax_or_default : Option (Syntax × Span) → Syntax
 syntax_or_default None = Proto2

@@ -3,6 +3,7 @@
 
 mod expected;
 mod fields;
+mod judge;
 mod leaf;
 mod messages;
 mod names;

@@ -1,0 +1,29 @@
+-- When a refusal speaks of a source.
+use Rattle.std.specs.Prelude.{◌≡◌, ◌≢◌, ℕ, List, [], ◌∷◌, length, Option, Some, None, ◌⊎◌}
+use Rattle.protox_lex.specs.Faults.{LiesIn}
+use Rattle.protox_lex.specs.declared.error.ParseErrorKind.TheVariants.{FileTooLarge}
+use Rattle.protox_ast.specs.Accepted.{Fits}
+use Rattle.protox_ast.specs.Keywords.{Each}
+use Rattle.protox_parse.specs.Refusal.{Refusal}
+use Rattle.protox_parse.specs.declared.failure.ParseFailure.{ParseFailure}
+use Rattle.protox_parse.specs.declared.failure.ParseFailure.TheVariants.{Refused, OutOfMemory}
+
+-- the first of a list, if it has any
+abbrev pub first_of : {A : Type 0} → List A → Option A
+first_of [] = None
+first_of (x ∷ xs) = Some x
+
+abbrev pub IsOutOfMemory : ParseFailure → Type 0
+IsOutOfMemory OutOfMemory = Unit {0}
+IsOutOfMemory (Refused e) = ⊥
+
+-- A source that fits has faults that lie in it. One that doesn't has that fault alone, and its text isn't held.
+abbrev pub IsOfSource : List ℕ → Refusal → Type 0
+IsOfSource source e =
+    (Fits source × (e.source ≡ source) × (e.errors ≢ []) × Each (LiesIn (length source)) e.errors)
+    ⊎ ((Fits source → ⊥) × (e.source ≡ []) × (e.errors ≡ FileTooLarge ∷ []))
+
+-- the refusal names its file and is of its source; or memory ran out
+abbrev pub IsRefusalOf : List ℕ → List ℕ → ParseFailure → Type 0
+IsRefusalOf name source OutOfMemory = Unit {0}
+IsRefusalOf name source (Refused e) = (e.file ≡ name) × IsOfSource source e

@@ -1,0 +1,11 @@
+-- What a clause sees of a `ParseError`.
+use Rattle.std.specs.Prelude.{◌<◌, length}
+use Rattle.protox_parse.specs.declared.failure.ParseError.TheInside.{Inside}
+use Rattle.protox_parse.specs.Refusal.{Refusal}
+
+abbrev pub refusal_of : Inside → Refusal
+refusal_of e = record { file = e.file; source = e.source; errors = e.errors.items }
+
+-- there is a fault
+abbrev pub has_fault : Inside → Type 0
+has_fault e = 0 < length e.errors.items

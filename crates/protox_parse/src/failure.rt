@@ -1,0 +1,180 @@
+//! Why a source is refused.
+
+ghost use Rattle.std.specs.Prelude.{◌≡◌, ◌≢◌, ◌∷◌, [], List, length, Ok, Err, IfOk};
+ghost use Rattle.protox_ast.specs.Accepted.{Fits, FaultsLieIn};
+ghost use Rattle.protox_ast.specs.Keywords.{Each};
+ghost use Rattle.protox_lex.specs.Faults.{LiesIn, span_of};
+ghost use Rattle.protox_parse.specs.Failures.{IsRefusalOf, first_of};
+
+use protox_descriptor::values::Text;
+use protox_lex::error::{ParseErrorKind, Span, SyntaxFailure};
+use std::alloc::{AllocError, Global};
+use std::fmt;
+use std::marker::Model;
+use thiserror::Error;
+
+/// What is wrong with a source: at least one fault, in the order in which they were found, with the
+/// file's name and its text.
+#[derive(Drop)]
+pub struct ParseError {
+    file: Text,
+    source: Text,
+    errors: Vec<ParseErrorKind>,
+}
+
+impl Model for ParseError {
+    ghost use Rattle.protox_parse.specs.Refusal.{Refusal};
+    ghost use Rattle.protox_parse.specs.Refusals.{refusal_of, has_fault};
+
+    ghost Value = { Refusal };
+
+    ghost view = { refusal_of };
+
+    ghost invariant = { has_fault };
+}
+
+impl ParseError {
+    /// The name of the file.
+    pub fn file(&self) -> &str
+        ensures { result.now ≡ self.now.file }
+    {
+        self.file.as_str()
+    }
+
+    /// The text of the file, or the empty text where it is too large.
+    pub fn source(&self) -> &str
+        ensures { result.now ≡ self.now.source }
+    {
+        self.source.as_str()
+    }
+
+    /// The first fault.
+    pub fn kind(&self) -> &ParseErrorKind
+        ensures { first_of self.now.errors ≡ Some result.now }
+    {
+        &self.errors[0]
+    }
+
+    /// All faults in the order in which they were found. There is at least one.
+    pub fn errors(&self) -> &[ParseErrorKind]
+        ensures value { result.now ≡ self.now.errors }
+        ensures some { result.now ≢ [] }
+    {
+        &self.errors
+    }
+
+    /// The span of the first fault, in bytes. None for a second package name, for the end of the
+    /// file and for a file that is too large.
+    pub fn span(&self) -> Option<Span>
+        ensures { option_and_then span_of (first_of self.now.errors) ≡ result }
+    {
+        self.kind().span()
+    }
+
+    /// The faults.
+    pub fn into_inner(self) -> Vec<ParseErrorKind>
+        ensures { result.items ≡ self.errors }
+    {
+        let ParseError {
+            file: _,
+            source: _,
+            errors,
+        } = self;
+        errors
+    }
+}
+
+impl fmt::Display for ParseError {
+    fn fmt<W: fmt::Write>(&self, f: &mut fmt::Formatter<W>) -> fmt::Result {
+        let kind = self.kind();
+        write!(f, "{kind}")
+    }
+}
+
+// The line and the column of an offset, both from 1. Lines end with a newline, columns count bytes.
+fn position(source: &[u8], offset: usize) -> (usize, usize) {
+    let mut line: usize = 1;
+    let mut column: usize = 1;
+    for byte in source.iter().take(offset) {
+        if *byte == b'\n' {
+            line = line.saturating_add(1);
+            column = 1;
+        } else {
+            column = column.saturating_add(1);
+        }
+    }
+    (line, column)
+}
+
+impl fmt::Debug for ParseError {
+    fn fmt<W: fmt::Write>(&self, f: &mut fmt::Formatter<W>) -> fmt::Result {
+        let kind = self.kind();
+        match self.span() {
+            Some(span) => {
+                let file = self.file();
+                let (line, column) = position(self.source().as_bytes(), span.start);
+                write!(f, "{file}:{line}:{column}: {kind}")
+            }
+            None => write!(f, "{kind}"),
+        }
+    }
+}
+
+/// Why there is no descriptor: the source is refused, or memory ran out.
+#[derive(Debug, Drop, Error)]
+pub enum ParseFailure {
+    #[error("{0}")]
+    Refused(ParseError),
+    #[error("out of memory")]
+    OutOfMemory,
+}
+
+// The refusal of a source for these faults.
+fn refusal(
+    alloc: Global,
+    name: &str,
+    source: &str,
+    errors: Vec<ParseErrorKind>,
+) -> Result<ParseError, AllocError>
+    requires { errors.items ≢ [] }
+    ensures { IfOk result (λ e. e ≡ record { file = name.now; source = source.now; errors = errors.items }) }
+{
+    Ok(ParseError {
+        file: Text::copy(alloc, name)?,
+        source: Text::copy(alloc, source)?,
+        errors,
+    })
+}
+
+/// The refusal of a source that is too large.
+pub(crate) fn too_large(alloc: Global, name: &str) -> ParseFailure
+    ensures { (source : List ℕ) → (Fits source → ⊥) → IsRefusalOf name.now source result }
+{
+    let mut errors = Vec::new(alloc);
+    if errors.push(ParseErrorKind::FileTooLarge).is_err() {
+        return ParseFailure::OutOfMemory;
+    }
+    match refusal(alloc, name, "", errors) {
+        Ok(error) => ParseFailure::Refused(error),
+        Err(_) => ParseFailure::OutOfMemory,
+    }
+}
+
+/// The refusal of a source for the faults of a failure.
+pub(crate) fn refused(
+    alloc: Global,
+    name: &str,
+    source: &str,
+    failure: SyntaxFailure,
+) -> ParseFailure
+    requires { FaultsLieIn source.now failure }
+    ensures { IsRefusalOf name.now source.now result }
+{
+    match failure {
+        SyntaxFailure::Faults(errors) => match refusal(alloc, name, source, errors) {
+            Ok(error) => ParseFailure::Refused(error),
+            Err(_) => ParseFailure::OutOfMemory,
+        },
+        SyntaxFailure::OutOfMemory => ParseFailure::OutOfMemory,
+    }
+}

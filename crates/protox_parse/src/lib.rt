@@ -1,0 +1,67 @@
+//! A Protocol Buffers source parser: from a file's name and text to its descriptor with locations,
+//! comments and all, or to what is wrong with it.
+#![tactic(auto)]
+
+ghost use Rattle.std.specs.Prelude.{◌≡◌, ◌≤◌, ◌↔◌, IsTrue, IfOk, IfErr, MatchResult, length, []};
+ghost use Rattle.protox_ast.specs.Accepted.{Fits, IsAccepted};
+ghost use Rattle.protox_ast.specs.Ast as ast_of;
+ghost use Rattle.protox_ast.specs.Tree as tree;
+ghost use Rattle.protox_generate.specs.Checks.{file_faults};
+ghost use Rattle.protox_generate.specs.File.{file_descriptor};
+ghost use Rattle.protox_lex.specs.Faults.{Span};
+ghost use Rattle.protox_parse.specs.Failures.{IsOutOfMemory, IsRefusalOf};
+
+mod failure;
+#[cfg(test)]
+mod tests;
+
+pub use failure::{ParseError, ParseFailure};
+pub use protox_ast::ast;
+pub use protox_descriptor::{case, descriptor, tag, values};
+pub use protox_generate::generate;
+pub use protox_lex::error::ParseErrorKind;
+pub use protox_lex::{error, lex};
+pub use protox_syntax::parse as syntax;
+
+use failure::{refused, too_large};
+use protox_descriptor::descriptor::FileDescriptorProto;
+use protox_generate::generate::generate_file;
+use protox_syntax::parse::parse_file;
+use std::alloc::Global;
+
+/// Whether a source of `len` bytes is within the limit of 2,147,483,647 bytes.
+pub fn source_fits(len: usize) -> bool
+    ensures { IsTrue result ↔ (len ≤ 2147483647) }
+{
+    len <= 2147483647
+}
+
+/// The descriptor of the file of this name and this source, with its locations; or what is wrong
+/// with the source, or that memory ran out.
+pub fn parse(
+    alloc: Global,
+    name: &str,
+    source: &str,
+) -> Result<FileDescriptorProto, ParseFailure>
+    // What is answered is the translation of a tree that the source's tokens spell.
+    ensures found { IfOk result (λ d. (f : tree.File Span) × IsAccepted source.now f
+        × (file_faults (ast_of.file (length source.now) f) ≡ [])
+        × (d ≡ file_descriptor name.now source.now (ast_of.file (length source.now) f))) }
+    // Such a source is answered so, unless memory ran out.
+    ensures only { (f : tree.File Span) → IsAccepted source.now f → file_faults (ast_of.file (length source.now) f) ≡ []
+        → MatchResult result (λ d. d ≡ file_descriptor name.now source.now (ast_of.file (length source.now) f)) IsOutOfMemory }
+    // A refusal names its file and holds its source, and its faults lie in it.
+    ensures refused { IfErr result (IsRefusalOf name.now source.now) }
+{
+    if !source_fits(source.len()) {
+        return Err(too_large(alloc, name));
+    }
+    let file = match parse_file(alloc, source) {
+        Ok(file) => file,
+        Err(failure) => return Err(refused(alloc, name, source, failure)),
+    };
+    match generate_file(alloc, file, name, source) {
+        Ok(descriptor) => Ok(descriptor),
+        Err(failure) => Err(refused(alloc, name, source, failure)),
+    }
+}

@@ -1,0 +1,26 @@
+-- The place of all the rows of a table.
+use Rattle.std.proofs.Common.{◌≡◌, ℕ, zero, suc, ◌-◌, ◌≤◌, Bool, true, false, nat_eq, List, [], ◌∷◌, map, length, slice_index_or, refl, ap, sym, ◌∙◌, arith}
+use Rattle.std.proofs.lemmas.Bool.{eqb-true, eqb-false}
+use Rattle.protox_lex.specs.declared.token_table.Row as source
+use Rattle.protox_lex.specs.Faults.{Span}
+use Rattle.protox_lex.specs.Shapes.{Row}
+use Rattle.protox_lex.specs.TableView.{row_of}
+use Rattle.protox_ast.specs.Ast.{join, last_place, rows_span}
+
+last-at : (r : source.Row) (rs : List source.Row) (d : source.Row) → last_place (λ (x : Row Span). x.at) (row_of r).at (map row_of rs) ≡ (slice_index_or (r ∷ rs) (length rs) d).span
+last-at r [] d = refl
+last-at r (s ∷ rs) d = last-at s rs d
+
+-- from the first row to the last
+pub rows-span : (size : ℕ) (rows : List source.Row) (d e : source.Row) → 1 ≤ length rows → join (slice_index_or rows 0 d).span (slice_index_or rows (length rows - 1) e).span ≡ rows_span size (map row_of rows)
+rows-span size [] d e h = absurd (omega (arith, h))
+rows-span size (r ∷ rs) d e h =
+    let before : suc (length rs) - 1 ≡ length rs = omega arith in
+    ap (λ k. join r.span (slice_index_or (r ∷ rs) k e).span) before ∙ ap (join r.span) (sym (last-at r rs e))
+
+pub none-if-empty : {A : Type 0} (xs : List A) (n : ℕ) → n ≡ length xs → true ≡ nat_eq n 0 → xs ≡ []
+none-if-empty [] n is h = refl
+none-if-empty (x ∷ xs) n is h = let z = eqb-true n 0 (sym h) in absurd (omega (arith, z, is))
+
+pub some-if-not-empty : {A : Type 0} (xs : List A) (n : ℕ) → n ≡ length xs → false ≡ nat_eq n 0 → xs ≡ [] → ⊥
+some-if-not-empty xs n is h e = eqb-false n 0 (sym h) (is ∙ ap length e)

@@ -1,0 +1,191 @@
+//! Reads a whole table, and says what is wrong with it.
+
+ghost use Rattle.std.specs.Prelude.{◌≡◌, ◌+◌, ◌++◌, [], length, Ok, Err, OnOk, option_map, option_to_list};
+ghost use Rattle.protox_ast.specs.Ast.{rows_span};
+ghost use Rattle.protox_grammar.specs.Reader.{Unexpected};
+ghost use Rattle.protox_syntax.specs.Judging.{IsTableOf, Judges, made, syntax_or_default, with_comments};
+ghost use Rattle.protox_syntax.specs.Notes.{syntax_if_any_notes};
+ghost use Rattle.protox_syntax.specs.Reads.{syntax_if_any_at};
+ghost use Rattle.protox_syntax.specs.Rows.{rows_from};
+ghost use Rattle.protox_syntax.specs.Whole.{whole, all_notes};
+
+use crate::expected::Expected;
+use crate::leaf::{copied, join};
+use crate::names::no_comments;
+use crate::notes::Note;
+use crate::progress::{refusal, woven};
+use crate::refused::Refused;
+use crate::statement_types::Statements;
+use crate::statements::{statements, syntax_if_any};
+use protox_ast::ast::{Comments, File, Syntax};
+use protox_descriptor::values::Items;
+use protox_lex::error::{ParseErrorKind, Span, SyntaxFailure};
+use protox_lex::lex::{Row, TokenTable};
+use std::alloc::{AllocError, Global};
+
+// From the first row to the last; without any row from the end of the source to its start.
+fn file_span(rows: &[Row<'_>], size: usize) -> Span
+    ensures { result ≡ rows_span size (rows_from rows.now) }
+{
+    match rows {
+        [] => size..0,
+        [only] => copied(&only.span),
+        [first, .., last] => join(&first.span, &last.span),
+    }
+}
+
+fn syntax_or_default(syntax: &Option<(Syntax, Span)>) -> Syntax
+    ensures { result ≡ syntax_or_default syntax.now }
+{
+    match syntax {
+        Some((syntax, _)) => *syntax,
+        None => Syntax::Proto2,
+    }
+}
+
+fn with_comments(alloc: Global, syntax: Option<(Syntax, Span)>) -> Option<(Span, Comments)>
+    ensures { result ≡ option_map with_comments syntax }
+{
+    match syntax {
+        Some((_, span)) => Some((span, no_comments(alloc))),
+        None => None,
+    }
+}
+
+fn made(
+    alloc: Global,
+    rows: &[Row<'_>],
+    size: usize,
+    syntax: Option<(Syntax, Span)>,
+    statements: Statements,
+) -> File
+    ensures { result ≡ made size (rows_from rows.now) (syntax, statements) }
+{
+    let Statements { imports, items } = statements;
+    File {
+        span: file_span(rows, size),
+        syntax: syntax_or_default(&syntax),
+        syntax_span: with_comments(alloc, syntax),
+        package: None,
+        imports,
+        options: Items::new(alloc),
+        items,
+    }
+}
+
+// A check of the syntax statement failed: nothing behind it is read.
+fn stopped(
+    alloc: Global,
+    table: &TokenTable<'_>,
+    size: usize,
+    notes: Vec<Note>,
+) -> Result<File, SyntaxFailure>
+    requires table { IsTableOf size table.now }
+    requires notes { notes.items ≡ syntax_if_any_notes table.now.rows }
+    requires some { notes.items ≡ [] → ⊥ }
+    ensures { Judges table.now size result }
+{
+    let left = match notes.first() {
+        Some(note) => note.left,
+        None => 0,
+    };
+    let total = table.as_rows().len() + 1;
+    let errors = woven(alloc, table, total, notes, left)?;
+    Err(SyntaxFailure::Faults(errors))
+}
+
+// A row doesn't fit: nothing behind it is read.
+fn refused(
+    alloc: Global,
+    table: &TokenTable<'_>,
+    size: usize,
+    notes: Vec<Note>,
+    left: usize,
+    expected: Expected,
+) -> Result<File, SyntaxFailure>
+    requires table { IsTableOf size table.now }
+    requires read { whole table.now.rows ≡ Err (Unexpected left) }
+    requires notes { notes.items ≡ all_notes table.now.rows }
+    ensures { Judges table.now size result }
+{
+    let rows = table.as_rows();
+    let fault = refusal(alloc, rows, left, expected.text())?;
+    let total = rows.len() + 1;
+    let mut errors = woven(alloc, table, total, notes, left)?;
+    add_fault(&mut errors, fault)?;
+    Err(SyntaxFailure::Faults(errors))
+}
+
+fn add_fault(
+    errors: &mut Vec<ParseErrorKind>,
+    fault: Option<ParseErrorKind>,
+) -> Result<(), AllocError>
+    ensures { OnOk result (errors.new.items ≡ errors.old.items ++ option_to_list fault) }
+{
+    if let Some(fault) = fault {
+        errors.push(fault)?;
+    }
+    Ok(())
+}
+
+// All rows are read.
+fn finished(
+    alloc: Global,
+    table: &TokenTable<'_>,
+    size: usize,
+    notes: Vec<Note>,
+    syntax: Option<(Syntax, Span)>,
+    statements: Statements,
+) -> Result<File, SyntaxFailure>
+    requires table { IsTableOf size table.now }
+    requires read { whole table.now.rows ≡ Ok (syntax, statements) }
+    requires notes { notes.items ≡ all_notes table.now.rows }
+    ensures { Judges table.now size result }
+{
+    let rows = table.as_rows();
+    let total = rows.len() + 1;
+    let errors = woven(alloc, table, total, notes, 0)?;
+    if errors.is_empty() {
+        return Ok(made(alloc, rows, size, syntax, statements));
+    }
+    Err(SyntaxFailure::Faults(errors))
+}
+
+fn after_syntax(
+    alloc: Global,
+    table: &TokenTable<'_>,
+    size: usize,
+    syntax: Option<(Syntax, Span)>,
+    rest: &[Row<'_>],
+) -> Result<File, SyntaxFailure>
+    requires table { IsTableOf size table.now }
+    requires read { syntax_if_any_at table.now.rows ≡ Ok (syntax, rows_from rest.now) }
+    requires notes { syntax_if_any_notes table.now.rows ≡ [] }
+    ensures { Judges table.now size result }
+{
+    let mut notes = Vec::new(alloc);
+    match statements(alloc, &mut notes, rest) {
+        Ok(found) => finished(alloc, table, size, notes, syntax, found),
+        Err(Refused::OutOfMemory) => Err(SyntaxFailure::OutOfMemory),
+        Err(Refused::At { left, expected }) => refused(alloc, table, size, notes, left, expected),
+    }
+}
+
+/// The file that the rows spell, or all that is wrong with them.
+pub(crate) fn judge(
+    alloc: Global,
+    table: &TokenTable<'_>,
+    size: usize,
+) -> Result<File, SyntaxFailure>
+    requires { IsTableOf size table.now }
+    ensures { Judges table.now size result }
+{
+    let mut notes = Vec::new(alloc);
+    let read = syntax_if_any(alloc, &mut notes, table.as_rows());
+    match read {
+        Err(Refused::OutOfMemory) => Err(SyntaxFailure::OutOfMemory),
+        _ if !notes.is_empty() => stopped(alloc, table, size, notes),
+        Err(Refused::At { left, expected }) => refused(alloc, table, size, notes, left, expected),
+        Ok((syntax, rest)) => after_syntax(alloc, table, size, syntax, rest),
+    }
+}

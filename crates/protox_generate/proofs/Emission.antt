@@ -104,6 +104,6 @@ pub imports-emit : (numbers : Span → List ℤ) (old mid new : Context) (xs : L
 imports-emit numbers old mid new xs i x n p w h e en ep ew before now =
     let g = import_locations numbers old.path in
     let at : (commented numbers (nth mid.path file_tag.DEPENDENCY n) x.span x.comments ∷ kind_locations numbers mid.path p w x.kind) ≡ g (take i xs) x
-      = (rw (before.path, en, ep, ew) refl) in
+    = (rw (before.path, en, ep, ew) refl) in
     Emits-as old new _ _ (ap (λ l. each_after g [] (take i xs) ++ l) at ∙ sym (each_after-snoc g [] (take i xs) x) ∙ ap (each_after g []) (sym (take_one_more xs i x h e)))
     (Emits-more old mid new (each_after g [] (take i xs)) _ before now)

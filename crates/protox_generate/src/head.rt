@@ -26,10 +26,7 @@ pub(crate) fn syntax_name(alloc: Global, syntax: Syntax) -> Result<Option<Text>,
 }
 
 /// The package as it is written.
-pub(crate) fn package_name(
-    alloc: Global,
-    ast: &Opt<Package>,
-) -> Result<Option<Text>, AllocError>
+pub(crate) fn package_name(alloc: Global, ast: &Opt<Package>) -> Result<Option<Text>, AllocError>
     ensures { IfOk result (λ name. name ≡ name_of_package ast.now) }
 {
     match ast {
@@ -67,7 +64,13 @@ pub(crate) fn add_package(
     match ast {
         None => Ok(()),
         Some(statement) => {
-            context.add_with(alloc, lines, &[PACKAGE], &statement.span, &statement.comments)
+            context.add_with(
+                alloc,
+                lines,
+                &[PACKAGE],
+                &statement.span,
+                &statement.comments,
+            )
         },
     }
 }

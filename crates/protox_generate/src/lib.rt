@@ -11,3 +11,5 @@ mod lines;
 mod messages;
 mod parts;
 mod sorting;
+#[cfg(test)]
+mod tests;

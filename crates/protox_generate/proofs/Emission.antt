@@ -1,6 +1,6 @@
 -- Locations that come one node at a time.
-use Rattle.std.proofs.Common.{◌≡◌, ℕ, ◌+◌, ◌<◌, ◌≤◌, max, List, [], ◌∷◌, ◌++◌, length, map, take, drop, get_or, refl, ap, sym, ◌∙◌, arith, append_assoc, append-nil, subst, Bool}
-use Rattle.std.specs.Prelude.{ℤ, pos, if◌then◌else◌}
+use Rattle.std.proofs.Common.{◌≡◌, ℕ, ◌+◌, ◌<◌, max, List, [], ◌∷◌, ◌++◌, length, map, take, drop, get_or, refl, ap, sym, ◌∙◌, arith, append_assoc, subst, Bool}
+use Rattle.std.specs.Prelude.{ℤ, if◌then◌else◌}
 use Rattle.std.specs.List.{flat_map}
 use Rattle.protox_lex.specs.Faults.{Span}
 use Rattle.protox_descriptor.specs.declared.descriptor.source_code_info.Location.{Location}
@@ -11,7 +11,7 @@ use Rattle.protox_generate.specs.Descriptor.{each_after, count, is_public, is_we
 use Rattle.protox_generate.specs.Bounds.{total, greatest}
 use Rattle.protox_generate.specs.Locations.{import_locations, kind_locations, commented, nth, OfItem, OfField, item_at, field_from, fields_from}
 use Rattle.protox_generate.specs.Pass.{Emits}
-use Rattle.protox_generate.proofs.Siblings.{each_after-snoc, flat_map-snoc, take_one_more, map-snoc, map-take_more, drop_more}
+use Rattle.protox_generate.proofs.Siblings.{each_after-snoc, flat_map-snoc, take_one_more, map-take_more, drop_more}
 
 pub Emits-more : (old mid new : Context) (ls ms : List Location) → Emits old mid ls → Emits mid new ms → Emits old new (ls ++ ms)
 Emits-more old mid new ls ms a b = record {

@@ -1,5 +1,5 @@
 -- Faults that come one node at a time.
-use Rattle.std.proofs.Common.{◌≡◌, ℕ, ◌+◌, ◌<◌, List, [], ◌∷◌, ◌++◌, length, map, take, get_or, refl, ap, sym, ◌∙◌, append_assoc, append-nil}
+use Rattle.std.proofs.Common.{◌≡◌, ℕ, ◌+◌, ◌<◌, List, [], ◌∷◌, ◌++◌, length, map, take, get_or, ap, sym, ◌∙◌, append_assoc, append-nil}
 use Rattle.protox_lex.specs.declared.error.ParseErrorKind.{ParseErrorKind}
 use Rattle.protox_generate.specs.declared.checks.Scope.{Scope}
 use Rattle.protox_generate.specs.declared.checks.Scope.TheVariants as scope

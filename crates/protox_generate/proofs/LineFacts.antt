@@ -1,9 +1,9 @@
 -- The offsets behind newlines, and what a binary search among them finds.
-use Rattle.std.proofs.Common.{◌≡◌, ℕ, zero, suc, ◌+◌, ◌-◌, ◌<◌, ◌≤◌, List, [], ◌∷◌, ◌++◌, length, take, drop, get_or, refl, ap, sym, ◌∙◌, arith, Bool, true, false, add-one, leb, eqb, cond}
-use Rattle.std.specs.Prelude.{if◌then◌else◌, ◌==◌, nat_le}
+use Rattle.std.proofs.Common.{◌≡◌, ℕ, zero, suc, ◌+◌, ◌-◌, ◌<◌, ◌≤◌, List, [], ◌∷◌, length, take, get_or, refl, ap, ◌∙◌, arith, true, false}
+use Rattle.std.specs.Prelude.{if◌then◌else◌, ◌==◌}
 use Rattle.std.proofs.lemmas.Bool.Decides.{nat_tests}
 use Rattle.protox_lex.specs.Faults.{Span}
-use Rattle.protox_generate.specs.Lines.{numbers_at, span_numbers, count_le, last_le, newlines, behind_last, line, column, Found, starts, Rises}
+use Rattle.protox_generate.specs.Lines.{numbers_at, span_numbers, count_le, last_le, newlines, behind_last, line, column, starts, Rises}
 
 pub starts-rise : (i low : ℕ) (bs : List ℕ) → low ≤ i → Rises low (starts i bs)
 starts-rise i low [] h = tt

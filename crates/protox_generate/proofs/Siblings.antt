@@ -1,12 +1,12 @@
 -- The parts of a list of items, one item at a time.
-use Rattle.std.proofs.Common.{◌≡◌, ℕ, ◌+◌, ◌<◌, ◌≤◌, List, [], ◌∷◌, ◌++◌, length, map, sum, take, drop, get_or, refl, ap, sym, ◌∙◌, arith, append_assoc, append-nil, length-append, add-one, suc, Bool, true, false}
-use Rattle.std.specs.Prelude.{if◌then◌else◌, Option, ℤ, Some, pos}
+use Rattle.std.proofs.Common.{◌≡◌, ℕ, ◌+◌, ◌<◌, List, [], ◌∷◌, ◌++◌, length, map, take, drop, get_or, refl, ap, sym, ◌∙◌, arith, append_assoc, append-nil, length-append, add-one, suc}
+use Rattle.std.specs.Prelude.{Option, ℤ, Some, pos}
 use Rattle.std.specs.List.{flat_map}
 use Rattle.std.proofs.lemmas.List.{take_more}
 use Rattle.std.proofs.Math.Seq.{drop-cons}
 use Rattle.protox_generate.specs.Descriptor.{Item, OfField, OfMessage, OfOneof, Other, Parts, parts, each_after, fields_of, nested_of, oneofs_of, count, is_oneof, in_oneof, Gives}
 use Rattle.protox_generate.specs.Pass.{more, with_field, with_fields}
-use Rattle.protox_generate.specs.Bounds.{total, greatest}
+use Rattle.protox_generate.specs.Bounds.{total}
 
 pub each_after-snoc : {A B : Type 0} (f : List A → A → List B) (before xs : List A) (y : A) → each_after f before (xs ++ y ∷ []) ≡ each_after f before xs ++ f (before ++ xs) y
 each_after-snoc f before [] y = rw append-nil (rw append-nil refl)

@@ -7,7 +7,7 @@ use Rattle.protox_lex.specs.Faults.{Span}
 use Rattle.protox_ast.specs.Names.{name_text}
 use Rattle.protox_ast.specs.Types.{scalar_type, named_type}
 use Rattle.protox_ast.specs.Steps.{Steps}
-use Rattle.protox_ast.specs.declared.ast.FieldKind.TheOpen.{Message-F, MessageBody-F, MessageItem-F, Field-F, FieldKind-F, Oneof-F, Extend-F}
+use Rattle.protox_ast.specs.declared.ast.FieldKind.TheOpen.{MessageItem-F, Field-F, FieldKind-F}
 use Rattle.protox_ast.specs.declared.ast.Ty.{Ty}
 use Rattle.protox_ast.specs.declared.ast.Int.{Int}
 use Rattle.protox_ast.specs.declared.ast.FieldLabel.{FieldLabel}

@@ -1,6 +1,6 @@
 -- The descriptor of a file, with its locations. Left out are the constructs that the parser doesn't read yet: enums,
 -- services, extends and options.
-use Rattle.std.specs.Prelude.{ℕ, List, [], ◌∷◌, map, Option, Some, None}
+use Rattle.std.specs.Prelude.{ℕ, List, [], ◌∷◌, map, Some, None}
 use Rattle.std.specs.List.{flat_map}
 use Rattle.protox_ast.specs.Steps.{of_message}
 use Rattle.protox_ast.specs.declared.ast.File.{File}

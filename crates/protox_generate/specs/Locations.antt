@@ -2,7 +2,7 @@
 use Rattle.std.specs.Prelude.{ℕ, ◌+◌, Bool, true, false, List, [], ◌∷◌, ◌++◌, length, map, Option, Some, None, ℤ, pos}
 use Rattle.protox_lex.specs.Faults.{Span}
 use Rattle.protox_ast.specs.Steps.{Steps, of_message}
-use Rattle.protox_ast.specs.declared.ast.FieldKind.TheOpen.{Message-F, MessageBody-F, MessageItem-F, Field-F, FieldKind-F, Oneof-F, Extend-F}
+use Rattle.protox_ast.specs.declared.ast.FieldKind.TheOpen.{MessageItem-F, Field-F, FieldKind-F}
 use Rattle.protox_ast.specs.declared.ast.Ty.{Ty}
 use Rattle.protox_ast.specs.declared.ast.Ty.TheVariants as ty
 use Rattle.protox_ast.specs.declared.ast.Ident.{Ident}

@@ -1,4 +1,4 @@
-use Rattle.std.proofs.Common.{◌≡◌, ◌<◌, ◌∷◌, ◌++◌, [], ℕ, List, length, map, take, arith, ap, sym, ◌∙◌}
+use Rattle.std.proofs.Common.{◌<◌, ◌∷◌, ◌++◌, [], ℕ, List, length, take, arith, ap, sym, ◌∙◌}
 use Rattle.std.proofs.Math.ListN.{length-map}
 use Rattle.protox_ast.specs.declared.ast.Import.{Import}
 use Rattle.protox_generate.specs.Bounds.{import_reach}

@@ -1,4 +1,4 @@
-use Rattle.std.proofs.Common.{◌≡◌, ◌≤◌, map, take, drop, length}
+use Rattle.std.proofs.Common.{◌≡◌, ◌≤◌, map, take, drop}
 use Rattle.std.specs.Prelude.{[]}
 use Rattle.protox_ast.specs.declared.ast.Import.{Import}
 use Rattle.protox_generate.specs.Bounds.{greatest, import_reach}

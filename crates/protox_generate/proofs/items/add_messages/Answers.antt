@@ -1,4 +1,4 @@
-use Rattle.std.proofs.Common.{◌≡◌, ◌<◌, ◌++◌, ◌+◌, length, arith, ap, sym, ◌∙◌}
+use Rattle.std.proofs.Common.{◌<◌, ◌++◌, length, arith, ap, sym, ◌∙◌}
 use Rattle.protox_generate.specs.File.{item_messages}
 use Rattle.protox_generate.specs.Bounds.{file_item_weight, file_item_reach}
 use Rattle.protox_generate.specs.Locations.{item_locations, is_message}

@@ -1,13 +1,12 @@
-use Rattle.std.proofs.Common.{◌≡◌, ◌+◌, ◌++◌, ◌∷◌, [], ◌<◌, ◌≤◌, ℕ, length, map, take, drop, get_or, arith, refl, ap, sym, ◌∙◌, take_all, rules}
+use Rattle.std.proofs.Common.{◌+◌, [], ◌<◌, length, map, take, arith, ap, sym, ◌∙◌, take_all}
 use Rattle.protox_generate.specs.Descriptor.{descriptor_steps, parts, each_after}
-use Rattle.protox_generate.specs.Bounds.{weights, total, reaches, greatest}
+use Rattle.protox_generate.specs.Bounds.{weights, total, reaches}
 use Rattle.protox_generate.specs.Lines.{numbers_at}
 use Rattle.protox_generate.specs.Locations.{location_steps, item_at, fields_from}
-use Rattle.protox_generate.specs.Pass.{Emits, HasRoom, Grows}
 use Rattle.protox_generate.specs.Pass.{view, more, with_field, with_fields}
-use Rattle.protox_ast.specs.Steps.{of_message, of_body, of_item, of_field, of_kind, of_oneof, body-gives, oneof-gives}
+use Rattle.protox_ast.specs.Steps.{of_item, of_field, oneof-gives}
 use Rattle.protox_generate.proofs.Siblings.{parts-snoc, map-take_more, total-drop_more, with_fields-snoc, length-take_more}
-use Rattle.protox_generate.proofs.Emission.{Emits-more, Emits-as, body-emits, oneof-emits, entered, Emits-then, total-take_more, weight-take_more, greatest-drop_more}
+use Rattle.protox_generate.proofs.Emission.{Emits-as, body-emits, oneof-emits, total-take_more, weight-take_more, greatest-drop_more}
 use Rattle.protox_generate.proofs.messages.+messages.Goals as goal
 
 pub body-loop-item-preserved : goal.body-loop-item-preserved

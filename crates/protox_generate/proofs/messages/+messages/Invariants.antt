@@ -1,7 +1,6 @@
-use Rattle.std.proofs.Common.{◌≡◌, ◌≤◌, ◌+◌, ◌++◌, length, map, take, drop}
-use Rattle.std.specs.Prelude.{Some, pos, []}
-use Rattle.std.specs.List.{flat_map}
-use Rattle.protox_generate.specs.Descriptor.{descriptor_steps, parts, in_oneof, each_after}
+use Rattle.std.proofs.Common.{◌≡◌, ◌≤◌, length, map, take, drop}
+use Rattle.std.specs.Prelude.{[]}
+use Rattle.protox_generate.specs.Descriptor.{descriptor_steps, parts, each_after}
 use Rattle.protox_generate.specs.Bounds.{weights, total, reaches, greatest}
 use Rattle.protox_generate.specs.Lines.{numbers_at}
 use Rattle.protox_generate.specs.Locations.{location_steps, item_at, fields_from}

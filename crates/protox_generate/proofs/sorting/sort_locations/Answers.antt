@@ -1,10 +1,10 @@
-use Rattle.std.proofs.Common.{◌≡◌, ap, ◌∙◌, rules}
+use Rattle.std.proofs.Common.{◌≡◌, ap, rules}
 use Rattle.std.specs.Cmp.{IsStrictWeakOrder, int_cmp_total}
 use Rattle.std.specs.Cmp.Lexicographic.{slice_cmp, lists_total}
 use Rattle.std.specs.Ordering.{is_lt, int_cmp}
 use Rattle.std.proofs.lemmas.Fn.{always_returns_same}
 use Rattle.std.proofs.lemmas.List.Sorted.{ranks_by}
-use Rattle.protox_generate.specs.Sorting.{sorted, path_before}
+use Rattle.protox_generate.specs.Sorting.{path_before}
 use Rattle.protox_generate.proofs.SortedOnce.{sorted-once}
 use Rattle.protox_generate.proofs.sorting.sort_locations.Goals as goal
 

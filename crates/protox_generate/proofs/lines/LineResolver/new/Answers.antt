@@ -1,5 +1,4 @@
-use Rattle.std.proofs.Common.{◌≡◌, subst, sym, arith}
-use Rattle.protox_generate.specs.Lines.{Rises, starts}
+use Rattle.std.proofs.Common.{arith}
 use Rattle.protox_generate.proofs.LineFacts.{starts-rise}
 use Rattle.protox_generate.proofs.lines.LineResolver.new.Goals as goal
 

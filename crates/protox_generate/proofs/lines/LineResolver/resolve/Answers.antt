@@ -1,4 +1,4 @@
-use Rattle.std.proofs.Common.{◌≡◌, ◌-◌, sym, ap, ◌∙◌}
+use Rattle.std.proofs.Common.{◌-◌, ap, ◌∙◌}
 use Rattle.std.specs.Prelude.{pos}
 use Rattle.protox_generate.specs.Lines.{count_le, last_le}
 use Rattle.protox_generate.proofs.LineFacts.{line-at, column-at}

@@ -3,3 +3,10 @@ pub mod Numbers
 pub mod Printed
 pub mod Steps
 pub mod Types
+pub mod Tree
+pub mod Spelling
+pub mod Keywords
+pub mod Depth
+pub mod Spells
+pub mod Ast
+pub mod Checks

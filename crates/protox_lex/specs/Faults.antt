@@ -8,6 +8,9 @@ use Rattle.protox_lex.specs.declared.error.ParseErrorKind.TheVariants.{InvalidTo
 abbrev pub Span : Type 0
 Span = Range ℕ
 
+abbrev pub span_from : ℕ → ℕ → Span
+span_from start end = record { start = start; end = end }
+
 -- where a fault is: a fault of two places, of the end of the source or of the whole of it has none
 abbrev pub span_of : ParseErrorKind → Option Span
 span_of (InvalidToken span) = Some span

@@ -3,3 +3,17 @@ pub mod Faults
 pub mod FaultTexts
 pub mod Tokens
 pub mod Printed
+pub mod Pattern
+pub mod Words
+pub mod Lexicon
+pub mod Strings
+pub mod Lexemes
+pub mod State
+pub mod Classes
+pub mod Scanning
+pub mod Found
+pub mod Lexing
+pub mod Pieces
+pub mod Table
+pub mod Grouping
+pub mod TableView

@@ -1,7 +1,9 @@
 //! Tokens, and the words that the grammar of Protocol Buffers names: each constant is its own name
 //! in small letters.
 
+pub use crate::lexer::Lexer;
 pub use crate::token::{EqFloat, Token};
+pub use crate::token_table::{Row, TokenTable};
 
 pub const SYNTAX: &str = "syntax";
 

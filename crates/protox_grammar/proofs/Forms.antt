@@ -1,0 +1,194 @@
+-- The laws of the forms that the grammar is written in.
+use Rattle.std.proofs.Common.{◌≡◌, ℕ, suc, ◌+◌, Bool, true, false, not, ◌&&◌, cond, List, [], ◌∷◌, ◌++◌, length, Option, Some, None, Result, Ok, Err, refl, sym, ap, subst, ◌∙◌, append_assoc, arith, inl, inr, ◌⊎◌}
+use Rattle.std.proofs.lemmas.List.{length-append}
+use Rattle.protox_grammar.specs.Reader.{Refusal, Unexpected}
+use Rattle.protox_lex.specs.Shapes.{Shape, Ident, Mark, Row, Rows}
+use Rattle.protox_grammar.specs.Class.{Set, class, keywords, place, marks, byte_place, apart, within, union, none, only, in_set}
+use Rattle.protox_ast.specs.Spelling.{maybe}
+use Rattle.protox_ast.specs.Keywords.{Given}
+use Rattle.protox_grammar.specs.Reader as reader
+use Rattle.protox_grammar.specs.Reader.{Reader, ◌>>=◌, head_in, is_token}
+use Rattle.protox_grammar.specs.Rule.{Rule, Stops, Starts, fixed, seq, on_sum, nothing, mapped, unless, choice, Closes, to_option, optional, times, named, unstarted}
+use Rattle.protox_grammar.proofs.Takes.{ok_is}
+use Rattle.protox_grammar.proofs.Words.{word-exact, word-back, mark-exact, mark-back}
+use Rattle.protox_grammar.proofs.Sets.{gated, apart-at, starts-then}
+use Rattle.protox_grammar.proofs.Laws.{IsSpelled, ahead-past, fixed-spelled, seq-spelled, either-spelled, nothing-spelled, mapped-spelled, star-spelled, unstarted-spelled, wider}
+use Rattle.protox_grammar.proofs.Reading.{IsRead, Took, Begins, left_of, bind_err, ok-err, err-ok, failed, fixed-read, seq-read, mapped-read, either-read, nothing-read, unstarted-read}
+use Rattle.protox_grammar.proofs.Repeat.{star-read}
+
+-- both kinds of laws
+pub record Lawful {M A : Type 0} (r : Rule M A) (e : Bool) (f g : Set) : Type 0 where
+  pub spelled : IsSpelled r e f g
+  pub read : IsRead r
+
+pub fixed-laws : {M : Type 0} (m : M) (w : Shape) (i : ℕ) → only i (class w) ≡ true → is_token w w ≡ true → ((s : Shape) → is_token w s ≡ true → s ≡ w) → Lawful {M = M} (fixed w) false (only i) none
+fixed-laws m w i h back exact = record { spelled = fixed-spelled w (only i) h; read = fixed-read m w back exact }
+
+pub word-laws : {M : Type 0} (m : M) (w : List ℕ) (i : ℕ) → only i (place keywords w) ≡ true → Lawful {M = M} (fixed (Ident w)) false (only i) none
+word-laws m w i h = fixed-laws m (Ident w) i h (word-back w) (word-exact w)
+
+pub mark-laws : {M : Type 0} (m : M) (s i : ℕ) → only i (42 + byte_place marks s) ≡ true → Lawful {M = M} (fixed (Mark s)) false (only i) none
+mark-laws m s i h = fixed-laws m (Mark s) i h (mark-back s) (mark-exact s)
+
+pub seq-laws : {M A B : Type 0} {a : Rule M A} {b : Rule M B} {ea eb : Bool} {fa ga fb gb : Set} → Lawful a ea fa ga → Lawful b eb fb gb → apart fb ga ≡ true → Lawful (seq a b) (ea && eb) (union fa (gated ea fb)) (union gb (gated eb ga))
+seq-laws {a = a} {b = b} {ea = ea} {eb = eb} {fa = fa} {ga = ga} {fb = fb} {gb = gb} la lb d = record {
+  spelled = seq-spelled a b ea eb fa ga fb gb la.spelled lb.spelled d;
+  read = seq-read a b ea fa ga la.spelled la.read lb.read;
+}
+
+pub mapped-laws : {M A B : Type 0} {b : Rule M B} {e : Bool} {f g : Set} (to : B → A) (from : A → B) → ((t : A) → to (from t) ≡ t) → ((t : B) → from (to t) ≡ t) → Lawful b e f g → Lawful (mapped to from b) e f g
+mapped-laws {b = b} {e = e} {f = f} {g = g} to from back there l = record {
+  spelled = mapped-spelled to from b e f g back l.spelled;
+  read = mapped-read to from b back there l.read;
+}
+
+-- the second may begin as the first does: some tree of it doesn't
+pub unless-laws : {M A B : Type 0} {a : Rule M A} {b : Rule M B} {eb : Bool} {fa ga fb gb : Set} (P : Set) → Lawful a false fa ga → within fa P ≡ true → Lawful b eb fb gb → (some : B) → b.may some → Stops P (b.spell some) → Lawful (unless P a b) eb (union fa fb) (union ga (union gb (gated eb P)))
+unless-laws {a = a} {b = b} {eb = eb} {fa = fa} {ga = ga} {fb = fb} {gb = gb} P la w lb some m s = record {
+  spelled = either-spelled (in_set P) P a b eb fa ga fb gb la.spelled lb.spelled w;
+  read = either-read (in_set P) P a b (λ s. refl) fa ga la.spelled w la.read lb.read some m s;
+}
+
+-- a rule that says the same otherwise
+module _ {M A : Type 0} {r : Rule M A} {e : Bool} {f g : Set} (spell : A → Rows M) (may fits : A → Type 0) (ends : A → Rows M → Type 0)
+    (spelled : (t : A) → spell t ≡ r.spell t) (obeys : (t : A) → may t → r.may t) (allows : (t : A) → r.may t → may t)
+    (fits_obeys : (t : A) → fits t → r.fits t) (fits_allows : (t : A) → r.fits t → fits t)
+    (ends_obeys : (t : A) (z : Rows M) → ends t z → r.ends t z) (ends_allows : (t : A) (z : Rows M) → r.ends t z → ends t z)
+    (l : Lawful r e f g) where
+  abbrev again_said : Rule M A
+  again_said = record { spell = spell; may = may; fits = fits; ends = ends; read = r.read }
+
+  took : (xs : Rows M) (x : A × Rows M) → Took r xs x → Took again_said xs x
+  took xs x k = record { parts = k.parts ∙ ap (λ u. u ++ x.1) (sym (spelled x.0)); fits = fits_allows x.0 k.fits; ends = ends_allows x.0 x.1 k.ends }
+
+  begins : (xs : Rows M) (n : ℕ) → Begins r xs n → Begins again_said xs n
+  begins xs n v = record { front = v.front; rest = v.rest; parts = v.parts; left_is = v.left_is; tree = v.tree; tree_may = allows v.tree v.tree_may; more = v.more; goes_on = spelled v.tree ∙ v.goes_on }
+
+  pub said-laws : Lawful again_said e f g
+  said-laws = record {
+    spelled = record {
+      starts = λ t z h. rw (spelled t) (l.spelled.starts t z (ends_obeys t z h));
+      follow = λ t z m s. ends_allows t z (l.spelled.follow t z (obeys t m) s);
+      ahead = λ t s y z h. ends_allows t (s ∷ z) (l.spelled.ahead t s y z (ends_obeys t (s ∷ y) h));
+      once = λ t u y z p q h. l.spelled.once t u y z (ends_obeys t y p) (ends_obeys u z q) (ap (λ v. v ++ y) (sym (spelled t)) ∙ h ∙ ap (λ v. v ++ z) (spelled u));
+    };
+    read = record {
+      some = l.read.some;
+      some_may = allows l.read.some l.read.some_may;
+      within = λ t h. allows t (l.read.within t (fits_obeys t h));
+      takes = λ xs x h. took xs x (l.read.takes xs x h);
+      again = λ t z h k. rw (spelled t) (l.read.again t z (fits_obeys t h) (ends_obeys t z k));
+      viable = λ xs h k. begins xs _ (l.read.viable xs h k);
+      tight = λ front s rest h t z more k j. l.read.tight front s rest h t z more (ends_obeys t z k) (ap (λ v. v ++ z) (sym (spelled t)) ∙ j);
+      short = λ xs h t z k j. l.read.short xs h t z (ends_obeys t z k) (ap (λ v. v ++ z) (sym (spelled t)) ∙ j);
+    };
+  }
+
+-- under a plain spelling and a plain condition
+pub named-laws : {M A B : Type 0} {b : Rule M B} {e : Bool} {f g : Set} (spell : A → Rows M) (keeps : A → Type 0) (to : B → A) (from : A → B)
+    → ((t : A) → to (from t) ≡ t) → ((t : B) → from (to t) ≡ t) → ((t : A) → spell t ≡ b.spell (from t))
+    → ((t : A) → keeps t → b.may (from t)) → ((t : A) → b.may (from t) → keeps t) → ((t : B) → b.may t → b.fits t)
+    → Lawful b e f g → Lawful (named spell keeps to from b) e f g
+named-laws {b = b} spell keeps to from back there spelled obeys allows whole l =
+    said-laws spell keeps keeps (λ t z. b.ends (from t) z) spelled obeys allows (λ t h. whole (from t) (obeys t h)) (λ t h. allows t (l.read.within (from t) h)) (λ t z h. h) (λ t z h. h) (mapped-laws to from back there l)
+
+stops-of : {M : Type 0} (e : Bool) (f P : Set) → apart f P ≡ true → (ys : Rows M) → Starts e f ys → Stops P ys
+stops-of e f P d [] h = tt
+stops-of e f P d (y ∷ ys) h = apart-at f P d y.shape h
+
+-- the second never begins as the first
+pub never-begins : {M B : Type 0} {b : Rule M B} {eb : Bool} {fb gb : Set} (P : Set) → apart fb P ≡ true → Lawful b eb fb gb → (t : B) → b.may t → Stops P (b.spell t)
+never-begins {b = b} {eb = eb} {fb = fb} P d lb t h = stops-of eb fb P d (b.spell t) (lb.spelled.starts t [] (lb.spelled.follow t [] h tt))
+
+pub choice-laws : {M A B : Type 0} {a : Rule M A} {b : Rule M B} {eb : Bool} {fa ga fb gb : Set} (P : Set) → Lawful a false fa ga → within fa P ≡ true → Lawful b eb fb gb → apart fb P ≡ true → Lawful (choice P a b) eb (union fa fb) (union ga (union gb (gated eb P)))
+choice-laws {M} {A} {B} {a = a} {b = b} P la w lb d =
+    said-laws {r = unless P a b} (on_sum a.spell b.spell) (on_sum a.may b.may) (on_sum a.fits b.fits) (on_sum a.ends (λ t z. b.ends t z × Stops P (b.spell t ++ z)))
+    (λ t. refl) obeys allows fits_obeys fits_allows (λ t z h. h) (λ t z h. h)
+    (unless-laws P la w lb lb.read.some lb.read.some_may (never-begins P d lb lb.read.some lb.read.some_may))
+  where
+    obeys : (t : A ⊎ B) → on_sum a.may b.may t → on_sum a.may (λ u. b.may u × Stops P (b.spell u)) t
+    obeys (inl t) h = h
+    obeys (inr t) h = (h, never-begins P d lb t h)
+
+    allows : (t : A ⊎ B) → on_sum a.may (λ u. b.may u × Stops P (b.spell u)) t → on_sum a.may b.may t
+    allows (inl t) h = h
+    allows (inr t) h = h.0
+
+    fits_obeys : (t : A ⊎ B) → on_sum a.fits b.fits t → on_sum a.fits (λ u. b.fits u × Stops P (b.spell u)) t
+    fits_obeys (inl t) h = h
+    fits_obeys (inr t) h = (h, never-begins P d lb t (lb.read.within t h))
+
+    fits_allows : (t : A ⊎ B) → on_sum a.fits (λ u. b.fits u × Stops P (b.spell u)) t → on_sum a.fits b.fits t
+    fits_allows (inl t) h = h
+    fits_allows (inr t) h = h.0
+
+pub nothing-laws : {M : Type 0} → Lawful {M = M} nothing true none none
+nothing-laws = record { spelled = nothing-spelled; read = nothing-read }
+
+of_option : {A : Type 0} → Option A → A ⊎ Unit {0}
+of_option (Some a) = inl a
+of_option None = inr tt
+
+option-back : {A : Type 0} (t : Option A) → to_option (of_option t) ≡ t
+unfolding of_option
+option-back (Some a) = refl
+option-back None = refl
+
+option-there : {A : Type 0} (t : A ⊎ Unit {0}) → of_option (to_option t) ≡ t
+unfolding of_option
+option-there (inl a) = refl
+option-there (inr u) = refl
+
+pub optional-laws : {M A : Type 0} {a : Rule M A} {fa ga : Set} (P : Set) → Lawful a false fa ga → within fa P ≡ true → Lawful (optional P a) true (union fa none) (union ga (union none (gated true P)))
+unfolding of_option
+optional-laws {M} {A} {a = a} P la w =
+    said-laws {r = mapped to_option of_option (unless P a nothing)} (maybe a.spell) (Given a.may) (Given a.fits) (Closes a.ends P) spelled obeys allows fits_obeys fits_allows ends_obeys ends_allows
+    (mapped-laws to_option of_option option-back option-there (unless-laws P la w nothing-laws tt tt tt))
+  where
+    spelled : (t : Option A) → maybe a.spell t ≡ on_sum a.spell nothing.spell (of_option t)
+    spelled (Some t) = refl
+    spelled None = refl
+
+    obeys : (t : Option A) → Given a.may t → (unless P a nothing).may (of_option t)
+    obeys (Some t) h = h
+    obeys None h = (tt, tt)
+
+    allows : (t : Option A) → (unless P a nothing).may (of_option t) → Given a.may t
+    allows (Some t) h = h
+    allows None h = tt
+
+    fits_obeys : (t : Option A) → Given a.fits t → (unless P a nothing).fits (of_option t)
+    fits_obeys (Some t) h = h
+    fits_obeys None h = (tt, tt)
+
+    fits_allows : (t : Option A) → (unless P a nothing).fits (of_option t) → Given a.fits t
+    fits_allows (Some t) h = h
+    fits_allows None h = tt
+
+    ends_obeys : (t : Option A) (z : Rows M) → Closes a.ends P t z → (unless P a nothing).ends (of_option t) z
+    ends_obeys (Some t) z h = h
+    ends_obeys None z h = (tt, h)
+
+    ends_allows : (t : Option A) (z : Rows M) → (unless P a nothing).ends (of_option t) z → Closes a.ends P t z
+    ends_allows (Some t) z h = h
+    ends_allows None z h = h.1
+
+pub times-laws : {M A : Type 0} {a : Rule M A} {fa ga : Set} (P : Set) → Lawful a false fa ga → within fa P ≡ true → apart fa ga ≡ true → Lawful (times P a) true fa (union P ga)
+times-laws {a = a} {fa = fa} {ga = ga} P la w d = record {
+  spelled = star-spelled (in_set P) P a fa ga la.spelled w d;
+  read = star-read (in_set P) P a (λ s. refl) fa ga la.spelled w la.read;
+}
+
+pub wide : {M A : Type 0} {r : Rule M A} {e : Bool} {f g : Set} (f' g' : Set) → Lawful r e f g → within f f' ≡ true → within g g' ≡ true → Lawful r e f' g'
+wide {r = r} {e = e} {f = f} {g = g} f' g' l wf wg = record { spelled = wider r e f g f' g' wf wg l.spelled; read = l.read }
+
+pub stops-none : {M : Type 0} (z : Rows M) → Stops none z
+stops-none [] = tt
+stops-none (z ∷ zs) = refl
+
+-- one that doesn't begin with a token of a set: some tree doesn't
+pub unstarted-laws : {M B : Type 0} {b : Rule M B} {eb : Bool} {fb gb : Set} (P : Set) → Lawful b eb fb gb → (some : B) → b.may some → Stops P (b.spell some) → Lawful (unstarted P b) eb fb (union gb (gated eb P))
+unstarted-laws {b = b} {eb = eb} {fb = fb} {gb = gb} P l some m s = record {
+  spelled = unstarted-spelled P b eb fb gb l.spelled;
+  read = unstarted-read P b eb fb gb l.spelled l.read some m s;
+}

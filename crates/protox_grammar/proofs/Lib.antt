@@ -1,0 +1,14 @@
+pub mod Takes
+pub mod Words
+pub mod Sets
+pub mod Laws
+pub mod Reading
+pub mod Repeat
+pub mod Begin
+pub mod Forms
+pub mod Parts
+pub mod Messages
+pub mod Main
+pub mod Loops
+pub mod Shows
+pub mod Tests

@@ -1,0 +1,556 @@
+-- The laws of reading.
+use Rattle.std.proofs.Common.{◌≡◌, ℕ, suc, Bool, true, false, cond, List, [], ◌∷◌, ◌++◌, length, Option, Some, None, Result, Ok, Err, refl, sym, ap, subst, ◌∙◌, append_assoc, arith, inl, inr, ◌⊎◌}
+use Rattle.std.proofs.lemmas.List.{length-append}
+use Rattle.protox_grammar.specs.Reader.{Refusal, Unexpected}
+use Rattle.protox_lex.specs.Shapes.{Shape, Row, Rows}
+use Rattle.protox_grammar.specs.Class.{Set, class, within, in_set}
+use Rattle.protox_grammar.specs.Reader as reader
+use Rattle.protox_grammar.specs.Reader.{◌>>=◌, head_in, is_token}
+use Rattle.protox_grammar.specs.Rule.{Rule, Stops, Starts, row, fixed, leaf, seq, on_sum, either, nothing, mapped, unstarted}
+use Rattle.protox_grammar.proofs.Takes.{bind_ok, ok_is}
+use Rattle.protox_grammar.proofs.Laws.{IsSpelled, head-same, ahead-past}
+use Rattle.protox_grammar.proofs.Sets.{stops-front, starts-within}
+
+-- how many rows are left where the fault stands
+abbrev pub left_of : Refusal → ℕ
+left_of (Unexpected n) = n
+
+-- the rows before a fault begin a tree
+pub record Begins {M A : Type 0} (r : Rule M A) (xs : Rows M) (left : ℕ) : Type 0 where
+  pub front : Rows M
+  pub rest : Rows M
+  pub parts : xs ≡ front ++ rest
+  pub left_is : left ≡ length rest
+  pub tree : A
+  pub tree_may : r.may tree
+  pub more : Rows M
+  pub goes_on : r.spell tree ≡ front ++ more
+
+-- what was read
+pub record Took {M A : Type 0} (r : Rule M A) (xs : Rows M) (x : A × Rows M) : Type 0 where
+  pub parts : xs ≡ r.spell x.0 ++ x.1
+  pub fits : r.fits x.0
+  pub ends : r.ends x.0 x.1
+
+pub record IsRead {M A : Type 0} (r : Rule M A) : Type 0 where
+  pub some : A
+  pub some_may : r.may some
+  pub within : (t : A) → r.fits t → r.may t
+  pub takes : (xs : Rows M) (x : A × Rows M) → r.read xs ≡ Ok x → Took r xs x
+  pub again : (t : A) (z : Rows M) → r.fits t → r.ends t z → r.read (r.spell t ++ z) ≡ Ok (t, z)
+  pub viable : (xs : Rows M) (e : Refusal) → r.read xs ≡ Err e → Begins r xs (left_of e)
+  -- no tree goes on with a row that was not expected
+  pub tight : (front : Rows M) (s : Row M) (rest : Rows M) → r.read (front ++ (s ∷ rest)) ≡ Err (Unexpected (suc (length rest)))
+      → (t : A) (z more : Rows M) → r.ends t z → r.spell t ++ z ≡ front ++ (s ∷ more) → ⊥
+  -- and where the rows ended too soon, no tree has all of them
+  pub short : (xs : Rows M) → r.read xs ≡ Err (Unexpected 0) → (t : A) (z : Rows M) → r.ends t z → r.spell t ++ z ≡ xs → ⊥
+
+abbrev pub failed : (A : Type 0) → Refusal → Result A Refusal
+failed A e = Err e
+
+pub bind_err : {A B : Type 0} (r : Result A Refusal) (f : A → Result B Refusal) (e : Refusal) → (r >>= f) ≡ Err e → (r ≡ Err e) ⊎ ((x : A) × (r ≡ Ok x) × (f x ≡ Err e))
+bind_err (Ok x) f e h = inr (x, refl, h)
+bind_err (Err d) f e h = inl (err-again d e h)
+  where
+    err-again : {A B : Type 0} (d e : Refusal) → failed B d ≡ failed B e → failed A d ≡ failed A e
+    err-again d e h = cc
+
+-- two cuts of one list, with tails of one length
+pub cut-same : {A : Type 0} (ys zs xs ws : List A) → ys ++ xs ≡ zs ++ ws → length xs ≡ length ws → (ys ≡ zs) × (xs ≡ ws)
+cut-same [] [] xs ws e l = (refl, e)
+cut-same [] (z ∷ zs) xs ws e l = absurd (omega (arith, ap length e, length-append zs ws, l))
+cut-same (y ∷ ys) [] xs ws e l = absurd (omega (arith, ap length e, length-append ys xs, l))
+cut-same (y ∷ ys) (z ∷ zs) xs ws e l =
+    let h = head-same y z (ys ++ xs) (zs ++ ws) e in
+    let k = cut-same ys zs xs ws h.1 l in
+    (cons-same y z ys zs h.0 k.0, k.1)
+  where
+    cons-same : {B : Type 0} (a b : B) (cs bs : List B) → a ≡ b → cs ≡ bs → a ∷ cs ≡ b ∷ bs
+    cons-same a b cs bs p q = cc
+
+-- at once, with a tree that begins otherwise
+abbrev pub at_once : {M A : Type 0} (r : Rule M A) (xs : Rows M) (t : A) → r.may t → (n : ℕ) → n ≡ length xs → Begins r xs n
+at_once r xs t m n e = record { front = []; rest = xs; parts = refl; left_is = e; tree = t; tree_may = m; more = r.spell t; goes_on = refl }
+
+pub err-left : {A : Type 0} (n : ℕ) (e : Refusal) → failed A (Unexpected n) ≡ failed A e → left_of e ≡ n
+err-left n e h = let same : Unexpected n ≡ e = cc in sym (ap left_of same)
+
+pub ok-err : {A : Type 0} (x : A) (e : Refusal) → Ok x ≡ Err e → ⊥
+ok-err x e h = absurd cc
+
+pub err-ok : {A : Type 0} (x : A) (e : Refusal) → Err e ≡ Ok x → ⊥
+err-ok x e h = absurd cc
+
+module _ {M : Type 0} (m0 : M) (w : Shape) (back : is_token w w ≡ true) (exact : (s : Shape) → is_token w s ≡ true → s ≡ w) where
+  fixed-took : (r : Row M) (rs : Rows M) (b : Bool) (x : M × Rows M) (f : Refusal) → is_token w r.shape ≡ b → cond b (Ok (r.at, rs)) (Err f) ≡ Ok x → Took (fixed w) (r ∷ rs) x
+  fixed-took r rs true x f h e =
+      let same = ok_is (r.at, rs) x e in
+      let shape-is : r.shape ≡ w = exact r.shape h in
+      let parts : r ∷ rs ≡ row w r.at ∷ rs = ap (λ s. row s r.at ∷ rs) shape-is in
+      subst (Took (fixed w) (r ∷ rs)) same (record { parts = parts; fits = tt; ends = tt })
+  fixed-took r rs false x f h e = absurd (err-ok x f e)
+
+  fixed-takes : (xs : Rows M) (x : M × Rows M) → reader.fixed w xs ≡ Ok x → Took (fixed w) xs x
+  unfolding reader.fixed
+  fixed-takes [] x e = absurd (err-ok x _ e)
+  fixed-takes (r ∷ rs) x e = fixed-took r rs (is_token w r.shape) x _ refl e
+
+  fixed-again : (t : M) (z : Rows M) → reader.fixed w (row w t ∷ z) ≡ Ok (t, z)
+  unfolding reader.fixed
+  fixed-again t z = rw back refl
+
+  fixed-fault : (r : Row M) (rs : Rows M) (b : Bool) (e : Refusal) → cond {A = Result (M × Rows M) Refusal} b (Ok (r.at, rs)) (Err (Unexpected (length (r ∷ rs)))) ≡ Err e → left_of e ≡ length (r ∷ rs)
+  fixed-fault r rs true e h = absurd (ok-err (r.at, rs) e h)
+  fixed-fault r rs false e h = err-left (length (r ∷ rs)) e h
+
+  fixed-viable : (xs : Rows M) (e : Refusal) → reader.fixed w xs ≡ Err e → Begins (fixed w) xs (left_of e)
+  unfolding reader.fixed
+  fixed-viable [] e h = at_once (fixed w) [] m0 tt (left_of e) (err-left {A = M × Rows M} 0 e h)
+  fixed-viable (r ∷ rs) e h = at_once (fixed w) (r ∷ rs) m0 tt (left_of e) (fixed-fault r rs (is_token w r.shape) e h)
+
+  fixed-other : (s : Row M) (rs : Rows M) (b : Bool) (e f : Refusal) → is_token w s.shape ≡ b → cond {A = Result (M × Rows M) Refusal} b (Ok (s.at, rs)) (Err f) ≡ Err e → is_token w s.shape ≡ false
+  fixed-other s rs true e f k h = absurd (ok-err (s.at, rs) e h)
+  fixed-other s rs false e f k h = k
+
+  fixed-tight : (front : Rows M) (s : Row M) (rest : Rows M) → reader.fixed w (front ++ (s ∷ rest)) ≡ Err (Unexpected (suc (length rest))) → (t : M) (z more : Rows M) → row w t ∷ z ≡ front ++ (s ∷ more) → ⊥
+  unfolding reader.fixed
+  fixed-tight [] s rest h t z more e =
+      let same = ap (λ r. r.shape) (head-same (row w t) s z more e).0 in
+      let no = fixed-other s rest (is_token w s.shape) _ _ refl h in
+      differ (is_token w s.shape) (subst (λ v. is_token w v ≡ true) same back) no
+    where
+      differ : (b : Bool) → b ≡ true → b ≡ false → ⊥
+      differ true p q = absurd cc
+      differ false p q = absurd cc
+  fixed-tight (f ∷ fs) s rest h t z more e =
+      let n = fixed-fault f (fs ++ (s ∷ rest)) (is_token w f.shape) (Unexpected (suc (length rest))) h in
+      omega (arith, n, length-append fs (s ∷ rest))
+
+  fixed-short : (xs : Rows M) → reader.fixed w xs ≡ Err (Unexpected 0) → (t : M) (z : Rows M) → row w t ∷ z ≡ xs → ⊥
+  unfolding reader.fixed
+  fixed-short [] h t z e = absurd cc
+  fixed-short (r ∷ rs) h t z e = let n = fixed-fault r rs (is_token w r.shape) (Unexpected 0) h in omega (arith, n)
+
+  pub fixed-read : IsRead {M = M} (fixed w)
+  fixed-read = record {
+    some = m0;
+    some_may = tt;
+    within = λ t h. tt;
+    takes = fixed-takes;
+    again = λ t z h k. fixed-again t z;
+    viable = fixed-viable;
+    tight = λ front s rest h t z more k e. fixed-tight front s rest h t z more e;
+    short = λ xs h t z k e. fixed-short xs h t z e;
+  }
+
+module _ {M X : Type 0} (some : X × M) (see : Shape → Option X) (shape : X → Shape) (back : (x : X) → see (shape x) ≡ Some x) (exact : (s : Shape) (x : X) → see s ≡ Some x → s ≡ shape x) where
+  leaf-took : (r : Row M) (rs : Rows M) (o : Option X) (x : (X × M) × Rows M) → see r.shape ≡ o → reader.seen r rs o ≡ Ok x → Took (leaf see shape) (r ∷ rs) x
+  leaf-took r rs (Some v) x h e =
+      let parts : r ∷ rs ≡ row (shape v) r.at ∷ rs = ap (λ s. row s r.at ∷ rs) (exact r.shape v h) in
+      subst (Took (leaf see shape) (r ∷ rs)) (ok_is ((v, r.at), rs) x e) (record { parts = parts; fits = tt; ends = tt })
+  leaf-took r rs None x h e = absurd (err-ok x _ e)
+
+  leaf-takes : (xs : Rows M) (x : (X × M) × Rows M) → reader.leaf see xs ≡ Ok x → Took (leaf see shape) xs x
+  unfolding reader.leaf
+  leaf-takes [] x e = absurd (err-ok x _ e)
+  leaf-takes (r ∷ rs) x e = leaf-took r rs (see r.shape) x refl e
+
+  leaf-again : (t : X × M) (z : Rows M) → reader.leaf see (row (shape t.0) t.1 ∷ z) ≡ Ok (t, z)
+  unfolding reader.leaf
+  leaf-again t z = rw (back t.0) refl
+
+  leaf-fault : (r : Row M) (rs : Rows M) (o : Option X) (e : Refusal) → reader.seen r rs o ≡ Err e → left_of e ≡ length (r ∷ rs)
+  leaf-fault r rs (Some v) e h = absurd (ok-err ((v, r.at), rs) e h)
+  leaf-fault r rs None e h = err-left (length (r ∷ rs)) e h
+
+  leaf-viable : (xs : Rows M) (e : Refusal) → reader.leaf see xs ≡ Err e → Begins (leaf see shape) xs (left_of e)
+  unfolding reader.leaf
+  leaf-viable [] e h = at_once (leaf see shape) [] some tt (left_of e) (err-left {A = (X × M) × Rows M} 0 e h)
+  leaf-viable (r ∷ rs) e h = at_once (leaf see shape) (r ∷ rs) some tt (left_of e) (leaf-fault r rs (see r.shape) e h)
+
+  leaf-tight : (front : Rows M) (s : Row M) (rest : Rows M) → reader.leaf see (front ++ (s ∷ rest)) ≡ Err (Unexpected (suc (length rest))) → (t : X × M) (z more : Rows M) → row (shape t.0) t.1 ∷ z ≡ front ++ (s ∷ more) → ⊥
+  unfolding reader.leaf
+  leaf-tight [] s rest h t z more e =
+      let same : shape t.0 ≡ s.shape = ap (λ r. r.shape) (head-same (row (shape t.0) t.1) s z more e).0 in
+      ok-err ((t.0, s.at), rest) (Unexpected (suc (length rest))) (ap (reader.seen s rest) (sym (ap see (sym same) ∙ back t.0)) ∙ h)
+  leaf-tight (f ∷ fs) s rest h t z more e =
+      let n = leaf-fault f (fs ++ (s ∷ rest)) (see f.shape) (Unexpected (suc (length rest))) h in
+      omega (arith, n, length-append fs (s ∷ rest))
+
+  leaf-short : (xs : Rows M) → reader.leaf see xs ≡ Err (Unexpected 0) → (t : X × M) (z : Rows M) → row (shape t.0) t.1 ∷ z ≡ xs → ⊥
+  unfolding reader.leaf
+  leaf-short [] h t z e = absurd cc
+  leaf-short (r ∷ rs) h t z e = let n = leaf-fault r rs (see r.shape) (Unexpected 0) h in omega (arith, n)
+
+  pub leaf-read : IsRead {M = M} (leaf see shape)
+  leaf-read = record {
+    some = some;
+    some_may = tt;
+    within = λ t h. tt;
+    takes = leaf-takes;
+    again = λ t z h k. leaf-again t z;
+    viable = leaf-viable;
+    tight = λ front s rest h t z more k e. leaf-tight front s rest h t z more e;
+    short = λ xs h t z k e. leaf-short xs h t z e;
+  }
+
+module _ {M A B : Type 0} (a : Rule M A) (b : Rule M B) (ea : Bool) (fa ga : Set) (la : IsSpelled a ea fa ga) (ra : IsRead a) (rb : IsRead b) where
+  seq-takes : (xs : Rows M) (x : (A × B) × Rows M) → reader.seq a.read b.read xs ≡ Ok x → Took (seq a b) xs x
+  seq-takes xs x e =
+      let p = bind_ok (a.read xs) (λ v. b.read v.1 >>= λ y. Ok ((v.0, y.0), y.1)) x e in
+      let q = bind_ok (b.read p.0.1) (λ y. Ok ((p.0.0, y.0), y.1)) x p.2 in
+      let ta = ra.takes xs p.0 p.1 in
+      let tb = rb.takes p.0.1 q.0 q.1 in
+      let made : (A × B) × Rows M = ((p.0.0, q.0.0), q.0.1) in
+      subst (Took (seq a b) xs) (ok_is made x q.2) (record {
+        parts = ta.parts ∙ ap (λ v. a.spell p.0.0 ++ v) tb.parts ∙ sym (append_assoc (a.spell p.0.0) (b.spell q.0.0) q.0.1);
+        fits = (ta.fits, tb.fits);
+        ends = (subst (a.ends p.0.0) tb.parts ta.ends, tb.ends);
+      })
+
+  seq-again : (t : A × B) (z : Rows M) → a.fits t.0 × b.fits t.1 → a.ends t.0 (b.spell t.1 ++ z) × b.ends t.1 z → reader.seq a.read b.read ((a.spell t.0 ++ b.spell t.1) ++ z) ≡ Ok (t, z)
+  seq-again t z f e = rw (append_assoc (a.spell t.0) (b.spell t.1) z, ra.again t.0 (b.spell t.1 ++ z) f.0 e.0, rb.again t.1 z f.1 e.1) refl
+
+  seq-begins-first : (xs : Rows M) (n : ℕ) → Begins a xs n → Begins (seq a b) xs n
+  seq-begins-first xs n v = record {
+    front = v.front;
+    rest = v.rest;
+    parts = v.parts;
+    left_is = v.left_is;
+    tree = (v.tree, rb.some);
+    tree_may = (v.tree_may, rb.some_may);
+    more = v.more ++ b.spell rb.some;
+    goes_on = ap (λ u. u ++ b.spell rb.some) v.goes_on ∙ append_assoc v.front v.more (b.spell rb.some);
+  }
+
+  seq-begins-second : (xs : Rows M) (x : A × Rows M) (n : ℕ) → Took a xs x → Begins b x.1 n → Begins (seq a b) xs n
+  seq-begins-second xs x n ta v = record {
+    front = a.spell x.0 ++ v.front;
+    rest = v.rest;
+    parts = ta.parts ∙ ap (λ u. a.spell x.0 ++ u) v.parts ∙ sym (append_assoc (a.spell x.0) v.front v.rest);
+    left_is = v.left_is;
+    tree = (x.0, v.tree);
+    tree_may = (ra.within x.0 ta.fits, v.tree_may);
+    more = v.more;
+    goes_on = ap (λ u. a.spell x.0 ++ u) v.goes_on ∙ sym (append_assoc (a.spell x.0) v.front v.more);
+  }
+
+  seq-viable : (xs : Rows M) (e : Refusal) → reader.seq a.read b.read xs ≡ Err e → Begins (seq a b) xs (left_of e)
+  seq-viable xs e h = elim (bind_err (a.read xs) (λ v. b.read v.1 >>= λ y. Ok ((v.0, y.0), y.1)) e h) [
+    | inl k ↦ seq-begins-first xs (left_of e) (ra.viable xs e k)
+    | inr p ↦ elim (bind_err (b.read p.0.1) (λ y. Ok ((p.0.0, y.0), y.1)) e p.2) [
+      | inl k ↦ seq-begins-second xs p.0 (left_of e) (ra.takes xs p.0 p.1) (rb.viable p.0.1 e k)
+      | inr q ↦ absurd (ok-err _ e q.2)
+    ]
+  ]
+
+  -- the second part fails: the first part is that of every tree, so that the second goes on with the row
+  seq-tight-second : (front : Rows M) (s : Row M) (rest : Rows M) (x : A × Rows M) → Took a (front ++ (s ∷ rest)) x → b.read x.1 ≡ Err (Unexpected (suc (length rest)))
+      → (t : A × B) (z more : Rows M) → a.ends t.0 (b.spell t.1 ++ z) × b.ends t.1 z → (a.spell t.0 ++ b.spell t.1) ++ z ≡ front ++ (s ∷ more) → ⊥
+  seq-tight-second front s rest x ta k t z more e h =
+      let v = rb.viable x.1 _ k in
+      let cut = cut-same front (a.spell x.0 ++ v.front) (s ∷ rest) v.rest (ta.parts ∙ ap (λ u. a.spell x.0 ++ u) v.parts ∙ sym (append_assoc (a.spell x.0) v.front v.rest)) v.left_is in
+      let ys-is : x.1 ≡ v.front ++ (s ∷ rest) = v.parts ∙ ap (λ u. v.front ++ u) (sym cut.1) in
+      let same : a.spell t.0 ++ (b.spell t.1 ++ z) ≡ a.spell x.0 ++ (v.front ++ (s ∷ more)) =
+      sym (append_assoc (a.spell t.0) (b.spell t.1) z) ∙ h ∙ ap (λ u. u ++ (s ∷ more)) cut.0 ∙ append_assoc (a.spell x.0) v.front (s ∷ more) in
+      let one = la.once t.0 x.0 (b.spell t.1 ++ z) (v.front ++ (s ∷ more)) e.0 (ahead-past la x.0 v.front s rest more (subst (a.ends x.0) ys-is ta.ends)) same in
+      rb.tight v.front s rest (subst (λ u. b.read u ≡ Err (Unexpected (suc (length rest)))) ys-is k) t.1 z more e.1 one.1
+
+  seq-tight : (front : Rows M) (s : Row M) (rest : Rows M) → reader.seq a.read b.read (front ++ (s ∷ rest)) ≡ Err (Unexpected (suc (length rest)))
+      → (t : A × B) (z more : Rows M) → a.ends t.0 (b.spell t.1 ++ z) × b.ends t.1 z → (a.spell t.0 ++ b.spell t.1) ++ z ≡ front ++ (s ∷ more) → ⊥
+  seq-tight front s rest h t z more e k = elim (bind_err (a.read (front ++ (s ∷ rest))) (λ v. b.read v.1 >>= λ y. Ok ((v.0, y.0), y.1)) _ h) [
+    | inl l ↦ ra.tight front s rest l t.0 (b.spell t.1 ++ z) more e.0 (sym (append_assoc (a.spell t.0) (b.spell t.1) z) ∙ k)
+    | inr p ↦ elim (bind_err (b.read p.0.1) (λ y. Ok ((p.0.0, y.0), y.1)) _ p.2) [
+      | inl l ↦ seq-tight-second front s rest p.0 (ra.takes (front ++ (s ∷ rest)) p.0 p.1) l t z more e k
+      | inr q ↦ absurd (ok-err _ _ q.2)
+    ]
+  ]
+
+  seq-short : (xs : Rows M) → reader.seq a.read b.read xs ≡ Err (Unexpected 0) → (t : A × B) (z : Rows M) → a.ends t.0 (b.spell t.1 ++ z) × b.ends t.1 z → (a.spell t.0 ++ b.spell t.1) ++ z ≡ xs → ⊥
+  seq-short xs h t z e k = elim (bind_err (a.read xs) (λ v. b.read v.1 >>= λ y. Ok ((v.0, y.0), y.1)) _ h) [
+    | inl l ↦ ra.short xs l t.0 (b.spell t.1 ++ z) e.0 (sym (append_assoc (a.spell t.0) (b.spell t.1) z) ∙ k)
+    | inr p ↦ elim (bind_err (b.read p.0.1) (λ y. Ok ((p.0.0, y.0), y.1)) _ p.2) [
+      | inl l ↦
+          let ta = ra.takes xs p.0 p.1 in
+          let one = la.once t.0 p.0.0 (b.spell t.1 ++ z) p.0.1 e.0 ta.ends (sym (append_assoc (a.spell t.0) (b.spell t.1) z) ∙ k ∙ ta.parts) in
+          rb.short p.0.1 l t.1 z e.1 one.1
+      | inr q ↦ absurd (ok-err _ _ q.2)
+    ]
+  ]
+
+  pub seq-read : IsRead (seq a b)
+  seq-read = record {
+    some = (ra.some, rb.some);
+    some_may = (ra.some_may, rb.some_may);
+    within = λ t h. (ra.within t.0 h.0, rb.within t.1 h.1);
+    takes = seq-takes;
+    again = seq-again;
+    viable = seq-viable;
+    tight = seq-tight;
+    short = seq-short;
+  }
+
+-- ---- names
+
+pub took-mapped : {M A B : Type 0} (to : B → A) (from : A → B) (b : Rule M B) (there : (t : B) → from (to t) ≡ t) (xs : Rows M) (x : B × Rows M) → Took b xs x → Took (mapped to from b) xs (to x.0, x.1)
+took-mapped to from b there xs x k = record {
+  parts = k.parts ∙ ap (λ u. b.spell u ++ x.1) (sym (there x.0));
+  fits = subst b.fits (sym (there x.0)) k.fits;
+  ends = subst (λ u. b.ends u x.1) (sym (there x.0)) k.ends;
+}
+
+begins-mapped : {M A B : Type 0} (to : B → A) (from : A → B) (b : Rule M B) (there : (t : B) → from (to t) ≡ t) (xs : Rows M) (n : ℕ) → Begins b xs n → Begins (mapped to from b) xs n
+begins-mapped to from b there xs n v = record {
+  front = v.front;
+  rest = v.rest;
+  parts = v.parts;
+  left_is = v.left_is;
+  tree = to v.tree;
+  tree_may = subst b.may (sym (there v.tree)) v.tree_may;
+  more = v.more;
+  goes_on = ap b.spell (there v.tree) ∙ v.goes_on;
+}
+
+abbrev pub renamed : {M A B : Type 0} → (B → A) → B × Rows M → Result (A × Rows M) Refusal
+renamed to x = Ok (to x.0, x.1)
+
+pub map_err : {M A B : Type 0} (to : B → A) (r : Result (B × Rows M) Refusal) (e : Refusal) → (r >>= renamed to) ≡ Err e → r ≡ Err e
+map_err to (Ok x) e h = absurd (ok-err _ e h)
+map_err to (Err d) e h = same-err d e h
+  where
+    same-err : {C D : Type 0} (d e : Refusal) → failed C d ≡ failed C e → failed D d ≡ failed D e
+    same-err d e h = cc
+
+module _ {M A B : Type 0} (to : B → A) (from : A → B) (b : Rule M B) (back : (t : A) → to (from t) ≡ t) (there : (t : B) → from (to t) ≡ t) (rb : IsRead b) where
+  mapped-takes : (xs : Rows M) (x : A × Rows M) → reader.mapped to b.read xs ≡ Ok x → Took (mapped to from b) xs x
+  mapped-takes xs x e =
+      let p = bind_ok (b.read xs) (λ y. Ok (to y.0, y.1)) x e in
+      subst (Took (mapped to from b) xs) (ok_is (to p.0.0, p.0.1) x p.2) (took-mapped to from b there xs p.0 (rb.takes xs p.0 p.1))
+
+  pub mapped-read : IsRead (mapped to from b)
+  mapped-read = record {
+    some = to rb.some;
+    some_may = subst b.may (sym (there rb.some)) rb.some_may;
+    within = λ t h. rb.within (from t) h;
+    takes = mapped-takes;
+    again = λ t z h k. rw (rb.again (from t) z h k, back t) refl;
+    viable = λ xs e h. begins-mapped to from b there xs (left_of e) (rb.viable xs e (map_err to (b.read xs) e h));
+    tight = λ front s rest h t z more k e. rb.tight front s rest (map_err to (b.read (front ++ (s ∷ rest))) (Unexpected (suc (length rest))) h) (from t) z more k e;
+    short = λ xs h t z k e. rb.short xs (map_err to (b.read xs) (Unexpected 0) h) (from t) z k e;
+  }
+
+-- ---- nothing
+
+pub nothing-read : {M : Type 0} → IsRead {M = M} nothing
+nothing-read {M = M} = record {
+  some = tt;
+  some_may = tt;
+  within = λ t h. tt;
+  takes = λ xs x e. nothing-took xs x e;
+  again = λ t z h k. refl;
+  viable = λ xs e h. absurd (ok-err _ e h);
+  tight = λ front s rest h t z more k e. ok-err _ _ h;
+  short = λ xs h t z k e. ok-err _ _ h;
+}
+  where
+    nothing-took : (xs : Rows M) (x : Unit {0} × Rows M) → reader.nothing xs ≡ Ok x → Took nothing xs x
+    nothing-took xs x e = subst (Took nothing xs) (ok_is (tt, xs) x e) (record { parts = refl; fits = tt; ends = tt })
+
+-- ---- one or the other
+
+pub stops-head : {M : Type 0} (p : Shape → Bool) (P : Set) → ((s : Shape) → p s ≡ P (class s)) → (xs : Rows M) → head_in p xs ≡ false → Stops P xs
+stops-head p P h [] e = tt
+stops-head p P h (x ∷ xs) e = sym (h x.shape) ∙ e
+
+pub head-stops : {M : Type 0} (p : Shape → Bool) (P : Set) → ((s : Shape) → p s ≡ P (class s)) → (xs : Rows M) → Stops P xs → head_in p xs ≡ false
+head-stops p P h [] e = refl
+head-stops p P h (x ∷ xs) e = h x.shape ∙ e
+
+pub head-starts : {M : Type 0} (p : Shape → Bool) (P : Set) → ((s : Shape) → p s ≡ P (class s)) → (ys z : Rows M) → Starts false P ys → head_in p (ys ++ z) ≡ true
+head-starts p P h [] z e = absurd cc
+head-starts p P h (y ∷ ys) z e = h y.shape ∙ e
+
+-- which way a test went
+pub chosen : {X : Type 0} (b : Bool) (x y z : X) → cond b x y ≡ z → ((b ≡ true) × (x ≡ z)) ⊎ ((b ≡ false) × (y ≡ z))
+chosen true x y z e = inl (refl, e)
+chosen false x y z e = inr (refl, e)
+
+pub true-false : (b : Bool) → b ≡ true → b ≡ false → ⊥
+true-false true p q = absurd cc
+true-false false p q = absurd cc
+
+-- rows that begin as others do
+pub same-head : {M : Type 0} (p : Shape → Bool) (front : Rows M) (s : Row M) (xs ys : Rows M) → head_in p (front ++ (s ∷ xs)) ≡ head_in p (front ++ (s ∷ ys))
+same-head p [] s xs ys = refl
+same-head p (f ∷ fs) s xs ys = refl
+
+module _ {M A B : Type 0} (p : Shape → Bool) (P : Set) (a : Rule M A) (b : Rule M B) (same : (s : Shape) → p s ≡ P (class s)) (fa ga : Set) (la : IsSpelled a false fa ga) (w : within fa P ≡ true) (ra : IsRead a) (rb : IsRead b) (some : B) (some_may : b.may some) (some_stops : Stops P (b.spell some)) where
+  either-took-left : (xs : Rows M) (x : A × Rows M) → Took a xs x → Took (either p P a b) xs (inl x.0, x.1)
+  either-took-left xs x k = record { parts = k.parts; fits = k.fits; ends = k.ends }
+
+  either-took-right : (xs : Rows M) (x : B × Rows M) → head_in p xs ≡ false → Took b xs x → Took (either p P a b) xs (inr x.0, x.1)
+  either-took-right xs x closed k =
+      let s : Stops P (b.spell x.0 ++ x.1) = subst (Stops P) k.parts (stops-head p P same xs closed) in
+      record { parts = k.parts; fits = (k.fits, stops-front P (b.spell x.0) x.1 s); ends = (k.ends, s) }
+
+  either-takes : (xs : Rows M) (x : (A ⊎ B) × Rows M) → reader.either p (reader.mapped inl a.read) (reader.mapped inr b.read) xs ≡ Ok x → Took (either p P a b) xs x
+  either-takes xs x e = elim (chosen (head_in p xs) (reader.mapped inl a.read xs) (reader.mapped inr b.read xs) (Ok x) e) [
+    | inl h ↦ let k = bind_ok (a.read xs) (λ y. Ok (inl y.0, y.1)) x h.1 in subst (Took (either p P a b) xs) (ok_is (inl k.0.0, k.0.1) x k.2) (either-took-left xs k.0 (ra.takes xs k.0 k.1))
+    | inr h ↦ let k = bind_ok (b.read xs) (λ y. Ok (inr y.0, y.1)) x h.1 in subst (Took (either p P a b) xs) (ok_is (inr k.0.0, k.0.1) x k.2) (either-took-right xs k.0 h.0 (rb.takes xs k.0 k.1))
+  ]
+
+  starts-in : (t : A) (z : Rows M) → a.ends t z → Starts false P (a.spell t)
+  starts-in t z k = starts-within false fa P w (a.spell t) (la.starts t z k)
+
+  either-again : (t : A ⊎ B) (z : Rows M) → on_sum a.fits (λ u. b.fits u × Stops P (b.spell u)) t → on_sum a.ends (λ u v. b.ends u v × Stops P (b.spell u ++ v)) t z
+      → reader.either p (reader.mapped inl a.read) (reader.mapped inr b.read) (on_sum a.spell b.spell t ++ z) ≡ Ok (t, z)
+  either-again (inl t) z h k = rw (head-starts p P same (a.spell t) z (starts-in t z k), ra.again t z h k) refl
+  either-again (inr t) z h k = rw (head-stops p P same (b.spell t ++ z) k.1, rb.again t z h.0 k.0) refl
+
+  either-begins-left : (xs : Rows M) (n : ℕ) → Begins a xs n → Begins (either p P a b) xs n
+  either-begins-left xs n v = record { front = v.front; rest = v.rest; parts = v.parts; left_is = v.left_is; tree = inl v.tree; tree_may = v.tree_may; more = v.more; goes_on = v.goes_on }
+
+  stops-same : (f : Row M) (fs rest more : Rows M) (xs : Rows M) → xs ≡ (f ∷ fs) ++ rest → head_in p xs ≡ false → (ys : Rows M) → ys ≡ (f ∷ fs) ++ more → Stops P ys
+  stops-same f fs rest more xs e closed ys k = subst (Stops P) (sym k) (subst (λ v. head_in p v ≡ false → P (class f.shape) ≡ false) (sym e) (λ h. sym (same f.shape) ∙ h) closed)
+
+  either-begins-right : (xs : Rows M) (n : ℕ) → head_in p xs ≡ false → (v : Begins b xs n) (front : Rows M) → v.front ≡ front → Begins (either p P a b) xs n
+  either-begins-right xs n closed v [] k = record {
+    front = [];
+    rest = v.rest;
+    parts = v.parts ∙ ap (λ u. u ++ v.rest) k;
+    left_is = v.left_is;
+    tree = inr some;
+    tree_may = (some_may, some_stops);
+    more = b.spell some;
+    goes_on = refl;
+  }
+  either-begins-right xs n closed v (f ∷ fs) k = record {
+    front = v.front;
+    rest = v.rest;
+    parts = v.parts;
+    left_is = v.left_is;
+    tree = inr v.tree;
+    tree_may = (v.tree_may, stops-same f fs v.rest v.more xs (v.parts ∙ ap (λ u. u ++ v.rest) k) closed (b.spell v.tree) (v.goes_on ∙ ap (λ u. u ++ v.more) k));
+    more = v.more;
+    goes_on = v.goes_on;
+  }
+
+  either-viable : (xs : Rows M) (e : Refusal) → reader.either p (reader.mapped inl a.read) (reader.mapped inr b.read) xs ≡ Err e → Begins (either p P a b) xs (left_of e)
+  either-viable xs e h = elim (chosen (head_in p xs) (reader.mapped inl a.read xs) (reader.mapped inr b.read xs) (Err e) h) [
+    | inl k ↦ either-begins-left xs (left_of e) (ra.viable xs e (map_err inl (a.read xs) e k.1))
+    | inr k ↦ let v = rb.viable xs e (map_err inr (b.read xs) e k.1) in either-begins-right xs (left_of e) k.0 v v.front refl
+  ]
+
+  either-tight : (front : Rows M) (s : Row M) (rest : Rows M) → reader.either p (reader.mapped inl a.read) (reader.mapped inr b.read) (front ++ (s ∷ rest)) ≡ Err (Unexpected (suc (length rest)))
+      → (t : A ⊎ B) (z more : Rows M) → on_sum a.ends (λ u v. b.ends u v × Stops P (b.spell u ++ v)) t z → on_sum a.spell b.spell t ++ z ≡ front ++ (s ∷ more) → ⊥
+  either-tight front s rest h (inl t) z more k e = elim (chosen (head_in p (front ++ (s ∷ rest))) (reader.mapped inl a.read (front ++ (s ∷ rest))) (reader.mapped inr b.read (front ++ (s ∷ rest))) _ h) [
+    | inl c ↦ ra.tight front s rest (map_err inl (a.read (front ++ (s ∷ rest))) _ c.1) t z more k e
+    | inr c ↦ true-false _ (head-starts p P same (a.spell t) z (starts-in t z k)) (ap (head_in p) e ∙ same-head p front s more rest ∙ c.0)
+  ]
+  either-tight front s rest h (inr t) z more k e = elim (chosen (head_in p (front ++ (s ∷ rest))) (reader.mapped inl a.read (front ++ (s ∷ rest))) (reader.mapped inr b.read (front ++ (s ∷ rest))) _ h) [
+    | inl c ↦ true-false _ (ap (head_in p) e ∙ same-head p front s more rest ∙ c.0) (head-stops p P same (b.spell t ++ z) k.1)
+    | inr c ↦ rb.tight front s rest (map_err inr (b.read (front ++ (s ∷ rest))) _ c.1) t z more k.0 e
+  ]
+
+  either-short : (xs : Rows M) → reader.either p (reader.mapped inl a.read) (reader.mapped inr b.read) xs ≡ Err (Unexpected 0)
+      → (t : A ⊎ B) (z : Rows M) → on_sum a.ends (λ u v. b.ends u v × Stops P (b.spell u ++ v)) t z → on_sum a.spell b.spell t ++ z ≡ xs → ⊥
+  either-short xs h (inl t) z k e = elim (chosen (head_in p xs) (reader.mapped inl a.read xs) (reader.mapped inr b.read xs) _ h) [
+    | inl c ↦ ra.short xs (map_err inl (a.read xs) _ c.1) t z k e
+    | inr c ↦ true-false _ (head-starts p P same (a.spell t) z (starts-in t z k)) (ap (head_in p) e ∙ c.0)
+  ]
+  either-short xs h (inr t) z k e = elim (chosen (head_in p xs) (reader.mapped inl a.read xs) (reader.mapped inr b.read xs) _ h) [
+    | inl c ↦ true-false _ (ap (head_in p) e ∙ c.0) (head-stops p P same (b.spell t ++ z) k.1)
+    | inr c ↦ rb.short xs (map_err inr (b.read xs) _ c.1) t z k.0 e
+  ]
+
+  pub either-read : IsRead (either p P a b)
+  either-read = record {
+    some = inr some;
+    some_may = (some_may, some_stops);
+    within = either-within;
+    takes = either-takes;
+    again = either-again;
+    viable = either-viable;
+    tight = either-tight;
+    short = either-short;
+  }
+    where
+      either-within : (t : A ⊎ B) → on_sum a.fits (λ u. b.fits u × Stops P (b.spell u)) t → on_sum a.may (λ u. b.may u × Stops P (b.spell u)) t
+      either-within (inl t) h = ra.within t h
+      either-within (inr t) h = (rb.within t h.0, h.1)
+
+-- ---- what doesn't begin with a token of a set
+
+module _ {M B : Type 0} (P : Set) (b : Rule M B) (eb : Bool) (fb gb : Set) (lb : IsSpelled b eb fb gb) (rb : IsRead b) (some : B) (some_may : b.may some) (some_stops : Stops P (b.spell some)) where
+  abbrev test : Shape → Bool
+  test = in_set P
+
+  unstarted-took : (xs : Rows M) (x : B × Rows M) → head_in test xs ≡ false → Took b xs x → Took (unstarted P b) xs x
+  unstarted-took xs x closed k =
+      let s : Stops P (b.spell x.0 ++ x.1) = subst (Stops P) k.parts (stops-head test P (λ s. refl) xs closed) in
+      record { parts = k.parts; fits = (k.fits, stops-front P (b.spell x.0) x.1 s); ends = (k.ends, s) }
+
+  unstarted-takes : (xs : Rows M) (x : B × Rows M) → reader.unstarted test b.read xs ≡ Ok x → Took (unstarted P b) xs x
+  unstarted-takes xs x e = elim (chosen (head_in test xs) (failed (B × Rows M) (Unexpected (length xs))) (b.read xs) (Ok x) e) [
+    | inl h ↦ absurd (err-ok x _ h.1)
+    | inr h ↦ unstarted-took xs x h.0 (rb.takes xs x h.1)
+  ]
+
+  unstarted-again : (t : B) (z : Rows M) → b.fits t → b.ends t z → Stops P (b.spell t ++ z) → reader.unstarted test b.read (b.spell t ++ z) ≡ Ok (t, z)
+  unstarted-again t z f e s = rw (head-stops test P (λ s. refl) (b.spell t ++ z) s, rb.again t z f e) refl
+
+  begins-same : (f : Row M) (fs rest more : Rows M) (xs : Rows M) → xs ≡ (f ∷ fs) ++ rest → head_in test xs ≡ false → (ys : Rows M) → ys ≡ (f ∷ fs) ++ more → Stops P ys
+  begins-same f fs rest more xs e closed ys k = subst (Stops P) (sym k) (subst (λ v. head_in test v ≡ false → P (class f.shape) ≡ false) (sym e) (λ h. h) closed)
+
+  unstarted-begins : (xs : Rows M) (n : ℕ) → head_in test xs ≡ false → (v : Begins b xs n) (front : Rows M) → v.front ≡ front → Begins (unstarted P b) xs n
+  unstarted-begins xs n closed v [] k = record {
+    front = [];
+    rest = v.rest;
+    parts = v.parts ∙ ap (λ u. u ++ v.rest) k;
+    left_is = v.left_is;
+    tree = some;
+    tree_may = (some_may, some_stops);
+    more = b.spell some;
+    goes_on = refl;
+  }
+  unstarted-begins xs n closed v (f ∷ fs) k = record {
+    front = v.front;
+    rest = v.rest;
+    parts = v.parts;
+    left_is = v.left_is;
+    tree = v.tree;
+    tree_may = (v.tree_may, begins-same f fs v.rest v.more xs (v.parts ∙ ap (λ u. u ++ v.rest) k) closed (b.spell v.tree) (v.goes_on ∙ ap (λ u. u ++ v.more) k));
+    more = v.more;
+    goes_on = v.goes_on;
+  }
+
+  unstarted-viable : (xs : Rows M) (e : Refusal) → reader.unstarted test b.read xs ≡ Err e → Begins (unstarted P b) xs (left_of e)
+  unstarted-viable xs e h = elim (chosen (head_in test xs) (failed (B × Rows M) (Unexpected (length xs))) (b.read xs) (Err e) h) [
+    | inl k ↦ at_once (unstarted P b) xs some (some_may, some_stops) (left_of e) (err-left {A = B × Rows M} (length xs) e k.1)
+    | inr k ↦ let v = rb.viable xs e k.1 in unstarted-begins xs (left_of e) k.0 v v.front refl
+  ]
+
+  unstarted-tight : (front : Rows M) (s : Row M) (rest : Rows M) → reader.unstarted test b.read (front ++ (s ∷ rest)) ≡ Err (Unexpected (suc (length rest)))
+      → (t : B) (z more : Rows M) → b.ends t z × Stops P (b.spell t ++ z) → b.spell t ++ z ≡ front ++ (s ∷ more) → ⊥
+  unstarted-tight front s rest h t z more k e = elim (chosen (head_in test (front ++ (s ∷ rest))) (failed (B × Rows M) (Unexpected (length (front ++ (s ∷ rest))))) (b.read (front ++ (s ∷ rest))) _ h) [
+    | inl c ↦ true-false _ (ap (head_in test) e ∙ same-head test front s more rest ∙ c.0) (head-stops test P (λ s. refl) (b.spell t ++ z) k.1)
+    | inr c ↦ rb.tight front s rest c.1 t z more k.0 e
+  ]
+
+  unstarted-short : (xs : Rows M) → reader.unstarted test b.read xs ≡ Err (Unexpected 0) → (t : B) (z : Rows M) → b.ends t z × Stops P (b.spell t ++ z) → b.spell t ++ z ≡ xs → ⊥
+  unstarted-short xs h t z k e = elim (chosen (head_in test xs) (failed (B × Rows M) (Unexpected (length xs))) (b.read xs) _ h) [
+    | inl c ↦ true-false _ (ap (head_in test) e ∙ c.0) (head-stops test P (λ s. refl) (b.spell t ++ z) k.1)
+    | inr c ↦ rb.short xs c.1 t z k.0 e
+  ]
+
+  pub unstarted-read : IsRead (unstarted P b)
+  unstarted-read = record {
+    some = some;
+    some_may = (some_may, some_stops);
+    within = λ t h. (rb.within t h.0, h.1);
+    takes = unstarted-takes;
+    again = λ t z f k. unstarted-again t z f.0 k.0 k.1;
+    viable = unstarted-viable;
+    tight = unstarted-tight;
+    short = unstarted-short;
+  }

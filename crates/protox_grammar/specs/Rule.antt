@@ -1,0 +1,164 @@
+-- MACHINERY. Rules of a grammar: what spells a tree, which trees there may be, what may follow one, and how it is read.
+use Rattle.std.specs.Prelude.{◌≡◌, List, [], ◌∷◌, ◌++◌, length, Bool, true, false, not, Option, Some, None, ◌⊎◌}
+use Rattle.std.proofs.Common.{inl, inr}
+use Rattle.protox_lex.specs.Shapes.{Shape, Row, Rows}
+use Rattle.protox_grammar.specs.Class.{class, Set, in_set}
+use Rattle.protox_ast.specs.Spelling.{maybe, many}
+use Rattle.protox_ast.specs.Keywords.{Given, Each}
+use Rattle.protox_grammar.specs.Reader as reader
+use Rattle.protox_grammar.specs.Reader.{Reader}
+
+-- no row of the set comes first
+abbrev pub Stops : {M : Type 0} → Set → Rows M → Type 0
+Stops g [] = Unit {0}
+Stops g (r ∷ rs) = g (class r.shape) ≡ false
+
+-- a row of the set comes first, or nothing where that may be
+abbrev pub Starts : {M : Type 0} → Bool → Set → Rows M → Type 0
+Starts e f [] = e ≡ true
+Starts e f (r ∷ rs) = f (class r.shape) ≡ true
+
+pub record Rule (M A : Type 0) : Type 1 where
+  pub spell : A → Rows M
+  -- the tree is one of the grammar
+  pub may : A → Type 0
+  -- the same, and it can be read
+  pub fits : A → Type 0
+  -- these rows may come after it
+  pub ends : A → Rows M → Type 0
+  pub read : Reader M A
+
+abbrev pub row : {M : Type 0} → Shape → M → Row M
+row s m = record { shape = s; at = m }
+
+abbrev pub fixed : {M : Type 0} → Shape → Rule M M
+fixed w = record {
+  spell = λ m. row w m ∷ [];
+  may = λ m. Unit {0};
+  fits = λ m. Unit {0};
+  ends = λ m z. Unit {0};
+  read = reader.fixed w;
+}
+
+abbrev pub leaf : {M X : Type 0} → (Shape → Option X) → (X → Shape) → Rule M (X × M)
+leaf see shape = record {
+  spell = λ x. row (shape x.0) x.1 ∷ [];
+  may = λ x. Unit {0};
+  fits = λ x. Unit {0};
+  ends = λ x z. Unit {0};
+  read = reader.leaf see;
+}
+
+abbrev pub seq : {M A B : Type 0} → Rule M A → Rule M B → Rule M (A × B)
+seq a b = record {
+  spell = λ t. a.spell t.0 ++ b.spell t.1;
+  may = λ t. a.may t.0 × b.may t.1;
+  fits = λ t. a.fits t.0 × b.fits t.1;
+  ends = λ t z. a.ends t.0 (b.spell t.1 ++ z) × b.ends t.1 z;
+  read = reader.seq a.read b.read;
+}
+
+abbrev pub on_sum {ℓ} : {A B : Type 0} {C : Type ℓ} → (A → C) → (B → C) → A ⊎ B → C
+on_sum f g (inl a) = f a
+on_sum f g (inr b) = g b
+
+-- the first where the next token is in the set, and else the second
+abbrev pub either : {M A B : Type 0} → (Shape → Bool) → Set → Rule M A → Rule M B → Rule M (A ⊎ B)
+either p P a b = record {
+  spell = on_sum a.spell b.spell;
+  may = on_sum a.may (λ t. b.may t × Stops P (b.spell t));
+  fits = on_sum a.fits (λ t. b.fits t × Stops P (b.spell t));
+  ends = on_sum a.ends (λ t z. b.ends t z × Stops P (b.spell t ++ z));
+  read = reader.either p (reader.mapped inl a.read) (reader.mapped inr b.read);
+}
+
+abbrev pub nothing : {M : Type 0} → Rule M (Unit {0})
+nothing = record {
+  spell = λ t. [];
+  may = λ t. Unit {0};
+  fits = λ t. Unit {0};
+  ends = λ t z. Unit {0};
+  read = reader.nothing;
+}
+
+-- a rule under other names
+abbrev pub mapped : {M A B : Type 0} → (B → A) → (A → B) → Rule M B → Rule M A
+mapped to from b = record {
+  spell = λ t. b.spell (from t);
+  may = λ t. b.may (from t);
+  fits = λ t. b.fits (from t);
+  ends = λ t z. b.ends (from t) z;
+  read = reader.mapped to b.read;
+}
+
+abbrev pub Ends : {M A : Type 0} → (A → Rows M) → (A → Rows M → Type 0) → Set → List A → Rows M → Type 0
+Ends spell ends P [] z = Stops P z
+Ends spell ends P (t ∷ ts) z = ends t (many spell ts ++ z) × Ends spell ends P ts z
+
+abbrev pub star : {M A : Type 0} → (Shape → Bool) → Set → Rule M A → Rule M (List A)
+star p P a = record {
+  spell = many a.spell;
+  may = Each a.may;
+  fits = Each a.fits;
+  ends = Ends a.spell a.ends P;
+  read = reader.star p a.read;
+}
+
+-- ---- the forms that the grammar is written in
+
+-- the first where the next token is in the set, and else the second, which then doesn't begin so: a keyword rule
+abbrev pub unless : {M A B : Type 0} → Set → Rule M A → Rule M B → Rule M (A ⊎ B)
+unless P a b = either (in_set P) P a b
+
+-- the same where the second never begins so
+abbrev pub choice : {M A B : Type 0} → Set → Rule M A → Rule M B → Rule M (A ⊎ B)
+choice P a b = record {
+  spell = on_sum a.spell b.spell;
+  may = on_sum a.may b.may;
+  fits = on_sum a.fits b.fits;
+  ends = on_sum a.ends (λ t z. b.ends t z × Stops P (b.spell t ++ z));
+  read = reader.either (in_set P) (reader.mapped inl a.read) (reader.mapped inr b.read);
+}
+
+-- ends of what may be absent
+abbrev pub Closes : {M A : Type 0} → (A → Rows M → Type 0) → Set → Option A → Rows M → Type 0
+Closes ends P None z = Stops P z
+Closes ends P (Some t) z = ends t z
+
+abbrev pub to_option : {A : Type 0} → A ⊎ Unit {0} → Option A
+to_option (inl a) = Some a
+to_option (inr u) = None
+
+-- `?`
+abbrev pub optional : {M A : Type 0} → Set → Rule M A → Rule M (Option A)
+optional P a = record {
+  spell = maybe a.spell;
+  may = Given a.may;
+  fits = Given a.fits;
+  ends = Closes a.ends P;
+  read = reader.mapped to_option (reader.either (in_set P) (reader.mapped inl a.read) (reader.mapped inr reader.nothing));
+}
+
+-- `*`
+abbrev pub times : {M A : Type 0} → Set → Rule M A → Rule M (List A)
+times P a = star (in_set P) P a
+
+-- a rule with a plain spelling and a plain condition of its own
+abbrev pub named : {M A B : Type 0} → (A → Rows M) → (A → Type 0) → (B → A) → (A → B) → Rule M B → Rule M A
+named spell keeps to from b = record {
+  spell = spell;
+  may = keeps;
+  fits = keeps;
+  ends = λ t z. b.ends (from t) z;
+  read = reader.mapped to b.read;
+}
+
+-- one that doesn't begin with a token of the set: a keyword rule
+abbrev pub unstarted : {M A : Type 0} → Set → Rule M A → Rule M A
+unstarted P a = record {
+  spell = a.spell;
+  may = λ t. a.may t × Stops P (a.spell t);
+  fits = λ t. a.fits t × Stops P (a.spell t);
+  ends = λ t z. a.ends t z × Stops P (a.spell t ++ z);
+  read = reader.unstarted (in_set P) a.read;
+}

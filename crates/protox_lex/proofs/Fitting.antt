@@ -1,0 +1,67 @@
+-- What a front that fits says of the bytes.
+use Rattle.std.proofs.Common.{◌≡◌, ℕ, suc, ◌+◌, ◌-◌, ◌≤◌, Bool, true, false, ltb, inl, inr, List, [], ◌∷◌, drop, get_or, refl, sym, ◌∙◌, subst, arith}
+use Rattle.std.proofs.lemmas.Bool.{cases_Bool, true≢false, false≢true, ltb-true, ltb-false}
+use Rattle.std.proofs.lemmas.List.Sums.{prefix_len_passes}
+use Rattle.std.specs.List.{prefix_len}
+use Rattle.protox_lex.specs.Pattern.{Pattern, one, ◌⋅◌, some, Fits}
+
+-- the first byte passes
+pub first_passes : (p : ℕ → Bool) (text : List ℕ) → 1 ≤ prefix_len p text → p (get_or text 0 0) ≡ true
+first_passes p text h = prefix_len_passes p text 0 0 (omega arith)
+
+-- a first byte that passes, where 0 does not
+pub passes_first : (p : ℕ → Bool) (text : List ℕ) → p 0 ≡ false → p (get_or text 0 0) ≡ true → 1 ≤ prefix_len p text
+passes_first p [] z h = absurd (false≢true (sym z ∙ h))
+passes_first p (b ∷ text) z h = rw h (omega arith)
+
+pub some_bounds : (p : ℕ → Bool) (text : List ℕ) (n : ℕ) → Fits (some p) text n → (1 ≤ n) × (n ≤ prefix_len p text)
+some_bounds p [] n (i, j, e, a, b) = absurd (omega arith)
+some_bounds p (c ∷ text) n (i, j, e, a, b) =
+    let passes : p c ≡ true = first_passes p (c ∷ text) a.1 in
+    let rest : j ≤ prefix_len p text = rw (a.0) at b in
+    (omega arith, rw passes (omega arith))
+
+pub some_fits : (p : ℕ → Bool) (text : List ℕ) (n : ℕ) → 1 ≤ n → n ≤ prefix_len p text → Fits (some p) text n
+some_fits p [] n low high = absurd (omega arith)
+some_fits p (c ∷ text) n low high =
+    let passes : p c ≡ true = first_passes p (c ∷ text) (omega arith) in
+    let whole : n ≤ 1 + prefix_len p text = rw passes at high in
+    (1, n - 1, omega arith, (refl, omega arith), omega arith)
+
+-- a run that ends at a byte that does not pass is whole
+pub run_ends : (p : ℕ → Bool) (text : List ℕ) (i : ℕ) → i ≤ prefix_len p text → p (get_or text i 0) ≡ false → i ≡ prefix_len p text
+run_ends p text i h stops =
+    elim (cases_Bool (ltb i (prefix_len p text))) [
+      | inl less ↦ absurd (true≢false (sym (prefix_len_passes p text i 0 (omega (arith, ltb-true))) ∙ stops))
+      | inr other ↦ omega (arith, ltb-false)
+    ]
+
+-- a byte that passes, and then a pattern
+pub one_then : (p : ℕ → Bool) (q : Pattern) (b : ℕ) (text : List ℕ) (n : ℕ) → Fits (one p ⋅ q) (b ∷ text) n
+    → (m : ℕ) × (n ≡ suc m) × (p b ≡ true) × Fits q text m
+one_then p q b text n (i, j, e, (is_one, h), f) =
+    let P : ℕ → Type 0 = λ k. Fits q (drop k (b ∷ text)) j in
+    (j, omega arith, first_passes p (b ∷ text) h, subst P is_one f)
+
+pub one_then_empty : (p : ℕ → Bool) (q : Pattern) (n : ℕ) → Fits (one p ⋅ q) [] n → ⊥
+one_then_empty p q n (i, j, e, (is_one, h), f) = absurd (omega arith)
+
+pub then_one : (p : ℕ → Bool) (q : Pattern) (b : ℕ) (text : List ℕ) (m : ℕ) → p b ≡ true → Fits q text m → Fits (one p ⋅ q) (b ∷ text) (suc m)
+then_one p q b text m passes f = (1, m, omega arith, (refl, rw passes (omega arith)), f)
+
+-- no run begins at a byte that does not pass
+pub no_run : (p : ℕ → Bool) (text : List ℕ) → p (get_or text 0 0) ≡ false → prefix_len p text ≡ 0
+no_run p [] h = refl
+no_run p (b ∷ text) h = rw h
+
+pub run_more : (p : ℕ → Bool) (b : ℕ) (text : List ℕ) → p b ≡ true → prefix_len p (b ∷ text) ≡ suc (prefix_len p text)
+run_more p b text h = rw h (omega arith)
+
+-- the same of a text that is not taken apart
+pub one_then_rest : (p : ℕ → Bool) (q : Pattern) (text : List ℕ) (n : ℕ) → Fits (one p ⋅ q) text n
+    → (m : ℕ) × (n ≡ suc m) × (p (get_or text 0 0) ≡ true) × Fits q (drop 1 text) m
+one_then_rest p q [] n f = absurd (one_then_empty p q n f)
+one_then_rest p q (b ∷ text) n f = one_then p q b text n f
+
+pub then_one_rest : (p : ℕ → Bool) (q : Pattern) (text : List ℕ) (m : ℕ) → 1 ≤ prefix_len p text → Fits q (drop 1 text) m → Fits (one p ⋅ q) text (suc m)
+then_one_rest p q text m starts f = (1, m, omega arith, (refl, starts), f)

@@ -1,0 +1,82 @@
+-- Lists one behind another.
+use Rattle.std.proofs.Common.{◌≡◌, ℕ, zero, suc, ◌+◌, ◌-◌, ◌<◌, ◌≤◌, List, [], ◌∷◌, ◌++◌, length, take, drop, get_or, refl, sym, ap, ◌∙◌, subst, length-append, length-drop, length-take-le, arith, le_refl, le_trans, Some, None}
+use Rattle.std.proofs.lemmas.List.{take-append-le, drop-append-le}
+use Rattle.std.proofs.Math.Seq.{take-length, drop-length}
+use Rattle.std.proofs.lemmas.Option.{slice_get_past}
+use Rattle.std.specs.Prelude.{slice_get, slice_range}
+use Rattle.protox_lex.specs.Grouping.{Grouped, split, last_end, EndWithin, grouped}
+
+-- the last end lies behind the first beginning, within the items
+pub last_within : (from size : ℕ) (ends : List ℕ) → EndWithin from size ends → (from ≤ last_end from ends) × (last_end from ends ≤ size)
+last_within from size [] h = (le_refl from, h)
+last_within from size (end ∷ ends) (low, h) = let (a, b) = last_within end size ends h in (le_trans low a, b)
+
+-- list k lies within the items, whatever stands for an end that is not there
+group_within : (from size : ℕ) (ends : List ℕ) (k d : ℕ) → EndWithin from size ends → k < length ends → (get_or (from ∷ ends) k 0 ≤ get_or ends k d) × (get_or ends k d ≤ size)
+group_within from size [] k d h l = absurd (omega arith)
+group_within from size (end ∷ ends) zero d (low, h) l = let (a, b) = last_within end size ends h in (low, le_trans a b)
+group_within from size (end ∷ ends) (suc k) d (low, h) l = group_within end size ends k d h (omega arith)
+
+pub group_starts : (size : ℕ) (ends : List ℕ) (k d : ℕ) → EndWithin 0 size ends → k < length ends → get_or (0 ∷ ends) k 0 ≤ get_or ends k d
+group_starts size ends k d h l = (group_within 0 size ends k d h l).0
+
+pub group_ends : (size : ℕ) (ends : List ℕ) (k d : ℕ) → EndWithin 0 size ends → k < length ends → get_or ends k d ≤ size
+group_ends size ends k d h l = (group_within 0 size ends k d h l).1
+
+pub group_is : {T : Type 0} (from : ℕ) (items : List T) (ends : List ℕ) (k : ℕ) → k < length ends
+    → slice_get (split from items ends) k ≡ Some (slice_range items (get_or (from ∷ ends) k 0) (get_or ends k 0))
+group_is from items [] k l = absurd (omega arith)
+group_is from items (end ∷ ends) zero l = refl
+group_is from items (end ∷ ends) (suc k) l = group_is end items ends k (omega arith)
+
+pub length-split : {T : Type 0} (from : ℕ) (items : List T) (ends : List ℕ) → length (split from items ends) ≡ length ends
+length-split from items [] = refl
+length-split from items (end ∷ ends) = ap suc (length-split end items ends)
+
+pub no_group : {T : Type 0} (items : List T) (ends : List ℕ) (k : ℕ) → length ends ≤ k → slice_get (split 0 items ends) k ≡ None
+no_group items ends k h = slice_get_past (split 0 items ends) k (omega (arith, length-split 0 items ends))
+
+-- one more end
+pub end_within : (from size : ℕ) (ends : List ℕ) → EndWithin from size ends → EndWithin from size (ends ++ size ∷ [])
+end_within from size [] h = (h, le_refl size)
+end_within from size (end ∷ ends) (low, h) = (low, end_within end size ends h)
+
+last_end-push : (from size : ℕ) (ends : List ℕ) → last_end from (ends ++ size ∷ []) ≡ size
+last_end-push from size [] = refl
+last_end-push from size (end ∷ ends) = last_end-push end size ends
+
+split-push : {T : Type 0} (from size : ℕ) (items : List T) (ends : List ℕ) → split from items (ends ++ size ∷ []) ≡ split from items ends ++ slice_range items (last_end from ends) size ∷ []
+split-push from size items [] = refl
+split-push from size items (end ∷ ends) = ap (λ t. slice_range items from end ∷ t) (split-push end size items ends)
+
+range_to_end : {T : Type 0} (items : List T) (from : ℕ) → slice_range items from (length items) ≡ drop from items
+range_to_end items from = ap (λ n. take n (drop from items)) (sym (length-drop from items)) ∙ take-length (drop from items)
+
+pub grouped_end : {T : Type 0} (items : List T) (ends : List ℕ)
+    → grouped items (ends ++ length items ∷ []) ≡ record { ended = (grouped items ends).ended ++ (grouped items ends).begun ∷ []; begun = [] }
+grouped_end items ends =
+    rw (split-push 0 (length items) items ends, last_end-push 0 (length items) ends, range_to_end items (last_end 0 ends), drop-length items) refl
+
+-- more items
+pub more_within : (from size more : ℕ) (ends : List ℕ) → EndWithin from size ends → EndWithin from (size + more) ends
+more_within from size more [] h = omega arith
+more_within from size more (end ∷ ends) (low, h) = (low, more_within end size more ends h)
+
+pub append_within : {T : Type 0} (items more : List T) (ends : List ℕ) → EndWithin 0 (length items) ends → EndWithin 0 (length (items ++ more)) ends
+append_within items more ends h = rw (length-append items more) (more_within 0 (length items) (length more) ends h)
+
+range-append : {T : Type 0} (items more : List T) (from to : ℕ) → from ≤ to → to ≤ length items → slice_range (items ++ more) from to ≡ slice_range items from to
+range-append items more from to low high =
+    ap (take (to - from)) (drop-append-le from items more (omega arith)) ∙ take-append-le (to - from) (drop from items) more (omega (arith, length-drop from items))
+
+split-append : {T : Type 0} (from : ℕ) (items more : List T) (ends : List ℕ) → EndWithin from (length items) ends → split from (items ++ more) ends ≡ split from items ends
+split-append from items more [] h = refl
+split-append from items more (end ∷ ends) (low, h) =
+    let (a, b) = last_within end (length items) ends h in
+    rw (range-append items more from end low (le_trans a b), split-append end items more ends h) refl
+
+pub grouped_append : {T : Type 0} (items more : List T) (ends : List ℕ) → EndWithin 0 (length items) ends
+    → grouped (items ++ more) ends ≡ record (grouped items ends) { begun = (grouped items ends).begun ++ more }
+grouped_append items more ends h =
+    let (a, b) = last_within 0 (length items) ends h in
+    rw (split-append 0 items more ends h, drop-append-le (last_end 0 ends) items more b) refl

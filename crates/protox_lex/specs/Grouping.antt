@@ -1,0 +1,32 @@
+-- Machinery: lists that stand one behind another in one list.
+use Rattle.std.specs.Prelude.{ℕ, ◌≤◌, List, [], ◌∷◌, length, drop, slice_range, refl}
+use Rattle.std.specs.Coded.{Coded, code_by, coded×, coded_list}
+
+-- lists that have ended, and one that has begun
+pub record Grouped (T : Type 0) : Type 0 where
+  pub ended : List (List T)
+  pub begun : List T
+
+-- they are stored as the pair of both
+abbrev pub grouped_code : {T : Type 0} → Coded T → Coded (Grouped T)
+grouped_code {T} code =
+    code_by (List (List T) × List T) (coded× (coded_list (coded_list code)) (coded_list code)) (λ g. (g.ended, g.begun)) (λ p. record { ended = p.0; begun = p.1 }) (λ _. refl)
+
+-- the lists that end at these places, the first beginning at one
+abbrev pub split : {T : Type 0} → ℕ → List T → List ℕ → List (List T)
+split from items [] = []
+split from items (end ∷ ends) = slice_range items from end ∷ split end items ends
+
+-- where the last one ends
+abbrev pub last_end : ℕ → List ℕ → ℕ
+last_end from [] = from
+last_end from (end ∷ ends) = last_end end ends
+
+-- No list ends before it begins, and none past the end of the items.
+abbrev pub EndWithin : ℕ → ℕ → List ℕ → Type 0
+EndWithin from size [] = from ≤ size
+EndWithin from size (end ∷ ends) = (from ≤ end) × EndWithin end size ends
+
+-- the items, in lists that end at these places
+abbrev pub grouped : {T : Type 0} → List T → List ℕ → Grouped T
+grouped items ends = record { ended = split 0 items ends; begun = drop (last_end 0 ends) items }

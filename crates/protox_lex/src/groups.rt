@@ -1,0 +1,90 @@
+//! Lists that stand one behind another in one vector.
+ghost use Rattle.std.specs.Prelude.{◌≡◌, ◌≤◌, ◌++◌, ◌∷◌, [], length, slice_get, slice_index, IfOk, OnOk};
+ghost use Rattle.std.specs.Option.{option_copied};
+
+use std::alloc::{AllocError, Global};
+use std::marker::Model;
+
+/// Lists one behind another, and where each ends. What stands behind the last end is a list that
+/// has begun.
+#[derive(Drop)]
+pub(crate) struct Groups<T> {
+    items: Vec<T>,
+    ends: Vec<usize>,
+}
+
+impl<T> Model for Groups<T> {
+    ghost use Rattle.std.specs.Prelude.{length};
+    ghost use Rattle.protox_lex.specs.Grouping.{Grouped, grouped_code, grouped, EndWithin};
+
+    ghost Value = { Grouped T };
+
+    ghost coded = { grouped_code T.code };
+
+    ghost view = { λ g. grouped g.items.items g.ends.items };
+
+    ghost invariant = { λ g. EndWithin 0 (length g.items.items) g.ends.items };
+}
+
+// Where list `index` begins.
+fn start_of(ends: &[usize], index: usize) -> usize
+    requires { index ≤ length ends.now }
+    ensures { result ≡ slice_index (0 ∷ ends.now) index }
+{
+    if index == 0 { 0 } else { ends[index - 1] }
+}
+
+impl<T> Groups<T> {
+    /// No list, and an empty one that has begun. It takes no memory.
+    pub(crate) fn new(alloc: Global) -> Groups<T>
+        ensures { result ≡ record { ended = []; begun = [] } }
+    {
+        Groups {
+            items: Vec::new(alloc),
+            ends: Vec::new(alloc),
+        }
+    }
+
+    #[tactic(auto, using(crate::proofs::Splitting::group_starts, crate::proofs::Splitting::group_ends, crate::proofs::Splitting::group_is, crate::proofs::Splitting::no_group))]
+    /// List `index`, or None past the last that has ended.
+    pub(crate) fn get(&self, index: usize) -> Option<&[T]>
+        ensures { option_copied result ≡ slice_get self.now.ended index }
+    {
+        if index < self.ends.len() {
+            let start = start_of(&self.ends, index);
+            let end = self.ends[index];
+            Some(&self.items[start..end])
+        } else {
+            None
+        }
+    }
+
+    #[tactic(auto, using(crate::proofs::Splitting::end_within, crate::proofs::Splitting::grouped_end))]
+    /// Ends the list that has begun.
+    pub(crate) fn end(&mut self) -> Result<(), AllocError>
+        ensures { OnOk result (self.new ≡ record { ended = self.old.ended ++ self.old.begun ∷ []; begun = [] }) }
+    {
+        self.ends.push(self.items.len())?;
+        Ok(())
+    }
+}
+
+impl<T: Drop> Groups<T> {
+    #[tactic(auto, using(crate::proofs::Splitting::append_within, crate::proofs::Splitting::grouped_append))]
+    /// Appends an item to the list that has begun.
+    pub(crate) fn push(&mut self, item: T) -> Result<(), AllocError>
+        ensures { OnOk result (self.new ≡ record self.old { begun = self.old.begun ++ item ∷ [] }) }
+    {
+        self.items.push(item)?;
+        Ok(())
+    }
+
+    #[tactic(auto, using(crate::proofs::Splitting::append_within, crate::proofs::Splitting::grouped_append))]
+    /// Appends items to the list that has begun.
+    pub(crate) fn append(&mut self, mut items: Vec<T>) -> Result<(), AllocError>
+        ensures { OnOk result (self.new ≡ record self.old { begun = self.old.begun ++ items.items }) }
+    {
+        self.items.append(&mut items)?;
+        Ok(())
+    }
+}

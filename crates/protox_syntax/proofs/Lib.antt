@@ -1,0 +1,4 @@
+pub mod Turns
+pub mod Same
+pub mod Texts
+pub mod NotesTurns

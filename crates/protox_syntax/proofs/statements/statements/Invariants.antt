@@ -1,0 +1,15 @@
+use Rattle.std.proofs.Common.{◌≡◌, ◌++◌, length}
+use Rattle.protox_syntax.specs.Rows.{rows_from}
+use Rattle.protox_grammar.specs.Reader.{star, gathered}
+use Rattle.protox_syntax.specs.Reads.{add_statement, anything, statement_at, statements_at}
+use Rattle.protox_syntax.specs.Notes.{statements_notes}
+use Rattle.protox_syntax.proofs.statements.statements.Given as goal
+
+abbrev pub invariant-more : goal.invariant-more
+invariant-more l = record {
+  read : gathered add_statement l.file (star anything statement_at (rows_from l.rest)) ≡ statements_at (rows_from l.rows);
+  notes : l.notes.items ++ statements_notes (rows_from l.rest) ≡ l.fn.notes.items ++ statements_notes (rows_from l.rows);
+}
+
+abbrev pub decreases-more : goal.decreases-more
+decreases-more l = length l.rest

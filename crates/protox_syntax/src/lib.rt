@@ -1,0 +1,13 @@
+//! Reads the rows of a source into the syntax tree.
+#![tactic(auto)]
+
+mod expected;
+mod fields;
+mod leaf;
+mod messages;
+mod names;
+mod notes;
+mod refused;
+mod statement_types;
+mod statements;
+mod strings;

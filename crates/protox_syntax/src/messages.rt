@@ -1,0 +1,142 @@
+//! Messages.
+
+ghost use Rattle.std.specs.Prelude.{◌≡◌, OnOk};
+ghost use Rattle.protox_grammar.specs.Reader.{any_word, head_in, is_word_of};
+ghost use Rattle.protox_grammar.specs.Rules.{barred_words};
+ghost use Rattle.protox_syntax.specs.Rows.{rows_from};
+ghost use Rattle.protox_syntax.specs.Outcome.{Gives};
+ghost use Rattle.protox_syntax.specs.Reads.{add, element_at, elements_at, goes_on, mbody_at, message_at};
+
+use crate::expected::Expected;
+use crate::fields::normal;
+use crate::leaf::{expect_mark, expect_word, is_mark, join, refused, sees_mark};
+use crate::names::{ident, no_comments};
+use crate::refused::Refused;
+use protox_ast::ast::{Message, MessageBody, MessageItem};
+use protox_descriptor::values::Items;
+use protox_lex::error::Span;
+use protox_lex::lex::{Row, Token};
+use std::alloc::{AllocError, Global};
+
+// Whether a word comes next that begins something else than a field without a label.
+fn sees_barred_word(rows: &[Row<'_>]) -> bool
+    ensures { result ≡ head_in (is_word_of barred_words) (rows_from rows.now) }
+{
+    match rows {
+        [first, ..] => match &first.token {
+            Ok(Token::Ident(word)) => is_barred_word(word),
+            _ => false,
+        },
+        [] => false,
+    }
+}
+
+fn is_barred_word(word: &str) -> bool
+    ensures { result ≡ any_word barred_words word.now }
+{
+    match word {
+        "optional" | "required" | "repeated" | "map" | "group" => true,
+        "oneof" | "enum" | "message" | "extend" | "option" | "reserved" | "extensions" => true,
+        _ => false,
+    }
+}
+
+/// ";" | normal
+#[tactic(auto, unfolding(crate::specs::Reads::element_at))]
+fn element<'t, 'a>(
+    alloc: Global,
+    rows: &'t [Row<'a>],
+) -> Result<(Option<MessageItem>, &'t [Row<'a>]), Refused>
+    ensures { Gives (λ x. (x.0, rows_from x.1.now)) result (element_at (rows_from rows.now)) }
+{
+    if sees_mark(rows, b';') {
+        let (_, rest) = expect_mark(rows, b';', Expected::Semicolon)?;
+        return Ok((None, rest));
+    }
+    if sees_barred_word(rows) {
+        return Err(refused(rows, Expected::MessageBody));
+    }
+    let (field, rest) = normal(alloc, rows, Expected::MessageBody)?;
+    Ok((Some(MessageItem::Field(field)), rest))
+}
+
+fn goes_on(rows: &[Row<'_>]) -> bool
+    ensures { result ≡ head_in goes_on (rows_from rows.now) }
+{
+    match rows {
+        [first, ..] => !is_mark(&first.token, b'}'),
+        [] => false,
+    }
+}
+
+fn put(items: &mut Items<MessageItem>, element: Option<MessageItem>) -> Result<(), AllocError>
+    ensures { OnOk result (items.new ≡ add items.old element) }
+{
+    match element {
+        None => Ok(()),
+        Some(item) => items.push(item),
+    }
+}
+
+#[tactic(auto, unfolding(crate::specs::Reads::elements_at))]
+fn elements<'t, 'a>(
+    alloc: Global,
+    rows: &'t [Row<'a>],
+) -> Result<(Items<MessageItem>, &'t [Row<'a>]), Refused>
+    ensures { Gives (λ x. (x.0, rows_from x.1.now)) result (elements_at (rows_from rows.now)) }
+{
+    let mut items = Items::new(alloc);
+    let (_, first) = rows.split_at(0);
+    let mut rest = first;
+    'more: while goes_on(rest) {
+        let (element, after) = element(alloc, rest)?;
+        put(&mut items, element)?;
+        rest = after;
+    }
+    Ok((items, rest))
+}
+
+/// mbody = "{" (";" | normal)* "}"
+#[tactic(auto, unfolding(crate::specs::Reads::mbody_at))]
+fn mbody<'t, 'a>(
+    alloc: Global,
+    rows: &'t [Row<'a>],
+) -> Result<(MessageBody, Span, &'t [Row<'a>]), Refused>
+    ensures { Gives (λ x. ((x.0, x.1), rows_from x.2.now)) result (mbody_at (rows_from rows.now)) }
+{
+    let (_, rest) = expect_mark(rows, b'{', Expected::LeftBrace)?;
+    let (items, rest) = elements(alloc, rest)?;
+    let (end, rest) = expect_mark(rest, b'}', Expected::MessageBody)?;
+    Ok((
+        MessageBody {
+            items,
+            extensions: Items::new(alloc),
+            options: Items::new(alloc),
+            reserved: Items::new(alloc),
+        },
+        end,
+        rest,
+    ))
+}
+
+/// message = "message" ident mbody
+#[tactic(auto, unfolding(crate::specs::Reads::message_at))]
+pub(crate) fn message<'t, 'a>(
+    alloc: Global,
+    rows: &'t [Row<'a>],
+) -> Result<(Message, &'t [Row<'a>]), Refused>
+    ensures { Gives (λ x. (x.0, rows_from x.1.now)) result (message_at (rows_from rows.now)) }
+{
+    let (start, rest) = expect_word(rows, "message", Expected::Statement)?;
+    let (name, rest) = ident(alloc, rest, Expected::Ident)?;
+    let (body, end, rest) = mbody(alloc, rest)?;
+    Ok((
+        Message {
+            name,
+            body,
+            comments: no_comments(alloc),
+            span: join(&start, &end),
+        },
+        rest,
+    ))
+}

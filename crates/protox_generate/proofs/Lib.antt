@@ -1,0 +1,6 @@
+pub mod Emission
+pub mod FaultLists
+pub mod LineFacts
+pub mod Places
+pub mod Siblings
+pub mod SortedOnce

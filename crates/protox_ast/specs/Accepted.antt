@@ -38,3 +38,8 @@ FaultsLieIn source (Faults v) = Fits source × (v.items ≢ []) × Each (LiesIn 
 -- the syntax tree is that of a tree which the source's tokens spell
 abbrev pub IsFileOf : List ℕ → file_type.File → Type 0
 IsFileOf source file = (f : t.File Span) × IsAccepted source f × (file ≡ ast.file (length source) f)
+
+-- memory ran out
+abbrev pub IsOutOfMemory : SyntaxFailure → Type 0
+IsOutOfMemory OutOfMemory = Unit {0}
+IsOutOfMemory (Faults v) = ⊥

@@ -54,8 +54,9 @@ span_of FileTooLarge = None
 abbrev pub SpanLiesIn : ℕ → Span → Type 0
 SpanLiesIn size span = (span.start ≤ span.end) × (span.end ≤ size)
 
--- The spans of a fault lie in a source of so many bytes.
+-- The spans of a fault lie in a source of so many bytes. That a source is too large is no fault in it.
 abbrev pub LiesIn : ℕ → ParseErrorKind → Type 0
+LiesIn size FileTooLarge = ⊥
 LiesIn size (DuplicatePackage first second) = SpanLiesIn size first × SpanLiesIn size second
 LiesIn size fault = IfSome (span_of fault) (SpanLiesIn size)
 

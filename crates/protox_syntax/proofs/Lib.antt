@@ -9,3 +9,4 @@ pub mod Fine
 pub mod NotesLie
 pub mod Refusals
 pub mod Judged
+pub mod Accepts

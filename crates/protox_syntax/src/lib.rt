@@ -8,6 +8,7 @@ mod leaf;
 mod messages;
 mod names;
 mod notes;
+pub mod parse;
 mod progress;
 mod refused;
 mod statement_types;

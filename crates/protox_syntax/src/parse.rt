@@ -1,0 +1,29 @@
+//! Parses a source into its syntax tree.
+
+ghost use Rattle.std.specs.Prelude.{◌≡◌, IfOk, IfErr, MatchResult, length};
+ghost use Rattle.protox_ast.specs.Accepted.{Fits, IsAccepted, IsFileOf, FaultsLieIn, IsOutOfMemory};
+ghost use Rattle.protox_ast.specs.Ast as ast_of;
+ghost use Rattle.protox_ast.specs.Tree as tree;
+ghost use Rattle.protox_lex.specs.Faults.{Span as Place};
+
+use crate::judge::judge;
+use protox_ast::ast::File;
+use protox_lex::error::SyntaxFailure;
+use protox_lex::lex::TokenTable;
+use std::alloc::Global;
+
+/// The syntax tree of a source that fits the length limit; or what is wrong with the source, the
+/// faults in the order in which they were found; or that memory ran out.
+pub fn parse_file(alloc: Global, source: &str) -> Result<File, SyntaxFailure>
+    requires { Fits source.now }
+    // What is answered is the syntax tree of a tree that the source's tokens spell.
+    ensures found { IfOk result (IsFileOf source.now) }
+    // Such a source is answered so, unless memory ran out.
+    ensures only { (f : tree.File Place) → IsAccepted source.now f
+        → MatchResult result (λ file. file ≡ ast_of.file (length source.now) f) IsOutOfMemory }
+    // There is a fault, and the faults lie in the source.
+    ensures refused { IfErr result (FaultsLieIn source.now) }
+{
+    let table = TokenTable::new(alloc, source)?;
+    judge(alloc, &table, source.len())
+}

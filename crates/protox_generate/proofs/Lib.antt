@@ -1,3 +1,4 @@
+pub mod Bounds
 pub mod Emission
 pub mod FaultLists
 pub mod LineFacts

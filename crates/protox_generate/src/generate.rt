@@ -1,7 +1,8 @@
 //! The descriptor of a file.
 
-ghost use Rattle.std.specs.Prelude.{◌≡◌, ◌≤◌, [], map, length, IfOk, MatchResult};
+ghost use Rattle.std.specs.Prelude.{◌≡◌, ◌≤◌, [], map, length, IfErr, IfOk, MatchResult};
 ghost use Rattle.std.specs.List.{flat_map};
+ghost use Rattle.protox_ast.specs.Accepted.{FaultsLieIn, IsFileOf};
 ghost use Rattle.protox_ast.specs.declared.ast.Import as import_type;
 ghost use Rattle.protox_generate.specs.Bounds.{file_weight, file_reach};
 ghost use Rattle.protox_generate.specs.Checks.{file_faults, IsFailure};
@@ -108,4 +109,20 @@ pub(crate) fn generate_within(
     } else {
         Err(SyntaxFailure::Faults(faults.into_vec()))
     }
+}
+
+/// The descriptor of a file with its locations, exactly where nothing is wrong with it; else all that
+/// is wrong, in the order in which it is found; or that memory ran out. `name` is the file's name, and
+/// `ast` what parsing answers for that source.
+pub fn generate_file(
+    alloc: Global,
+    ast: File,
+    name: &str,
+    source: &str,
+) -> Result<FileDescriptorProto, SyntaxFailure>
+    requires { IsFileOf source.now ast }
+    ensures answers { MatchResult result (λ file. (file_faults ast ≡ []) × (file ≡ file_descriptor name.now source.now ast)) (IsFailure (file_faults ast)) }
+    ensures lie { IfErr result (FaultsLieIn source.now) }
+{
+    generate_within(alloc, ast, name, source)
 }

@@ -1,10 +1,11 @@
 //! Why a source is refused.
 
-ghost use Rattle.std.specs.Prelude.{◌≡◌, ◌≢◌, ◌∷◌, [], List, length, Ok, Err, IfOk};
+ghost use Rattle.std.specs.Prelude.{◌≡◌, ◌≢◌, ◌∷◌, [], ℕ, List, Some, option_and_then, length, Ok, Err, IfOk};
+ghost use Rattle.protox_ast.specs.Accepted as accepted;
 ghost use Rattle.protox_ast.specs.Accepted.{Fits, FaultsLieIn};
 ghost use Rattle.protox_ast.specs.Keywords.{Each};
 ghost use Rattle.protox_lex.specs.Faults.{LiesIn, span_of};
-ghost use Rattle.protox_parse.specs.Failures.{IsRefusalOf, first_of};
+ghost use Rattle.protox_parse.specs.Failures.{IsOutOfMemory, IsRefusalOf, first_of};
 
 use protox_descriptor::values::Text;
 use protox_lex::error::{ParseErrorKind, Span, SyntaxFailure};
@@ -168,7 +169,8 @@ pub(crate) fn refused(
     failure: SyntaxFailure,
 ) -> ParseFailure
     requires { FaultsLieIn source.now failure }
-    ensures { IsRefusalOf name.now source.now result }
+    ensures of_source { IsRefusalOf name.now source.now result }
+    ensures memory { accepted.IsOutOfMemory failure → IsOutOfMemory result }
 {
     match failure {
         SyntaxFailure::Faults(errors) => match refusal(alloc, name, source, errors) {

@@ -1,0 +1,153 @@
+use crate::error::{ParseErrorKind, Span};
+use crate::generate::generate_file;
+use crate::syntax::parse_file;
+use crate::{ParseError, ParseFailure, parse, source_fits};
+use protox_descriptor::descriptor::FileDescriptorProto;
+use protox_descriptor::descriptor::field_descriptor_proto::Label;
+use std::alloc::Global;
+use std::test::Fail;
+
+const EXAMPLE: &str = "\n    syntax = \"proto3\";\n    import \"dep.proto\";\n\n    message Foo {\n        Bar bar = 1;\n    }\n";
+
+// The paths and spans of all locations, as `4.0 4,4,6,5`, a line for each.
+fn locations(alloc: Global, file: &FileDescriptorProto) -> Result<String, Fail> {
+    let mut text = String::new(alloc);
+    let Some(info) = &file.source_code_info else {
+        return Ok(text);
+    };
+    for location in info.location.iter() {
+        let path = location.path.as_slice();
+        let span = location.span.as_slice();
+        text.push_str(format!(in alloc; "{path:?} {span:?}\n")?.as_str())?;
+    }
+    Ok(text)
+}
+
+fn refusal(rt: &HostRuntime, name: &str, source: &str) -> Result<ParseError, Fail> {
+    match parse(rt.alloc(), name, source) {
+        Err(ParseFailure::Refused(error)) => Ok(error),
+        _ => Err(Fail::new("not refused")),
+    }
+}
+
+#[test]
+fn documentation_example(rt: HostRuntime) -> Result<(), Fail> {
+    let file = parse(rt.alloc(), "foo.proto", EXAMPLE)?;
+    assert_eq!(rt; format!(in rt.alloc(); "{:?}", file.name)?.as_str(), "Some(\"foo.proto\")");
+    assert_eq!(rt; format!(in rt.alloc(); "{:?}", file.syntax)?.as_str(), "Some(\"proto3\")");
+    assert_eq!(rt; format!(in rt.alloc(); "{:?}", file.dependency)?.as_str(), "[\"dep.proto\"]");
+    assert_eq!(rt; file.message_type.len(), 1);
+    let Some(message) = file.message_type.get(0) else {
+        return Err(Fail::new("no message"));
+    };
+    assert_eq!(rt; format!(in rt.alloc(); "{:?}", message.name)?.as_str(), "Some(\"Foo\")");
+    let Some(field) = message.field.get(0) else {
+        return Err(Fail::new("no field"));
+    };
+    assert_eq!(rt; format!(in rt.alloc(); "{:?}", field.name)?.as_str(), "Some(\"bar\")");
+    assert_eq!(rt; field.label, Some(Label::Optional));
+    assert_eq!(rt; field.number, Some(1));
+    assert_eq!(rt; format!(in rt.alloc(); "{:?}", field.type_name)?.as_str(), "Some(\"Bar\")");
+    assert!(rt; field.type_.is_none());
+    let places = locations(rt.alloc(), &file)?;
+    assert_eq!(rt; places.as_str(), "[] [1, 4, 6, 5]\n[3, 0] [2, 4, 23]\n[4, 0] [4, 4, 6, 5]\n[4, 0, 1] [4, 12, 15]\n[4, 0, 2, 0] [5, 8, 20]\n[4, 0, 2, 0, 1] [5, 12, 15]\n[4, 0, 2, 0, 3] [5, 18, 19]\n[4, 0, 2, 0, 6] [5, 8, 11]\n[12] [1, 4, 22]\n");
+    Ok(())
+}
+
+#[test]
+fn blank_files(rt: HostRuntime) -> Result<(), Fail> {
+    let cases = [("", "[] [0, 0, 0]\n"), ("   ", "[] [0, 3, 0]\n"), ("\n\n", "[] [2, 0, 0, 0]\n")];
+    for (source, expected) in cases {
+        let file = parse(rt.alloc(), "a.proto", source)?;
+        let places = locations(rt.alloc(), &file)?;
+        assert_eq!(rt; places.as_str(), expected, "{source:?}");
+        assert!(rt; file.syntax.is_none());
+        assert!(rt; file.message_type.is_empty());
+    }
+    Ok(())
+}
+
+#[test]
+fn unexpected_token(rt: HostRuntime) -> Result<(), Fail> {
+    let error = refusal(&rt, "foo.proto", "message {}")?;
+    assert_eq!(rt; error.file(), "foo.proto");
+    assert_eq!(rt; error.source(), "message {}");
+    assert_eq!(rt; error.span(), Some(8..9));
+    assert_eq!(rt; format!(in rt.alloc(); "{error}")?.as_str(), "expected an identifier, but found '{'");
+    assert_eq!(rt; format!(in rt.alloc(); "{error:?}")?.as_str(), "foo.proto:1:9: expected an identifier, but found '{'");
+    assert_eq!(rt; error.errors().len(), 1);
+    assert_eq!(rt; error.into_inner().len(), 1);
+    Ok(())
+}
+
+#[test]
+fn ended_too_soon(rt: HostRuntime) -> Result<(), Fail> {
+    let error = refusal(&rt, "a.proto", "message M {")?;
+    let text = "expected a message field, oneof, reserved range, enum, message, option or '}', but reached end of file";
+    assert_eq!(rt; error.span(), None::<Span>);
+    assert_eq!(rt; format!(in rt.alloc(); "{error:?}")?.as_str(), text);
+    assert_eq!(rt; format!(in rt.alloc(); "{}", error.kind())?.as_str(), text);
+    Ok(())
+}
+
+#[test]
+fn invalid_token(rt: HostRuntime) -> Result<(), Fail> {
+    let error = refusal(&rt, "a.proto", "\u{feff};")?;
+    assert!(rt; error.errors() == [ParseErrorKind::InvalidToken { span: 0..3 }].as_slice());
+    Ok(())
+}
+
+#[test]
+fn number_and_label(rt: HostRuntime) -> Result<(), Fail> {
+    let error = refusal(&rt, "a.proto", "message M { A a = 0; }")?;
+    let faults = [
+        ParseErrorKind::InvalidMessageNumber { span: 18..19 },
+        ParseErrorKind::Proto2FieldMissingLabel { span: 12..20 },
+    ];
+    assert!(rt; error.errors() == faults.as_slice());
+    Ok(())
+}
+
+#[test]
+fn checks_of_the_parser(rt: HostRuntime) -> Result<(), Fail> {
+    let error = refusal(&rt, "a.proto", "syntax = 'proto4'; message {}")?;
+    assert_eq!(rt; error.errors().len(), 1);
+    assert_eq!(rt; error.span(), Some(9..17));
+    let error = refusal(&rt, "a.proto", "import '../a.proto'; import 'b.proto'; message {}")?;
+    assert_eq!(rt; error.errors().len(), 2);
+    assert_eq!(rt; error.span(), Some(7..19));
+    Ok(())
+}
+
+#[test]
+fn length_limit(rt: HostRuntime) -> Result<(), Fail> {
+    for (len, fits) in [(0, true), (2147483647, true), (2147483648, false)] {
+        assert_eq!(rt; source_fits(len), fits, "{len}");
+    }
+    Ok(())
+}
+
+#[test]
+fn file_and_descriptor(rt: HostRuntime) -> Result<(), Fail> {
+    let file = parse_file(rt.alloc(), EXAMPLE)?;
+    assert_eq!(rt; file.span, 5..93);
+    let descriptor = generate_file(rt.alloc(), file, "foo.proto", EXAMPLE)?;
+    assert!(rt; descriptor == parse(rt.alloc(), "foo.proto", EXAMPLE)?);
+    Ok(())
+}
+
+// Whatever growth fails: the answer is that memory ran out, or the file's own.
+#[test]
+fn want_of_memory(rt: HostRuntime) -> Result<(), Fail> {
+    match parse(rt.alloc(), "foo.proto", EXAMPLE) {
+        Err(ParseFailure::OutOfMemory) => Ok(()),
+        Err(ParseFailure::Refused(_)) => Err(Fail::new("refused")),
+        Ok(file) => {
+            let Some(info) = &file.source_code_info else {
+                return Err(Fail::new("no locations"));
+            };
+            assert_eq!(rt; info.location.len(), 9);
+            Ok(())
+        }
+    }
+}

@@ -29,13 +29,15 @@ in_mode text_format x = record x { faults = faults_in text_format x.faults }
 
 -- ---- integers
 
--- how many bytes stand before the digits, and the digits' radix
+-- how many bytes of an integer stand before its digits: `0x` has two, the `0` of an octal number one
 abbrev pub prefix_of : List ℕ → ℕ
 prefix_of word = if not (slice_index word 0 == 48) || length word == 1 then 0 else if is_x (slice_index word 1) then 2 else 1
 
+-- the radix of its digits
 abbrev pub radix_of : List ℕ → ℕ
 radix_of word = if prefix_of word == 2 then 16 else if prefix_of word == 1 then 8 else 10
 
+-- the number that it writes
 abbrev pub integer_value : List ℕ → ℕ
 integer_value word = digits_value (radix_of word) (drop (prefix_of word) word)
 
@@ -49,9 +51,11 @@ space_faults at text n =
     then NoSpaceBetweenIntAndIdent (span_from (at + prefix_of (take n text)) (at + (n + 1 + prefix_len is_ascii_alphabetic (drop (n + 1) text)))) ∷ []
     else []
 
+-- the value is above the largest of 64 bits
 abbrev pub range_faults : ℕ → List ℕ → List ParseErrorKind
 range_faults at word = if value_fits word then [] else IntegerOutOfRange (span_from (at + prefix_of word) (at + length word)) ∷ []
 
+-- an integer of n bytes: its value is 0 where that is too large
 abbrev pub integer : ℕ → List ℕ → ℕ → Lexeme
 integer at text n = record {
   start = at;
@@ -63,12 +67,15 @@ integer at text n = record {
 
 -- ---- floats
 
+-- the float ends in `f` or `F`
 abbrev pub has_suffix : List ℕ → Bool
 has_suffix word = is_f (slice_index word (length word - 1))
 
+-- the float without its suffix
 abbrev pub body_of : List ℕ → List ℕ
 body_of word = if has_suffix word then take (length word - 1) word else word
 
+-- it has neither point nor exponent
 abbrev pub is_whole : List ℕ → Bool
 is_whole word = prefix_len is_ascii_digit (body_of word) == length (body_of word)
 
@@ -80,6 +87,7 @@ float_text word = if is_whole word then body_of word ++ codes ".0" else body_of 
 abbrev pub suffix_faults : ℕ → List ℕ → List ParseErrorKind
 suffix_faults at word = if has_suffix word then FloatSuffixOutsideTextFormat (span_from at (at + length word)) ∷ [] else []
 
+-- a float of n bytes
 abbrev pub float : ℕ → List ℕ → ℕ → Lexeme
 float at text n = record {
   start = at;
@@ -91,6 +99,7 @@ float at text n = record {
 
 -- ---- strings
 
+-- a string, up to its closing quote, a newline or the end
 abbrev pub string : ℕ → List ℕ → Lexeme
 string at text = let ps = pieces (slice_index text 0) (drop 1 text) in record {
   start = at;
@@ -106,6 +115,7 @@ string at text = let ps = pieces (slice_index text 0) (drop 1 text) in record {
 abbrev pub line_body : List ℕ → List ℕ
 line_body word = drop (if slice_index word 0 == 35 then 1 else 2) word
 
+-- a carriage return and a newline stand at the end
 abbrev pub ends_crlf : List ℕ → Bool
 ends_crlf body = nat_le 2 (length body) && (slice_index body (length body - 2) == 13 && slice_index body (length body - 1) == 10)
 
@@ -117,6 +127,7 @@ line_text body = if ends_crlf body then take (length body - 2) body ++ 10 ∷ []
 abbrev pub hash_faults : ℕ → List ℕ → List ParseErrorKind
 hash_faults at word = if slice_index word 0 == 35 then HashCommentOutsideTextFormat (span_from at (at + length word)) ∷ [] else []
 
+-- a line comment of n bytes
 abbrev pub line_comment : ℕ → List ℕ → ℕ → Lexeme
 line_comment at text n = record {
   start = at;
@@ -128,6 +139,7 @@ line_comment at text n = record {
 
 -- ---- lexemes
 
+-- a lexeme of n bytes whose value is its bytes, without a fault
 abbrev pub plain : Shape → ℕ → ℕ → Lexeme
 plain shape at n = record { start = at; stop = at + n; shape = shape; borrowed = true; faults = [] }
 
@@ -151,6 +163,7 @@ IsLexeme at text x =
     ((k : Kind) × (n : ℕ) × IsLongest k text n × (x ≡ lexeme k at text n))
     ⊎ (((k : Kind) (n : ℕ) → Fits (pattern k) text n → ⊥) × (x ≡ invalid at text))
 
+-- how many skipped bytes stand at the front
 abbrev pub blanks : List ℕ → ℕ
 blanks text = prefix_len is_blank text
 
@@ -161,10 +174,12 @@ IsCut at text (x ∷ xs) = (blanks text < length text) × IsLexeme (at + blanks 
 
 -- ---- the cut as a function
 
+-- the lexeme of a match, or one invalid character
 abbrev pub lexeme_or : ℕ → List ℕ → Option (Kind × ℕ) → Lexeme
 lexeme_or at text None = invalid at text
 lexeme_or at text (Some p) = lexeme p.0 at text p.1
 
+-- the lexeme at a place, by the longest match that the scan finds
 unfoldable pub first_lexeme : ℕ → List ℕ → Lexeme
 first_lexeme at text = lexeme_or at text (scan text)
 
@@ -176,5 +191,6 @@ cut_from (suc count) at text =
     then (let x = first_lexeme (at + blanks text) (drop (blanks text) text) in x ∷ cut_from count x.stop (drop (x.stop - at) text))
     else []
 
+-- the lexemes of a text from a place on
 unfoldable pub cut : ℕ → List ℕ → List Lexeme
 cut at text = cut_from (length text) at text

@@ -60,6 +60,7 @@ exponent = one is_e ⋅ maybe (one is_sign) ⋅ digits
 abbrev pub suffix : Pattern
 suffix = maybe (one is_f)
 
+-- what the lexemes of each kind match. A string goes on behind that, up to its own end.
 abbrev pub pattern : Kind → Pattern
 pattern Identifier = one is_letter ⋅ many is_word
 pattern Integer =

@@ -23,6 +23,7 @@ Answers old (Some r) new =
     (x : Lexeme) × (old.left ≡ x ∷ new.left) × (shape_of_result r ≡ x.shape) × (borrowed_of_result r ≡ x.borrowed)
     × (new ≡ record old { left = new.left; start = x.start; stop = x.stop; errors = old.errors ++ faults_in old.text_format x.faults })
 
+-- the same of the lexemes left
 abbrev pub NextTakesNone : Bool → List Lexeme → Type 0
 NextTakesNone text_format [] = Unit {0}
 NextTakesNone text_format (x ∷ xs) = (x.borrowed ≡ true) × (faults_in text_format x.faults ≡ [])

@@ -37,6 +37,7 @@ simple_escape c =
     else if c == 34 then Some 34
     else None
 
+-- the number of a Unicode character, which is no surrogate
 abbrev pub is_scalar : ℕ → Bool
 is_scalar c = nat_lt c 0xD800 || (nat_le 0xE000 c && nat_le c 0x10_FFFF)
 
@@ -48,6 +49,7 @@ byte_piece value n = if nat_le value 255 then adds (value ∷ []) n else wrong t
 abbrev pub char_piece : ℕ → ℕ → Piece
 char_piece value n = if is_scalar value then adds (encode_utf8 value) n else wrong true n
 
+-- a backslash and a letter, or a backslash that begins nothing
 abbrev pub simple_piece : Option ℕ → Piece
 simple_piece None = wrong true 1
 simple_piece (Some b) = adds (b ∷ []) 2
@@ -93,6 +95,7 @@ piece quote text =
     else if b == 92 then escape text
     else wrong false 1
 
+-- how many bytes a piece has
 abbrev pub piece_len : Piece → ℕ
 piece_len (run bytes) = length bytes
 piece_len (adds bytes n) = n
@@ -100,11 +103,13 @@ piece_len (wrong is_escape n) = n
 piece_len ends = 1
 piece_len breaks = 1
 
+-- the bytes that it adds to the value
 abbrev pub added : Piece → List ℕ
 added (run bytes) = bytes
 added (adds bytes n) = bytes
 added _ = []
 
+-- it ends the literal
 abbrev pub is_last : Piece → Bool
 is_last ends = true
 is_last breaks = true
@@ -121,14 +126,16 @@ pieces_from (suc count) quote (b ∷ text) =
 unfoldable pub pieces : ℕ → List ℕ → List Piece
 pieces quote text = pieces_from (length text) quote text
 
+-- the value of a literal, by its pieces
 abbrev pub value_of : List Piece → List ℕ
 value_of ps = flat_map added ps
 
+-- how many bytes they have
 abbrev pub len_of : List Piece → ℕ
 len_of [] = 0
 len_of (p ∷ ps) = piece_len p + len_of ps
 
--- The value is one run, or nothing.
+-- The value is one run, or nothing. `has_run` says that a run stands before.
 abbrev pub is_one_run : Bool → List Piece → Bool
 is_one_run has_run [] = true
 is_one_run has_run (run bytes ∷ ps) = not has_run && is_one_run true ps
@@ -139,10 +146,12 @@ is_one_run has_run (p ∷ ps) = is_one_run has_run ps
 abbrev pub Bad : Type 0
 Bad = Option (Bool × ℕ)
 
+-- an invalid piece at a place, behind these
 abbrev pub opened : Bad → Bool → ℕ → Bad
 opened None is_escape at = Some (is_escape, at)
 opened (Some o) is_escape at = Some o
 
+-- the fault of those that end at a place
 abbrev pub closed : Bad → ℕ → List ParseErrorKind
 closed None at = []
 closed (Some o) at = (if o.0 then InvalidStringEscape (span_from o.1 at) else InvalidStringCharacters (span_from o.1 at)) ∷ []

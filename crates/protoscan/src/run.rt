@@ -77,7 +77,7 @@ pub fn run<W: Write, E: Write>(
 ) -> u8
     ensures status { result ≤ 2 }
     ensures words { length words.now ≢ 1 → result ≡ 2 }
-    ensures file { file ≡ None → result ≡ 2 }
+    ensures file { file.entry ≡ None → result ≡ 2 }
 {
     let [name] = words else {
         return FAILED;

@@ -45,10 +45,10 @@ fn documentation_example(rt: HostRuntime) -> Result<(), Fail> {
         return Err(Fail::new("no field"));
     };
     assert_eq!(rt; format!(in rt.alloc(); "{:?}", field.name)?.as_str(), "Some(\"bar\")");
-    assert_eq!(rt; field.label, Some(Label::Optional));
+    assert_eq!(rt; field.label, Some(Label::Optional as i32));
     assert_eq!(rt; field.number, Some(1));
     assert_eq!(rt; format!(in rt.alloc(); "{:?}", field.type_name)?.as_str(), "Some(\"Bar\")");
-    assert!(rt; field.type_.is_none());
+    assert!(rt; field.field_type.is_none());
     let places = locations(rt.alloc(), &file)?;
     assert_eq!(rt; places.as_str(), "[] [1, 4, 6, 5]\n[3, 0] [2, 4, 23]\n[4, 0] [4, 4, 6, 5]\n[4, 0, 1] [4, 12, 15]\n[4, 0, 2, 0] [5, 8, 20]\n[4, 0, 2, 0, 1] [5, 12, 15]\n[4, 0, 2, 0, 3] [5, 18, 19]\n[4, 0, 2, 0, 6] [5, 8, 11]\n[12] [1, 4, 22]\n");
     Ok(())

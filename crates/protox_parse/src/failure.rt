@@ -61,7 +61,7 @@ impl ParseError {
         ensures value { result.now ≡ self.now.errors }
         ensures some { result.now ≢ [] }
     {
-        &self.errors
+        self.errors.as_slice()
     }
 
     /// The span of the first fault, in bytes. None for a second package name, for the end of the

@@ -1,5 +1,5 @@
 //! A Protocol Buffers source parser: from a file's name and text to its descriptor with locations,
-//! comments and all, or to what is wrong with it.
+//! or to what is wrong with it.
 #![tactic(auto)]
 
 ghost use Rattle.std.specs.Prelude.{◌≡◌, ◌≤◌, ◌↔◌, IsTrue, IfOk, IfErr, MatchResult, length, []};

@@ -1,8 +1,7 @@
 -- What is judged of the table of a source is what is said of the source.
-use Rattle.std.proofs.Common.{◌≡◌, ◌≢◌, ℕ, suc, ◌+◌, ◌≤◌, List, [], length, Option, Some, None, option_map, Result, Ok, Err, IfOk, IfErr, MatchResult, refl, sym, ap, subst, ◌∙◌, arith}
+use Rattle.std.proofs.Common.{◌≡◌, ℕ, ◌+◌, ◌≤◌, List, [], length, Option, Some, None, option_map, Result, Ok, Err, IfOk, IfErr, MatchResult, refl, sym, ap, subst, ◌∙◌, arith}
 use Rattle.std.specs.Prelude.{filter_map}
-use Rattle.std.specs.Str.{IsUtf8}
-use Rattle.protox_lex.specs.Faults.{Span, LiesIn}
+use Rattle.protox_lex.specs.Faults.{Span}
 use Rattle.protox_lex.specs.Shapes.{Rows}
 use Rattle.protox_lex.specs.Lexemes.{cut}
 use Rattle.protox_lex.specs.Table.{Table, rows_of, faults_of, table_of}
@@ -13,12 +12,11 @@ use Rattle.protox_ast.specs.Tree as tree
 use Rattle.protox_ast.specs.Ast as ast
 use Rattle.protox_ast.specs.Spelling as s
 use Rattle.protox_ast.specs.Depth.{depth}
-use Rattle.protox_ast.specs.Spells.{Spells}
 use Rattle.protox_ast.specs.Accepted.{Fits, IsAccepted, FaultsLieIn, IsFileOf, IsOutOfMemory}
 use Rattle.protox_ast.specs.declared.ast.File.{File}
 use Rattle.protox_grammar.proofs.Main.{one_tree, shallow}
 use Rattle.protox_syntax.specs.Weave.{released}
-use Rattle.protox_syntax.specs.Judging.{IsWhole, Judges, JudgesFault, made, syntax_or_default, with_comments}
+use Rattle.protox_syntax.specs.Judging.{IsWhole, Judges, made, syntax_or_default, with_comments}
 use Rattle.protox_syntax.proofs.Fine.{seen_file, read-whole, whole-read, notes-fine, fine-notes}
 use Rattle.protox_syntax.proofs.Judged.{Read}
 use Rattle.protox_syntax.proofs.Same.{here, syntax_and_span}
@@ -61,8 +59,8 @@ module _ (source : List ℕ) where
   whole-accepted fits x w =
       let g = whole-read tab.rows x w.0 in
       let bare = subst (λ n. released tab.faults 0 n ≡ []) (sym counted) w.2 in
-      let deep : depth g.0 ≤ 31 = omega (arith, shallow g.0) in
-      (g.0,
+      let deep : depth g.0 ≤ 31 = omega (arith, shallow g.0) in (
+        g.0,
         record {
           fits = fits;
           spells = g.1;
@@ -70,7 +68,8 @@ module _ (source : List ℕ) where
           levels = deep;
           fine = fine-notes tab.rows g.0 g.1 w.1;
         },
-        g.2)
+        g.2,
+      )
 
   pub judged-found : Fits source → (r : Result File SyntaxFailure) → Judges tab (length source) r → IfOk r (IsFileOf source)
   judged-found fits (Err e) j = tt

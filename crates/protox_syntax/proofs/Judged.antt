@@ -1,9 +1,9 @@
 -- What is judged of a table.
-use Rattle.std.proofs.Common.{◌≡◌, ◌≤◌, ◌<◌, ◌+◌, ◌-◌, ℕ, zero, suc, Bool, true, false, cond, List, [], ◌∷◌, ◌++◌, length, Option, Some, None, Result, Ok, Err, refl, sym, ap, subst, ◌∙◌, arith}
+use Rattle.std.proofs.Common.{◌≡◌, ◌≤◌, ◌<◌, ◌+◌, ◌-◌, ℕ, Bool, true, false, cond, List, [], ◌∷◌, ◌++◌, length, Option, Some, None, Ok, Err, refl, sym, ap, subst, ◌∙◌, arith}
 use Rattle.std.specs.Prelude.{slice_index_or, slice_get, option_to_list}
 use Rattle.std.specs.List.{All}
-use Rattle.protox_lex.specs.Faults.{Span, LiesIn, SpanLiesIn}
-use Rattle.protox_lex.specs.Shapes.{Shape, Ident, Int, Float, Str, Mark, LineComment, BlockComment, Newline, Invalid, Row, Rows}
+use Rattle.protox_lex.specs.Faults.{Span, LiesIn}
+use Rattle.protox_lex.specs.Shapes.{Shape, Ident, Int, Float, Str, Mark, LineComment, BlockComment, Newline, Invalid, Row}
 use Rattle.protox_lex.specs.Lexemes.{cut}
 use Rattle.protox_lex.specs.Printed.{printed}
 use Rattle.protox_lex.specs.Table.{Table, rows_of, faults_of, StandBetween}
@@ -12,14 +12,14 @@ use Rattle.protox_lex.specs.declared.error.ParseErrorKind.TheVariants.{Unexpecte
 use Rattle.protox_lex.proofs.Places.{stand, lie}
 use Rattle.protox_ast.specs.Keywords.{Each}
 use Rattle.protox_ast.specs.declared.ast.Syntax.{Syntax}
-use Rattle.protox_grammar.specs.Reader.{Refusal, Unexpected}
+use Rattle.protox_grammar.specs.Reader.{Unexpected}
 use Rattle.protox_syntax.specs.declared.notes.Note.{Note}
 use Rattle.protox_syntax.specs.declared.statement_types.Statements.{Statements}
 use Rattle.protox_syntax.specs.Notes.{is_invalid, syntax_if_any_notes, then_notes, statements_notes}
 use Rattle.protox_syntax.specs.Reads.{syntax_if_any_at}
 use Rattle.protox_syntax.specs.Whole.{whole, all_notes}
 use Rattle.protox_syntax.specs.Weave.{released, weave, refusal, row_at}
-use Rattle.protox_syntax.specs.Judging.{IsTableOf, IsWhole, HasNoFault}
+use Rattle.protox_syntax.specs.Judging.{IsTableOf, IsWhole}
 use Rattle.protox_syntax.proofs.Weaving.{append-empty, each-append, each-front, weave-each, note-stays, nothing-noted, weave-none, released-none}
 use Rattle.protox_syntax.proofs.TableFaults.{all-each, each-at, invalid-faulty}
 use Rattle.protox_syntax.proofs.NotesLie.{notes-lie}
@@ -68,10 +68,11 @@ module _ (t : Table) (size : ℕ) (tab : IsTableOf size t) where
   pub stopped-judged : (notes : List Note) (total left : ℕ) (errors : List ParseErrorKind) → notes ≡ syntax_if_any_notes t.rows → (notes ≡ [] → ⊥) → errors ≡ weave t.faults total notes left → IsJudged t size errors
   stopped-judged [] total left errors is some woven = absurd (some refl)
   stopped-judged (n ∷ ns) total left errors is some woven =
-      let lies : Each (λ (n : Note). LiesIn size n.fault) (n ∷ ns) = subst (λ (xs : List Note). Each (λ (n : Note). LiesIn size n.fault) xs) (sym is) (each-front _ (syntax_if_any_notes t.rows) (then_notes statements_notes (syntax_if_any_at t.rows)) (notes-lie 0 size t.rows stands)) in
-      ((λ e. note-stays t.faults total n ns left (sym woven ∙ e)),
+      let lies : Each (λ (n : Note). LiesIn size n.fault) (n ∷ ns) = subst (λ (xs : List Note). Each (λ (n : Note). LiesIn size n.fault) xs) (sym is) (each-front _ (syntax_if_any_notes t.rows) (then_notes statements_notes (syntax_if_any_at t.rows)) (notes-lie 0 size t.rows stands)) in (
+        (λ e. note-stays t.faults total n ns left (sym woven ∙ e)),
         subst (λ (xs : List ParseErrorKind). Each (LiesIn size) xs) (sym woven) (woven-lie total left (n ∷ ns) lies),
-        (λ x w. some (is ∙ (append-empty (syntax_if_any_notes t.rows) _ w.1).0)))
+        (λ x w. some (is ∙ (append-empty (syntax_if_any_notes t.rows) _ w.1).0)),
+      )
 
   fault-lies : (expected : List ℕ) (i : ℕ) (o : Option (Row Span)) → slice_get t.rows i ≡ o → Each (LiesIn size) (option_to_list (refusal expected o))
   fault-lies expected i None e = (tt, tt)
@@ -102,10 +103,11 @@ module _ (t : Table) (size : ℕ) (tab : IsTableOf size t) where
   pub refused-judged : (notes : List Note) (total left : ℕ) (expected : List ℕ) (woven errors : List ParseErrorKind) → total ≡ length t.rows + 1 → whole t.rows ≡ Err (Unexpected left) → notes ≡ all_notes t.rows → woven ≡ weave t.faults total notes left → errors ≡ woven ++ option_to_list (refusal expected (row_at t.rows left)) → IsJudged t size errors
   refused-judged notes total left expected woven errors is read noted w e =
       let lies : Each (λ (n : Note). LiesIn size n.fault) notes = subst (λ (xs : List Note). Each (λ (n : Note). LiesIn size n.fault) xs) (sym noted) (notes-lie 0 size t.rows stands) in
-      let all = e ∙ ap (λ v. v ++ option_to_list (refusal expected (row_at t.rows left))) w in
-      ((λ n. some-fault expected left total (row_at t.rows left) notes is (left-within t.rows left read) refl (sym all ∙ n)),
+      let all = e ∙ ap (λ v. v ++ option_to_list (refusal expected (row_at t.rows left))) w in (
+        (λ n. some-fault expected left total (row_at t.rows left) notes is (left-within t.rows left read) refl (sym all ∙ n)),
         subst (λ (xs : List ParseErrorKind). Each (LiesIn size) xs) (sym all) (each-append (LiesIn size) (weave t.faults total notes left) _ (woven-lie total left notes lies) (fault-lies expected (length t.rows - left) (row_at t.rows left) refl)),
-        (λ x v. ok-err x (Unexpected left) (sym v.0 ∙ read)))
+        (λ x v. ok-err x (Unexpected left) (sym v.0 ∙ read)),
+      )
 
   bare-total : (total : ℕ) → total ≡ length t.rows + 1 → weave t.faults total [] 0 ≡ released t.faults 0 (length t.rows + 1)
   bare-total total is = let e : total - 0 ≡ length t.rows + 1 = omega (arith, is) in weave-none t.faults total 0 ∙ ap (released t.faults 0) e
@@ -113,10 +115,11 @@ module _ (t : Table) (size : ℕ) (tab : IsTableOf size t) where
   -- all rows are read, and there are faults
   pub faulty-judged : (notes : List Note) (total : ℕ) (errors : List ParseErrorKind) → total ≡ length t.rows + 1 → notes ≡ all_notes t.rows → errors ≡ weave t.faults total notes 0 → (errors ≡ [] → ⊥) → IsJudged t size errors
   faulty-judged notes total errors is noted woven some =
-      let lies : Each (λ (n : Note). LiesIn size n.fault) notes = subst (λ (xs : List Note). Each (λ (n : Note). LiesIn size n.fault) xs) (sym noted) (notes-lie 0 size t.rows stands) in
-      (some,
+      let lies : Each (λ (n : Note). LiesIn size n.fault) notes = subst (λ (xs : List Note). Each (λ (n : Note). LiesIn size n.fault) xs) (sym noted) (notes-lie 0 size t.rows stands) in (
+        some,
         subst (λ (xs : List ParseErrorKind). Each (LiesIn size) xs) (sym woven) (woven-lie total 0 notes lies),
-        (λ x w. some (woven ∙ ap (λ ns. weave t.faults total ns 0) (noted ∙ w.1) ∙ bare-total total is ∙ w.2)))
+        (λ x w. some (woven ∙ ap (λ ns. weave t.faults total ns 0) (noted ∙ w.1) ∙ bare-total total is ∙ w.2)),
+      )
 
   -- all rows are read, and there is no fault
   pub whole-judged : (notes : List Note) (total : ℕ) (errors : List ParseErrorKind) (x : Read) → total ≡ length t.rows + 1 → whole t.rows ≡ Ok x → notes ≡ all_notes t.rows → errors ≡ weave t.faults total notes 0 → errors ≡ [] → IsWhole t x

@@ -1,11 +1,11 @@
 -- The notes of statements, one statement at a time.
-use Rattle.std.proofs.Common.{◌≡◌, ℕ, zero, suc, ◌<◌, Bool, true, false, List, [], ◌∷◌, ◌++◌, length, Result, Ok, Err, refl, sym, ap, ◌∙◌, append-nil, append_assoc, eqb, arith}
+use Rattle.std.proofs.Common.{◌≡◌, ℕ, zero, suc, ◌<◌, true, false, List, [], ◌∷◌, ◌++◌, length, Result, Ok, Err, refl, sym, ap, ◌∙◌, append-nil, append_assoc, eqb, arith}
 use Rattle.std.proofs.lemmas.Bool.{eqb-true}
 use Rattle.protox_lex.specs.Faults.{Span}
 use Rattle.protox_lex.specs.Shapes.{Rows}
 use Rattle.protox_syntax.specs.Rows.{rows_from}
 use Rattle.protox_lex.specs.declared.token_table.Row as source
-use Rattle.protox_grammar.specs.Reader.{Refusal, Unexpected}
+use Rattle.protox_grammar.specs.Reader.{Refusal}
 use Rattle.protox_syntax.specs.Reads.{statement_at}
 use Rattle.protox_syntax.specs.Notes.{AddsTo, statement_notes, then_notes, notes_from, statements_notes}
 use Rattle.protox_syntax.specs.Outcome.{Fails}

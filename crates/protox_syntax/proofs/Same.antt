@@ -1,11 +1,10 @@
 -- Each rule that the code reads is the rule of the grammar, seen as the syntax tree.
-use Rattle.std.proofs.Common.{◌≡◌, ℕ, Bool, true, false, not, List, [], ◌∷◌, ◌++◌, map, Option, Some, None, option_map, is_some, Result, Ok, Err, codes, refl, sym, ap, ◌∙◌, append-nil, append_assoc, inl, inr, ◌⊎◌, lit<}
+use Rattle.std.proofs.Common.{◌≡◌, ℕ, not, List, [], ◌∷◌, ◌++◌, map, Option, Some, None, option_map, is_some, codes, refl, sym, ap, ◌∙◌, append-nil, append_assoc, lit<}
 use Rattle.std.specs.List.{filter_map, cons_option}
 use Rattle.protox_lex.specs.Faults.{Span}
-use Rattle.protox_lex.specs.Shapes.{Shape, Ident, Mark, Rows}
+use Rattle.protox_lex.specs.Shapes.{Shape, Ident, Mark}
 use Rattle.protox_ast.specs.Tree as tree
 use Rattle.protox_ast.specs.Spelling as s
-use Rattle.protox_ast.specs.Keywords.{scalars}
 use Rattle.protox_ast.specs.Ast as ast
 use Rattle.protox_ast.specs.declared.ast.Ident as ident_type
 use Rattle.protox_ast.specs.declared.ast.TypeName as type_name
@@ -19,10 +18,10 @@ use Rattle.protox_ast.specs.declared.ast.FileItem.{FileItem}
 use Rattle.protox_ast.specs.declared.ast.MessageItem.{MessageItem}
 use Rattle.protox_ast.specs.declared.ast.MessageItem.TheVariants as item
 use Rattle.protox_grammar.specs.Class.{only, all, but, class, in_set}
-use Rattle.protox_grammar.specs.Reader.{Reader, Refusal, Consumes, ◌>>=◌, fixed, leaf, seq, mapped, either, star, folded, gathered, see_word, see_integer, see_text}
+use Rattle.protox_grammar.specs.Reader.{Consumes, fixed, leaf, seq, star, folded, see_word, see_integer, see_text}
 use Rattle.protox_grammar.specs.Rule.{optional}
 use Rattle.protox_grammar.specs.Rules as r
-use Rattle.protox_grammar.proofs.Shows.{Shows, seen, as_is, seq-shows, mapped-shows, either-shows, star-shows, unstarted-shows, optional-shows, shows-by, left-shows, right-shows, two, three, shows-eats}
+use Rattle.protox_grammar.proofs.Shows.{Shows, as_is, seq-shows, mapped-shows, either-shows, star-shows, unstarted-shows, optional-shows, shows-by, left-shows, right-shows, two, three, shows-eats}
 use Rattle.protox_grammar.proofs.Tests.{word-class, mark-class, words-class, scalar-class, string-class}
 use Rattle.protox_grammar.proofs.Forms.{mark-laws, seq-laws}
 use Rattle.protox_grammar.proofs.Parts as parts

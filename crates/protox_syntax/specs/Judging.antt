@@ -5,7 +5,6 @@ use Rattle.protox_lex.specs.Faults.{Span, LiesIn}
 use Rattle.protox_lex.specs.Shapes.{Rows}
 use Rattle.protox_lex.specs.Lexemes.{cut}
 use Rattle.protox_lex.specs.Table.{Table, table_of}
-use Rattle.protox_lex.specs.declared.error.ParseErrorKind.{ParseErrorKind}
 use Rattle.protox_lex.specs.declared.error.SyntaxFailure.{SyntaxFailure}
 use Rattle.protox_lex.specs.declared.error.SyntaxFailure.TheVariants.{Faults, OutOfMemory}
 use Rattle.protox_ast.specs.Keywords.{Each}

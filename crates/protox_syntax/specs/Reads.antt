@@ -1,9 +1,7 @@
 -- MACHINERY. Each rule, read into the syntax tree by the code's steps.
-use Rattle.std.specs.Prelude.{ℕ, List, [], ◌∷◌, ◌++◌, map, codes, Bool, true, false, not, ◌||◌, Option, Some, None, option_map, is_some}
-use Rattle.std.specs.List.{list_any}
-use Rattle.std.specs.Str.{bytes_eq}
+use Rattle.std.specs.Prelude.{ℕ, List, [], ◌∷◌, ◌++◌, codes, Bool, true, not, Option, Some, None, is_some}
 use Rattle.protox_lex.specs.Faults.{Span}
-use Rattle.protox_lex.specs.Shapes.{Shape, Ident, Str, Mark, Row, Rows}
+use Rattle.protox_lex.specs.Shapes.{Shape, Ident, Mark}
 use Rattle.protox_grammar.specs.Reader.{Reader, is_token, is_word_of, is_string, fixed, leaf, seq, mapped, either, optional, star, unstarted, gathered, folded, see_word, see_integer, see_text}
 use Rattle.protox_grammar.specs.Rules.{see_scalar, barred_words}
 use Rattle.protox_ast.specs.Spelling.{dot, minus, open_brace, close_brace, equals, semicolon}

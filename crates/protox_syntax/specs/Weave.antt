@@ -3,7 +3,6 @@ use Rattle.std.specs.Prelude.{ℕ, zero, suc, ◌+◌, ◌-◌, List, [], ◌∷
 use Rattle.protox_lex.specs.Faults.{Span}
 use Rattle.protox_lex.specs.Shapes.{Row, Rows}
 use Rattle.protox_lex.specs.Printed.{printed}
-use Rattle.protox_lex.specs.Table.{Table}
 use Rattle.protox_lex.specs.declared.error.ParseErrorKind.{ParseErrorKind}
 use Rattle.protox_lex.specs.declared.error.ParseErrorKind.TheVariants.{UnexpectedToken, UnexpectedEof}
 use Rattle.protox_syntax.specs.declared.notes.Note.{Note}

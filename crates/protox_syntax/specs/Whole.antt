@@ -1,5 +1,5 @@
 -- MACHINERY. What reading a whole file gives, and what is noted on the way.
-use Rattle.std.specs.Prelude.{List, [], ◌++◌, Option, Result, Ok}
+use Rattle.std.specs.Prelude.{List, ◌++◌, Option, Result, Ok}
 use Rattle.protox_lex.specs.Faults.{Span}
 use Rattle.protox_lex.specs.Shapes.{Rows}
 use Rattle.protox_grammar.specs.Reader.{Refusal, ◌>>=◌}

@@ -38,7 +38,8 @@ impl Expected {
             Expected::Semicolon => "';'",
             Expected::LeftBrace => "'{'",
             Expected::RightBrace => "'}'",
-            Expected::Statement => "'enum', 'extend', 'import', 'message', 'option', 'service', 'package' or ';'",
+            Expected::Statement =>
+                "'enum', 'extend', 'import', 'message', 'option', 'service', 'package' or ';'",
             Expected::Ident => "an identifier",
             Expected::DotOrIdent => "'.' or an identifier",
             Expected::Int => "an integer",
@@ -47,7 +48,8 @@ impl Expected {
             Expected::ImportString => "a string literal, 'public' or 'weak'",
             Expected::WeakOrPublic => "'public' or 'weak'",
             Expected::Type => "a field type",
-            Expected::MessageBody => "a message field, oneof, reserved range, enum, message, option or '}'",
+            Expected::MessageBody =>
+                "a message field, oneof, reserved range, enum, message, option or '}'",
             Expected::SemicolonOrOptions => "';' or '['",
         }
     }

@@ -49,10 +49,7 @@ pub(crate) fn ident<'t, 'a>(
 }
 
 #[tactic(auto, unfolding(crate::specs::Reads::more_part_at))]
-fn more_part<'t, 'a>(
-    alloc: Global,
-    rows: &'t [Row<'a>],
-) -> Result<(Ident, &'t [Row<'a>]), Refused>
+fn more_part<'t, 'a>(alloc: Global, rows: &'t [Row<'a>]) -> Result<(Ident, &'t [Row<'a>]), Refused>
     ensures { Gives (λ x. (x.0, rows_from x.1.now)) result (more_part_at (rows_from rows.now)) }
 {
     let (_, rest) = expect_mark(rows, b'.', Expected::Dot)?;

@@ -72,16 +72,14 @@ fn has_backslash(component: &str) -> bool
 fn is_plain_component(component: &str) -> bool
     ensures { result ≡ is_plain_component component.now }
 {
-    !component.is_empty()
-        && component != "."
-        && component != ".."
-        && !has_backslash(component)
+    !component.is_empty() && component != "." && component != ".." && !has_backslash(component)
 }
 
 fn is_import_path(path: &str) -> bool
     ensures { result ≡ is_import_path path.now }
 {
-    path.split('/').all(|component| is_plain_component(component))
+    path.split('/')
+        .all(|component| is_plain_component(component))
 }
 
 /// Whether the syntax is one that there is.
@@ -116,7 +114,11 @@ pub(crate) fn check_text(
     if is_text(value) {
         return Ok(());
     }
-    add_note(notes, rows, ParseErrorKind::InvalidUtf8String { span: copied(span) })
+    add_note(
+        notes,
+        rows,
+        ParseErrorKind::InvalidUtf8String { span: copied(span) },
+    )
 }
 
 /// Whether an import's text is a path of plain components.
@@ -131,5 +133,9 @@ pub(crate) fn check_path(
     if is_import_path(path) {
         return Ok(());
     }
-    add_note(notes, rows, ParseErrorKind::InvalidImport { span: copied(span) })
+    add_note(
+        notes,
+        rows,
+        ParseErrorKind::InvalidImport { span: copied(span) },
+    )
 }

@@ -14,8 +14,8 @@ use crate::messages::message;
 use crate::names::no_comments;
 use crate::notes::{Note, check_path, check_syntax, check_text};
 use crate::refused::Refused;
-use crate::strings::{strings, text_of};
 use crate::statement_types::{Statement, Statements};
+use crate::strings::{strings, text_of};
 use protox_ast::ast::{FileItem, Import, ImportKind, Syntax};
 use protox_descriptor::values::Items;
 use protox_lex::error::Span;
@@ -87,9 +87,7 @@ fn is_import_word(word: &str) -> bool
 
 /// "weak" | "public"
 #[tactic(auto, unfolding(crate::specs::Reads::import_kind_at))]
-fn import_kind<'t, 'a>(
-    rows: &'t [Row<'a>],
-) -> Result<((ImportKind, Span), &'t [Row<'a>]), Refused>
+fn import_kind<'t, 'a>(rows: &'t [Row<'a>]) -> Result<((ImportKind, Span), &'t [Row<'a>]), Refused>
     ensures { Gives (λ x. (x.0, rows_from x.1.now)) result (import_kind_at (rows_from rows.now)) }
 {
     if sees_word(rows, "weak") {

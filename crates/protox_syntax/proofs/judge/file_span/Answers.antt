@@ -1,4 +1,4 @@
-use Rattle.std.proofs.Common.{◌≡◌, ◌≤◌, ◌-◌, length, slice_index_or, ap, subst, sym, ◌∙◌, arith}
+use Rattle.std.proofs.Common.{◌≤◌, length, slice_index_or, ap, ◌∙◌, arith}
 use Rattle.protox_lex.specs.declared.token_table.Row as source
 use Rattle.protox_ast.specs.Ast.{join}
 use Rattle.protox_syntax.proofs.Spans.{rows-span}

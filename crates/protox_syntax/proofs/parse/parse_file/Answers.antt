@@ -1,4 +1,4 @@
-use Rattle.std.proofs.Common.{◌≡◌, length, subst}
+use Rattle.std.proofs.Common.{length, subst}
 use Rattle.protox_syntax.specs.Judging.{Judges}
 use Rattle.protox_syntax.proofs.Accepts.{judged-found, judged-only}
 use Rattle.protox_syntax.proofs.parse.parse_file.Goals as goal

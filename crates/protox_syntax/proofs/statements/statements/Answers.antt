@@ -2,7 +2,7 @@ use Rattle.std.proofs.Common.{sym, ◌∙◌, refl}
 use Rattle.std.proofs.lemmas.Result.{err_from_is_err_and}
 use Rattle.protox_syntax.specs.Rows.{rows_from}
 use Rattle.protox_syntax.specs.Reads.{add_statement, anything, statement_at, statements_at}
-use Rattle.protox_syntax.specs.Notes.{statement_notes, statements_notes}
+use Rattle.protox_syntax.specs.Notes.{statements_notes}
 use Rattle.protox_syntax.proofs.Same.{statement-eats}
 use Rattle.protox_syntax.proofs.NotesTurns.{more-notes, last-notes, all-notes}
 use Rattle.protox_syntax.proofs.Turns as turns

@@ -45,7 +45,13 @@ fn runs(rt: HostRuntime) -> Result<(), Fail> {
             "expected a message field, oneof, reserved range, enum, message, option or '}', but reached end of file\n",
             1,
         ),
-        ("a.proto", "\u{feff};", "", "a.proto:1:1: invalid token\n", 1),
+        (
+            "a.proto",
+            "\u{feff};",
+            "",
+            "a.proto:1:1: invalid token\n",
+            1,
+        ),
     ];
     for (name, source, out, err, status) in cases {
         let (written, refused, ended) = scanned(&rt, name, Some(source.as_bytes()))?;
@@ -66,7 +72,13 @@ fn without_a_file_to_read(rt: HostRuntime) -> Result<(), Fail> {
     assert_eq!(rt; status, 2);
     let mut out = Vec::new(rt.alloc());
     let mut err = Vec::new(rt.alloc());
-    let status = run(rt.alloc(), [].as_slice(), Some([].as_slice()), &mut out, &mut err);
+    let status = run(
+        rt.alloc(),
+        [].as_slice(),
+        Some([].as_slice()),
+        &mut out,
+        &mut err,
+    );
     assert_eq!(rt; status, 2);
     Ok(())
 }

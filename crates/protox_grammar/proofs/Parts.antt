@@ -202,4 +202,3 @@ module _ {M : Type 0} (m : M) where
   type-laws = wide _ _ (named-laws s.type (k.TypeBeginsWithNone k.scalars) _ _ type-back type-there type-is
       type-obeys type-allows (λ x h. h)
       (unless-laws r.scalar_set scalar-laws refl typename-laws some_name tt refl)) refl refl
-

@@ -65,16 +65,20 @@ head-tests p q same [] = refl
 head-tests p q same (x ∷ xs) = same x.shape
 
 pub either-shows : {M A B C : Type 0} {f : A → C} {g : B → C} {a : Reader M A} {b : Reader M B} {c d : Reader M C} (p q : Shape → Bool) → ((s : Shape) → p s ≡ q s) → Shows f a c → Shows g b d → Shows (on_sum f g) (either q (mapped inl a) (mapped inr b)) (either p c d)
-either-shows {f = f} {g = g} {a = a} {b = b} {c = c} {d = d} p q same h k = record { same = λ xs.
-    ap (λ t. cond t (c xs) (d xs)) (head-tests p q same xs)
-    ∙ choose (head_in q xs) (c xs) (d xs) _ _ (λ v. v) (h.same xs ∙ seen-inl inl f (on_sum f g) (λ x. refl) (a xs)) (k.same xs ∙ seen-inl inr g (on_sum f g) (λ x. refl) (b xs))
-    ∙ split (head_in q xs) (on_sum f g) (mapped inl a xs) (mapped inr b xs) }
+either-shows {f = f} {g = g} {a = a} {b = b} {c = c} {d = d} p q same h k = record {
+  same = λ xs.
+      ap (λ t. cond t (c xs) (d xs)) (head-tests p q same xs)
+      ∙ choose (head_in q xs) (c xs) (d xs) _ _ (λ v. v) (h.same xs ∙ seen-inl inl f (on_sum f g) (λ x. refl) (a xs)) (k.same xs ∙ seen-inl inr g (on_sum f g) (λ x. refl) (b xs))
+      ∙ split (head_in q xs) (on_sum f g) (mapped inl a xs) (mapped inr b xs);
+}
 
 pub unstarted-shows : {M A B : Type 0} {f : A → B} {a : Reader M A} {b : Reader M B} (p q : Shape → Bool) → ((s : Shape) → p s ≡ q s) → Shows f a b → Shows f (unstarted q a) (unstarted p b)
-unstarted-shows {f = f} {a = a} {b = b} p q same h = record { same = λ xs.
-    ap (λ t. cond t (refuse xs) (b xs)) (head-tests p q same xs)
-    ∙ choose (head_in q xs) (refuse xs) (b xs) (refuse xs >>= seen f) (a xs >>= seen f) (λ v. v) refl (h.same xs)
-    ∙ split (head_in q xs) f (refuse xs) (a xs) }
+unstarted-shows {f = f} {a = a} {b = b} p q same h = record {
+  same = λ xs.
+      ap (λ t. cond t (refuse xs) (b xs)) (head-tests p q same xs)
+      ∙ choose (head_in q xs) (refuse xs) (b xs) (refuse xs >>= seen f) (a xs >>= seen f) (λ v. v) refl (h.same xs)
+      ∙ split (head_in q xs) f (refuse xs) (a xs);
+}
 
 seen-other : {M A B : Type 0} (f g : A → B) → ((x : A) → f x ≡ g x) → (r : Result (A × Rows M) Refusal) → (r >>= seen f) ≡ (r >>= seen g)
 seen-other f g e (Ok x) = ap (λ v. Ok (v, x.1)) (e x.0)

@@ -16,16 +16,15 @@ mod failure;
 mod tests;
 
 pub use failure::{ParseError, ParseFailure};
+use failure::{refused, too_large};
 pub use protox_ast::ast;
+use protox_descriptor::descriptor::FileDescriptorProto;
 pub use protox_descriptor::{case, descriptor, tag, values};
 pub use protox_generate::generate;
+use protox_generate::generate::generate_file;
 pub use protox_lex::error::ParseErrorKind;
 pub use protox_lex::{error, lex};
 pub use protox_syntax::parse as syntax;
-
-use failure::{refused, too_large};
-use protox_descriptor::descriptor::FileDescriptorProto;
-use protox_generate::generate::generate_file;
 use protox_syntax::parse::parse_file;
 use std::alloc::Global;
 
@@ -38,11 +37,7 @@ pub fn source_fits(len: usize) -> bool
 
 /// The descriptor of the file of this name and this source, with its locations; or what is wrong
 /// with the source, or that memory ran out.
-pub fn parse(
-    alloc: Global,
-    name: &str,
-    source: &str,
-) -> Result<FileDescriptorProto, ParseFailure>
+pub fn parse(alloc: Global, name: &str, source: &str) -> Result<FileDescriptorProto, ParseFailure>
     // What is answered is the translation of a tree that the source's tokens spell.
     ensures found { IfOk result (λ d. (f : tree.File Span) × IsAccepted source.now f
         × (file_faults (ast_of.file (length source.now) f) ≡ [])

@@ -70,15 +70,10 @@ fn without_a_file_to_read(rt: HostRuntime) -> Result<(), Fail> {
     assert_eq!(rt; status, 2);
     let (_, _, status) = scanned(&rt, "a", Some([255, 254].as_slice()))?;
     assert_eq!(rt; status, 2);
+    let words = Vec::new(rt.alloc());
     let mut out = Vec::new(rt.alloc());
     let mut err = Vec::new(rt.alloc());
-    let status = run(
-        rt.alloc(),
-        [].as_slice(),
-        Some([].as_slice()),
-        &mut out,
-        &mut err,
-    );
+    let status = run(rt.alloc(), &words, Some("".as_bytes()), &mut out, &mut err);
     assert_eq!(rt; status, 2);
     Ok(())
 }

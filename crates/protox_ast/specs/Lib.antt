@@ -11,3 +11,4 @@ pub mod Spells
 pub mod Ast
 pub mod Checks
 pub mod Accepted
+pub mod whole

@@ -1,0 +1,5 @@
+pub mod Tree
+pub mod Spelling
+pub mod Keywords
+pub mod Depth
+pub mod Spells

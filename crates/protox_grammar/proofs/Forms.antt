@@ -1,19 +1,16 @@
 -- The laws of the forms that the grammar is written in.
-use Rattle.std.proofs.Common.{◌≡◌, ℕ, suc, ◌+◌, Bool, true, false, not, ◌&&◌, cond, List, [], ◌∷◌, ◌++◌, length, Option, Some, None, Result, Ok, Err, refl, sym, ap, subst, ◌∙◌, append_assoc, arith, inl, inr, ◌⊎◌}
-use Rattle.std.proofs.lemmas.List.{length-append}
-use Rattle.protox_grammar.specs.Reader.{Refusal, Unexpected}
-use Rattle.protox_lex.specs.Shapes.{Shape, Ident, Mark, Row, Rows}
+use Rattle.std.proofs.Common.{◌≡◌, ℕ, ◌+◌, Bool, true, false, ◌&&◌, List, [], ◌∷◌, ◌++◌, Option, Some, None, refl, sym, ap, ◌∙◌, inl, inr, ◌⊎◌}
+use Rattle.protox_lex.specs.Shapes.{Shape, Ident, Mark, Rows}
 use Rattle.protox_grammar.specs.Class.{Set, class, keywords, place, marks, byte_place, apart, within, union, none, only, in_set}
 use Rattle.protox_ast.specs.Spelling.{maybe}
 use Rattle.protox_ast.specs.Keywords.{Given}
-use Rattle.protox_grammar.specs.Reader as reader
-use Rattle.protox_grammar.specs.Reader.{Reader, ◌>>=◌, head_in, is_token}
-use Rattle.protox_grammar.specs.Rule.{Rule, Stops, Starts, fixed, seq, on_sum, nothing, mapped, unless, choice, Closes, to_option, optional, times, named, unstarted}
-use Rattle.protox_grammar.proofs.Takes.{ok_is}
+use Rattle.protox_grammar.specs.Reader.{is_token}
+use Rattle.protox_grammar.specs.Rule.{Rule, Stops, Starts, fixed, seq, on_sum, nothing, mapped, unless, choice, Closes, to_option, optional, times, named, named_fits, unstarted}
 use Rattle.protox_grammar.proofs.Words.{word-exact, word-back, mark-exact, mark-back}
-use Rattle.protox_grammar.proofs.Sets.{gated, apart-at, starts-then}
-use Rattle.protox_grammar.proofs.Laws.{IsSpelled, ahead-past, fixed-spelled, seq-spelled, either-spelled, nothing-spelled, mapped-spelled, star-spelled, unstarted-spelled, wider}
-use Rattle.protox_grammar.proofs.Reading.{IsRead, Took, Begins, left_of, bind_err, ok-err, err-ok, failed, fixed-read, seq-read, mapped-read, either-read, nothing-read, unstarted-read}
+use Rattle.protox_grammar.proofs.Sets.{gated, apart-at}
+use Rattle.protox_grammar.proofs.Laws.{IsSpelled, fixed-spelled, seq-spelled, either-spelled, nothing-spelled, mapped-spelled, star-spelled, unstarted-spelled, wider}
+use Rattle.protox_grammar.proofs.Reading.{IsRead, Took, Begins, fixed-read, seq-read, mapped-read, nothing-read}
+use Rattle.protox_grammar.proofs.Choosing.{either-read, unstarted-read}
 use Rattle.protox_grammar.proofs.Repeat.{star-read}
 
 -- both kinds of laws
@@ -84,13 +81,22 @@ module _ {M A : Type 0} {r : Rule M A} {e : Bool} {f g : Set} (spell : A → Row
     };
   }
 
--- under a plain spelling and a plain condition
+-- under a plain spelling and plain conditions
+pub named_fits-laws : {M A B : Type 0} {b : Rule M B} {e : Bool} {f g : Set} (spell : A → Rows M) (keeps fits : A → Type 0) (to : B → A) (from : A → B)
+    → ((t : A) → to (from t) ≡ t) → ((t : B) → from (to t) ≡ t) → ((t : A) → spell t ≡ b.spell (from t))
+    → ((t : A) → keeps t → b.may (from t)) → ((t : A) → b.may (from t) → keeps t)
+    → ((t : A) → fits t → b.fits (from t)) → ((t : A) → b.fits (from t) → fits t)
+    → Lawful b e f g → Lawful (named_fits spell keeps fits to from b) e f g
+named_fits-laws {b = b} spell keeps fits to from back there spelled obeys allows fits_obeys fits_allows l =
+    said-laws spell keeps fits (λ t z. b.ends (from t) z) spelled obeys allows fits_obeys fits_allows (λ t z h. h) (λ t z h. h) (mapped-laws to from back there l)
+
+-- and where all that may be can be read
 pub named-laws : {M A B : Type 0} {b : Rule M B} {e : Bool} {f g : Set} (spell : A → Rows M) (keeps : A → Type 0) (to : B → A) (from : A → B)
     → ((t : A) → to (from t) ≡ t) → ((t : B) → from (to t) ≡ t) → ((t : A) → spell t ≡ b.spell (from t))
     → ((t : A) → keeps t → b.may (from t)) → ((t : A) → b.may (from t) → keeps t) → ((t : B) → b.may t → b.fits t)
     → Lawful b e f g → Lawful (named spell keeps to from b) e f g
-named-laws {b = b} spell keeps to from back there spelled obeys allows whole l =
-    said-laws spell keeps keeps (λ t z. b.ends (from t) z) spelled obeys allows (λ t h. whole (from t) (obeys t h)) (λ t h. allows t (l.read.within (from t) h)) (λ t z h. h) (λ t z h. h) (mapped-laws to from back there l)
+named-laws spell keeps to from back there spelled obeys allows whole l =
+    named_fits-laws spell keeps keeps to from back there spelled obeys allows (λ t h. whole (from t) (obeys t h)) (λ t h. allows t (l.read.within (from t) h)) l
 
 stops-of : {M : Type 0} (e : Bool) (f P : Set) → apart f P ≡ true → (ys : Rows M) → Starts e f ys → Stops P ys
 stops-of e f P d [] h = tt

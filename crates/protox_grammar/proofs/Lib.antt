@@ -3,12 +3,15 @@ pub mod Words
 pub mod Sets
 pub mod Laws
 pub mod Reading
+pub mod Choosing
 pub mod Repeat
 pub mod Begin
 pub mod Forms
+pub mod Joining
 pub mod Parts
 pub mod Messages
 pub mod Main
 pub mod Loops
 pub mod Shows
 pub mod Tests
+pub mod whole

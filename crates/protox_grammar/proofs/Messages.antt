@@ -1,7 +1,7 @@
 -- The laws of fields, messages, statements and files.
-use Rattle.std.proofs.Common.{◌≡◌, ℕ, true, false, List, [], ◌∷◌, ◌++◌, Option, Some, None, codes, refl, inl, inr, ◌⊎◌}
-use Rattle.protox_grammar.specs.Class.{apart, place, keywords, none, only, words, union, among, all, but}
-use Rattle.protox_grammar.specs.Rule.{Stops, seq, choice, optional, times, unstarted}
+use Rattle.std.proofs.Common.{◌≡◌, ℕ, true, false, List, [], ◌∷◌, Option, Some, None, codes, refl, inl, inr, ◌⊎◌}
+use Rattle.protox_grammar.specs.Class.{place, keywords, none, only, words, union, among, all, but}
+use Rattle.protox_grammar.specs.Rule.{Stops, choice, unstarted}
 use Rattle.protox_ast.specs.Tree as t
 use Rattle.protox_ast.specs.Spelling as s
 use Rattle.protox_ast.specs.Keywords as k

@@ -1,13 +1,13 @@
 -- The laws of each rule that has no messages in it.
-use Rattle.std.proofs.Common.{◌≡◌, ℕ, true, false, not, List, [], ◌∷◌, ◌++◌, Option, Some, None, codes, refl, ap, ◌∙◌, arith, inl, inr, ◌⊎◌}
+use Rattle.std.proofs.Common.{◌≡◌, ℕ, true, false, List, [], ◌∷◌, Option, Some, None, codes, refl, ap, ◌∙◌, arith, inl, inr, ◌⊎◌}
 use Rattle.std.proofs.lemmas.Slice.Eq.{bytes_eq-Decides}
 use Rattle.std.proofs.lemmas.Bool.{lt-ltb}
 use Rattle.std.specs.Str.{bytes_eq}
 use Rattle.protox_lex.specs.Shapes as shape
 use Rattle.protox_lex.specs.Shapes.{Shape, Ident, Str, Rows}
-use Rattle.protox_grammar.specs.Class.{Set, class, place, keywords, none, only, words, union, among, all, but}
+use Rattle.protox_grammar.specs.Class.{class, place, keywords, none, only, words, union, among}
 use Rattle.protox_grammar.specs.Reader.{see_word, see_integer, see_text}
-use Rattle.protox_grammar.specs.Rule.{Rule, Stops, seq, unless, choice, optional, times, unstarted}
+use Rattle.protox_grammar.specs.Rule.{unless, choice}
 use Rattle.protox_ast.specs.Tree as t
 use Rattle.protox_ast.specs.Spelling as s
 use Rattle.protox_ast.specs.Keywords as k
@@ -15,8 +15,8 @@ use Rattle.protox_grammar.specs.Rules as r
 use Rattle.protox_grammar.proofs.Sets.{place-le}
 use Rattle.protox_grammar.proofs.Laws.{leaf-spelled}
 use Rattle.protox_grammar.proofs.Reading.{leaf-read, chosen}
-use Rattle.protox_grammar.proofs.Forms.{Lawful, word-laws, mark-laws, seq-laws, unless-laws, choice-laws, optional-laws, times-laws, named-laws, wide, unstarted-laws}
-use Rattle.protox_grammar.proofs.Begin.{among-none, none-among, name-stops, stops-name}
+use Rattle.protox_grammar.proofs.Forms.{Lawful, word-laws, mark-laws, seq-laws, unless-laws, choice-laws, optional-laws, times-laws, named-laws, wide}
+use Rattle.protox_grammar.proofs.Begin.{name-stops, stops-name}
 
 pub each-all : {A : Type 0} (P : A → Type 0) → ((x : A) → P x) → (xs : List A) → k.Each P xs
 each-all P f [] = tt

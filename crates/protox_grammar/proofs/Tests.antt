@@ -1,5 +1,5 @@
 -- The tests of tokens are tests of their classes.
-use Rattle.std.proofs.Common.{◌≡◌, ℕ, suc, ◌+◌, ◌<◌, ◌≤◌, Bool, true, false, not, ◌&&◌, ◌||◌, cond, eqb, List, [], ◌∷◌, map, length, Option, Some, None, is_some, refl, sym, ap, subst, ◌∙◌, arith, inl, inr}
+use Rattle.std.proofs.Common.{◌≡◌, ℕ, suc, ◌+◌, ◌<◌, ◌≤◌, Bool, true, false, ◌||◌, cond, eqb, List, [], ◌∷◌, map, length, Option, Some, is_some, refl, sym, ap, ◌∙◌, arith}
 use Rattle.std.proofs.lemmas.Slice.Eq.{bytes_eq-Decides}
 use Rattle.std.proofs.lemmas.Bool.{eqb-true, eq-eqb, ne_eqb, ltb-true}
 use Rattle.std.specs.Prelude.{nat_lt}
@@ -11,7 +11,7 @@ use Rattle.protox_grammar.specs.Rules.{find_scalar, all_scalars, see_scalar, sca
 use Rattle.protox_ast.specs.Tree as t
 use Rattle.protox_ast.specs.Spelling.{scalar_word}
 use Rattle.protox_ast.specs.Keywords.{scalars}
-use Rattle.protox_grammar.proofs.Sets.{place-le, byte_place-le, and_true}
+use Rattle.protox_grammar.proofs.Sets.{place-le, and_true}
 use Rattle.protox_grammar.proofs.Begin.{place-apart, places, known}
 
 -- two tests that say the same

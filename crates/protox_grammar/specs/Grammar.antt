@@ -2,8 +2,6 @@
 use Rattle.std.specs.Prelude.{◌≡◌, ◌↔◌, ◌≤◌, ℕ, suc, [], ◌∷◌, ◌++◌, length, Ok, Err}
 use Rattle.protox_lex.specs.Shapes.{Row, Rows}
 use Rattle.protox_ast.specs.Tree.{File}
-use Rattle.protox_ast.specs.Spelling.{spell}
-use Rattle.protox_ast.specs.Keywords.{KeepsKeywords}
 use Rattle.protox_ast.specs.Depth.{depth}
 use Rattle.protox_ast.specs.Spells.{Spells, BeginsFile}
 use Rattle.protox_grammar.specs.Reader.{Unexpected}

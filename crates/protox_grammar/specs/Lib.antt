@@ -4,3 +4,4 @@ pub mod Rule
 pub mod Rules
 pub mod Reads
 pub mod Grammar
+pub mod whole

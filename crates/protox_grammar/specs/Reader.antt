@@ -1,11 +1,12 @@
 -- MACHINERY. Reading rows from left to right, up to the first row that doesn't fit.
 use Rattle.std.specs.Prelude.{◌≡◌, ◌<◌, ℕ, zero, suc, List, [], ◌∷◌, length, Bool, true, false, ◌||◌, if◌then◌else◌, ◌==◌, Option, Some, None, Result, Ok, Err}
 use Rattle.std.specs.Str.{bytes_eq}
-use Rattle.protox_lex.specs.Shapes.{Shape, Ident, Int, Str, Mark, Row, Rows}
+use Rattle.protox_lex.specs.Shapes.{Shape, Ident, Int, Float, Str, Mark, Row, Rows}
 
--- why rows are not read: the first of so many that are left doesn't fit
+-- why rows are not read: the first of so many that are left doesn't fit, or opens a body that is too deep
 pub data Refusal : Type 0 where
   Unexpected : ℕ → Refusal
+  Deep : ℕ → Refusal
 
 -- whether a token is the wanted one, which is a word or a mark
 abbrev pub is_token : Shape → Shape → Bool
@@ -79,6 +80,11 @@ optional p a xs = either p (mapped Some a) (λ ys. Ok (None, ys)) xs
 abbrev pub nothing : {M : Type 0} → Reader M (Unit {0})
 nothing xs = Ok (tt, xs)
 
+-- no row, but the next one passes the test
+abbrev pub peek : {M : Type 0} → (Shape → Bool) → Reader M (Unit {0})
+peek p [] = Ok (tt, [])
+peek p (r ∷ rs) = if p r.shape then Ok (tt, r ∷ rs) else refuse (r ∷ rs)
+
 -- while the next token passes the test. The number bounds the turns, and each takes a row.
 unfoldable pub star_at : {M A : Type 0} → (Shape → Bool) → Reader M A → ℕ → Reader M (List A)
 star_at p a zero xs = refuse xs
@@ -112,3 +118,7 @@ see_integer _ = None
 abbrev pub see_text : Shape → Option (List ℕ)
 see_text (Str t) = Some t
 see_text _ = None
+
+abbrev pub see_float : Shape → Option (List ℕ)
+see_float (Float t) = Some t
+see_float _ = None

@@ -1,12 +1,12 @@
 -- MACHINERY. Rules of a grammar: what spells a tree, which trees there may be, what may follow one, and how it is read.
-use Rattle.std.specs.Prelude.{◌≡◌, List, [], ◌∷◌, ◌++◌, length, Bool, true, false, not, Option, Some, None, ◌⊎◌}
+use Rattle.std.specs.Prelude.{◌≡◌, List, [], ◌∷◌, ◌++◌, length, Bool, true, false, not, Option, Some, None, Err, ◌⊎◌}
 use Rattle.std.proofs.Common.{inl, inr}
 use Rattle.protox_lex.specs.Shapes.{Shape, Row, Rows}
 use Rattle.protox_grammar.specs.Class.{class, Set, in_set}
 use Rattle.protox_ast.specs.Spelling.{maybe, many}
 use Rattle.protox_ast.specs.Keywords.{Given, Each}
 use Rattle.protox_grammar.specs.Reader as reader
-use Rattle.protox_grammar.specs.Reader.{Reader}
+use Rattle.protox_grammar.specs.Reader.{Reader, Deep}
 
 -- no row of the set comes first
 abbrev pub Stops : {M : Type 0} → Set → Rows M → Type 0
@@ -104,6 +104,16 @@ star p P a = record {
   read = reader.star p a.read;
 }
 
+-- a rule that is too deep to be read
+abbrev pub too_deep : {M A : Type 0} → Rule M A → Rule M A
+too_deep a = record {
+  spell = a.spell;
+  may = a.may;
+  fits = λ t. ⊥;
+  ends = a.ends;
+  read = λ xs. Err (Deep (length xs));
+}
+
 -- ---- the forms that the grammar is written in
 
 -- the first where the next token is in the set, and else the second, which then doesn't begin so: a keyword rule
@@ -151,6 +161,36 @@ named spell keeps to from b = record {
   fits = keeps;
   ends = λ t z. b.ends (from t) z;
   read = reader.mapped to b.read;
+}
+
+-- the same where what can be read is less
+abbrev pub named_fits : {M A B : Type 0} → (A → Rows M) → (A → Type 0) → (A → Type 0) → (B → A) → (A → B) → Rule M B → Rule M A
+named_fits spell keeps fits to from b = record {
+  spell = spell;
+  may = keeps;
+  fits = fits;
+  ends = λ t z. b.ends (from t) z;
+  read = reader.mapped to b.read;
+}
+
+-- a part on a condition, under which the second part may come after the first
+abbrev pub joined : {M A B : Type 0} → (A → B → Type 0) → Rule M A → Rule M B → Rule M (A × B)
+joined C a b = record {
+  spell = λ t. a.spell t.0 ++ b.spell t.1;
+  may = λ t. C t.0 t.1 × a.may t.0 × b.may t.1;
+  fits = λ t. C t.0 t.1 × a.fits t.0 × b.fits t.1;
+  ends = λ t z. a.ends t.0 (b.spell t.1 ++ z) × b.ends t.1 z;
+  read = reader.seq a.read b.read;
+}
+
+-- no row: the next one is in the set
+abbrev pub peek : {M : Type 0} → Set → Rule M (Unit {0})
+peek G = record {
+  spell = λ t. [];
+  may = λ t. Unit {0};
+  fits = λ t. Unit {0};
+  ends = λ t z. Stops (λ k. not (G k)) z;
+  read = reader.peek (in_set G);
 }
 
 -- one that doesn't begin with a token of the set: a keyword rule

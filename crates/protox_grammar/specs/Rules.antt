@@ -4,7 +4,7 @@ use Rattle.std.proofs.Common.{inl, inr}
 use Rattle.std.specs.Str.{bytes_eq}
 use Rattle.protox_lex.specs.Shapes as shape
 use Rattle.protox_lex.specs.Shapes.{Shape, Ident, Str, Mark, Rows}
-use Rattle.protox_grammar.specs.Class.{Set, only, all, but, words, among}
+use Rattle.protox_grammar.specs.Class.{Set, only, all, but, among}
 use Rattle.protox_ast.specs.Tree as t
 use Rattle.protox_ast.specs.Spelling as s
 use Rattle.protox_ast.specs.Keywords as k

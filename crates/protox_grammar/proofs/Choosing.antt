@@ -1,0 +1,185 @@
+-- The laws of reading one of two rules, by the next row.
+use Rattle.std.proofs.Common.{◌≡◌, suc, Bool, true, false, [], ◌∷◌, ◌++◌, length, ℕ, Ok, Err, refl, sym, ap, subst, ◌∙◌, inl, inr, ◌⊎◌}
+use Rattle.protox_grammar.specs.Reader.{Refusal, Unexpected}
+use Rattle.protox_lex.specs.Shapes.{Shape, Row, Rows}
+use Rattle.protox_grammar.specs.Class.{Set, class, within, in_set}
+use Rattle.protox_grammar.specs.Reader as reader
+use Rattle.protox_grammar.specs.Reader.{◌>>=◌, head_in}
+use Rattle.protox_grammar.specs.Rule.{Rule, Stops, Starts, on_sum, either, unstarted}
+use Rattle.protox_grammar.proofs.Takes.{bind_ok, ok_is}
+use Rattle.protox_grammar.proofs.Laws.{IsSpelled}
+use Rattle.protox_grammar.proofs.Sets.{stops-front, starts-within}
+use Rattle.protox_grammar.proofs.Reading.{left_of, Begins, Took, IsRead, failed, at_once, err-left, err-ok, map_err, stops-head, head-stops, head-starts, chosen, true-false, same-head}
+
+-- ---- one or the other
+
+module _ {M A B : Type 0} (p : Shape → Bool) (P : Set) (a : Rule M A) (b : Rule M B) (same : (s : Shape) → p s ≡ P (class s)) (fa ga : Set) (la : IsSpelled a false fa ga) (w : within fa P ≡ true) (ra : IsRead a) (rb : IsRead b) (some : B) (some_may : b.may some) (some_stops : Stops P (b.spell some)) where
+  either-took-left : (xs : Rows M) (x : A × Rows M) → Took a xs x → Took (either p P a b) xs (inl x.0, x.1)
+  either-took-left xs x k = record { parts = k.parts; fits = k.fits; ends = k.ends }
+
+  either-took-right : (xs : Rows M) (x : B × Rows M) → head_in p xs ≡ false → Took b xs x → Took (either p P a b) xs (inr x.0, x.1)
+  either-took-right xs x closed k =
+      let s : Stops P (b.spell x.0 ++ x.1) = subst (Stops P) k.parts (stops-head p P same xs closed) in
+      record { parts = k.parts; fits = (k.fits, stops-front P (b.spell x.0) x.1 s); ends = (k.ends, s) }
+
+  either-takes : (xs : Rows M) (x : (A ⊎ B) × Rows M) → reader.either p (reader.mapped inl a.read) (reader.mapped inr b.read) xs ≡ Ok x → Took (either p P a b) xs x
+  either-takes xs x e = elim (chosen (head_in p xs) (reader.mapped inl a.read xs) (reader.mapped inr b.read xs) (Ok x) e) [
+    | inl h ↦ let k = bind_ok (a.read xs) (λ y. Ok (inl y.0, y.1)) x h.1 in subst (Took (either p P a b) xs) (ok_is (inl k.0.0, k.0.1) x k.2) (either-took-left xs k.0 (ra.takes xs k.0 k.1))
+    | inr h ↦ let k = bind_ok (b.read xs) (λ y. Ok (inr y.0, y.1)) x h.1 in subst (Took (either p P a b) xs) (ok_is (inr k.0.0, k.0.1) x k.2) (either-took-right xs k.0 h.0 (rb.takes xs k.0 k.1))
+  ]
+
+  starts-in : (t : A) (z : Rows M) → a.ends t z → Starts false P (a.spell t)
+  starts-in t z k = starts-within false fa P w (a.spell t) (la.starts t z k)
+
+  either-again : (t : A ⊎ B) (z : Rows M) → on_sum a.fits (λ u. b.fits u × Stops P (b.spell u)) t → on_sum a.ends (λ u v. b.ends u v × Stops P (b.spell u ++ v)) t z
+      → reader.either p (reader.mapped inl a.read) (reader.mapped inr b.read) (on_sum a.spell b.spell t ++ z) ≡ Ok (t, z)
+  either-again (inl t) z h k = rw (head-starts p P same (a.spell t) z (starts-in t z k), ra.again t z h k) refl
+  either-again (inr t) z h k = rw (head-stops p P same (b.spell t ++ z) k.1, rb.again t z h.0 k.0) refl
+
+  either-begins-left : (xs : Rows M) (n : ℕ) → Begins a xs n → Begins (either p P a b) xs n
+  either-begins-left xs n v = record { front = v.front; rest = v.rest; parts = v.parts; left_is = v.left_is; tree = inl v.tree; tree_may = v.tree_may; more = v.more; goes_on = v.goes_on }
+
+  stops-same : (f : Row M) (fs rest more : Rows M) (xs : Rows M) → xs ≡ (f ∷ fs) ++ rest → head_in p xs ≡ false → (ys : Rows M) → ys ≡ (f ∷ fs) ++ more → Stops P ys
+  stops-same f fs rest more xs e closed ys k = subst (Stops P) (sym k) (subst (λ v. head_in p v ≡ false → P (class f.shape) ≡ false) (sym e) (λ h. sym (same f.shape) ∙ h) closed)
+
+  either-begins-right : (xs : Rows M) (n : ℕ) → head_in p xs ≡ false → (v : Begins b xs n) (front : Rows M) → v.front ≡ front → Begins (either p P a b) xs n
+  either-begins-right xs n closed v [] k = record {
+    front = [];
+    rest = v.rest;
+    parts = v.parts ∙ ap (λ u. u ++ v.rest) k;
+    left_is = v.left_is;
+    tree = inr some;
+    tree_may = (some_may, some_stops);
+    more = b.spell some;
+    goes_on = refl;
+  }
+  either-begins-right xs n closed v (f ∷ fs) k = record {
+    front = v.front;
+    rest = v.rest;
+    parts = v.parts;
+    left_is = v.left_is;
+    tree = inr v.tree;
+    tree_may = (v.tree_may, stops-same f fs v.rest v.more xs (v.parts ∙ ap (λ u. u ++ v.rest) k) closed (b.spell v.tree) (v.goes_on ∙ ap (λ u. u ++ v.more) k));
+    more = v.more;
+    goes_on = v.goes_on;
+  }
+
+  either-viable : (xs : Rows M) (e : Refusal) → reader.either p (reader.mapped inl a.read) (reader.mapped inr b.read) xs ≡ Err e → Begins (either p P a b) xs (left_of e)
+  either-viable xs e h = elim (chosen (head_in p xs) (reader.mapped inl a.read xs) (reader.mapped inr b.read xs) (Err e) h) [
+    | inl k ↦ either-begins-left xs (left_of e) (ra.viable xs e (map_err inl (a.read xs) e k.1))
+    | inr k ↦ let v = rb.viable xs e (map_err inr (b.read xs) e k.1) in either-begins-right xs (left_of e) k.0 v v.front refl
+  ]
+
+  either-tight : (front : Rows M) (s : Row M) (rest : Rows M) → reader.either p (reader.mapped inl a.read) (reader.mapped inr b.read) (front ++ (s ∷ rest)) ≡ Err (Unexpected (suc (length rest)))
+      → (t : A ⊎ B) (z more : Rows M) → on_sum a.ends (λ u v. b.ends u v × Stops P (b.spell u ++ v)) t z → on_sum a.spell b.spell t ++ z ≡ front ++ (s ∷ more) → ⊥
+  either-tight front s rest h (inl t) z more k e = elim (chosen (head_in p (front ++ (s ∷ rest))) (reader.mapped inl a.read (front ++ (s ∷ rest))) (reader.mapped inr b.read (front ++ (s ∷ rest))) _ h) [
+    | inl c ↦ ra.tight front s rest (map_err inl (a.read (front ++ (s ∷ rest))) _ c.1) t z more k e
+    | inr c ↦ true-false _ (head-starts p P same (a.spell t) z (starts-in t z k)) (ap (head_in p) e ∙ same-head p front s more rest ∙ c.0)
+  ]
+  either-tight front s rest h (inr t) z more k e = elim (chosen (head_in p (front ++ (s ∷ rest))) (reader.mapped inl a.read (front ++ (s ∷ rest))) (reader.mapped inr b.read (front ++ (s ∷ rest))) _ h) [
+    | inl c ↦ true-false _ (ap (head_in p) e ∙ same-head p front s more rest ∙ c.0) (head-stops p P same (b.spell t ++ z) k.1)
+    | inr c ↦ rb.tight front s rest (map_err inr (b.read (front ++ (s ∷ rest))) _ c.1) t z more k.0 e
+  ]
+
+  either-short : (xs : Rows M) → reader.either p (reader.mapped inl a.read) (reader.mapped inr b.read) xs ≡ Err (Unexpected 0)
+      → (t : A ⊎ B) (z : Rows M) → on_sum a.ends (λ u v. b.ends u v × Stops P (b.spell u ++ v)) t z → on_sum a.spell b.spell t ++ z ≡ xs → ⊥
+  either-short xs h (inl t) z k e = elim (chosen (head_in p xs) (reader.mapped inl a.read xs) (reader.mapped inr b.read xs) _ h) [
+    | inl c ↦ ra.short xs (map_err inl (a.read xs) _ c.1) t z k e
+    | inr c ↦ true-false _ (head-starts p P same (a.spell t) z (starts-in t z k)) (ap (head_in p) e ∙ c.0)
+  ]
+  either-short xs h (inr t) z k e = elim (chosen (head_in p xs) (reader.mapped inl a.read xs) (reader.mapped inr b.read xs) _ h) [
+    | inl c ↦ true-false _ (ap (head_in p) e ∙ c.0) (head-stops p P same (b.spell t ++ z) k.1)
+    | inr c ↦ rb.short xs (map_err inr (b.read xs) _ c.1) t z k.0 e
+  ]
+
+  pub either-read : IsRead (either p P a b)
+  either-read = record {
+    some = inr some;
+    some_may = (some_may, some_stops);
+    within = either-within;
+    takes = either-takes;
+    again = either-again;
+    viable = either-viable;
+    tight = either-tight;
+    short = either-short;
+  }
+    where
+      either-within : (t : A ⊎ B) → on_sum a.fits (λ u. b.fits u × Stops P (b.spell u)) t → on_sum a.may (λ u. b.may u × Stops P (b.spell u)) t
+      either-within (inl t) h = ra.within t h
+      either-within (inr t) h = (rb.within t h.0, h.1)
+
+-- ---- what doesn't begin with a token of a set
+
+module _ {M B : Type 0} (P : Set) (b : Rule M B) (eb : Bool) (fb gb : Set) (lb : IsSpelled b eb fb gb) (rb : IsRead b) (some : B) (some_may : b.may some) (some_stops : Stops P (b.spell some)) where
+  abbrev test : Shape → Bool
+  test = in_set P
+
+  unstarted-took : (xs : Rows M) (x : B × Rows M) → head_in test xs ≡ false → Took b xs x → Took (unstarted P b) xs x
+  unstarted-took xs x closed k =
+      let s : Stops P (b.spell x.0 ++ x.1) = subst (Stops P) k.parts (stops-head test P (λ s. refl) xs closed) in
+      record { parts = k.parts; fits = (k.fits, stops-front P (b.spell x.0) x.1 s); ends = (k.ends, s) }
+
+  unstarted-takes : (xs : Rows M) (x : B × Rows M) → reader.unstarted test b.read xs ≡ Ok x → Took (unstarted P b) xs x
+  unstarted-takes xs x e = elim (chosen (head_in test xs) (failed (B × Rows M) (Unexpected (length xs))) (b.read xs) (Ok x) e) [
+    | inl h ↦ absurd (err-ok x _ h.1)
+    | inr h ↦ unstarted-took xs x h.0 (rb.takes xs x h.1)
+  ]
+
+  unstarted-again : (t : B) (z : Rows M) → b.fits t → b.ends t z → Stops P (b.spell t ++ z) → reader.unstarted test b.read (b.spell t ++ z) ≡ Ok (t, z)
+  unstarted-again t z f e s = rw (head-stops test P (λ s. refl) (b.spell t ++ z) s, rb.again t z f e) refl
+
+  begins-same : (f : Row M) (fs rest more : Rows M) (xs : Rows M) → xs ≡ (f ∷ fs) ++ rest → head_in test xs ≡ false → (ys : Rows M) → ys ≡ (f ∷ fs) ++ more → Stops P ys
+  begins-same f fs rest more xs e closed ys k = subst (Stops P) (sym k) (subst (λ v. head_in test v ≡ false → P (class f.shape) ≡ false) (sym e) (λ h. h) closed)
+
+  unstarted-begins : (xs : Rows M) (n : ℕ) → head_in test xs ≡ false → (v : Begins b xs n) (front : Rows M) → v.front ≡ front → Begins (unstarted P b) xs n
+  unstarted-begins xs n closed v [] k = record {
+    front = [];
+    rest = v.rest;
+    parts = v.parts ∙ ap (λ u. u ++ v.rest) k;
+    left_is = v.left_is;
+    tree = some;
+    tree_may = (some_may, some_stops);
+    more = b.spell some;
+    goes_on = refl;
+  }
+  unstarted-begins xs n closed v (f ∷ fs) k = record {
+    front = v.front;
+    rest = v.rest;
+    parts = v.parts;
+    left_is = v.left_is;
+    tree = v.tree;
+    tree_may = (v.tree_may, begins-same f fs v.rest v.more xs (v.parts ∙ ap (λ u. u ++ v.rest) k) closed (b.spell v.tree) (v.goes_on ∙ ap (λ u. u ++ v.more) k));
+    more = v.more;
+    goes_on = v.goes_on;
+  }
+
+  unstarted-viable : (xs : Rows M) (e : Refusal) → reader.unstarted test b.read xs ≡ Err e → Begins (unstarted P b) xs (left_of e)
+  unstarted-viable xs e h = elim (chosen (head_in test xs) (failed (B × Rows M) (Unexpected (length xs))) (b.read xs) (Err e) h) [
+    | inl k ↦ at_once (unstarted P b) xs some (some_may, some_stops) (left_of e) (err-left {A = B × Rows M} (length xs) e k.1)
+    | inr k ↦ let v = rb.viable xs e k.1 in unstarted-begins xs (left_of e) k.0 v v.front refl
+  ]
+
+  unstarted-tight : (front : Rows M) (s : Row M) (rest : Rows M) → reader.unstarted test b.read (front ++ (s ∷ rest)) ≡ Err (Unexpected (suc (length rest)))
+      → (t : B) (z more : Rows M) → b.ends t z × Stops P (b.spell t ++ z) → b.spell t ++ z ≡ front ++ (s ∷ more) → ⊥
+  unstarted-tight front s rest h t z more k e = elim (chosen (head_in test (front ++ (s ∷ rest))) (failed (B × Rows M) (Unexpected (length (front ++ (s ∷ rest))))) (b.read (front ++ (s ∷ rest))) _ h) [
+    | inl c ↦ true-false _ (ap (head_in test) e ∙ same-head test front s more rest ∙ c.0) (head-stops test P (λ s. refl) (b.spell t ++ z) k.1)
+    | inr c ↦ rb.tight front s rest c.1 t z more k.0 e
+  ]
+
+  unstarted-short : (xs : Rows M) → reader.unstarted test b.read xs ≡ Err (Unexpected 0) → (t : B) (z : Rows M) → b.ends t z × Stops P (b.spell t ++ z) → b.spell t ++ z ≡ xs → ⊥
+  unstarted-short xs h t z k e = elim (chosen (head_in test xs) (failed (B × Rows M) (Unexpected (length xs))) (b.read xs) _ h) [
+    | inl c ↦ true-false _ (ap (head_in test) e ∙ c.0) (head-stops test P (λ s. refl) (b.spell t ++ z) k.1)
+    | inr c ↦ rb.short xs c.1 t z k.0 e
+  ]
+
+  pub unstarted-read : IsRead (unstarted P b)
+  unstarted-read = record {
+    some = some;
+    some_may = (some_may, some_stops);
+    within = λ t h. (rb.within t h.0, h.1);
+    takes = unstarted-takes;
+    again = λ t z f k. unstarted-again t z f.0 k.0 k.1;
+    viable = unstarted-viable;
+    tight = unstarted-tight;
+    short = unstarted-short;
+  }

@@ -1,0 +1,13 @@
+pub mod Begin
+pub mod Closed
+pub mod Parts
+pub mod Options
+pub mod Fields
+pub mod Ranges
+pub mod Enums
+pub mod Services
+pub mod Ties
+pub mod Messages
+pub mod Levels
+pub mod Depths
+pub mod Main

@@ -1,0 +1,131 @@
+-- The laws of a file.
+use Rattle.std.proofs.Common.{◌≡◌, ◌≤◌, ℕ, suc, true, List, [], ◌∷◌, ◌++◌, length, Ok, Err, refl, sym, ap, subst, ◌∙◌, append_assoc, arith, inl, inr}
+use Rattle.std.proofs.lemmas.List.{append-nil}
+use Rattle.protox_lex.specs.Shapes.{Rows}
+use Rattle.protox_grammar.specs.Class.{Set, all, among}
+use Rattle.protox_grammar.specs.Rule.{Rule, Stops, Ends}
+use Rattle.protox_grammar.specs.Reader.{Refusal, Unexpected}
+use Rattle.protox_ast.specs.whole.Tree as t
+use Rattle.protox_ast.specs.whole.Spelling as s
+use Rattle.protox_ast.specs.whole.Keywords as k
+use Rattle.protox_ast.specs.whole.Depth as d
+use Rattle.protox_ast.specs.whole.Spells.{Spells, BeginsFile}
+use Rattle.protox_grammar.specs.whole.Bodies as rule
+use Rattle.protox_grammar.specs.whole.Reads.{read}
+use Rattle.protox_grammar.specs.whole.Grammar.{IsUnexpected, OneTree, AcceptsIff, TightUnexpected, TightEnd}
+use Rattle.protox_grammar.proofs.Takes.{bind_ok, ok_is}
+use Rattle.protox_grammar.proofs.Reading.{Begins, bind_err, ok-err}
+use Rattle.protox_grammar.proofs.Forms.{Lawful}
+use Rattle.protox_grammar.proofs.whole.Messages.{file-laws}
+use Rattle.protox_grammar.proofs.whole.Levels.{statements-into, statements-keeps, statements-deep}
+use Rattle.protox_grammar.proofs.whole.Depths.{body-laws}
+
+ends-stop : {M A : Type 0} (spell : A → Rows M) (ends : A → Rows M → Type 0) (P : Set) (xs : List A) (z : Rows M) → Ends spell ends P xs z → Stops P z
+ends-stop spell ends P [] z h = h
+ends-stop spell ends P (x ∷ xs) z h = ends-stop spell ends P xs z h.1
+
+no-more : {M : Type 0} (z : Rows M) → Stops all z → z ≡ []
+no-more [] h = refl
+no-more (z ∷ zs) h = absurd cc
+
+module _ {M : Type 0} (m : M) where
+  abbrev file_at : ℕ → Rule M (t.File M)
+  file_at n = rule.file (rule.mbody_at n)
+
+  laws : (n : ℕ) → Lawful (file_at n) true (among (0 ∷ 56 ∷ 2 ∷ 1 ∷ 6 ∷ 11 ∷ 12 ∷ 5 ∷ 7 ∷ [])) all
+  laws n = file-laws m k.KeepsMbody (rule.FitsMbody n) (rule.read_mbody n) (body-laws m n)
+
+  may-of : (n : ℕ) (f : t.File M) → k.KeepsKeywords f → (file_at n).may f
+  unfolding rule.file
+  may-of n f h = statements-into k.KeepsMbody (d.statements_depth f.statements) (λ y g w. g) f.statements h (omega arith)
+
+  of-may : (n : ℕ) (f : t.File M) → (file_at n).may f → k.KeepsKeywords f
+  unfolding rule.file
+  of-may n f h = statements-keeps k.KeepsMbody (λ y g. g) f.statements h
+
+  fits-of : (n : ℕ) (f : t.File M) → k.KeepsKeywords f → d.depth f ≤ n → (file_at n).fits f
+  unfolding rule.file
+  fits-of n f h w = statements-into (rule.FitsMbody n) n (λ y g w. (g, w)) f.statements h w
+
+  of-fits : (n : ℕ) (f : t.File M) → (file_at n).fits f → k.KeepsKeywords f × (d.depth f ≤ n)
+  unfolding rule.file
+  of-fits n f h = (statements-keeps (rule.FitsMbody n) (λ y g. g.0) f.statements h, statements-deep (rule.FitsMbody n) n (λ y g. g.1) f.statements h)
+
+  spelling : (n : ℕ) (f : t.File M) → (file_at n).spell f ≡ s.spell f
+  unfolding rule.file
+  spelling n f = refl
+
+  ends-of : (n : ℕ) (f : t.File M) → k.KeepsKeywords f → (file_at n).ends f []
+  ends-of n f h = (laws n).spelled.follow f [] (may-of n f h) tt
+
+  nothing-left : (n : ℕ) (f : t.File M) (z : Rows M) → (file_at n).ends f z → z ≡ []
+  unfolding rule.file
+  nothing-left n f z h = no-more z (ends-stop (rule.statement (rule.mbody_at n)).spell (rule.statement (rule.mbody_at n)).ends all f.statements z h.1)
+
+  pub one_tree : OneTree M
+  unfolding rule.file
+  one_tree rows f g a b = ((laws 0).spelled.once f g [] [] (ends-of 0 f a.1) (ends-of 0 g b.1) (ap (λ u. u ++ []) (sym a.0 ∙ b.0))).0
+
+  to-tree : (n : ℕ) (rows : Rows M) (f : t.File M) → read n rows ≡ Ok f → Spells rows f × (d.depth f ≤ n)
+  unfolding read
+  to-tree n rows f e =
+      let p = bind_ok ((file_at n).read rows) (λ x. Ok x.0) f e in
+      let k = (laws n).read.takes rows p.0 p.1 in
+      let same : p.0.0 ≡ f = ok_is p.0.0 f p.2 in
+      let w = of-fits n p.0.0 k.fits in
+      let is : rows ≡ s.spell p.0.0 = k.parts ∙ ap (λ z. (file_at n).spell p.0.0 ++ z) (nothing-left n p.0.0 p.0.1 k.ends) ∙ append-nil ((file_at n).spell p.0.0) ∙ spelling n p.0.0 in
+      subst (λ v. Spells rows v × (d.depth v ≤ n)) same ((is, w.0), w.1)
+
+  to-read : (n : ℕ) (rows : Rows M) (f : t.File M) → Spells rows f × (d.depth f ≤ n) → read n rows ≡ Ok f
+  unfolding read
+  to-read n rows f h =
+      let a = (laws n).read.again f [] (fits-of n f h.0.1 h.1) (ends-of n f h.0.1) in
+      let is : (file_at n).spell f ++ [] ≡ rows = append-nil ((file_at n).spell f) ∙ spelling n f ∙ sym h.0.0 in
+      let b : (file_at n).read rows ≡ Ok (f, []) = subst (λ v. (file_at n).read v ≡ Ok (f, [])) is a in
+      rw b refl
+
+  pub accepts_iff : AcceptsIff M
+  accepts_iff n rows f = (to-tree n rows f, to-read n rows f)
+
+  failed-so : (n : ℕ) (rows : Rows M) (e : Refusal) → read n rows ≡ Err e → (file_at n).read rows ≡ Err e
+  unfolding read
+  failed-so n rows e h = elim (bind_err ((file_at n).read rows) (λ x. Ok x.0) e h) [
+    | inl q ↦ q
+    | inr q ↦ absurd (ok-err _ e q.2)
+  ]
+
+  begins : (n : ℕ) (xs : Rows M) (left : ℕ) (v : Begins (file_at n) xs left) → BeginsFile v.front
+  begins n xs left v = (v.tree, v.more, (sym v.goes_on ∙ spelling n v.tree, of-may n v.tree v.tree_may))
+
+  unexpected-at : (n left : ℕ) (rows : Rows M) → (file_at n).read rows ≡ Err (Unexpected (suc left)) → (v : Begins (file_at n) rows (suc left)) → (rest : Rows M) → v.rest ≡ rest → IsUnexpected rows (suc left)
+  unexpected-at n left rows h v [] e = absurd (omega (arith, v.left_is, ap length e))
+  unexpected-at n left rows h v (x ∷ rest) e =
+      let parts : rows ≡ v.front ++ (x ∷ rest) = v.parts ∙ ap (λ u. v.front ++ u) e in
+      let len : suc left ≡ suc (length rest) = v.left_is ∙ ap length e in
+      let h' : (file_at n).read (v.front ++ (x ∷ rest)) ≡ Err (Unexpected (suc (length rest))) = ap (file_at n).read (sym parts) ∙ h ∙ ap (λ u. Err (Unexpected u)) len in
+      record {
+        front = v.front;
+        here = x;
+        rest = rest;
+        parts = parts;
+        left_is = len;
+        before = begins n rows (suc left) v;
+        with_it = λ b. (laws n).read.tight v.front x rest h' b.0 [] b.1 (ends-of n b.0 b.2.1)
+            (append-nil ((file_at n).spell b.0) ∙ spelling n b.0 ∙ sym b.2.0 ∙ append_assoc v.front (x ∷ []) b.1);
+      }
+
+  pub unexpected : TightUnexpected M
+  unexpected n left rows h = let e = failed-so n rows _ h in let v = (laws n).read.viable rows _ e in unexpected-at n left rows e v v.rest refl
+
+  all-front : (n : ℕ) (rows : Rows M) (v : Begins (file_at n) rows 0) (rest : Rows M) → v.rest ≡ rest → rows ≡ v.front
+  all-front n rows v [] e = v.parts ∙ ap (λ u. v.front ++ u) e ∙ append-nil v.front
+  all-front n rows v (x ∷ rest) e = absurd (omega (arith, v.left_is, ap length e))
+
+  pub ended : TightEnd M
+  ended n rows h =
+      let e = failed-so n rows _ h in
+      let v = (laws n).read.viable rows _ e in
+      record {
+        begins = subst BeginsFile (sym (all-front n rows v v.rest refl)) (begins n rows 0 v);
+        no_file = λ f g. (laws n).read.short rows e f [] (ends-of n f g.1) (append-nil ((file_at n).spell f) ∙ spelling n f ∙ sym g.0);
+      }

@@ -1,0 +1,251 @@
+-- The laws of tokens, strings, syntax, imports, packages, names, numbers, types and labels.
+use Rattle.std.proofs.Common.{◌≡◌, ℕ, true, false, List, [], ◌∷◌, Option, Some, None, codes, refl, ap, ◌∙◌, arith, inl, inr, ◌⊎◌}
+use Rattle.std.proofs.lemmas.Slice.Eq.{bytes_eq-Decides}
+use Rattle.std.proofs.lemmas.Bool.{lt-ltb}
+use Rattle.std.specs.Str.{bytes_eq}
+use Rattle.protox_lex.specs.Shapes as shape
+use Rattle.protox_lex.specs.Shapes.{Shape, Ident, Str}
+use Rattle.protox_grammar.specs.Reader.{see_word, see_integer, see_float, see_text}
+use Rattle.protox_grammar.specs.Class.{class, place, keywords, none, only, words, union, among}
+use Rattle.protox_grammar.specs.Rule.{unless, choice}
+use Rattle.protox_ast.specs.whole.Tree as t
+use Rattle.protox_ast.specs.whole.Spelling as s
+use Rattle.protox_ast.specs.whole.Keywords as k
+use Rattle.protox_grammar.specs.whole.Rules as r
+use Rattle.protox_grammar.proofs.Sets.{place-le}
+use Rattle.protox_grammar.proofs.Laws.{leaf-spelled}
+use Rattle.protox_grammar.proofs.Reading.{leaf-read, chosen}
+use Rattle.protox_grammar.proofs.whole.Begin.{name-stops, stops-name}
+use Rattle.protox_grammar.proofs.Forms.{Lawful, word-laws, mark-laws, seq-laws, unless-laws, choice-laws, optional-laws, times-laws, named-laws, wide}
+
+pub each-all : {A : Type 0} (P : A → Type 0) → ((x : A) → P x) → (xs : List A) → k.Each P xs
+each-all P f [] = tt
+each-all P f (x ∷ xs) = (f x, each-all P f xs)
+
+pub each-map : {A : Type 0} (P Q : A → Type 0) → ((x : A) → P x → Q x) → (xs : List A) → k.Each P xs → k.Each Q xs
+each-map P Q f [] h = tt
+each-map P Q f (x ∷ xs) h = (f x h.0, each-map P Q f xs h.1)
+
+some-is : {A : Type 0} (x y : A) → Some x ≡ Some y → x ≡ y
+some-is x y e = cc
+
+find-exact : (xs : List t.Scalar) (w : List ℕ) (x : t.Scalar) → r.find_scalar xs w ≡ Some x → w ≡ s.scalar_word x
+find-exact [] w x e = absurd cc
+find-exact (y ∷ ys) w x e = elim (chosen (bytes_eq w (s.scalar_word y)) (Some y) (r.find_scalar ys w) (Some x) e) [
+  | inl h ↦ (bytes_eq-Decides w (s.scalar_word y)).0 h.0 ∙ ap s.scalar_word (some-is y x h.1)
+  | inr h ↦ find-exact ys w x h.1
+]
+
+pub given-all : {A : Type 0} (P : A → Type 0) → ((x : A) → P x) → (x : Option A) → k.Given P x
+given-all P f None = tt
+given-all P f (Some x) = f x
+
+module _ {M : Type 0} (m : M) where
+  words-at : (t : List ℕ) → words (place keywords t) ≡ true
+  words-at t = lt-ltb _ 39 (omega (arith, place-le keywords t))
+
+  pub ident-laws : Lawful {M = M} r.ident false words none
+  ident-laws = record { spelled = leaf-spelled see_word Ident words words-at (λ x. refl); read = leaf-read ([], m) see_word Ident (λ x. refl) exact }
+    where
+      exact : (s : Shape) (x : List ℕ) → see_word s ≡ Some x → s ≡ Ident x
+      exact (Ident t) x e = cc
+      exact _ x e = absurd cc
+
+  pub integer-laws : Lawful {M = M} r.integer false (only 39) none
+  integer-laws = record { spelled = leaf-spelled see_integer shape.Int (only 39) (λ x. refl) (λ x. refl); read = leaf-read (0, m) see_integer shape.Int (λ x. refl) exact }
+    where
+      exact : (s : Shape) (x : ℕ) → see_integer s ≡ Some x → s ≡ shape.Int x
+      exact (shape.Int t) x e = cc
+      exact _ x e = absurd cc
+
+  pub float-laws : Lawful {M = M} r.float false (only 40) none
+  float-laws = record { spelled = leaf-spelled see_float shape.Float (only 40) (λ x. refl) (λ x. refl); read = leaf-read ([], m) see_float shape.Float (λ x. refl) exact }
+    where
+      exact : (s : Shape) (x : List ℕ) → see_float s ≡ Some x → s ≡ shape.Float x
+      exact (shape.Float t) x e = cc
+      exact _ x e = absurd cc
+
+  pub string-laws : Lawful {M = M} r.string false (only 41) none
+  string-laws = record { spelled = leaf-spelled see_text Str (only 41) (λ x. refl) (λ x. refl); read = leaf-read ([], m) see_text Str (λ x. refl) exact }
+    where
+      exact : (s : Shape) (x : List ℕ) → see_text s ≡ Some x → s ≡ Str x
+      exact (Str t) x e = cc
+      exact _ x e = absurd cc
+
+  pub scalar-in : (x : t.Scalar) → r.scalar_set (class (r.scalar_shape x)) ≡ true
+  scalar-in t.double = refl
+  scalar-in t.float_type = refl
+  scalar-in t.int32 = refl
+  scalar-in t.int64 = refl
+  scalar-in t.uint32 = refl
+  scalar-in t.uint64 = refl
+  scalar-in t.sint32 = refl
+  scalar-in t.sint64 = refl
+  scalar-in t.fixed32 = refl
+  scalar-in t.fixed64 = refl
+  scalar-in t.sfixed32 = refl
+  scalar-in t.sfixed64 = refl
+  scalar-in t.bool = refl
+  scalar-in t.string = refl
+  scalar-in t.bytes = refl
+
+  scalar-back : (x : t.Scalar) → r.see_scalar (r.scalar_shape x) ≡ Some x
+  scalar-back t.double = refl
+  scalar-back t.float_type = refl
+  scalar-back t.int32 = refl
+  scalar-back t.int64 = refl
+  scalar-back t.uint32 = refl
+  scalar-back t.uint64 = refl
+  scalar-back t.sint32 = refl
+  scalar-back t.sint64 = refl
+  scalar-back t.fixed32 = refl
+  scalar-back t.fixed64 = refl
+  scalar-back t.sfixed32 = refl
+  scalar-back t.sfixed64 = refl
+  scalar-back t.bool = refl
+  scalar-back t.string = refl
+  scalar-back t.bytes = refl
+
+  pub scalar-laws : Lawful {M = M} r.scalar false r.scalar_set none
+  scalar-laws = record { spelled = leaf-spelled r.see_scalar r.scalar_shape r.scalar_set scalar-in scalar-back; read = leaf-read (t.double, m) r.see_scalar r.scalar_shape scalar-back exact }
+    where
+      exact : (s : Shape) (x : t.Scalar) → r.see_scalar s ≡ Some x → s ≡ r.scalar_shape x
+      exact (Ident w) x e = ap Ident (find-exact r.all_scalars w x e)
+      exact _ x e = absurd cc
+
+  pub strings-laws : Lawful {M = M} r.strings false (only 41) (only 41)
+  unfolding r.strings
+  strings-laws = wide _ _ (named-laws s.strings r.free _ _ (λ x. refl) (λ x. refl) (λ x. refl)
+      (λ x h. (tt, each-all _ (λ y. tt) x.others)) (λ x h. tt) (λ x h. h)
+      (seq-laws string-laws (times-laws (only 41) string-laws refl refl) refl)) refl refl
+
+  pub syntax-laws : Lawful {M = M} r.syntax false (only 0) none
+  unfolding r.syntax r.strings
+  syntax-laws = wide _ _ (named-laws s.syntax r.free _ _ (λ x. refl) (λ x. refl) (λ x. refl)
+      (λ x h. (tt, (tt, (tt, tt)))) (λ x h. tt) (λ x h. h)
+      (seq-laws (word-laws m (codes "syntax") 0 refl) (seq-laws (mark-laws m s.equals 54 refl) (seq-laws strings-laws (mark-laws m s.semicolon 56 refl) refl) refl) refl)) refl refl
+
+  import_kind-back : (x : t.ImportKind M) → r.to_import_kind (r.from_import_kind x) ≡ x
+  import_kind-back (t.weak a) = refl
+  import_kind-back (t.«public» a) = refl
+
+  import_kind-there : (x : M ⊎ M) → r.from_import_kind (r.to_import_kind x) ≡ x
+  import_kind-there (inl x) = refl
+  import_kind-there (inr x) = refl
+
+  import_kind-is : (x : t.ImportKind M) → s.import_kind x ≡ (choice (only 3) (r.the (codes "weak")) (r.the (codes "public"))).spell (r.from_import_kind x)
+  unfolding r.import_kind
+  import_kind-is (t.weak a) = refl
+  import_kind-is (t.«public» a) = refl
+
+  import_kind-obeys : (x : t.ImportKind M) → Unit {0} → (choice (only 3) (r.the (codes "weak")) (r.the (codes "public"))).may (r.from_import_kind x)
+  unfolding r.import_kind
+  import_kind-obeys (t.weak a) h = tt
+  import_kind-obeys (t.«public» a) h = tt
+
+  import_kind-allows : (x : t.ImportKind M) → (choice (only 3) (r.the (codes "weak")) (r.the (codes "public"))).may (r.from_import_kind x) → Unit {0}
+  unfolding r.import_kind
+  import_kind-allows (t.weak a) h = tt
+  import_kind-allows (t.«public» a) h = tt
+
+  pub import_kind-laws : Lawful {M = M} r.import_kind false (among (3 ∷ 4 ∷ [])) none
+  unfolding r.import_kind
+  import_kind-laws = wide _ _ (named-laws s.import_kind r.free _ _ import_kind-back import_kind-there import_kind-is
+      import_kind-obeys import_kind-allows (λ x h. h)
+      (choice-laws (only 3) (word-laws m (codes "weak") 3 refl) refl (word-laws m (codes "public") 4 refl) refl)) refl refl
+
+  pub import-laws : Lawful {M = M} r.«import» false (only 2) none
+  unfolding r.«import» r.strings r.import_kind
+  import-laws = wide _ _ (named-laws s.«import» r.free _ _ (λ x. refl) (λ x. refl) (λ x. refl)
+      (λ x h. (tt, (given-all _ (λ y. tt) x.kind, (tt, tt)))) (λ x h. tt) (λ x h. h)
+      (seq-laws (word-laws m (codes "import") 2 refl) (seq-laws (optional-laws (among (3 ∷ 4 ∷ [])) import_kind-laws refl) (seq-laws strings-laws (mark-laws m s.semicolon 56 refl) refl) refl) refl)) refl refl
+
+  pub fullident-laws : Lawful {M = M} r.fullident false words (only 42)
+  unfolding r.fullident
+  fullident-laws = wide _ _ (named-laws s.fullident r.free _ _ (λ x. refl) (λ x. refl) (λ x. refl)
+      (λ x h. (tt, each-all _ (λ y. (tt, tt)) x.others)) (λ x h. tt) (λ x h. h)
+      (seq-laws ident-laws (times-laws (only 42) (seq-laws (mark-laws m s.dot 42 refl) ident-laws refl) refl refl) refl)) refl refl
+
+  pub package-laws : Lawful {M = M} r.«package» false (only 1) none
+  unfolding r.«package» r.fullident
+  package-laws = wide _ _ (named-laws s.«package» r.free _ _ (λ x. refl) (λ x. refl) (λ x. refl)
+      (λ x h. (tt, (tt, tt))) (λ x h. tt) (λ x h. h)
+      (seq-laws (word-laws m (codes "package") 1 refl) (seq-laws fullident-laws (mark-laws m s.semicolon 56 refl) refl) refl)) refl refl
+
+  pub typename-laws : Lawful {M = M} r.typename false (union (only 42) words) (only 42)
+  unfolding r.typename r.fullident
+  typename-laws = wide _ _ (named-laws s.typename r.free _ _ (λ x. refl) (λ x. refl) (λ x. refl)
+      (λ x h. (given-all _ (λ y. tt) x.leading_dot, tt)) (λ x h. tt) (λ x h. h)
+      (seq-laws (optional-laws (only 42) (mark-laws m s.dot 42 refl) refl) fullident-laws refl)) refl refl
+
+  pub int-laws : Lawful {M = M} r.int false (among (39 ∷ 43 ∷ [])) none
+  unfolding r.int
+  int-laws = wide _ _ (named-laws s.int r.free _ _ (λ x. refl) (λ x. refl) (λ x. refl)
+      (λ x h. (given-all _ (λ y. tt) x.sign, tt)) (λ x h. tt) (λ x h. h)
+      (seq-laws (optional-laws (only 43) (mark-laws m s.minus 43 refl) refl) integer-laws refl)) refl refl
+
+  abbrev pub some_name : t.TypeName M
+  some_name = record { leading_dot = Some m; name = record { first = ([], m); others = [] } }
+
+  type-back : (x : t.FieldType M) → r.to_type (r.from_type x) ≡ x
+  type-back (t.scalar a b) = refl
+  type-back (t.named a) = refl
+
+  type-there : (x : (t.Scalar × M) ⊎ t.TypeName M) → r.from_type (r.to_type x) ≡ x
+  type-there (inl x) = refl
+  type-there (inr x) = refl
+
+  type-is : (x : t.FieldType M) → s.type x ≡ (unless r.scalar_set r.scalar r.typename).spell (r.from_type x)
+  unfolding r.type r.typename
+  type-is (t.scalar a b) = refl
+  type-is (t.named a) = refl
+
+  type-obeys : (x : t.FieldType M) → k.TypeBeginsWithNone k.scalars x → (unless r.scalar_set r.scalar r.typename).may (r.from_type x)
+  unfolding r.type r.typename
+  type-obeys (t.scalar a b) h = tt
+  type-obeys (t.named a) h = (tt, name-stops k.scalars refl refl a h)
+
+  type-allows : (x : t.FieldType M) → (unless r.scalar_set r.scalar r.typename).may (r.from_type x) → k.TypeBeginsWithNone k.scalars x
+  unfolding r.type r.typename
+  type-allows (t.scalar a b) h = tt
+  type-allows (t.named a) h = stops-name k.scalars refl refl a h.1
+
+  pub type-laws : Lawful {M = M} r.type false (union words (only 42)) (only 42)
+  unfolding r.type r.typename
+  type-laws = wide _ _ (named-laws s.type (k.TypeBeginsWithNone k.scalars) _ _ type-back type-there type-is
+      type-obeys type-allows (λ x h. h)
+      (unless-laws r.scalar_set scalar-laws refl typename-laws some_name tt refl)) refl refl
+
+  label-back : (x : t.Label M) → r.to_label (r.from_label x) ≡ x
+  label-back (t.optional a) = refl
+  label-back (t.required a) = refl
+  label-back (t.repeated a) = refl
+
+  label-there : (x : M ⊎ (M ⊎ M)) → r.from_label (r.to_label x) ≡ x
+  label-there (inl x) = refl
+  label-there (inr (inl x)) = refl
+  label-there (inr (inr x)) = refl
+
+  label-is : (x : t.Label M) → s.label x ≡ (choice (only 13) (r.the (codes "optional")) (choice (only 14) (r.the (codes "required")) (r.the (codes "repeated")))).spell (r.from_label x)
+  unfolding r.label
+  label-is (t.optional a) = refl
+  label-is (t.required a) = refl
+  label-is (t.repeated a) = refl
+
+  label-obeys : (x : t.Label M) → Unit {0} → (choice (only 13) (r.the (codes "optional")) (choice (only 14) (r.the (codes "required")) (r.the (codes "repeated")))).may (r.from_label x)
+  unfolding r.label
+  label-obeys (t.optional a) h = tt
+  label-obeys (t.required a) h = tt
+  label-obeys (t.repeated a) h = tt
+
+  label-allows : (x : t.Label M) → (choice (only 13) (r.the (codes "optional")) (choice (only 14) (r.the (codes "required")) (r.the (codes "repeated")))).may (r.from_label x) → Unit {0}
+  unfolding r.label
+  label-allows (t.optional a) h = tt
+  label-allows (t.required a) h = tt
+  label-allows (t.repeated a) h = tt
+
+  pub label-laws : Lawful {M = M} r.label false (among (13 ∷ 14 ∷ 15 ∷ [])) none
+  unfolding r.label
+  label-laws = wide _ _ (named-laws s.label r.free _ _ label-back label-there label-is
+      label-obeys label-allows (λ x h. h)
+      (choice-laws (only 13) (word-laws m (codes "optional") 13 refl) refl (choice-laws (only 14) (word-laws m (codes "required") 14 refl) refl (word-laws m (codes "repeated") 15 refl) refl) refl)) refl refl

@@ -1,0 +1,4 @@
+pub mod Rules
+pub mod Bodies
+pub mod Reads
+pub mod Grammar

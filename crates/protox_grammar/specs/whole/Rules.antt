@@ -1,0 +1,349 @@
+-- MACHINERY. The rules of the grammar that have no message in them, by combinators, each under its plain spelling and its plain keyword rules.
+use Rattle.std.specs.Prelude.{ℕ, suc, ◌-◌, List, [], ◌∷◌, ◌++◌, if◌then◌else◌, ◌==◌, Ok, Err, Option, Some, None, ◌⊎◌, codes}
+use Rattle.std.proofs.Common.{inl, inr}
+use Rattle.std.specs.Str.{bytes_eq}
+use Rattle.protox_lex.specs.Shapes as shape
+use Rattle.protox_lex.specs.Shapes.{Shape, Ident, Str, Mark, Rows}
+use Rattle.protox_grammar.specs.Class.{Set, only, but, words, among, union}
+use Rattle.protox_ast.specs.whole.Tree as t
+use Rattle.protox_ast.specs.whole.Spelling as s
+use Rattle.protox_ast.specs.whole.Keywords as k
+use Rattle.protox_grammar.specs.Reader as reader
+use Rattle.protox_grammar.specs.Reader.{Reader, Unexpected, ◌>>=◌, see_word, see_integer, see_float, see_text}
+use Rattle.protox_grammar.specs.Rule.{Rule, row, fixed, leaf, seq, named, unless, choice, optional, times, joined, peek}
+
+-- up to the brace that closes: the rows before it, which are tokens
+unfoldable pub balanced_at : {M : Type 0} → ℕ → Reader M (Rows M)
+balanced_at unclosed [] = Err (Unexpected 0)
+balanced_at unclosed (r ∷ rs) =
+    if k.is_open_brace r.shape then (balanced_at (suc unclosed) rs >>= λ x. Ok (r ∷ x.0, x.1))
+    else (if k.is_close_brace r.shape
+    then (if unclosed == 0 then Ok ([], r ∷ rs) else (balanced_at (unclosed - 1) rs >>= λ x. Ok (r ∷ x.0, x.1)))
+    else (if k.is_significant r.shape then (balanced_at unclosed rs >>= λ x. Ok (r ∷ x.0, x.1)) else reader.refuse (r ∷ rs)))
+
+-- what stands between braces, and the one that closes
+abbrev pub closed : {M : Type 0} → Rule M (Rows M × M)
+closed = record {
+  spell = λ t. t.0 ++ (row (Mark s.close_brace) t.1 ∷ []);
+  may = λ t. k.BracesMatch t.0 × k.Each k.IsSignificant t.0;
+  fits = λ t. k.BracesMatch t.0 × k.Each k.IsSignificant t.0;
+  ends = λ t z. k.BracesMatch t.0 × k.Each k.IsSignificant t.0;
+  read = reader.seq (balanced_at 0) (reader.fixed (Mark s.close_brace));
+}
+
+abbrev pub free : {A : Type 0} → A → Type 0
+free x = Unit {0}
+
+abbrev pub the : {M : Type 0} → List ℕ → Rule M M
+the w = fixed (Ident w)
+
+abbrev pub sign : {M : Type 0} → ℕ → Rule M M
+sign byte = fixed (Mark byte)
+
+abbrev pub ident : {M : Type 0} → Rule M (t.Word M)
+ident = leaf see_word Ident
+
+abbrev pub integer : {M : Type 0} → Rule M (t.Number M)
+integer = leaf see_integer shape.Int
+
+abbrev pub float : {M : Type 0} → Rule M (t.Float M)
+float = leaf see_float shape.Float
+
+abbrev pub string : {M : Type 0} → Rule M (t.Text M)
+string = leaf see_text Str
+
+abbrev pub find_scalar : List t.Scalar → List ℕ → Option t.Scalar
+find_scalar [] w = None
+find_scalar (x ∷ xs) w = if bytes_eq w (s.scalar_word x) then Some x else find_scalar xs w
+
+abbrev pub all_scalars : List t.Scalar
+all_scalars = t.double ∷ t.float_type ∷ t.int32 ∷ t.int64 ∷ t.uint32 ∷ t.uint64 ∷ t.sint32 ∷ t.sint64 ∷ t.fixed32 ∷ t.fixed64 ∷ t.sfixed32 ∷ t.sfixed64 ∷ t.bool ∷ t.string ∷ t.bytes ∷ []
+
+abbrev pub see_scalar : Shape → Option t.Scalar
+see_scalar (Ident w) = find_scalar all_scalars w
+see_scalar _ = None
+
+abbrev pub scalar_shape : t.Scalar → Shape
+scalar_shape x = Ident (s.scalar_word x)
+
+abbrev pub scalar : {M : Type 0} → Rule M (t.Scalar × M)
+scalar = leaf see_scalar scalar_shape
+
+abbrev pub scalar_set : Set
+scalar_set = among (19 ∷ 20 ∷ 21 ∷ 22 ∷ 23 ∷ 24 ∷ 25 ∷ 26 ∷ 27 ∷ 28 ∷ 29 ∷ 30 ∷ 31 ∷ 32 ∷ 33 ∷ [])
+
+unfoldable pub strings : {M : Type 0} → Rule M (t.Strings M)
+strings = named s.strings free (λ x. record { first = x.0; others = x.1 }) (λ x. (x.first, x.others))
+    (seq string (times (only 41) string))
+
+unfoldable pub syntax : {M : Type 0} → Rule M (t.Syntax M)
+syntax = named s.syntax free (λ x. record { keyword = x.0; equals_sign = x.1.0; value = x.1.1.0; end = x.1.1.1 }) (λ x. (x.keyword, (x.equals_sign, (x.value, x.end))))
+    (seq (the (codes "syntax")) (seq (sign s.equals) (seq strings (sign s.semicolon))))
+
+abbrev pub to_import_kind : {M : Type 0} → M ⊎ M → t.ImportKind M
+to_import_kind (inl x) = t.weak x
+to_import_kind (inr x) = t.«public» x
+
+abbrev pub from_import_kind : {M : Type 0} → t.ImportKind M → M ⊎ M
+from_import_kind (t.weak a) = inl a
+from_import_kind (t.«public» a) = inr a
+
+unfoldable pub import_kind : {M : Type 0} → Rule M (t.ImportKind M)
+import_kind = named s.import_kind free to_import_kind from_import_kind
+    (choice (only 3) (the (codes "weak")) (the (codes "public")))
+
+unfoldable pub «import» : {M : Type 0} → Rule M (t.Import M)
+«import» = named s.«import» free (λ x. record { keyword = x.0; kind = x.1.0; value = x.1.1.0; end = x.1.1.1 }) (λ x. (x.keyword, (x.kind, (x.value, x.end))))
+    (seq (the (codes "import")) (seq (optional (among (3 ∷ 4 ∷ [])) import_kind) (seq strings (sign s.semicolon))))
+
+unfoldable pub fullident : {M : Type 0} → Rule M (t.FullIdent M)
+fullident = named s.fullident free (λ x. record { first = x.0; others = x.1 }) (λ x. (x.first, x.others))
+    (seq ident (times (only 42) (seq (sign s.dot) ident)))
+
+unfoldable pub «package» : {M : Type 0} → Rule M (t.Package M)
+«package» = named s.«package» free (λ x. record { keyword = x.0; name = x.1.0; end = x.1.1 }) (λ x. (x.keyword, (x.name, x.end)))
+    (seq (the (codes "package")) (seq fullident (sign s.semicolon)))
+
+unfoldable pub typename : {M : Type 0} → Rule M (t.TypeName M)
+typename = named s.typename free (λ x. record { leading_dot = x.0; name = x.1 }) (λ x. (x.leading_dot, x.name))
+    (seq (optional (only 42) (sign s.dot)) fullident)
+
+abbrev pub to_part : {M : Type 0} → t.Word M ⊎ (M × (t.TypeName M × M)) → t.Part M
+to_part (inl x) = t.plain_part x
+to_part (inr x) = t.extension_part x.0 x.1.0 x.1.1
+
+abbrev pub from_part : {M : Type 0} → t.Part M → t.Word M ⊎ (M × (t.TypeName M × M))
+from_part (t.plain_part a) = inl a
+from_part (t.extension_part a b c) = inr ((a, (b, c)))
+
+unfoldable pub part : {M : Type 0} → Rule M (t.Part M)
+part = named s.part free to_part from_part
+    (choice words ident (seq (sign s.open_paren) (seq typename (sign s.close_paren))))
+
+abbrev pub to_constant : {M : Type 0} → t.Word M ⊎ (t.Number M ⊎ t.Float M) → t.Constant M
+to_constant (inl x) = t.ident x
+to_constant (inr (inl x)) = t.integer x
+to_constant (inr (inr x)) = t.float x
+
+abbrev pub from_constant : {M : Type 0} → t.Constant M → t.Word M ⊎ (t.Number M ⊎ t.Float M)
+from_constant (t.ident a) = inl a
+from_constant (t.integer a) = inr (inl a)
+from_constant (t.float a) = inr (inr a)
+
+unfoldable pub constant : {M : Type 0} → Rule M (t.Constant M)
+constant = named s.constant free to_constant from_constant
+    (choice words ident (choice (only 39) integer float))
+
+abbrev pub to_value : {M : Type 0} → (Option M × t.Constant M) ⊎ (t.Strings M ⊎ (M × (Rows M × M))) → t.Value M
+to_value (inl x) = t.constant x.0 x.1
+to_value (inr (inl x)) = t.strings x
+to_value (inr (inr x)) = t.aggregate x.0 x.1.0 x.1.1
+
+abbrev pub from_value : {M : Type 0} → t.Value M → (Option M × t.Constant M) ⊎ (t.Strings M ⊎ (M × (Rows M × M)))
+from_value (t.constant a b) = inl (a, b)
+from_value (t.strings a) = inr (inl a)
+from_value (t.aggregate a b c) = inr (inr ((a, (b, c))))
+
+unfoldable pub value : {M : Type 0} → Rule M (t.Value M)
+value = named s.value k.KeepsValue to_value from_value
+    (choice (union words (among (39 ∷ 40 ∷ 43 ∷ []))) (seq (optional (only 43) (sign s.minus)) constant) (choice (only 41) strings (seq (sign s.open_brace) closed)))
+
+unfoldable pub body : {M : Type 0} → Rule M (t.Body M)
+body = named s.body k.KeepsBody (λ x. record { first = x.0; others = x.1.0; equals_sign = x.1.1.0; value = x.1.1.1 }) (λ x. (x.first, (x.others, (x.equals_sign, x.value))))
+    (seq part (seq (times (only 42) (seq (sign s.dot) part)) (seq (sign s.equals) value)))
+
+unfoldable pub option : {M : Type 0} → Rule M (t.OptionStatement M)
+option = named s.option k.KeepsOption (λ x. record { keyword = x.0; body = x.1.0; end = x.1.1 }) (λ x. (x.keyword, (x.body, x.end)))
+    (seq (the (codes "option")) (seq body (sign s.semicolon)))
+
+unfoldable pub list : {M : Type 0} → Rule M (t.OptionList M)
+list = named s.list k.KeepsList (λ x. record { open_at = x.0; first = x.1.0; others = x.1.1.0; close_at = x.1.1.1 }) (λ x. (x.open_at, (x.first, (x.others, x.close_at))))
+    (seq (sign s.open_bracket) (seq body (seq (times (only 53) (seq (sign s.comma) body)) (sign s.close_bracket))))
+
+unfoldable pub int : {M : Type 0} → Rule M (t.Int M)
+int = named s.int free (λ x. record { sign = x.0; number = x.1 }) (λ x. (x.sign, x.number))
+    (seq (optional (only 43) (sign s.minus)) integer)
+
+abbrev pub to_type : {M : Type 0} → (t.Scalar × M) ⊎ t.TypeName M → t.FieldType M
+to_type (inl x) = t.scalar x.0 x.1
+to_type (inr x) = t.named x
+
+abbrev pub from_type : {M : Type 0} → t.FieldType M → (t.Scalar × M) ⊎ t.TypeName M
+from_type (t.scalar a b) = inl (a, b)
+from_type (t.named a) = inr a
+
+unfoldable pub type : {M : Type 0} → Rule M (t.FieldType M)
+type = named s.type (k.TypeBeginsWithNone k.scalars) to_type from_type
+    (unless scalar_set scalar typename)
+
+abbrev pub to_label : {M : Type 0} → M ⊎ (M ⊎ M) → t.Label M
+to_label (inl x) = t.optional x
+to_label (inr (inl x)) = t.required x
+to_label (inr (inr x)) = t.repeated x
+
+abbrev pub from_label : {M : Type 0} → t.Label M → M ⊎ (M ⊎ M)
+from_label (t.optional a) = inl a
+from_label (t.required a) = inr (inl a)
+from_label (t.repeated a) = inr (inr a)
+
+unfoldable pub label : {M : Type 0} → Rule M (t.Label M)
+label = named s.label free to_label from_label
+    (choice (only 13) (the (codes "optional")) (choice (only 14) (the (codes "required")) (the (codes "repeated"))))
+
+-- a normal field whose type may still begin with `map` or `group`
+abbrev pub NormalAlone : {M : Type 0} → t.Normal M → Type 0
+NormalAlone x = k.TypeBeginsWithNone k.scalars x.type × k.Given k.KeepsList x.options
+
+unfoldable pub normal : {M : Type 0} → Rule M (t.Normal M)
+normal = named s.normal NormalAlone (λ x. record { type = x.0; name = x.1.0; equals_sign = x.1.1.0; number = x.1.1.1.0; options = x.1.1.1.1.0; end = x.1.1.1.1.1 }) (λ x. (x.type, (x.name, (x.equals_sign, (x.number, (x.options, x.end))))))
+    (seq type (seq ident (seq (sign s.equals) (seq int (seq (optional (only 49) list) (sign s.semicolon))))))
+
+unfoldable pub map : {M : Type 0} → Rule M (t.Map M)
+map = named s.map k.KeepsMap (λ x. record { keyword = x.0; open_at = x.1.0; key = x.1.1.0; comma_at = x.1.1.1.0; value = x.1.1.1.1.0; close_at = x.1.1.1.1.1.0; name = x.1.1.1.1.1.1.0; equals_sign = x.1.1.1.1.1.1.1.0; number = x.1.1.1.1.1.1.1.1.0; options = x.1.1.1.1.1.1.1.1.1.0; end = x.1.1.1.1.1.1.1.1.1.1 }) (λ x. (x.keyword, (x.open_at, (x.key, (x.comma_at, (x.value, (x.close_at, (x.name, (x.equals_sign, (x.number, (x.options, x.end)))))))))))
+    (seq (the (codes "map")) (seq (sign s.open_angle) (seq type (seq (sign s.comma) (seq type (seq (sign s.close_angle) (seq ident (seq (sign s.equals) (seq int (seq (optional (only 49) list) (sign s.semicolon)))))))))))
+
+-- `to` comes before both
+abbrev pub to_range_end : {M : Type 0} → M × (t.Int M ⊎ M) → t.RangeEnd M
+to_range_end (m, inl x) = t.up_to m x
+to_range_end (m, inr x) = t.up_to_max m x
+
+abbrev pub from_range_end : {M : Type 0} → t.RangeEnd M → M × (t.Int M ⊎ M)
+from_range_end (t.up_to m x) = (m, inl x)
+from_range_end (t.up_to_max m x) = (m, inr x)
+
+unfoldable pub range_end : {M : Type 0} → Rule M (t.RangeEnd M)
+range_end = named s.range_end free to_range_end from_range_end (seq (the (codes "to")) (choice (among (39 ∷ 43 ∷ [])) int (the (codes "max"))))
+
+abbrev pub to_range : {M : Type 0} → t.Int M × (t.RangeEnd M ⊎ Unit {0}) → t.Range M
+to_range (i, inl e) = record { start = i; stop = Some e }
+to_range (i, inr u) = record { start = i; stop = None }
+
+abbrev pub from_stop : {M : Type 0} → Option (t.RangeEnd M) → t.RangeEnd M ⊎ Unit {0}
+from_stop (Some e) = inl e
+from_stop None = inr tt
+
+abbrev pub from_range : {M : Type 0} → t.Range M → t.Int M × (t.RangeEnd M ⊎ Unit {0})
+from_range x = (x.start, from_stop x.stop)
+
+-- without `to` the next token is `,` or `;`
+unfoldable pub range : {M : Type 0} → Rule M (t.Range M)
+range = named s.range free to_range from_range (seq int (choice (only 36) range_end (peek (among (53 ∷ 56 ∷ [])))))
+
+unfoldable pub ranges : {M : Type 0} → Rule M (t.Ranges M)
+ranges = named s.ranges free (λ x. record { first = x.0; others = x.1 }) (λ x. (x.first, x.others))
+    (seq range (times (only 53) (seq (sign s.comma) range)))
+
+unfoldable pub names : {M : Type 0} → Rule M (t.Names M)
+names = named s.names free (λ x. record { first = x.0; others = x.1 }) (λ x. (x.first, x.others))
+    (seq strings (times (only 53) (seq (sign s.comma) strings)))
+
+abbrev pub to_reserved_kind : {M : Type 0} → t.Ranges M ⊎ t.Names M → t.ReservedKind M
+to_reserved_kind (inl x) = t.ranges x
+to_reserved_kind (inr x) = t.names x
+
+abbrev pub from_reserved_kind : {M : Type 0} → t.ReservedKind M → t.Ranges M ⊎ t.Names M
+from_reserved_kind (t.ranges a) = inl a
+from_reserved_kind (t.names a) = inr a
+
+unfoldable pub reserved_kind : {M : Type 0} → Rule M (t.ReservedKind M)
+reserved_kind = named s.reserved_kind free to_reserved_kind from_reserved_kind
+    (choice (among (39 ∷ 43 ∷ [])) ranges names)
+
+unfoldable pub reserved : {M : Type 0} → Rule M (t.Reserved M)
+reserved = named s.reserved free (λ x. record { keyword = x.0; kind = x.1.0; end = x.1.1 }) (λ x. (x.keyword, (x.kind, x.end)))
+    (seq (the (codes "reserved")) (seq reserved_kind (sign s.semicolon)))
+
+-- an option list comes only after `to`
+abbrev pub ListFits : {M : Type 0} → t.Ranges M → Option (t.OptionList M) × M → Type 0
+ListFits x y = k.ListedAfterTo y.0 x
+
+unfoldable pub extensions : {M : Type 0} → Rule M (t.Extensions M)
+extensions = named s.extensions k.KeepsExtensions (λ x. record { keyword = x.0; ranges = x.1.0; options = x.1.1.0; end = x.1.1.1 }) (λ x. (x.keyword, (x.ranges, (x.options, x.end))))
+    (seq (the (codes "extensions")) (joined ListFits ranges (seq (optional (only 49) list) (sign s.semicolon))))
+
+abbrev pub EvalueAlone : {M : Type 0} → t.Evalue M → Type 0
+EvalueAlone x = k.Given k.KeepsList x.options
+
+unfoldable pub evalue : {M : Type 0} → Rule M (t.Evalue M)
+evalue = named s.evalue EvalueAlone (λ x. record { name = x.0; equals_sign = x.1.0; number = x.1.1.0; options = x.1.1.1.0; end = x.1.1.1.1 }) (λ x. (x.name, (x.equals_sign, (x.number, (x.options, x.end)))))
+    (seq ident (seq (sign s.equals) (seq int (seq (optional (only 49) list) (sign s.semicolon)))))
+
+abbrev pub to_enum_element : {M : Type 0} → M ⊎ ((t.OptionStatement M ⊎ (t.Reserved M)) ⊎ t.Evalue M) → t.EnumElement M
+to_enum_element (inl x) = t.enum_empty x
+to_enum_element (inr (inl (inl x))) = t.enum_option x
+to_enum_element (inr (inl (inr x))) = t.enum_reserved x
+to_enum_element (inr (inr x)) = t.enum_value x
+
+abbrev pub from_enum_element : {M : Type 0} → t.EnumElement M → M ⊎ ((t.OptionStatement M ⊎ (t.Reserved M)) ⊎ t.Evalue M)
+from_enum_element (t.enum_empty x) = inl x
+from_enum_element (t.enum_option x) = inr (inl (inl x))
+from_enum_element (t.enum_reserved x) = inr (inl (inr x))
+from_enum_element (t.enum_value x) = inr (inr x)
+
+unfoldable pub enum_element : {M : Type 0} → Rule M (t.EnumElement M)
+enum_element = named s.enum_element k.KeepsEnumElement to_enum_element from_enum_element
+    (choice (only 56) (sign s.semicolon) (unless (among (6 ∷ 34 ∷ [])) (choice (only 6) option reserved) evalue))
+
+unfoldable pub enum : {M : Type 0} → Rule M (t.Enum M)
+enum = named s.enum k.KeepsEnum (λ x. record { keyword = x.0; name = x.1.0; open_at = x.1.1.0; elements = x.1.1.1.0; close_at = x.1.1.1.1 }) (λ x. (x.keyword, (x.name, (x.open_at, (x.elements, x.close_at)))))
+    (seq (the (codes "enum")) (seq ident (seq (sign s.open_brace) (seq (times (but 48) enum_element) (sign s.close_brace)))))
+
+abbrev pub to_rpc_type : {M : Type 0} → (M × t.TypeName M) ⊎ t.TypeName M → t.RpcType M
+to_rpc_type (inl x) = record { stream = Some x.0; name = x.1 }
+to_rpc_type (inr x) = record { stream = None; name = x }
+
+abbrev pub streamed : {M : Type 0} → Option M → t.TypeName M → (M × t.TypeName M) ⊎ t.TypeName M
+streamed (Some m) x = inl (m, x)
+streamed None x = inr x
+
+abbrev pub from_rpc_type : {M : Type 0} → t.RpcType M → (M × t.TypeName M) ⊎ t.TypeName M
+from_rpc_type x = streamed x.stream x.name
+
+unfoldable pub rpc_type : {M : Type 0} → Rule M (t.RpcType M)
+rpc_type = named s.rpc_type k.BeginsWithNoStream to_rpc_type from_rpc_type (unless (among (9 ∷ [])) (seq (the (codes "stream")) typename) typename)
+
+abbrev pub to_rpc_element : {M : Type 0} → M ⊎ t.OptionStatement M → t.RpcElement M
+to_rpc_element (inl x) = t.rpc_empty x
+to_rpc_element (inr x) = t.rpc_option x
+
+abbrev pub from_rpc_element : {M : Type 0} → t.RpcElement M → M ⊎ t.OptionStatement M
+from_rpc_element (t.rpc_empty a) = inl a
+from_rpc_element (t.rpc_option a) = inr a
+
+unfoldable pub rpc_element : {M : Type 0} → Rule M (t.RpcElement M)
+rpc_element = named s.rpc_element k.KeepsRpcElement to_rpc_element from_rpc_element
+    (choice (only 56) (sign s.semicolon) option)
+
+abbrev pub to_rpc_end : {M : Type 0} → M ⊎ (M × (List (t.RpcElement M) × M)) → t.RpcEnd M
+to_rpc_end (inl x) = t.rpc_semicolon x
+to_rpc_end (inr x) = t.rpc_braces x.0 x.1.0 x.1.1
+
+abbrev pub from_rpc_end : {M : Type 0} → t.RpcEnd M → M ⊎ (M × (List (t.RpcElement M) × M))
+from_rpc_end (t.rpc_semicolon a) = inl a
+from_rpc_end (t.rpc_braces a b c) = inr ((a, (b, c)))
+
+unfoldable pub rpc_end : {M : Type 0} → Rule M (t.RpcEnd M)
+rpc_end = named s.rpc_end k.KeepsRpcEnd to_rpc_end from_rpc_end
+    (choice (only 56) (sign s.semicolon) (seq (sign s.open_brace) (seq (times (but 48) rpc_element) (sign s.close_brace))))
+
+unfoldable pub rpc : {M : Type 0} → Rule M (t.Rpc M)
+rpc = named s.rpc k.KeepsRpc (λ x. record { keyword = x.0; name = x.1.0; input_open = x.1.1.0; input = x.1.1.1.0; input_close = x.1.1.1.1.0; returns_at = x.1.1.1.1.1.0; output_open = x.1.1.1.1.1.1.0; output = x.1.1.1.1.1.1.1.0; output_close = x.1.1.1.1.1.1.1.1.0; end = x.1.1.1.1.1.1.1.1.1 }) (λ x. (x.keyword, (x.name, (x.input_open, (x.input, (x.input_close, (x.returns_at, (x.output_open, (x.output, (x.output_close, x.end))))))))))
+    (seq (the (codes "rpc")) (seq ident (seq (sign s.open_paren) (seq rpc_type (seq (sign s.close_paren) (seq (the (codes "returns")) (seq (sign s.open_paren) (seq rpc_type (seq (sign s.close_paren) rpc_end)))))))))
+
+abbrev pub to_service_element : {M : Type 0} → M ⊎ (t.OptionStatement M ⊎ t.Rpc M) → t.ServiceElement M
+to_service_element (inl x) = t.service_empty x
+to_service_element (inr (inl x)) = t.service_option x
+to_service_element (inr (inr x)) = t.service_rpc x
+
+abbrev pub from_service_element : {M : Type 0} → t.ServiceElement M → M ⊎ (t.OptionStatement M ⊎ t.Rpc M)
+from_service_element (t.service_empty a) = inl a
+from_service_element (t.service_option a) = inr (inl a)
+from_service_element (t.service_rpc a) = inr (inr a)
+
+unfoldable pub service_element : {M : Type 0} → Rule M (t.ServiceElement M)
+service_element = named s.service_element k.KeepsServiceElement to_service_element from_service_element
+    (choice (only 56) (sign s.semicolon) (choice (only 6) option rpc))
+
+unfoldable pub service : {M : Type 0} → Rule M (t.Service M)
+service = named s.service k.KeepsService (λ x. record { keyword = x.0; name = x.1.0; open_at = x.1.1.0; elements = x.1.1.1.0; close_at = x.1.1.1.1 }) (λ x. (x.keyword, (x.name, (x.open_at, (x.elements, x.close_at)))))
+    (seq (the (codes "service")) (seq ident (seq (sign s.open_brace) (seq (times (but 48) service_element) (sign s.close_brace)))))

@@ -1,24 +1,25 @@
 //! The laws of the grammar: each is the contract of a function without a body's work, so that a check of the crate proves it.
+//! A law holds for rows with marks of any type that has a value, as spans or `()`.
 #![tactic(auto)]
 
-ghost use Rattle.protox_grammar.specs.Grammar as grammar;
+ghost use Rattle.protox_grammar.specs.whole.Grammar as grammar;
 
 /// No rows are the spelling of two trees that keep the keyword rules.
-pub fn one_tree()
-    ensures { grammar.OneTree (Unit {0}) }
+pub fn one_tree<M>(_mark: &M)
+    ensures { grammar.OneTree M }
 {}
 
-/// What is read is the tree that the rows spell.
-pub fn accepts()
-    ensures { grammar.AcceptsIff (Unit {0}) }
+/// What is read is the tree that the rows spell, if it is at most so deep.
+pub fn accepts<M>(_mark: &M)
+    ensures { grammar.AcceptsIff M }
 {}
 
 /// Before a row that isn't expected there is some file, and with it none.
-pub fn unexpected()
-    ensures { grammar.TightUnexpected (Unit {0}) }
+pub fn unexpected<M>(_mark: &M)
+    ensures { grammar.TightUnexpected M }
 {}
 
 /// Rows that ended too soon begin a file and are none.
-pub fn ended()
-    ensures { grammar.TightEnd (Unit {0}) }
+pub fn ended<M>(_mark: &M)
+    ensures { grammar.TightEnd M }
 {}

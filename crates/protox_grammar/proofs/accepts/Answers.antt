@@ -1,5 +1,5 @@
-use Rattle.protox_grammar.proofs.Main as main
+use Rattle.protox_grammar.proofs.whole.Main as main
 use Rattle.protox_grammar.proofs.accepts.Goals as goal
 
 pub returns : goal.returns
-returns c = main.accepts_iff tt
+returns g c = main.accepts_iff c.args._mark.now

@@ -1,5 +1,5 @@
-use Rattle.protox_grammar.proofs.Main as main
+use Rattle.protox_grammar.proofs.whole.Main as main
 use Rattle.protox_grammar.proofs.ended.Goals as goal
 
 pub returns : goal.returns
-returns c = main.ended tt
+returns g c = main.ended c.args._mark.now

@@ -1,5 +1,5 @@
-use Rattle.protox_grammar.proofs.Main as main
+use Rattle.protox_grammar.proofs.whole.Main as main
 use Rattle.protox_grammar.proofs.one_tree.Goals as goal
 
 pub returns : goal.returns
-returns c = main.one_tree tt
+returns g c = main.one_tree c.args._mark.now

@@ -1,5 +1,5 @@
-use Rattle.protox_grammar.proofs.Main as main
+use Rattle.protox_grammar.proofs.whole.Main as main
 use Rattle.protox_grammar.proofs.unexpected.Goals as goal
 
 pub returns : goal.returns
-returns c = main.unexpected tt
+returns g c = main.unexpected c.args._mark.now

@@ -11,3 +11,4 @@ pub mod Messages
 pub mod Levels
 pub mod Depths
 pub mod Main
+pub mod samples

@@ -1,0 +1,4 @@
+pub mod Build
+pub mod Spelled
+pub mod Barred
+pub mod Places

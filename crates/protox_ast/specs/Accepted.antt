@@ -6,12 +6,12 @@ use Rattle.protox_lex.specs.declared.error.SyntaxFailure.TheVariants.{Faults, Ou
 use Rattle.protox_lex.specs.Shapes.{Invalid}
 use Rattle.protox_lex.specs.Lexemes.{Lexeme, cut}
 use Rattle.protox_lex.specs.Table.{rows_of}
-use Rattle.protox_ast.specs.Tree as t
+use Rattle.protox_ast.specs.part.Tree as t
 use Rattle.protox_ast.specs.Keywords.{Each}
-use Rattle.protox_ast.specs.Spells.{Spells}
-use Rattle.protox_ast.specs.Depth.{depth}
+use Rattle.protox_ast.specs.part.Spells.{Spells}
+use Rattle.protox_ast.specs.part.Depth.{depth}
 use Rattle.protox_ast.specs.Checks.{IsFine}
-use Rattle.protox_ast.specs.Ast as ast
+use Rattle.protox_ast.specs.part.Ast as ast
 use Rattle.protox_ast.specs.declared.ast.File as file_type
 
 -- how many bytes a source may have

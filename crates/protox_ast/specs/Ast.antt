@@ -1,24 +1,52 @@
 -- The syntax tree that a file's tree gives. The span of a node goes from the start of its first token to the end of its last.
--- It forgets empty statements, and how a string literal is cut into runs.
-use Rattle.std.specs.Prelude.{ℕ, Bool, true, false, if◌then◌else◌, List, [], ◌∷◌, ◌++◌, map, Option, Some, None, option_map, is_some, codes, encode_utf8_all}
+-- It forgets empty statements, the order between elements that go into different fields, whether an rpc without options ends with `;` or
+-- with braces, and how a string is cut into literals.
+use Rattle.std.specs.Prelude.{ℕ, if◌then◌else◌, List, [], ◌∷◌, ◌++◌, map, Option, Some, None, option_map, is_some, codes, encode_utf8_all}
 use Rattle.std.specs.List.{filter_map}
 use Rattle.std.specs.Str.{bytes_eq}
 use Rattle.bstr.specs.Utf8.{lossy_chars}
 use Rattle.protox_lex.specs.Faults.{Span}
+use Rattle.protox_lex.specs.Shapes.{Row, Rows}
+use Rattle.protox_lex.specs.Printed.{printed}
 use Rattle.protox_ast.specs.declared.ast.Comments.{Comments}
 use Rattle.protox_ast.specs.declared.ast.Ident.{Ident}
 use Rattle.protox_ast.specs.declared.ast.TypeName.{TypeName}
 use Rattle.protox_ast.specs.declared.ast.Int.{Int}
 use Rattle.protox_ast.specs.declared.ast.Syntax.{Syntax}
 use Rattle.protox_ast.specs.declared.ast.Syntax.TheVariants.{Proto2, Proto3}
+use Rattle.protox_ast.specs.declared.ast.OptionNamePart.{OptionNamePart}
+use Rattle.protox_ast.specs.declared.ast.OptionNamePart.TheVariants as name_part
+use Rattle.protox_ast.specs.declared.ast.OptionValue.{OptionValue}
+use Rattle.protox_ast.specs.declared.ast.OptionValue.TheVariants as option_value
+use Rattle.protox_ast.specs.declared.ast.OptionBody.{OptionBody}
+use Rattle.protox_ast.specs.declared.ast.OptionList as list_type
+use Rattle.protox_ast.specs.declared.ast.Option as option_type
+use Rattle.protox_ast.specs.declared.ast.Package as package_type
 use Rattle.protox_ast.specs.declared.ast.ImportKind as import_kinds
 use Rattle.protox_ast.specs.declared.ast.ImportKind.TheVariants.{Weak, Public}
 use Rattle.protox_ast.specs.declared.ast.Import as import_type
 use Rattle.protox_ast.specs.declared.ast.Ty.{Ty}
 use Rattle.protox_ast.specs.declared.ast.Ty.TheVariants as ty
+use Rattle.protox_ast.specs.declared.ast.FieldLabel.{FieldLabel}
+use Rattle.protox_ast.specs.declared.ast.FieldLabel.TheVariants as field_label
 use Rattle.protox_ast.specs.declared.ast.Field as field_type
 use Rattle.protox_ast.specs.declared.ast.Field.{roll-Field}
-use Rattle.protox_ast.specs.declared.ast.FieldKind.TheVariants as kind
+use Rattle.protox_ast.specs.declared.ast.FieldKind.TheVariants as field_kind
+use Rattle.protox_ast.specs.declared.ast.ReservedRange.{ReservedRange}
+use Rattle.protox_ast.specs.declared.ast.ReservedRangeEnd.{ReservedRangeEnd}
+use Rattle.protox_ast.specs.declared.ast.ReservedRangeEnd.TheVariants as range_ends
+use Rattle.protox_ast.specs.declared.ast.Reserved as reserved_type
+use Rattle.protox_ast.specs.declared.ast.ReservedKind.{ReservedKind}
+use Rattle.protox_ast.specs.declared.ast.ReservedKind.TheVariants as reserved_kinds
+use Rattle.protox_ast.specs.declared.ast.Extensions as extensions_type
+use Rattle.protox_ast.specs.declared.ast.EnumValue.{EnumValue}
+use Rattle.protox_ast.specs.declared.ast.Enum as enum_type
+use Rattle.protox_ast.specs.declared.ast.Method.{Method}
+use Rattle.protox_ast.specs.declared.ast.Service as service_type
+use Rattle.protox_ast.specs.declared.ast.Oneof as oneof_type
+use Rattle.protox_ast.specs.declared.ast.Oneof.{roll-Oneof}
+use Rattle.protox_ast.specs.declared.ast.Extend as extend_type
+use Rattle.protox_ast.specs.declared.ast.Extend.{roll-Extend}
 use Rattle.protox_ast.specs.declared.ast.MessageItem.{MessageItem}
 use Rattle.protox_ast.specs.declared.ast.MessageItem.TheVariants as item
 use Rattle.protox_ast.specs.declared.ast.MessageBody.{MessageBody, roll-MessageBody}
@@ -27,7 +55,6 @@ use Rattle.protox_ast.specs.declared.ast.Message.{roll-Message}
 use Rattle.protox_ast.specs.declared.ast.FileItem.{FileItem}
 use Rattle.protox_ast.specs.declared.ast.FileItem.TheVariants as file_item
 use Rattle.protox_ast.specs.declared.ast.File as file_type
-use Rattle.protox_lex.specs.Shapes.{Row, Rows}
 use Rattle.protox_ast.specs.Tree as t
 use Rattle.protox_ast.specs.Spelling.{spell}
 
@@ -41,10 +68,6 @@ join a b = record { start = a.start; end = b.end }
 abbrev pub last_place : {A : Type 0} → (A → Span) → Span → List A → Span
 last_place place span [] = span
 last_place place span (x ∷ xs) = last_place place (place x) xs
-
--- comments aren't given to declarations yet
-abbrev pub no_comments : Comments
-no_comments = record { leading_detached_comments = []; leading_comment = None; trailing_comment = None }
 
 -- the text of bytes: themselves where they are UTF-8, else each maximal ill-formed piece (Unicode, Table 3-7) is one U+FFFD
 abbrev pub text_of : List ℕ → List ℕ
@@ -101,23 +124,45 @@ abbrev pub file_syntax : Option (t.Syntax Span) → Syntax
 file_syntax None = Proto2
 file_syntax (Some x) = syntax_of (strings_value x.value)
 
-abbrev pub syntax_place : t.Syntax Span → Span × Comments
-syntax_place x = (join x.keyword x.end, no_comments)
-
 abbrev pub import_kind : t.ImportKind Span → import_kinds.ImportKind × Span
 import_kind (t.weak span) = (Weak, span)
 import_kind (t.«public» span) = (Public, span)
 
-abbrev pub «import» : t.Import Span → import_type.Import
-«import» x = record {
-  kind = option_map import_kind x.kind;
-  value = text_of (strings_value x.value);
-  value_span = strings_span x.value;
-  comments = no_comments;
-  span = join x.keyword x.end;
-}
+-- ---- options
 
--- ---- fields and messages
+-- the text of a literal with its sign
+abbrev pub signed_text : Option Span → List ℕ → List ℕ
+signed_text None text = text
+signed_text (Some minus) text = 45 ∷ text
+
+-- as tokens print, with a space before each
+abbrev pub spaced : Rows Span → List ℕ
+spaced [] = []
+spaced (r ∷ rs) = 32 ∷ (printed r.shape ++ spaced rs)
+
+-- as tokens print, with a space between each two
+abbrev pub aggregate_text : Rows Span → List ℕ
+aggregate_text [] = []
+aggregate_text (r ∷ rs) = printed r.shape ++ spaced rs
+
+abbrev pub value : t.Value Span → OptionValue
+value (t.constant sign (t.ident x)) = option_value.Ident (is_some sign) (ident x) (signed_span sign x.1)
+value (t.constant sign (t.integer x)) = option_value.Int (record { negative = is_some sign; value = x.0; span = signed_span sign x.1 })
+value (t.constant sign (t.float x)) = option_value.Float (record { value = signed_text sign x.0; span = signed_span sign x.1 })
+value (t.strings x) = option_value.String (record { value = strings_value x; span = strings_span x })
+value (t.aggregate open_at inside close_at) = option_value.Aggregate (aggregate_text inside) (join open_at close_at)
+
+abbrev pub part : t.Part Span → OptionNamePart
+part (t.plain_part x) = name_part.Ident (ident x)
+part (t.extension_part open_at x close_at) = name_part.Extension (typename x) (join open_at close_at)
+
+abbrev pub body : t.Body Span → OptionBody
+body x = record { name = part x.first ∷ map (λ y. part y.1) x.others; value = value x.value }
+
+abbrev pub list : t.OptionList Span → list_type.OptionList
+list x = record { options = body x.first ∷ map (λ y. body y.1) x.others; span = join x.open_at x.close_at }
+
+-- ---- types, labels and ranges
 
 abbrev pub scalar : t.Scalar → Ty
 scalar t.double = ty.Double
@@ -144,53 +189,302 @@ abbrev pub type_span : t.FieldType Span → Span
 type_span (t.scalar x span) = span
 type_span (t.named x) = typename_span x
 
-abbrev pub normal : t.Normal Span → field_type.Field
-normal x = roll-Field (record {
-  label = None;
-  name = ident x.name;
-  kind = kind.Normal (type x.type) (type_span x.type);
-  number = int x.number;
-  options = None;
-  comments = no_comments;
-  span = join (type_span x.type) x.end;
-})
+-- the first token of a type
+abbrev pub type_start : t.FieldType Span → Span
+type_start (t.scalar x span) = span
+type_start (t.named x) = dotted_start x.leading_dot x.name.first.1
 
--- an empty statement leaves nothing
-abbrev pub element : t.Element Span → Option MessageItem
-element (t.empty span) = None
-element (t.field x) = Some (item.Field (normal x))
+abbrev pub label : t.Label Span → FieldLabel × Span
+label (t.optional span) = (field_label.Optional, span)
+label (t.required span) = (field_label.Required, span)
+label (t.repeated span) = (field_label.Repeated, span)
 
-abbrev pub mbody : t.Mbody Span → MessageBody
-mbody x = roll-MessageBody (record { items = filter_map element x.elements; extensions = []; options = []; reserved = [] })
+-- the first token of a field: its label if there is one
+abbrev pub field_start : Option (t.Label Span) → Span → Span
+field_start None span = span
+field_start (Some l) span = (label l).1
 
-abbrev pub message : t.Message Span → message_type.Message
-message x = roll-Message (record { name = ident x.name; body = mbody x.body; comments = no_comments; span = join x.keyword x.body.close_at })
+-- the braces of a body
+abbrev pub body_open : t.Mbody Span → Span
+body_open (t.mbody_of open_at es close_at) = open_at
 
--- ---- files
+abbrev pub body_close : t.Mbody Span → Span
+body_close (t.mbody_of open_at es close_at) = close_at
 
-abbrev pub imported : t.Statement Span → Option import_type.Import
-imported (t.an_import x) = Some («import» x)
-imported (t.an_empty span) = None
-imported (t.a_message x) = None
+-- ---- ranges and reserved names
 
-abbrev pub file_element : t.Statement Span → Option FileItem
-file_element (t.a_message x) = Some (file_item.Message (message x))
-file_element (t.an_empty span) = None
-file_element (t.an_import x) = None
+abbrev pub range_end : Option (t.RangeEnd Span) → ReservedRangeEnd
+range_end None = range_ends.None
+range_end (Some (t.up_to to_at x)) = range_ends.Int (int x)
+range_end (Some (t.up_to_max to_at max_at)) = range_ends.Max max_at
+
+abbrev pub range : t.Range Span → ReservedRange
+range x = record { start = int x.start; end = range_end x.stop }
+
+abbrev pub ranges : t.Ranges Span → List ReservedRange
+ranges x = range x.first ∷ map (λ y. range y.1) x.others
+
+abbrev pub reserved_name : t.Strings Span → Ident
+reserved_name x = record { value = text_of (strings_value x); span = strings_span x }
+
+abbrev pub reserved_kind : t.ReservedKind Span → ReservedKind
+reserved_kind (t.ranges x) = reserved_kinds.Ranges (ranges x)
+reserved_kind (t.names x) = reserved_kinds.Names (reserved_name x.first ∷ map (λ y. reserved_name y.1) x.others)
+
+-- the first of these, if there is any
+abbrev pub first_of : {A : Type 0} → List A → Option A
+first_of [] = None
+first_of (x ∷ xs) = Some x
 
 -- from the first token to the last; without any token from the end of the source to its start
 abbrev pub rows_span : ℕ → Rows Span → Span
 rows_span size [] = record { start = size; end = 0 }
 rows_span size (r ∷ rs) = join r.at (last_place (λ (x : Row Span). x.at) r.at rs)
 
--- the tree of a source of so many bytes
-abbrev pub file : ℕ → t.File Span → file_type.File
-file size x = record {
-  span = rows_span size (spell x);
-  syntax = file_syntax x.syntax;
-  syntax_span = option_map syntax_place x.syntax;
-  «package» = None;
-  imports = filter_map imported x.statements;
-  options = [];
-  items = filter_map file_element x.statements;
-}
+-- ---- declarations
+
+-- The comments of a declaration are given by two of its tokens: its first, before which they stand, and the `;` or `{` behind which its trailing
+-- comment stands; of an rpc with braces the `}`.
+module _ (comments : Span → Span → Comments) where
+  abbrev pub syntax_place : t.Syntax Span → Span × Comments
+  syntax_place x = (join x.keyword x.end, comments x.keyword x.end)
+
+  abbrev pub «import» : t.Import Span → import_type.Import
+  «import» x = record {
+    kind = option_map import_kind x.kind;
+    value = text_of (strings_value x.value);
+    value_span = strings_span x.value;
+    comments = comments x.keyword x.end;
+    span = join x.keyword x.end;
+  }
+
+  abbrev pub «package» : t.Package Span → package_type.Package
+  «package» x = record { name = fullident x.name; comments = comments x.keyword x.end; span = join x.keyword x.end }
+
+  abbrev pub option : t.OptionStatement Span → option_type.Option
+  option x = record { body = body x.body; comments = comments x.keyword x.end; span = join x.keyword x.end }
+
+  abbrev pub reserved : t.Reserved Span → reserved_type.Reserved
+  reserved x = record { kind = reserved_kind x.kind; comments = comments x.keyword x.end; span = join x.keyword x.end }
+
+  abbrev pub extensions : t.Extensions Span → extensions_type.Extensions
+  extensions x = record { ranges = ranges x.ranges; options = option_map list x.options; comments = comments x.keyword x.end; span = join x.keyword x.end }
+
+  -- ---- enums
+
+  abbrev pub evalue : t.Evalue Span → EnumValue
+  evalue x = record { name = ident x.name; number = int x.number; options = option_map list x.options; comments = comments x.name.1 x.end; span = join x.name.1 x.end }
+
+  abbrev pub enum_option : t.EnumElement Span → Option option_type.Option
+  enum_option (t.enum_option x) = Some (option x)
+  enum_option _ = None
+
+  abbrev pub enum_value : t.EnumElement Span → Option EnumValue
+  enum_value (t.enum_value x) = Some (evalue x)
+  enum_value _ = None
+
+  abbrev pub enum_reserved : t.EnumElement Span → Option reserved_type.Reserved
+  enum_reserved (t.enum_reserved x) = Some (reserved x)
+  enum_reserved _ = None
+
+  abbrev pub enum : t.Enum Span → enum_type.Enum
+  enum x = record {
+    name = ident x.name;
+    options = filter_map enum_option x.elements;
+    values = filter_map enum_value x.elements;
+    reserved = filter_map enum_reserved x.elements;
+    comments = comments x.keyword x.open_at;
+    span = join x.keyword x.close_at;
+  }
+
+  -- ---- services
+
+  abbrev pub rpc_option : t.RpcElement Span → Option option_type.Option
+  rpc_option (t.rpc_option x) = Some (option x)
+  rpc_option (t.rpc_empty span) = None
+
+  abbrev pub rpc_options : t.RpcEnd Span → List option_type.Option
+  rpc_options (t.rpc_semicolon span) = []
+  rpc_options (t.rpc_braces open_at xs close_at) = filter_map rpc_option xs
+
+  abbrev pub rpc_last : t.RpcEnd Span → Span
+  rpc_last (t.rpc_semicolon span) = span
+  rpc_last (t.rpc_braces open_at xs close_at) = close_at
+
+  abbrev pub rpc : t.Rpc Span → Method
+  rpc x = record {
+    name = ident x.name;
+    input_ty = typename x.input.name;
+    output_ty = typename x.output.name;
+    options = rpc_options x.end;
+    client_streaming = x.input.stream;
+    server_streaming = x.output.stream;
+    comments = comments x.keyword (rpc_last x.end);
+    span = join x.keyword (rpc_last x.end);
+  }
+
+  abbrev pub service_option : t.ServiceElement Span → Option option_type.Option
+  service_option (t.service_option x) = Some (option x)
+  service_option _ = None
+
+  abbrev pub service_rpc : t.ServiceElement Span → Option Method
+  service_rpc (t.service_rpc x) = Some (rpc x)
+  service_rpc _ = None
+
+  abbrev pub service : t.Service Span → service_type.Service
+  service x = record {
+    name = ident x.name;
+    options = filter_map service_option x.elements;
+    methods = filter_map service_rpc x.elements;
+    comments = comments x.keyword x.open_at;
+    span = join x.keyword x.close_at;
+  }
+
+  -- ---- fields and messages
+
+  abbrev pub normal : Option (t.Label Span) → t.Normal Span → field_type.Field
+  normal l x = roll-Field (record {
+    label = option_map label l;
+    name = ident x.name;
+    kind = field_kind.Normal (type x.type) (type_span x.type);
+    number = int x.number;
+    options = option_map list x.options;
+    comments = comments (field_start l (type_start x.type)) x.end;
+    span = join (field_start l (type_start x.type)) x.end;
+  })
+
+  -- the span of a map's type goes from `map` to `>`
+  abbrev pub map_field : Option (t.Label Span) → t.Map Span → field_type.Field
+  map_field l x = roll-Field (record {
+    label = option_map label l;
+    name = ident x.name;
+    kind = field_kind.Map (join x.keyword x.close_at) (type x.key) (type_span x.key) (type x.value) (type_span x.value);
+    number = int x.number;
+    options = option_map list x.options;
+    comments = comments (field_start l x.keyword) x.end;
+    span = join (field_start l x.keyword) x.end;
+  })
+
+  -- the options, the extensions and the reserved statements of a message
+  abbrev pub options_in : t.Elements Span → List option_type.Option
+  options_in t.no_elements = []
+  options_in (t.elements (t.option x) es) = option x ∷ options_in es
+  options_in (t.elements _ es) = options_in es
+
+  abbrev pub extensions_in : t.Elements Span → List extensions_type.Extensions
+  extensions_in t.no_elements = []
+  extensions_in (t.elements (t.extensions x) es) = extensions x ∷ extensions_in es
+  extensions_in (t.elements _ es) = extensions_in es
+
+  abbrev pub reserved_in : t.Elements Span → List reserved_type.Reserved
+  reserved_in t.no_elements = []
+  reserved_in (t.elements (t.reserved x) es) = reserved x ∷ reserved_in es
+  reserved_in (t.elements _ es) = reserved_in es
+
+  abbrev pub oneof_options : t.OneofElements Span → List option_type.Option
+  oneof_options t.no_oneof_elements = []
+  oneof_options (t.oneof_elements (t.oneof_option x) es) = option x ∷ oneof_options es
+  oneof_options (t.oneof_elements _ es) = oneof_options es
+
+  abbrev mutual
+    pub message : t.Message Span → message_type.Message
+    message (t.message_of keyword name b) = roll-Message (record {
+      name = ident name;
+      body = mbody b;
+      comments = comments keyword (body_open b);
+      span = join keyword (body_close b);
+    })
+
+    pub mbody : t.Mbody Span → MessageBody
+    mbody (t.mbody_of open_at es close_at) = roll-MessageBody (record { items = items es; extensions = extensions_in es; options = options_in es; reserved = reserved_in es })
+
+    -- the fields, enums, messages, extends and oneofs, in order
+    pub items : t.Elements Span → List MessageItem
+    items t.no_elements = []
+    items (t.elements (t.field x) es) = item.Field (field x) ∷ items es
+    items (t.elements (t.oneof x) es) = item.Oneof (oneof x) ∷ items es
+    items (t.elements (t.enum x) es) = item.Enum (enum x) ∷ items es
+    items (t.elements (t.message x) es) = item.Message (message x) ∷ items es
+    items (t.elements (t.extend x) es) = item.Extend (extend x) ∷ items es
+    items (t.elements (t.empty span) es) = items es
+    items (t.elements (t.option x) es) = items es
+    items (t.elements (t.reserved x) es) = items es
+    items (t.elements (t.extensions x) es) = items es
+
+    pub field : t.Field Span → field_type.Field
+    field (t.field_of l (t.normal x)) = normal l x
+    field (t.field_of l (t.map x)) = map_field l x
+    field (t.field_of l (t.group x)) = group l x
+
+    -- the span of a group's type is its word
+    pub group : Option (t.Label Span) → t.Group Span → field_type.Field
+    group l (t.group_of keyword name equals_sign number options b) = roll-Field (record {
+      label = option_map label l;
+      name = ident name;
+      kind = field_kind.Group keyword (mbody b);
+      number = int number;
+      options = option_map list options;
+      comments = comments (field_start l keyword) (body_open b);
+      span = join (field_start l keyword) (body_close b);
+    })
+
+    pub oneof : t.Oneof Span → oneof_type.Oneof
+    oneof (t.oneof_of keyword name open_at es close_at) = roll-Oneof (record {
+      name = ident name;
+      options = oneof_options es;
+      fields = oneof_fields es;
+      comments = comments keyword open_at;
+      span = join keyword close_at;
+    })
+
+    pub oneof_fields : t.OneofElements Span → List field_type.Field
+    oneof_fields t.no_oneof_elements = []
+    oneof_fields (t.oneof_elements (t.oneof_field x) es) = field x ∷ oneof_fields es
+    oneof_fields (t.oneof_elements (t.oneof_empty span) es) = oneof_fields es
+    oneof_fields (t.oneof_elements (t.oneof_option x) es) = oneof_fields es
+
+    pub extend : t.Extend Span → extend_type.Extend
+    extend (t.extend_of keyword extendee open_at es close_at) = roll-Extend (record {
+      extendee = typename extendee;
+      fields = extend_fields es;
+      comments = comments keyword open_at;
+      span = join keyword close_at;
+    })
+
+    pub extend_fields : t.ExtendElements Span → List field_type.Field
+    extend_fields t.no_extend_elements = []
+    extend_fields (t.extend_elements (t.extend_field x) es) = field x ∷ extend_fields es
+    extend_fields (t.extend_elements (t.extend_empty span) es) = extend_fields es
+
+  -- ---- files
+
+  abbrev pub imported : t.Statement Span → Option import_type.Import
+  imported (t.an_import x) = Some («import» x)
+  imported _ = None
+
+  abbrev pub packaged : t.Statement Span → Option package_type.Package
+  packaged (t.a_package x) = Some («package» x)
+  packaged _ = None
+
+  abbrev pub file_option : t.Statement Span → Option option_type.Option
+  file_option (t.an_option x) = Some (option x)
+  file_option _ = None
+
+  abbrev pub file_element : t.Statement Span → Option FileItem
+  file_element (t.a_message x) = Some (file_item.Message (message x))
+  file_element (t.an_enum x) = Some (file_item.Enum (enum x))
+  file_element (t.an_extend x) = Some (file_item.Extend (extend x))
+  file_element (t.a_service x) = Some (file_item.Service (service x))
+  file_element _ = None
+
+  -- the tree of a source of so many bytes; of several packages it keeps the first
+  abbrev pub file : ℕ → t.File Span → file_type.File
+  file size x = record {
+    span = rows_span size (spell x);
+    syntax = file_syntax x.syntax;
+    syntax_span = option_map syntax_place x.syntax;
+    «package» = first_of (filter_map packaged x.statements);
+    imports = filter_map imported x.statements;
+    options = filter_map file_option x.statements;
+    items = filter_map file_element x.statements;
+  }

@@ -4,7 +4,7 @@ use Rattle.std.specs.List.{list_all, list_any, slice_split}
 use Rattle.std.specs.Str.{bytes_eq}
 use Rattle.std.specs.Str.Lossy.{utf8_valid_len}
 use Rattle.protox_lex.specs.Faults.{Span}
-use Rattle.protox_ast.specs.Tree as t
+use Rattle.protox_ast.specs.part.Tree as t
 use Rattle.protox_ast.specs.Ast.{strings_value, text_of}
 use Rattle.protox_ast.specs.Keywords.{Given, Each}
 

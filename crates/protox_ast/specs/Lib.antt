@@ -8,7 +8,8 @@ pub mod Spelling
 pub mod Keywords
 pub mod Depth
 pub mod Spells
+pub mod ReadYet
 pub mod Ast
 pub mod Checks
 pub mod Accepted
-pub mod whole
+pub mod part

@@ -10,9 +10,9 @@ use Rattle.protox_lex.specs.declared.error.ParseErrorKind.TheVariants.{InvalidMe
 use Rattle.protox_lex.specs.declared.error.SyntaxFailure.{SyntaxFailure}
 use Rattle.protox_lex.specs.declared.error.SyntaxFailure.TheVariants.{Faults, OutOfMemory}
 use Rattle.protox_lex.proofs.Places.{stand}
-use Rattle.protox_ast.specs.Tree as tree
-use Rattle.protox_ast.specs.Spelling as s
-use Rattle.protox_ast.specs.Ast as ast
+use Rattle.protox_ast.specs.part.Tree as tree
+use Rattle.protox_ast.specs.part.Spelling as s
+use Rattle.protox_ast.specs.part.Ast as ast
 use Rattle.protox_ast.specs.Keywords.{Each}
 use Rattle.protox_ast.specs.Accepted.{IsFileOf, FaultsLieIn}
 use Rattle.protox_ast.specs.Steps.{of_item, of_field, of_message, of_body, body-gives, message-gives, field-gives, item-field, kind-normal}

@@ -1,151 +1,117 @@
--- The laws of fields, messages, statements and files.
-use Rattle.std.proofs.Common.{◌≡◌, ℕ, true, false, List, [], ◌∷◌, Option, Some, None, codes, refl, inl, inr, ◌⊎◌}
-use Rattle.protox_grammar.specs.Class.{place, keywords, none, only, words, union, among, all, but}
-use Rattle.protox_grammar.specs.Rule.{Stops, choice, unstarted}
+-- The laws of the rules that have messages in them, over the laws of a body.
+use Rattle.std.proofs.Common.{true, false, [], ◌∷◌, None, codes, refl}
+use Rattle.protox_grammar.specs.Class.{none, only, words, union, among, all, but}
+use Rattle.protox_grammar.specs.Reader.{Reader}
+use Rattle.protox_grammar.specs.Rule.{Rule}
 use Rattle.protox_ast.specs.Tree as t
 use Rattle.protox_ast.specs.Spelling as s
-use Rattle.protox_ast.specs.Keywords as k
 use Rattle.protox_grammar.specs.Rules as r
-use Rattle.protox_grammar.proofs.Sets.{apart-at}
-use Rattle.protox_grammar.proofs.Forms.{Lawful, word-laws, mark-laws, seq-laws, choice-laws, optional-laws, times-laws, named-laws, unstarted-laws, wide}
-use Rattle.protox_grammar.proofs.Begin.{type-stops, stops-type}
-use Rattle.protox_grammar.proofs.Parts as p
+use Rattle.protox_grammar.specs.Bodies as rule
+use Rattle.protox_grammar.proofs.Forms.{Lawful, word-laws, mark-laws, seq-laws, unless-laws, choice-laws, optional-laws, times-laws, named_fits-laws, wide}
+use Rattle.protox_grammar.proofs.Parts as parts
+use Rattle.protox_grammar.proofs.Options as options
+use Rattle.protox_grammar.proofs.Fields as fields
+use Rattle.protox_grammar.proofs.Ranges as ranges
+use Rattle.protox_grammar.proofs.Enums as enums
+use Rattle.protox_grammar.proofs.Services as services
+use Rattle.protox_grammar.proofs.Ties as tie
 
--- ---- the words that begin something else, in three parts
+module _ {M : Type 0} (m : M) (P F : t.Mbody M → Type 0) (read : Reader M (t.Mbody M)) (lb : Lawful (rule.sealed P F read) false (only 47) none) where
+  abbrev body : Rule M (t.Mbody M)
+  body = rule.sealed P F read
 
-joined : {M : Type 0} (l : Option M) (w : List ℕ) → k.Undotted k.labels l w → k.Undotted k.other_kinds l w → k.Undotted k.in_message l w → k.Undotted r.barred_words l w
-joined (Some m) w a b c = tt
-joined None w a b c = (a.0, (a.1.0, (a.1.1.0, (b.0, (b.1.0, c)))))
+  abbrev some_normal : t.Normal M
+  some_normal = record { type = t.named (parts.some_name m); name = ([], m); equals_sign = m; number = record { sign = None; number = (0, m) }; options = None; end = m }
 
-first-part : {M : Type 0} (l : Option M) (w : List ℕ) → k.Undotted r.barred_words l w → k.Undotted k.labels l w
-first-part (Some m) w h = tt
-first-part None w h = (h.0, (h.1.0, (h.1.1.0, tt)))
+  abbrev some_field : t.Field M
+  some_field = t.field_of None (t.normal some_normal)
 
-second-part : {M : Type 0} (l : Option M) (w : List ℕ) → k.Undotted r.barred_words l w → k.Undotted k.other_kinds l w
-second-part (Some m) w h = tt
-second-part None w h = (h.1.1.1.0, (h.1.1.1.1.0, tt))
+  pub group-laws : Lawful (rule.group body) false (only 18) none
+  unfolding rule.group r.int r.list
+  group-laws = wide _ _ (named_fits-laws s.group (rule.GroupHas P) (rule.GroupHas F) rule.to_group rule.from_group (tie.group-back m read P) (tie.group-there m read P)
+      (tie.group-is m read P) (tie.group-obeys m read P) (tie.group-allows m read P) (tie.group-obeys m read F) (tie.group-allows m read F)
+      (seq-laws (word-laws m (codes "group") 18 refl) (seq-laws (parts.ident-laws m) (seq-laws (mark-laws m s.equals 54 refl) (seq-laws (parts.int-laws m) (seq-laws (optional-laws (only 49) (options.list-laws m) refl) lb refl) refl) refl) refl) refl)) refl refl
 
-third-part : {M : Type 0} (l : Option M) (w : List ℕ) → k.Undotted r.barred_words l w → k.Undotted k.in_message l w
-third-part (Some m) w h = tt
-third-part None w h = h.1.1.1.1.1
+  pub field_kind-laws : Lawful (rule.field_kind body) false (union (only 42) words) none
+  unfolding rule.field_kind rule.group r.map r.normal
+  field_kind-laws = wide _ _ (named_fits-laws s.field_kind (rule.KindHas P) (rule.KindHas F) rule.to_field_kind rule.from_field_kind (tie.field_kind-back m read P) (tie.field_kind-there m read P)
+      (tie.field_kind-is m read P) (tie.field_kind-obeys m read P) (tie.field_kind-allows m read P) (tie.field_kind-obeys m read F) (tie.field_kind-allows m read F)
+      (unless-laws (among (16 ∷ 18 ∷ [])) (choice-laws (only 16) (fields.map-laws m) refl group-laws refl) refl (fields.normal-laws m) some_normal (tt, tt) refl)) refl refl
 
-type-joined : {M : Type 0} (x : t.FieldType M) → k.TypeBeginsWithNone k.labels x → k.TypeBeginsWithNone k.other_kinds x → k.TypeBeginsWithNone k.in_message x → k.TypeBeginsWithNone r.barred_words x
-type-joined (t.scalar x m) a b c = tt
-type-joined (t.named x) a b c = joined x.leading_dot x.name.first.0 a b c
+  pub field-laws : Lawful (rule.field body) false (union (only 42) words) none
+  unfolding rule.field rule.field_kind r.label
+  field-laws = wide _ _ (named_fits-laws s.field (rule.FieldHas P) (rule.FieldHas F) rule.to_field rule.from_field (tie.field-back m read P) (tie.field-there m read P)
+      (tie.field-is m read P) (tie.field-obeys m read P) (tie.field-allows m read P) (tie.field-obeys m read F) (tie.field-allows m read F)
+      (unless-laws (among (13 ∷ 14 ∷ 15 ∷ [])) (seq-laws (parts.label-laws m) field_kind-laws refl) refl field_kind-laws (t.normal some_normal) (tt, tt) refl)) refl refl
 
-type-parts : {M : Type 0} (x : t.FieldType M) → k.TypeBeginsWithNone r.barred_words x → k.TypeBeginsWithNone k.labels x × k.TypeBeginsWithNone k.other_kinds x × k.TypeBeginsWithNone k.in_message x
-type-parts (t.scalar x m) h = (tt, tt, tt)
-type-parts (t.named x) h = (first-part x.leading_dot x.name.first.0 h, second-part x.leading_dot x.name.first.0 h, third-part x.leading_dot x.name.first.0 h)
+  pub oneof_element-laws : Lawful (rule.oneof_element body) false (union (only 56) (union (only 42) words)) none
+  unfolding rule.oneof_element rule.field r.option
+  oneof_element-laws = wide _ _ (named_fits-laws s.oneof_element (rule.OneofElementHas P) (rule.OneofElementHas F) rule.to_oneof_element rule.from_oneof_element (tie.oneof_element-back m read P) (tie.oneof_element-there m read P)
+      (tie.oneof_element-is m read P) (tie.oneof_element-obeys m read P) (tie.oneof_element-allows m read P) (tie.oneof_element-obeys m read F) (tie.oneof_element-allows m read F)
+      (choice-laws (only 56) (mark-laws m s.semicolon 56 refl) refl (unless-laws (among (6 ∷ [])) (options.option-laws m) refl field-laws some_field (tt, (tt, tt)) refl) refl)) refl refl
 
-module _ {M : Type 0} (m : M) where
-  no-scalar : (x : t.Scalar) → r.barred (place keywords (s.scalar_word x)) ≡ false
-  no-scalar x = apart-at r.scalar_set r.barred refl (r.scalar_shape x) (p.scalar-in m x)
+  pub oneof_elements-laws : Lawful (rule.oneof_elements body) true (union (only 56) (union (only 42) words)) (but 48)
+  unfolding rule.oneof_elements rule.oneof_element
+  oneof_elements-laws = wide _ _ (named_fits-laws s.oneof_elements (rule.OneofElementsHas P) (rule.OneofElementsHas F) rule.to_oneof_elements rule.from_oneof_elements (tie.oneof_elements-back m read P) (tie.oneof_elements-there m read P)
+      (tie.oneof_elements-is m read P) (tie.oneof_elements-obeys m read P) (tie.oneof_elements-allows m read P) (tie.oneof_elements-obeys m read F) (tie.oneof_elements-allows m read F)
+      (times-laws (but 48) oneof_element-laws refl refl)) refl refl
 
-  normal-stops : (x : t.Normal M) → k.TypeBeginsWithNone r.barred_words x.type → Stops r.barred (s.normal x)
-  normal-stops x h = type-stops r.barred_words refl refl no-scalar x.type _ h
+  pub oneof-laws : Lawful (rule.oneof body) false (only 17) none
+  unfolding rule.oneof rule.oneof_elements
+  oneof-laws = wide _ _ (named_fits-laws s.oneof (rule.OneofHas P) (rule.OneofHas F) rule.to_oneof rule.from_oneof (tie.oneof-back m read P) (tie.oneof-there m read P)
+      (tie.oneof-is m read P) (tie.oneof-obeys m read P) (tie.oneof-allows m read P) (tie.oneof-obeys m read F) (tie.oneof-allows m read F)
+      (seq-laws (word-laws m (codes "oneof") 17 refl) (seq-laws (parts.ident-laws m) (seq-laws (mark-laws m s.open_brace 47 refl) (seq-laws oneof_elements-laws (mark-laws m s.close_brace 48 refl) refl) refl) refl) refl)) refl refl
 
-  stops-normal : (x : t.Normal M) → Stops r.barred (s.normal x) → k.TypeBeginsWithNone r.barred_words x.type
-  stops-normal x h = stops-type r.barred_words refl refl no-scalar x.type _ h
+  pub extend_element-laws : Lawful (rule.extend_element body) false (union (only 56) (union (only 42) words)) none
+  unfolding rule.extend_element rule.field
+  extend_element-laws = wide _ _ (named_fits-laws s.extend_element (rule.ExtendElementHas P) (rule.ExtendElementHas F) rule.to_extend_element rule.from_extend_element (tie.extend_element-back m read P) (tie.extend_element-there m read P)
+      (tie.extend_element-is m read P) (tie.extend_element-obeys m read P) (tie.extend_element-allows m read P) (tie.extend_element-obeys m read F) (tie.extend_element-allows m read F)
+      (choice-laws (only 56) (mark-laws m s.semicolon 56 refl) refl field-laws refl)) refl refl
 
-  pub normal-laws : Lawful {M = M} r.normal false (union words (only 42)) none
-  unfolding r.normal r.type r.int
-  normal-laws = wide _ _ (named-laws s.normal r.NormalAlone _ _ (λ x. refl) (λ x. refl) (λ x. refl)
-      (λ x h. (h, (tt, (tt, (tt, tt))))) (λ x h. h.0) (λ x h. h)
-      (seq-laws (p.type-laws m) (seq-laws (p.ident-laws m) (seq-laws (mark-laws m s.equals 54 refl) (seq-laws (p.int-laws m) (mark-laws m s.semicolon 56 refl) refl) refl) refl) refl)) refl refl
+  pub extend_elements-laws : Lawful (rule.extend_elements body) true (union (only 56) (union (only 42) words)) (but 48)
+  unfolding rule.extend_elements rule.extend_element
+  extend_elements-laws = wide _ _ (named_fits-laws s.extend_elements (rule.ExtendElementsHas P) (rule.ExtendElementsHas F) rule.to_extend_elements rule.from_extend_elements (tie.extend_elements-back m read P) (tie.extend_elements-there m read P)
+      (tie.extend_elements-is m read P) (tie.extend_elements-obeys m read P) (tie.extend_elements-allows m read P) (tie.extend_elements-obeys m read F) (tie.extend_elements-allows m read F)
+      (times-laws (but 48) extend_element-laws refl refl)) refl refl
 
-  some_field : t.Normal M
-  some_field = record { type = t.scalar t.bool m; name = ([], m); equals_sign = m; number = record { sign = None; number = (1, m) }; end = m }
+  pub extend-laws : Lawful (rule.extend body) false (only 11) none
+  unfolding rule.extend rule.extend_elements r.typename
+  extend-laws = wide _ _ (named_fits-laws s.extend (rule.ExtendHas P) (rule.ExtendHas F) rule.to_extend rule.from_extend (tie.extend-back m read P) (tie.extend-there m read P)
+      (tie.extend-is m read P) (tie.extend-obeys m read P) (tie.extend-allows m read P) (tie.extend-obeys m read F) (tie.extend-allows m read F)
+      (seq-laws (word-laws m (codes "extend") 11 refl) (seq-laws (parts.typename-laws m) (seq-laws (mark-laws m s.open_brace 47 refl) (seq-laws extend_elements-laws (mark-laws m s.close_brace 48 refl) refl) refl) refl) refl)) refl refl
 
-  barred-laws : Lawful {M = M} (unstarted r.barred r.normal) false (union words (only 42)) none
-  unfolding r.normal some_field
-  barred-laws = wide _ _ (unstarted-laws r.barred normal-laws some_field tt refl) refl refl
+  pub message-laws : Lawful (rule.message body) false (only 12) none
+  unfolding rule.message
+  message-laws = wide _ _ (named_fits-laws s.message (rule.MessageHas P) (rule.MessageHas F) rule.to_message rule.from_message (tie.message-back m read P) (tie.message-there m read P)
+      (tie.message-is m read P) (tie.message-obeys m read P) (tie.message-allows m read P) (tie.message-obeys m read F) (tie.message-allows m read F)
+      (seq-laws (word-laws m (codes "message") 12 refl) (seq-laws (parts.ident-laws m) lb refl) refl)) refl refl
 
-  element-back : (x : t.Element M) → r.to_element (r.from_element x) ≡ x
-  element-back (t.empty x) = refl
-  element-back (t.field x) = refl
+  pub element-laws : Lawful (rule.element body) false (union (only 56) (union (only 42) words)) none
+  unfolding rule.element rule.field rule.oneof r.enum rule.message rule.extend r.option r.reserved r.extensions
+  element-laws = wide _ _ (named_fits-laws s.element (rule.ElementHas P) (rule.ElementHas F) rule.to_element rule.from_element (tie.element-back m read P) (tie.element-there m read P)
+      (tie.element-is m read P) (tie.element-obeys m read P) (tie.element-allows m read P) (tie.element-obeys m read F) (tie.element-allows m read F)
+      (choice-laws (only 56) (mark-laws m s.semicolon 56 refl) refl (unless-laws (among (17 ∷ 5 ∷ 12 ∷ 11 ∷ 6 ∷ 34 ∷ 35 ∷ [])) (choice-laws (only 17) oneof-laws refl (choice-laws (only 5) (enums.enum-laws m) refl (choice-laws (only 12) message-laws refl (choice-laws (only 11) extend-laws refl (choice-laws (only 6) (options.option-laws m) refl (choice-laws (only 34) (ranges.reserved-laws m) refl (ranges.extensions-laws m) refl) refl) refl) refl) refl) refl) refl field-laws some_field (tt, (tt, tt)) refl) refl)) refl refl
 
-  element-there : (x : M ⊎ t.Normal M) → r.from_element (r.to_element x) ≡ x
-  element-there (inl x) = refl
-  element-there (inr x) = refl
+  pub elements-laws : Lawful (rule.elements body) true (union (only 56) (union (only 42) words)) (but 48)
+  unfolding rule.elements rule.element
+  elements-laws = wide _ _ (named_fits-laws s.elements (rule.ElementsHas P) (rule.ElementsHas F) rule.to_elements rule.from_elements (tie.elements-back m read P) (tie.elements-there m read P)
+      (tie.elements-is m read P) (tie.elements-obeys m read P) (tie.elements-allows m read P) (tie.elements-obeys m read F) (tie.elements-allows m read F)
+      (times-laws (but 48) element-laws refl refl)) refl refl
 
-  element-is : (x : t.Element M) → s.element x ≡ (choice (only 56) (r.sign s.semicolon) (unstarted r.barred r.normal)).spell (r.from_element x)
-  unfolding r.normal
-  element-is (t.empty x) = refl
-  element-is (t.field x) = refl
+  pub mbody-laws : Lawful (rule.mbody body) false (only 47) none
+  unfolding rule.mbody rule.elements
+  mbody-laws = wide _ _ (named_fits-laws s.mbody (rule.MbodyHas P) (rule.MbodyHas F) rule.to_mbody rule.from_mbody (tie.mbody-back m read P) (tie.mbody-there m read P)
+      (tie.mbody-is m read P) (tie.mbody-obeys m read P) (tie.mbody-allows m read P) (tie.mbody-obeys m read F) (tie.mbody-allows m read F)
+      (seq-laws (mark-laws m s.open_brace 47 refl) (seq-laws elements-laws (mark-laws m s.close_brace 48 refl) refl) refl)) refl refl
 
-  element-obeys : (x : t.Element M) → k.KeepsElement x → (choice (only 56) (r.sign s.semicolon) (unstarted r.barred r.normal)).may (r.from_element x)
-  unfolding r.normal
-  element-obeys (t.empty x) h = tt
-  element-obeys (t.field x) h = (h.2, normal-stops x (type-joined x.type h.0 h.1 h.3))
+  pub statement-laws : Lawful (rule.statement body) false (among (56 ∷ 2 ∷ 1 ∷ 6 ∷ 11 ∷ 12 ∷ 5 ∷ 7 ∷ [])) none
+  unfolding rule.statement r.«import» r.«package» r.option rule.extend rule.message r.enum r.service
+  statement-laws = wide _ _ (named_fits-laws s.statement (rule.StatementHas P) (rule.StatementHas F) rule.to_statement rule.from_statement (tie.statement-back m read P) (tie.statement-there m read P)
+      (tie.statement-is m read P) (tie.statement-obeys m read P) (tie.statement-allows m read P) (tie.statement-obeys m read F) (tie.statement-allows m read F)
+      (choice-laws (only 56) (mark-laws m s.semicolon 56 refl) refl (choice-laws (only 2) (parts.import-laws m) refl (choice-laws (only 1) (parts.package-laws m) refl (choice-laws (only 6) (options.option-laws m) refl (choice-laws (only 11) extend-laws refl (choice-laws (only 12) message-laws refl (choice-laws (only 5) (enums.enum-laws m) refl (services.service-laws m) refl) refl) refl) refl) refl) refl) refl)) refl refl
 
-  element-allows : (x : t.Element M) → (choice (only 56) (r.sign s.semicolon) (unstarted r.barred r.normal)).may (r.from_element x) → k.KeepsElement x
-  unfolding r.normal
-  element-allows (t.empty x) h = tt
-  element-allows (t.field x) h = let w = type-parts x.type (stops-normal x h.1) in (w.0, w.1, h.0, w.2)
-
-  whole : (x : M ⊎ t.Normal M) → (choice (only 56) (r.sign s.semicolon) (unstarted r.barred r.normal)).may x → (choice (only 56) (r.sign s.semicolon) (unstarted r.barred r.normal)).fits x
-  unfolding r.normal
-  whole (inl x) h = h
-  whole (inr x) h = h
-
-  pub element-laws : Lawful {M = M} r.element false (union (only 56) (union words (only 42))) none
-  unfolding r.element
-  element-laws = wide _ _ (named-laws s.element k.KeepsElement _ _ element-back element-there element-is element-obeys element-allows whole
-      (choice-laws (only 56) (mark-laws m s.semicolon 56 refl) refl barred-laws refl)) refl refl
-
-  pub mbody-laws : Lawful {M = M} r.mbody false (only 47) none
-  unfolding r.mbody r.element
-  mbody-laws = wide _ _ (named-laws s.mbody k.KeepsMbody _ _ (λ x. refl) (λ x. refl) (λ x. refl)
-      (λ x h. (tt, (h, tt))) (λ x h. h.1.0) (λ x h. h)
-      (seq-laws (mark-laws m s.open_brace 47 refl) (seq-laws (times-laws (but 48) element-laws refl refl) (mark-laws m s.close_brace 48 refl) refl) refl)) refl refl
-
-  pub message-laws : Lawful {M = M} r.message false (only 12) none
-  unfolding r.message r.mbody
-  message-laws = wide _ _ (named-laws s.message (λ x. k.KeepsMbody x.body) _ _ (λ x. refl) (λ x. refl) (λ x. refl)
-      (λ x h. (tt, (tt, h))) (λ x h. h.1.1) (λ x h. h)
-      (seq-laws (word-laws m (codes "message") 12 refl) (seq-laws (p.ident-laws m) mbody-laws refl) refl)) refl refl
-
-  statement-back : (x : t.Statement M) → r.to_statement (r.from_statement x) ≡ x
-  statement-back (t.an_empty x) = refl
-  statement-back (t.an_import x) = refl
-  statement-back (t.a_message x) = refl
-
-  statement-there : (x : M ⊎ (t.Import M ⊎ t.Message M)) → r.from_statement (r.to_statement x) ≡ x
-  statement-there (inl x) = refl
-  statement-there (inr (inl x)) = refl
-  statement-there (inr (inr x)) = refl
-
-  statement-is : (x : t.Statement M) → s.statement x ≡ (choice (only 56) (r.sign s.semicolon) (choice (only 2) r.«import» r.message)).spell (r.from_statement x)
-  unfolding r.«import» r.message
-  statement-is (t.an_empty x) = refl
-  statement-is (t.an_import x) = refl
-  statement-is (t.a_message x) = refl
-
-  statement-obeys : (x : t.Statement M) → k.KeepsStatement x → (choice (only 56) (r.sign s.semicolon) (choice (only 2) r.«import» r.message)).may (r.from_statement x)
-  unfolding r.«import» r.message
-  statement-obeys (t.an_empty x) h = tt
-  statement-obeys (t.an_import x) h = tt
-  statement-obeys (t.a_message x) h = h
-
-  statement-allows : (x : t.Statement M) → (choice (only 56) (r.sign s.semicolon) (choice (only 2) r.«import» r.message)).may (r.from_statement x) → k.KeepsStatement x
-  unfolding r.«import» r.message
-  statement-allows (t.an_empty x) h = tt
-  statement-allows (t.an_import x) h = tt
-  statement-allows (t.a_message x) h = h
-
-  statement-whole : (x : M ⊎ (t.Import M ⊎ t.Message M)) → (choice (only 56) (r.sign s.semicolon) (choice (only 2) r.«import» r.message)).may x → (choice (only 56) (r.sign s.semicolon) (choice (only 2) r.«import» r.message)).fits x
-  unfolding r.«import» r.message
-  statement-whole (inl x) h = tt
-  statement-whole (inr (inl x)) h = tt
-  statement-whole (inr (inr x)) h = h
-
-  pub statement-laws : Lawful {M = M} r.statement false (among (56 ∷ 2 ∷ 12 ∷ [])) none
-  unfolding r.statement
-  statement-laws = wide _ _ (named-laws s.statement k.KeepsStatement _ _ statement-back statement-there statement-is statement-obeys statement-allows statement-whole
-      (choice-laws (only 56) (mark-laws m s.semicolon 56 refl) refl (choice-laws (only 2) (p.import-laws m) refl message-laws refl) refl)) refl refl
-
-  pub file-laws : Lawful {M = M} r.file true (among (0 ∷ 56 ∷ 2 ∷ 12 ∷ [])) all
-  unfolding r.file r.statement r.syntax
-  file-laws = wide _ _ (named-laws s.spell k.KeepsKeywords _ _ (λ x. refl) (λ x. refl) (λ x. refl)
-      (λ x h. (p.given-all _ (λ y. tt) x.syntax, h)) (λ x h. h.1) (λ x h. h)
-      (seq-laws (optional-laws (only 0) (p.syntax-laws m) refl) (times-laws all statement-laws refl refl) refl)) refl refl
+  pub file-laws : Lawful (rule.file body) true (among (0 ∷ 56 ∷ 2 ∷ 1 ∷ 6 ∷ 11 ∷ 12 ∷ 5 ∷ 7 ∷ [])) all
+  unfolding rule.file rule.statement r.syntax
+  file-laws = wide _ _ (named_fits-laws s.spell (rule.FileHas P) (rule.FileHas F) _ _ (λ x. refl) (λ x. refl)
+      (λ x. refl) (λ x h. (parts.given-all _ (λ y. tt) x.syntax, h)) (λ x h. h.1) (λ x h. (parts.given-all _ (λ y. tt) x.syntax, h)) (λ x h. h.1)
+      (seq-laws (optional-laws (only 0) (parts.syntax-laws m) refl) (times-laws all statement-laws refl refl) refl)) refl refl

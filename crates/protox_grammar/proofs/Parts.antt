@@ -1,12 +1,12 @@
--- The laws of each rule that has no messages in it.
+-- The laws of tokens, strings, syntax, imports, packages, names, numbers, types and labels.
 use Rattle.std.proofs.Common.{◌≡◌, ℕ, true, false, List, [], ◌∷◌, Option, Some, None, codes, refl, ap, ◌∙◌, arith, inl, inr, ◌⊎◌}
 use Rattle.std.proofs.lemmas.Slice.Eq.{bytes_eq-Decides}
 use Rattle.std.proofs.lemmas.Bool.{lt-ltb}
 use Rattle.std.specs.Str.{bytes_eq}
 use Rattle.protox_lex.specs.Shapes as shape
-use Rattle.protox_lex.specs.Shapes.{Shape, Ident, Str, Rows}
+use Rattle.protox_lex.specs.Shapes.{Shape, Ident, Str}
+use Rattle.protox_grammar.specs.Reader.{see_word, see_integer, see_float, see_text}
 use Rattle.protox_grammar.specs.Class.{class, place, keywords, none, only, words, union, among}
-use Rattle.protox_grammar.specs.Reader.{see_word, see_integer, see_text}
 use Rattle.protox_grammar.specs.Rule.{unless, choice}
 use Rattle.protox_ast.specs.Tree as t
 use Rattle.protox_ast.specs.Spelling as s
@@ -15,8 +15,8 @@ use Rattle.protox_grammar.specs.Rules as r
 use Rattle.protox_grammar.proofs.Sets.{place-le}
 use Rattle.protox_grammar.proofs.Laws.{leaf-spelled}
 use Rattle.protox_grammar.proofs.Reading.{leaf-read, chosen}
-use Rattle.protox_grammar.proofs.Forms.{Lawful, word-laws, mark-laws, seq-laws, unless-laws, choice-laws, optional-laws, times-laws, named-laws, wide}
 use Rattle.protox_grammar.proofs.Begin.{name-stops, stops-name}
+use Rattle.protox_grammar.proofs.Forms.{Lawful, word-laws, mark-laws, seq-laws, unless-laws, choice-laws, optional-laws, times-laws, named-laws, wide}
 
 pub each-all : {A : Type 0} (P : A → Type 0) → ((x : A) → P x) → (xs : List A) → k.Each P xs
 each-all P f [] = tt
@@ -56,6 +56,13 @@ module _ {M : Type 0} (m : M) where
     where
       exact : (s : Shape) (x : ℕ) → see_integer s ≡ Some x → s ≡ shape.Int x
       exact (shape.Int t) x e = cc
+      exact _ x e = absurd cc
+
+  pub float-laws : Lawful {M = M} r.float false (only 40) none
+  float-laws = record { spelled = leaf-spelled see_float shape.Float (only 40) (λ x. refl) (λ x. refl); read = leaf-read ([], m) see_float shape.Float (λ x. refl) exact }
+    where
+      exact : (s : Shape) (x : List ℕ) → see_float s ≡ Some x → s ≡ shape.Float x
+      exact (shape.Float t) x e = cc
       exact _ x e = absurd cc
 
   pub string-laws : Lawful {M = M} r.string false (only 41) none
@@ -159,6 +166,12 @@ module _ {M : Type 0} (m : M) where
       (λ x h. (tt, each-all _ (λ y. (tt, tt)) x.others)) (λ x h. tt) (λ x h. h)
       (seq-laws ident-laws (times-laws (only 42) (seq-laws (mark-laws m s.dot 42 refl) ident-laws refl) refl refl) refl)) refl refl
 
+  pub package-laws : Lawful {M = M} r.«package» false (only 1) none
+  unfolding r.«package» r.fullident
+  package-laws = wide _ _ (named-laws s.«package» r.free _ _ (λ x. refl) (λ x. refl) (λ x. refl)
+      (λ x h. (tt, (tt, tt))) (λ x h. tt) (λ x h. h)
+      (seq-laws (word-laws m (codes "package") 1 refl) (seq-laws fullident-laws (mark-laws m s.semicolon 56 refl) refl) refl)) refl refl
+
   pub typename-laws : Lawful {M = M} r.typename false (union (only 42) words) (only 42)
   unfolding r.typename r.fullident
   typename-laws = wide _ _ (named-laws s.typename r.free _ _ (λ x. refl) (λ x. refl) (λ x. refl)
@@ -202,3 +215,37 @@ module _ {M : Type 0} (m : M) where
   type-laws = wide _ _ (named-laws s.type (k.TypeBeginsWithNone k.scalars) _ _ type-back type-there type-is
       type-obeys type-allows (λ x h. h)
       (unless-laws r.scalar_set scalar-laws refl typename-laws some_name tt refl)) refl refl
+
+  label-back : (x : t.Label M) → r.to_label (r.from_label x) ≡ x
+  label-back (t.optional a) = refl
+  label-back (t.required a) = refl
+  label-back (t.repeated a) = refl
+
+  label-there : (x : M ⊎ (M ⊎ M)) → r.from_label (r.to_label x) ≡ x
+  label-there (inl x) = refl
+  label-there (inr (inl x)) = refl
+  label-there (inr (inr x)) = refl
+
+  label-is : (x : t.Label M) → s.label x ≡ (choice (only 13) (r.the (codes "optional")) (choice (only 14) (r.the (codes "required")) (r.the (codes "repeated")))).spell (r.from_label x)
+  unfolding r.label
+  label-is (t.optional a) = refl
+  label-is (t.required a) = refl
+  label-is (t.repeated a) = refl
+
+  label-obeys : (x : t.Label M) → Unit {0} → (choice (only 13) (r.the (codes "optional")) (choice (only 14) (r.the (codes "required")) (r.the (codes "repeated")))).may (r.from_label x)
+  unfolding r.label
+  label-obeys (t.optional a) h = tt
+  label-obeys (t.required a) h = tt
+  label-obeys (t.repeated a) h = tt
+
+  label-allows : (x : t.Label M) → (choice (only 13) (r.the (codes "optional")) (choice (only 14) (r.the (codes "required")) (r.the (codes "repeated")))).may (r.from_label x) → Unit {0}
+  unfolding r.label
+  label-allows (t.optional a) h = tt
+  label-allows (t.required a) h = tt
+  label-allows (t.repeated a) h = tt
+
+  pub label-laws : Lawful {M = M} r.label false (among (13 ∷ 14 ∷ 15 ∷ [])) none
+  unfolding r.label
+  label-laws = wide _ _ (named-laws s.label r.free _ _ label-back label-there label-is
+      label-obeys label-allows (λ x h. h)
+      (choice-laws (only 13) (word-laws m (codes "optional") 13 refl) refl (choice-laws (only 14) (word-laws m (codes "required") 14 refl) refl (word-laws m (codes "repeated") 15 refl) refl) refl)) refl refl

@@ -1,4 +1,4 @@
--- What a list of rows is, by the rules of the grammar, and the laws of the grammar.
+-- The laws of the grammar: what a list of rows is, and what the reader of the grammar finds.
 use Rattle.std.specs.Prelude.{◌≡◌, ◌↔◌, ◌≤◌, ℕ, suc, [], ◌∷◌, ◌++◌, length, Ok, Err}
 use Rattle.protox_lex.specs.Shapes.{Row, Rows}
 use Rattle.protox_ast.specs.Tree.{File}
@@ -28,18 +28,14 @@ pub record IsEnded {M : Type 0} (rows : Rows M) : Type 0 where
 abbrev pub OneTree : Type 0 → Type 0
 OneTree M = (rows : Rows M) (f g : File M) → Spells rows f → Spells rows g → f ≡ g
 
--- what is read is the tree that the rows spell
+-- what is read is the tree that the rows spell, if it is at most so deep
 abbrev pub AcceptsIff : Type 0 → Type 0
-AcceptsIff M = (rows : Rows M) (f : File M) → (read rows ≡ Ok f) ↔ Spells rows f
+AcceptsIff M = (n : ℕ) (rows : Rows M) (f : File M) → (read n rows ≡ Ok f) ↔ (Spells rows f × (depth f ≤ n))
 
 -- before a row that isn't expected there is some file, and with it none
 abbrev pub TightUnexpected : Type 0 → Type 0
-TightUnexpected M = (left : ℕ) (rows : Rows M) → read rows ≡ Err (Unexpected (suc left)) → IsUnexpected rows (suc left)
+TightUnexpected M = (n left : ℕ) (rows : Rows M) → read n rows ≡ Err (Unexpected (suc left)) → IsUnexpected rows (suc left)
 
 -- rows that ended too soon begin a file and are none
 abbrev pub TightEnd : Type 0 → Type 0
-TightEnd M = (rows : Rows M) → read rows ≡ Err (Unexpected 0) → IsEnded rows
-
--- messages don't stand in messages yet
-abbrev pub IsShallow : Type 0 → Type 0
-IsShallow M = (f : File M) → depth f ≤ 1
+TightEnd M = (n : ℕ) (rows : Rows M) → read n rows ≡ Err (Unexpected 0) → IsEnded rows

@@ -1,9 +1,9 @@
--- MACHINERY. The reader of a file.
-use Rattle.std.specs.Prelude.{Result, Ok}
+-- MACHINERY. The reader of a file whose messages and groups are at most n deep.
+use Rattle.std.specs.Prelude.{ℕ, Result, Ok}
 use Rattle.protox_lex.specs.Shapes.{Rows}
 use Rattle.protox_grammar.specs.Reader.{Refusal, ◌>>=◌}
 use Rattle.protox_ast.specs.Tree as t
-use Rattle.protox_grammar.specs.Rules as r
+use Rattle.protox_grammar.specs.Bodies as r
 
-unfoldable pub read : {M : Type 0} → Rows M → Result (t.File M) Refusal
-read rows = (r.file).read rows >>= λ x. Ok x.0
+unfoldable pub read : {M : Type 0} → ℕ → Rows M → Result (t.File M) Refusal
+read n rows = (r.file (r.mbody_at n)).read rows >>= λ x. Ok x.0

@@ -1,15 +1,35 @@
--- MACHINERY. The rules of the grammar by combinators, each under its plain spelling and its plain keyword rules.
-use Rattle.std.specs.Prelude.{ℕ, List, [], ◌∷◌, if◌then◌else◌, Option, Some, None, ◌⊎◌, codes}
+-- MACHINERY. The rules of the grammar that have no message in them, by combinators, each under its plain spelling and its plain keyword rules.
+use Rattle.std.specs.Prelude.{ℕ, suc, ◌-◌, List, [], ◌∷◌, ◌++◌, if◌then◌else◌, ◌==◌, Ok, Err, Option, Some, None, ◌⊎◌, codes}
 use Rattle.std.proofs.Common.{inl, inr}
 use Rattle.std.specs.Str.{bytes_eq}
 use Rattle.protox_lex.specs.Shapes as shape
 use Rattle.protox_lex.specs.Shapes.{Shape, Ident, Str, Mark, Rows}
-use Rattle.protox_grammar.specs.Class.{Set, only, all, but, among}
+use Rattle.protox_grammar.specs.Class.{Set, only, but, words, among, union}
 use Rattle.protox_ast.specs.Tree as t
 use Rattle.protox_ast.specs.Spelling as s
 use Rattle.protox_ast.specs.Keywords as k
-use Rattle.protox_grammar.specs.Reader.{see_word, see_integer, see_text}
-use Rattle.protox_grammar.specs.Rule.{Rule, fixed, leaf, seq, named, unless, choice, optional, times, unstarted}
+use Rattle.protox_grammar.specs.Reader as reader
+use Rattle.protox_grammar.specs.Reader.{Reader, Unexpected, ◌>>=◌, see_word, see_integer, see_float, see_text}
+use Rattle.protox_grammar.specs.Rule.{Rule, row, fixed, leaf, seq, named, unless, choice, optional, times, joined, peek}
+
+-- up to the brace that closes: the rows before it, which are tokens
+unfoldable pub balanced_at : {M : Type 0} → ℕ → Reader M (Rows M)
+balanced_at unclosed [] = Err (Unexpected 0)
+balanced_at unclosed (r ∷ rs) =
+    if k.is_open_brace r.shape then (balanced_at (suc unclosed) rs >>= λ x. Ok (r ∷ x.0, x.1))
+    else (if k.is_close_brace r.shape
+    then (if unclosed == 0 then Ok ([], r ∷ rs) else (balanced_at (unclosed - 1) rs >>= λ x. Ok (r ∷ x.0, x.1)))
+    else (if k.is_significant r.shape then (balanced_at unclosed rs >>= λ x. Ok (r ∷ x.0, x.1)) else reader.refuse (r ∷ rs)))
+
+-- what stands between braces, and the one that closes
+abbrev pub closed : {M : Type 0} → Rule M (Rows M × M)
+closed = record {
+  spell = λ t. t.0 ++ (row (Mark s.close_brace) t.1 ∷ []);
+  may = λ t. k.BracesMatch t.0 × k.Each k.IsSignificant t.0;
+  fits = λ t. k.BracesMatch t.0 × k.Each k.IsSignificant t.0;
+  ends = λ t z. k.BracesMatch t.0 × k.Each k.IsSignificant t.0;
+  read = reader.seq (balanced_at 0) (reader.fixed (Mark s.close_brace));
+}
 
 abbrev pub free : {A : Type 0} → A → Type 0
 free x = Unit {0}
@@ -25,6 +45,9 @@ ident = leaf see_word Ident
 
 abbrev pub integer : {M : Type 0} → Rule M (t.Number M)
 integer = leaf see_integer shape.Int
+
+abbrev pub float : {M : Type 0} → Rule M (t.Float M)
+float = leaf see_float shape.Float
 
 abbrev pub string : {M : Type 0} → Rule M (t.Text M)
 string = leaf see_text Str
@@ -77,9 +100,65 @@ unfoldable pub fullident : {M : Type 0} → Rule M (t.FullIdent M)
 fullident = named s.fullident free (λ x. record { first = x.0; others = x.1 }) (λ x. (x.first, x.others))
     (seq ident (times (only 42) (seq (sign s.dot) ident)))
 
+unfoldable pub «package» : {M : Type 0} → Rule M (t.Package M)
+«package» = named s.«package» free (λ x. record { keyword = x.0; name = x.1.0; end = x.1.1 }) (λ x. (x.keyword, (x.name, x.end)))
+    (seq (the (codes "package")) (seq fullident (sign s.semicolon)))
+
 unfoldable pub typename : {M : Type 0} → Rule M (t.TypeName M)
 typename = named s.typename free (λ x. record { leading_dot = x.0; name = x.1 }) (λ x. (x.leading_dot, x.name))
     (seq (optional (only 42) (sign s.dot)) fullident)
+
+abbrev pub to_part : {M : Type 0} → t.Word M ⊎ (M × (t.TypeName M × M)) → t.Part M
+to_part (inl x) = t.plain_part x
+to_part (inr x) = t.extension_part x.0 x.1.0 x.1.1
+
+abbrev pub from_part : {M : Type 0} → t.Part M → t.Word M ⊎ (M × (t.TypeName M × M))
+from_part (t.plain_part a) = inl a
+from_part (t.extension_part a b c) = inr ((a, (b, c)))
+
+unfoldable pub part : {M : Type 0} → Rule M (t.Part M)
+part = named s.part free to_part from_part
+    (choice words ident (seq (sign s.open_paren) (seq typename (sign s.close_paren))))
+
+abbrev pub to_constant : {M : Type 0} → t.Word M ⊎ (t.Number M ⊎ t.Float M) → t.Constant M
+to_constant (inl x) = t.ident x
+to_constant (inr (inl x)) = t.integer x
+to_constant (inr (inr x)) = t.float x
+
+abbrev pub from_constant : {M : Type 0} → t.Constant M → t.Word M ⊎ (t.Number M ⊎ t.Float M)
+from_constant (t.ident a) = inl a
+from_constant (t.integer a) = inr (inl a)
+from_constant (t.float a) = inr (inr a)
+
+unfoldable pub constant : {M : Type 0} → Rule M (t.Constant M)
+constant = named s.constant free to_constant from_constant
+    (choice words ident (choice (only 39) integer float))
+
+abbrev pub to_value : {M : Type 0} → (Option M × t.Constant M) ⊎ (t.Strings M ⊎ (M × (Rows M × M))) → t.Value M
+to_value (inl x) = t.constant x.0 x.1
+to_value (inr (inl x)) = t.strings x
+to_value (inr (inr x)) = t.aggregate x.0 x.1.0 x.1.1
+
+abbrev pub from_value : {M : Type 0} → t.Value M → (Option M × t.Constant M) ⊎ (t.Strings M ⊎ (M × (Rows M × M)))
+from_value (t.constant a b) = inl (a, b)
+from_value (t.strings a) = inr (inl a)
+from_value (t.aggregate a b c) = inr (inr ((a, (b, c))))
+
+unfoldable pub value : {M : Type 0} → Rule M (t.Value M)
+value = named s.value k.KeepsValue to_value from_value
+    (choice (union words (among (39 ∷ 40 ∷ 43 ∷ []))) (seq (optional (only 43) (sign s.minus)) constant) (choice (only 41) strings (seq (sign s.open_brace) closed)))
+
+unfoldable pub body : {M : Type 0} → Rule M (t.Body M)
+body = named s.body k.KeepsBody (λ x. record { first = x.0; others = x.1.0; equals_sign = x.1.1.0; value = x.1.1.1 }) (λ x. (x.first, (x.others, (x.equals_sign, x.value))))
+    (seq part (seq (times (only 42) (seq (sign s.dot) part)) (seq (sign s.equals) value)))
+
+unfoldable pub option : {M : Type 0} → Rule M (t.OptionStatement M)
+option = named s.option k.KeepsOption (λ x. record { keyword = x.0; body = x.1.0; end = x.1.1 }) (λ x. (x.keyword, (x.body, x.end)))
+    (seq (the (codes "option")) (seq body (sign s.semicolon)))
+
+unfoldable pub list : {M : Type 0} → Rule M (t.OptionList M)
+list = named s.list k.KeepsList (λ x. record { open_at = x.0; first = x.1.0; others = x.1.1.0; close_at = x.1.1.1 }) (λ x. (x.open_at, (x.first, (x.others, x.close_at))))
+    (seq (sign s.open_bracket) (seq body (seq (times (only 53) (seq (sign s.comma) body)) (sign s.close_bracket))))
 
 unfoldable pub int : {M : Type 0} → Rule M (t.Int M)
 int = named s.int free (λ x. record { sign = x.0; number = x.1 }) (λ x. (x.sign, x.number))
@@ -97,54 +176,174 @@ unfoldable pub type : {M : Type 0} → Rule M (t.FieldType M)
 type = named s.type (k.TypeBeginsWithNone k.scalars) to_type from_type
     (unless scalar_set scalar typename)
 
--- a field of which only the scalar words are barred
+abbrev pub to_label : {M : Type 0} → M ⊎ (M ⊎ M) → t.Label M
+to_label (inl x) = t.optional x
+to_label (inr (inl x)) = t.required x
+to_label (inr (inr x)) = t.repeated x
+
+abbrev pub from_label : {M : Type 0} → t.Label M → M ⊎ (M ⊎ M)
+from_label (t.optional a) = inl a
+from_label (t.required a) = inr (inl a)
+from_label (t.repeated a) = inr (inr a)
+
+unfoldable pub label : {M : Type 0} → Rule M (t.Label M)
+label = named s.label free to_label from_label
+    (choice (only 13) (the (codes "optional")) (choice (only 14) (the (codes "required")) (the (codes "repeated"))))
+
+-- a normal field whose type may still begin with `map` or `group`
 abbrev pub NormalAlone : {M : Type 0} → t.Normal M → Type 0
-NormalAlone x = k.BeginsWithNoScalar x
+NormalAlone x = k.TypeBeginsWithNone k.scalars x.type × k.Given k.KeepsList x.options
 
 unfoldable pub normal : {M : Type 0} → Rule M (t.Normal M)
-normal = named s.normal NormalAlone (λ x. record { type = x.0; name = x.1.0; equals_sign = x.1.1.0; number = x.1.1.1.0; end = x.1.1.1.1 }) (λ x. (x.type, (x.name, (x.equals_sign, (x.number, x.end)))))
-    (seq type (seq ident (seq (sign s.equals) (seq int (sign s.semicolon)))))
+normal = named s.normal NormalAlone (λ x. record { type = x.0; name = x.1.0; equals_sign = x.1.1.0; number = x.1.1.1.0; options = x.1.1.1.1.0; end = x.1.1.1.1.1 }) (λ x. (x.type, (x.name, (x.equals_sign, (x.number, (x.options, x.end))))))
+    (seq type (seq ident (seq (sign s.equals) (seq int (seq (optional (only 49) list) (sign s.semicolon))))))
 
--- the words that begin something else in a body
-abbrev pub barred_words : List (List ℕ)
-barred_words = codes "optional" ∷ codes "required" ∷ codes "repeated" ∷ codes "map" ∷ codes "group"
-    ∷ codes "oneof" ∷ codes "enum" ∷ codes "message" ∷ codes "extend" ∷ codes "option" ∷ codes "reserved" ∷ codes "extensions" ∷ []
+unfoldable pub map : {M : Type 0} → Rule M (t.Map M)
+map = named s.map k.KeepsMap (λ x. record { keyword = x.0; open_at = x.1.0; key = x.1.1.0; comma_at = x.1.1.1.0; value = x.1.1.1.1.0; close_at = x.1.1.1.1.1.0; name = x.1.1.1.1.1.1.0; equals_sign = x.1.1.1.1.1.1.1.0; number = x.1.1.1.1.1.1.1.1.0; options = x.1.1.1.1.1.1.1.1.1.0; end = x.1.1.1.1.1.1.1.1.1.1 }) (λ x. (x.keyword, (x.open_at, (x.key, (x.comma_at, (x.value, (x.close_at, (x.name, (x.equals_sign, (x.number, (x.options, x.end)))))))))))
+    (seq (the (codes "map")) (seq (sign s.open_angle) (seq type (seq (sign s.comma) (seq type (seq (sign s.close_angle) (seq ident (seq (sign s.equals) (seq int (seq (optional (only 49) list) (sign s.semicolon)))))))))))
 
-abbrev pub barred : Set
-barred = among (13 ∷ 14 ∷ 15 ∷ 16 ∷ 18 ∷ 17 ∷ 5 ∷ 12 ∷ 11 ∷ 6 ∷ 34 ∷ 35 ∷ [])
+-- `to` comes before both
+abbrev pub to_range_end : {M : Type 0} → M × (t.Int M ⊎ M) → t.RangeEnd M
+to_range_end (m, inl x) = t.up_to m x
+to_range_end (m, inr x) = t.up_to_max m x
 
-abbrev pub to_element : {M : Type 0} → M ⊎ t.Normal M → t.Element M
-to_element (inl x) = t.empty x
-to_element (inr x) = t.field x
+abbrev pub from_range_end : {M : Type 0} → t.RangeEnd M → M × (t.Int M ⊎ M)
+from_range_end (t.up_to m x) = (m, inl x)
+from_range_end (t.up_to_max m x) = (m, inr x)
 
-abbrev pub from_element : {M : Type 0} → t.Element M → M ⊎ t.Normal M
-from_element (t.empty x) = inl x
-from_element (t.field x) = inr x
+unfoldable pub range_end : {M : Type 0} → Rule M (t.RangeEnd M)
+range_end = named s.range_end free to_range_end from_range_end (seq (the (codes "to")) (choice (among (39 ∷ 43 ∷ [])) int (the (codes "max"))))
 
-unfoldable pub element : {M : Type 0} → Rule M (t.Element M)
-element = named s.element k.KeepsElement to_element from_element (choice (only 56) (sign s.semicolon) (unstarted barred normal))
+abbrev pub to_range : {M : Type 0} → t.Int M × (t.RangeEnd M ⊎ Unit {0}) → t.Range M
+to_range (i, inl e) = record { start = i; stop = Some e }
+to_range (i, inr u) = record { start = i; stop = None }
 
-unfoldable pub mbody : {M : Type 0} → Rule M (t.Mbody M)
-mbody = named s.mbody k.KeepsMbody (λ x. record { open_at = x.0; elements = x.1.0; close_at = x.1.1 }) (λ x. (x.open_at, (x.elements, x.close_at)))
-    (seq (sign s.open_brace) (seq (times (but 48) element) (sign s.close_brace)))
+abbrev pub from_stop : {M : Type 0} → Option (t.RangeEnd M) → t.RangeEnd M ⊎ Unit {0}
+from_stop (Some e) = inl e
+from_stop None = inr tt
 
-unfoldable pub message : {M : Type 0} → Rule M (t.Message M)
-message = named s.message (λ x. k.KeepsMbody x.body) (λ x. record { keyword = x.0; name = x.1.0; body = x.1.1 }) (λ x. (x.keyword, (x.name, x.body)))
-    (seq (the (codes "message")) (seq ident mbody))
+abbrev pub from_range : {M : Type 0} → t.Range M → t.Int M × (t.RangeEnd M ⊎ Unit {0})
+from_range x = (x.start, from_stop x.stop)
 
-abbrev pub to_statement : {M : Type 0} → M ⊎ (t.Import M ⊎ t.Message M) → t.Statement M
-to_statement (inl x) = t.an_empty x
-to_statement (inr (inl x)) = t.an_import x
-to_statement (inr (inr x)) = t.a_message x
+-- without `to` the next token is `,` or `;`
+unfoldable pub range : {M : Type 0} → Rule M (t.Range M)
+range = named s.range free to_range from_range (seq int (choice (only 36) range_end (peek (among (53 ∷ 56 ∷ [])))))
 
-abbrev pub from_statement : {M : Type 0} → t.Statement M → M ⊎ (t.Import M ⊎ t.Message M)
-from_statement (t.an_empty x) = inl x
-from_statement (t.an_import x) = inr (inl x)
-from_statement (t.a_message x) = inr (inr x)
+unfoldable pub ranges : {M : Type 0} → Rule M (t.Ranges M)
+ranges = named s.ranges free (λ x. record { first = x.0; others = x.1 }) (λ x. (x.first, x.others))
+    (seq range (times (only 53) (seq (sign s.comma) range)))
 
-unfoldable pub statement : {M : Type 0} → Rule M (t.Statement M)
-statement = named s.statement k.KeepsStatement to_statement from_statement (choice (only 56) (sign s.semicolon) (choice (only 2) «import» message))
+unfoldable pub names : {M : Type 0} → Rule M (t.Names M)
+names = named s.names free (λ x. record { first = x.0; others = x.1 }) (λ x. (x.first, x.others))
+    (seq strings (times (only 53) (seq (sign s.comma) strings)))
 
-unfoldable pub file : {M : Type 0} → Rule M (t.File M)
-file = named s.spell k.KeepsKeywords (λ x. record { syntax = x.0; statements = x.1 }) (λ x. (x.syntax, x.statements))
-    (seq (optional (only 0) syntax) (times all statement))
+abbrev pub to_reserved_kind : {M : Type 0} → t.Ranges M ⊎ t.Names M → t.ReservedKind M
+to_reserved_kind (inl x) = t.ranges x
+to_reserved_kind (inr x) = t.names x
+
+abbrev pub from_reserved_kind : {M : Type 0} → t.ReservedKind M → t.Ranges M ⊎ t.Names M
+from_reserved_kind (t.ranges a) = inl a
+from_reserved_kind (t.names a) = inr a
+
+unfoldable pub reserved_kind : {M : Type 0} → Rule M (t.ReservedKind M)
+reserved_kind = named s.reserved_kind free to_reserved_kind from_reserved_kind
+    (choice (among (39 ∷ 43 ∷ [])) ranges names)
+
+unfoldable pub reserved : {M : Type 0} → Rule M (t.Reserved M)
+reserved = named s.reserved free (λ x. record { keyword = x.0; kind = x.1.0; end = x.1.1 }) (λ x. (x.keyword, (x.kind, x.end)))
+    (seq (the (codes "reserved")) (seq reserved_kind (sign s.semicolon)))
+
+-- an option list comes only after `to`
+abbrev pub ListFits : {M : Type 0} → t.Ranges M → Option (t.OptionList M) × M → Type 0
+ListFits x y = k.ListedAfterTo y.0 x
+
+unfoldable pub extensions : {M : Type 0} → Rule M (t.Extensions M)
+extensions = named s.extensions k.KeepsExtensions (λ x. record { keyword = x.0; ranges = x.1.0; options = x.1.1.0; end = x.1.1.1 }) (λ x. (x.keyword, (x.ranges, (x.options, x.end))))
+    (seq (the (codes "extensions")) (joined ListFits ranges (seq (optional (only 49) list) (sign s.semicolon))))
+
+abbrev pub EvalueAlone : {M : Type 0} → t.Evalue M → Type 0
+EvalueAlone x = k.Given k.KeepsList x.options
+
+unfoldable pub evalue : {M : Type 0} → Rule M (t.Evalue M)
+evalue = named s.evalue EvalueAlone (λ x. record { name = x.0; equals_sign = x.1.0; number = x.1.1.0; options = x.1.1.1.0; end = x.1.1.1.1 }) (λ x. (x.name, (x.equals_sign, (x.number, (x.options, x.end)))))
+    (seq ident (seq (sign s.equals) (seq int (seq (optional (only 49) list) (sign s.semicolon)))))
+
+abbrev pub to_enum_element : {M : Type 0} → M ⊎ ((t.OptionStatement M ⊎ (t.Reserved M)) ⊎ t.Evalue M) → t.EnumElement M
+to_enum_element (inl x) = t.enum_empty x
+to_enum_element (inr (inl (inl x))) = t.enum_option x
+to_enum_element (inr (inl (inr x))) = t.enum_reserved x
+to_enum_element (inr (inr x)) = t.enum_value x
+
+abbrev pub from_enum_element : {M : Type 0} → t.EnumElement M → M ⊎ ((t.OptionStatement M ⊎ (t.Reserved M)) ⊎ t.Evalue M)
+from_enum_element (t.enum_empty x) = inl x
+from_enum_element (t.enum_option x) = inr (inl (inl x))
+from_enum_element (t.enum_reserved x) = inr (inl (inr x))
+from_enum_element (t.enum_value x) = inr (inr x)
+
+unfoldable pub enum_element : {M : Type 0} → Rule M (t.EnumElement M)
+enum_element = named s.enum_element k.KeepsEnumElement to_enum_element from_enum_element
+    (choice (only 56) (sign s.semicolon) (unless (among (6 ∷ 34 ∷ [])) (choice (only 6) option reserved) evalue))
+
+unfoldable pub enum : {M : Type 0} → Rule M (t.Enum M)
+enum = named s.enum k.KeepsEnum (λ x. record { keyword = x.0; name = x.1.0; open_at = x.1.1.0; elements = x.1.1.1.0; close_at = x.1.1.1.1 }) (λ x. (x.keyword, (x.name, (x.open_at, (x.elements, x.close_at)))))
+    (seq (the (codes "enum")) (seq ident (seq (sign s.open_brace) (seq (times (but 48) enum_element) (sign s.close_brace)))))
+
+abbrev pub to_rpc_type : {M : Type 0} → (M × t.TypeName M) ⊎ t.TypeName M → t.RpcType M
+to_rpc_type (inl x) = record { stream = Some x.0; name = x.1 }
+to_rpc_type (inr x) = record { stream = None; name = x }
+
+abbrev pub streamed : {M : Type 0} → Option M → t.TypeName M → (M × t.TypeName M) ⊎ t.TypeName M
+streamed (Some m) x = inl (m, x)
+streamed None x = inr x
+
+abbrev pub from_rpc_type : {M : Type 0} → t.RpcType M → (M × t.TypeName M) ⊎ t.TypeName M
+from_rpc_type x = streamed x.stream x.name
+
+unfoldable pub rpc_type : {M : Type 0} → Rule M (t.RpcType M)
+rpc_type = named s.rpc_type k.BeginsWithNoStream to_rpc_type from_rpc_type (unless (among (9 ∷ [])) (seq (the (codes "stream")) typename) typename)
+
+abbrev pub to_rpc_element : {M : Type 0} → M ⊎ t.OptionStatement M → t.RpcElement M
+to_rpc_element (inl x) = t.rpc_empty x
+to_rpc_element (inr x) = t.rpc_option x
+
+abbrev pub from_rpc_element : {M : Type 0} → t.RpcElement M → M ⊎ t.OptionStatement M
+from_rpc_element (t.rpc_empty a) = inl a
+from_rpc_element (t.rpc_option a) = inr a
+
+unfoldable pub rpc_element : {M : Type 0} → Rule M (t.RpcElement M)
+rpc_element = named s.rpc_element k.KeepsRpcElement to_rpc_element from_rpc_element
+    (choice (only 56) (sign s.semicolon) option)
+
+abbrev pub to_rpc_end : {M : Type 0} → M ⊎ (M × (List (t.RpcElement M) × M)) → t.RpcEnd M
+to_rpc_end (inl x) = t.rpc_semicolon x
+to_rpc_end (inr x) = t.rpc_braces x.0 x.1.0 x.1.1
+
+abbrev pub from_rpc_end : {M : Type 0} → t.RpcEnd M → M ⊎ (M × (List (t.RpcElement M) × M))
+from_rpc_end (t.rpc_semicolon a) = inl a
+from_rpc_end (t.rpc_braces a b c) = inr ((a, (b, c)))
+
+unfoldable pub rpc_end : {M : Type 0} → Rule M (t.RpcEnd M)
+rpc_end = named s.rpc_end k.KeepsRpcEnd to_rpc_end from_rpc_end
+    (choice (only 56) (sign s.semicolon) (seq (sign s.open_brace) (seq (times (but 48) rpc_element) (sign s.close_brace))))
+
+unfoldable pub rpc : {M : Type 0} → Rule M (t.Rpc M)
+rpc = named s.rpc k.KeepsRpc (λ x. record { keyword = x.0; name = x.1.0; input_open = x.1.1.0; input = x.1.1.1.0; input_close = x.1.1.1.1.0; returns_at = x.1.1.1.1.1.0; output_open = x.1.1.1.1.1.1.0; output = x.1.1.1.1.1.1.1.0; output_close = x.1.1.1.1.1.1.1.1.0; end = x.1.1.1.1.1.1.1.1.1 }) (λ x. (x.keyword, (x.name, (x.input_open, (x.input, (x.input_close, (x.returns_at, (x.output_open, (x.output, (x.output_close, x.end))))))))))
+    (seq (the (codes "rpc")) (seq ident (seq (sign s.open_paren) (seq rpc_type (seq (sign s.close_paren) (seq (the (codes "returns")) (seq (sign s.open_paren) (seq rpc_type (seq (sign s.close_paren) rpc_end)))))))))
+
+abbrev pub to_service_element : {M : Type 0} → M ⊎ (t.OptionStatement M ⊎ t.Rpc M) → t.ServiceElement M
+to_service_element (inl x) = t.service_empty x
+to_service_element (inr (inl x)) = t.service_option x
+to_service_element (inr (inr x)) = t.service_rpc x
+
+abbrev pub from_service_element : {M : Type 0} → t.ServiceElement M → M ⊎ (t.OptionStatement M ⊎ t.Rpc M)
+from_service_element (t.service_empty a) = inl a
+from_service_element (t.service_option a) = inr (inl a)
+from_service_element (t.service_rpc a) = inr (inr a)
+
+unfoldable pub service_element : {M : Type 0} → Rule M (t.ServiceElement M)
+service_element = named s.service_element k.KeepsServiceElement to_service_element from_service_element
+    (choice (only 56) (sign s.semicolon) (choice (only 6) option rpc))
+
+unfoldable pub service : {M : Type 0} → Rule M (t.Service M)
+service = named s.service k.KeepsService (λ x. record { keyword = x.0; name = x.1.0; open_at = x.1.1.0; elements = x.1.1.1.0; close_at = x.1.1.1.1 }) (λ x. (x.keyword, (x.name, (x.open_at, (x.elements, x.close_at)))))
+    (seq (the (codes "service")) (seq ident (seq (sign s.open_brace) (seq (times (but 48) service_element) (sign s.close_brace)))))

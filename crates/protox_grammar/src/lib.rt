@@ -2,7 +2,7 @@
 //! A law holds for rows with marks of any type that has a value, as spans or `()`.
 #![tactic(auto)]
 
-ghost use Rattle.protox_grammar.specs.whole.Grammar as grammar;
+ghost use Rattle.protox_grammar.specs.Grammar as grammar;
 
 /// No rows are the spelling of two trees that keep the keyword rules.
 pub fn one_tree<M>(_mark: &M)

@@ -8,13 +8,13 @@ use Rattle.protox_lex.specs.Table.{Table, rows_of, faults_of, table_of}
 use Rattle.protox_lex.specs.declared.error.SyntaxFailure.{SyntaxFailure}
 use Rattle.protox_lex.specs.declared.error.SyntaxFailure.TheVariants.{Faults, OutOfMemory}
 use Rattle.protox_lex.proofs.Tables.{faults_of_length}
-use Rattle.protox_ast.specs.Tree as tree
-use Rattle.protox_ast.specs.Ast as ast
-use Rattle.protox_ast.specs.Spelling as s
-use Rattle.protox_ast.specs.Depth.{depth}
+use Rattle.protox_ast.specs.part.Tree as tree
+use Rattle.protox_ast.specs.part.Ast as ast
+use Rattle.protox_ast.specs.part.Spelling as s
+use Rattle.protox_ast.specs.part.Depth.{depth}
 use Rattle.protox_ast.specs.Accepted.{Fits, IsAccepted, FaultsLieIn, IsFileOf, IsOutOfMemory}
 use Rattle.protox_ast.specs.declared.ast.File.{File}
-use Rattle.protox_grammar.proofs.Main.{one_tree, shallow}
+use Rattle.protox_grammar.proofs.part.Main.{one_tree, shallow}
 use Rattle.protox_syntax.specs.Weave.{released}
 use Rattle.protox_syntax.specs.Judging.{IsWhole, Judges, made, syntax_or_default, with_comments}
 use Rattle.protox_syntax.proofs.Fine.{seen_file, read-whole, whole-read, notes-fine, fine-notes}

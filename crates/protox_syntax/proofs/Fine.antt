@@ -3,24 +3,24 @@ use Rattle.std.proofs.Common.{◌≡◌, ◌↔◌, ℕ, zero, suc, Bool, true, 
 use Rattle.protox_lex.specs.Faults.{Span}
 use Rattle.protox_lex.specs.Shapes.{Mark, Rows}
 use Rattle.protox_lex.specs.declared.error.ParseErrorKind.{ParseErrorKind}
-use Rattle.protox_ast.specs.Tree as tree
-use Rattle.protox_ast.specs.Spelling as s
-use Rattle.protox_ast.specs.Ast as ast
+use Rattle.protox_ast.specs.part.Tree as tree
+use Rattle.protox_ast.specs.part.Spelling as s
+use Rattle.protox_ast.specs.part.Ast as ast
 use Rattle.protox_ast.specs.Keywords.{Given, Each}
 use Rattle.protox_ast.specs.Checks.{is_known_syntax, is_text, is_import_path, HasKnownSyntax, ImportsFile, StatementIsFine, IsFine}
-use Rattle.protox_ast.specs.Spells.{Spells}
+use Rattle.protox_ast.specs.part.Spells.{Spells}
 use Rattle.protox_ast.specs.declared.ast.Syntax.{Syntax}
 use Rattle.protox_grammar.specs.Class.{only, all, among, in_set}
 use Rattle.protox_grammar.specs.Reader as reader
 use Rattle.protox_grammar.specs.Reader.{Reader, ◌>>=◌, head_in, fixed, seq, mapped, star, star_at}
 use Rattle.protox_grammar.specs.Rule.{optional, times, to_option}
-use Rattle.protox_grammar.specs.Rules as r
-use Rattle.protox_grammar.specs.Reads.{read}
+use Rattle.protox_grammar.specs.part.Rules as r
+use Rattle.protox_grammar.specs.part.Reads.{read}
 use Rattle.protox_grammar.proofs.Takes.{bind_ok, ok_is}
 use Rattle.protox_grammar.proofs.Reading.{chosen, err-ok}
 use Rattle.protox_grammar.proofs.Forms.{mark-laws}
 use Rattle.protox_grammar.proofs.Tests.{words-class}
-use Rattle.protox_grammar.proofs.Main.{accepts_iff}
+use Rattle.protox_grammar.proofs.part.Main.{accepts_iff}
 use Rattle.protox_grammar.proofs.Shows.{Shows, seen, paired, then, head-tests, optional-shows}
 use Rattle.protox_syntax.specs.Reads as reads
 use Rattle.protox_syntax.specs.Notes.{is_invalid, noted, syntax_faults, text_faults, path_faults, checked, syntax_check, syntax_notes, syntax_if_any_notes, import_check, import_notes, statement_notes, then_notes, notes_from, statements_notes}

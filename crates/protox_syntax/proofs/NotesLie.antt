@@ -5,9 +5,9 @@ use Rattle.protox_lex.specs.Shapes.{Rows}
 use Rattle.protox_lex.specs.Table.{StandBetween}
 use Rattle.protox_lex.specs.declared.error.ParseErrorKind.{ParseErrorKind}
 use Rattle.protox_lex.specs.declared.error.ParseErrorKind.TheVariants.{InvalidUtf8String, InvalidImport, UnknownSyntax}
-use Rattle.protox_ast.specs.Tree as tree
-use Rattle.protox_ast.specs.Spelling as s
-use Rattle.protox_ast.specs.Ast as ast
+use Rattle.protox_ast.specs.part.Tree as tree
+use Rattle.protox_ast.specs.part.Spelling as s
+use Rattle.protox_ast.specs.part.Ast as ast
 use Rattle.protox_ast.specs.Keywords.{Each}
 use Rattle.protox_ast.specs.Checks.{is_known_syntax, is_text, is_import_path}
 use Rattle.protox_ast.specs.declared.ast.ImportKind.{ImportKind}
@@ -15,11 +15,11 @@ use Rattle.protox_grammar.specs.Class.{only, among, in_set}
 use Rattle.protox_grammar.specs.Reader.{Reader, Refusal, head_in, seq, optional}
 use Rattle.protox_grammar.specs.Rule.{Rule}
 use Rattle.protox_grammar.specs.Rule as rule
-use Rattle.protox_grammar.specs.Rules as r
+use Rattle.protox_grammar.specs.part.Rules as r
 use Rattle.protox_grammar.proofs.Reading.{IsRead}
 use Rattle.protox_grammar.proofs.Forms.{word-laws, mark-laws, optional-laws}
 use Rattle.protox_grammar.proofs.Parts as parts
-use Rattle.protox_grammar.proofs.Messages as messages
+use Rattle.protox_grammar.proofs.part.Messages as messages
 use Rattle.protox_grammar.proofs.Tests.{words-class}
 use Rattle.protox_grammar.proofs.Shows.{Shows, optional-shows}
 use Rattle.protox_syntax.specs.Reads as reads

@@ -8,11 +8,11 @@ use Rattle.protox_lex.specs.Table.{StandBetween}
 use Rattle.protox_grammar.specs.Class.{only, all}
 use Rattle.protox_grammar.specs.Reader.{Reader, Refusal, Unexpected, ◌>>=◌}
 use Rattle.protox_grammar.specs.Rule.{Rule, optional, times}
-use Rattle.protox_grammar.specs.Rules as r
+use Rattle.protox_grammar.specs.part.Rules as r
 use Rattle.protox_grammar.proofs.Reading.{IsRead, left_of, bind_err, map_err, ok-err}
 use Rattle.protox_grammar.proofs.Forms.{optional-laws, times-laws}
 use Rattle.protox_grammar.proofs.Parts as parts
-use Rattle.protox_grammar.proofs.Messages as messages
+use Rattle.protox_grammar.proofs.part.Messages as messages
 use Rattle.protox_grammar.proofs.Shows.{Shows}
 use Rattle.protox_syntax.specs.Reads as reads
 use Rattle.protox_syntax.specs.Whole.{whole}

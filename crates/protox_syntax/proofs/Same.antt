@@ -3,9 +3,9 @@ use Rattle.std.proofs.Common.{◌≡◌, ℕ, not, List, [], ◌∷◌, ◌++◌
 use Rattle.std.specs.List.{filter_map, cons_option}
 use Rattle.protox_lex.specs.Faults.{Span}
 use Rattle.protox_lex.specs.Shapes.{Shape, Ident, Mark}
-use Rattle.protox_ast.specs.Tree as tree
-use Rattle.protox_ast.specs.Spelling as s
-use Rattle.protox_ast.specs.Ast as ast
+use Rattle.protox_ast.specs.part.Tree as tree
+use Rattle.protox_ast.specs.part.Spelling as s
+use Rattle.protox_ast.specs.part.Ast as ast
 use Rattle.protox_ast.specs.declared.ast.Ident as ident_type
 use Rattle.protox_ast.specs.declared.ast.TypeName as type_name
 use Rattle.protox_ast.specs.declared.ast.Int as int_type
@@ -20,12 +20,12 @@ use Rattle.protox_ast.specs.declared.ast.MessageItem.TheVariants as item
 use Rattle.protox_grammar.specs.Class.{only, all, but, class, in_set}
 use Rattle.protox_grammar.specs.Reader.{Consumes, fixed, leaf, seq, star, folded, see_word, see_integer, see_text}
 use Rattle.protox_grammar.specs.Rule.{optional}
-use Rattle.protox_grammar.specs.Rules as r
+use Rattle.protox_grammar.specs.part.Rules as r
 use Rattle.protox_grammar.proofs.Shows.{Shows, as_is, seq-shows, mapped-shows, either-shows, star-shows, unstarted-shows, optional-shows, shows-by, left-shows, right-shows, two, three, shows-eats}
 use Rattle.protox_grammar.proofs.Tests.{word-class, mark-class, words-class, scalar-class, string-class}
 use Rattle.protox_grammar.proofs.Forms.{mark-laws, seq-laws}
 use Rattle.protox_grammar.proofs.Parts as parts
-use Rattle.protox_grammar.proofs.Messages as messages
+use Rattle.protox_grammar.proofs.part.Messages as messages
 use Rattle.protox_syntax.specs.Reads as reads
 use Rattle.protox_syntax.specs.declared.statement_types.Statement.{Statement}
 use Rattle.protox_syntax.specs.declared.statement_types.Statement.TheVariants as statement

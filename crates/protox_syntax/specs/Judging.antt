@@ -8,7 +8,7 @@ use Rattle.protox_lex.specs.Table.{Table, table_of}
 use Rattle.protox_lex.specs.declared.error.SyntaxFailure.{SyntaxFailure}
 use Rattle.protox_lex.specs.declared.error.SyntaxFailure.TheVariants.{Faults, OutOfMemory}
 use Rattle.protox_ast.specs.Keywords.{Each}
-use Rattle.protox_ast.specs.Ast.{no_comments, rows_span}
+use Rattle.protox_ast.specs.part.Ast.{no_comments, rows_span}
 use Rattle.protox_ast.specs.declared.ast.Comments.{Comments}
 use Rattle.protox_ast.specs.declared.ast.Syntax.{Syntax}
 use Rattle.protox_ast.specs.declared.ast.Syntax.TheVariants.{Proto2}

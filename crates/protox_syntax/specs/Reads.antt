@@ -3,9 +3,10 @@ use Rattle.std.specs.Prelude.{ℕ, List, [], ◌∷◌, ◌++◌, codes, Bool, t
 use Rattle.protox_lex.specs.Faults.{Span}
 use Rattle.protox_lex.specs.Shapes.{Shape, Ident, Mark}
 use Rattle.protox_grammar.specs.Reader.{Reader, is_token, is_word_of, is_string, fixed, leaf, seq, mapped, either, optional, star, unstarted, gathered, folded, see_word, see_integer, see_text}
-use Rattle.protox_grammar.specs.Rules.{see_scalar, barred_words}
+use Rattle.protox_grammar.specs.Rules.{see_scalar}
+use Rattle.protox_grammar.specs.part.Rules.{barred_words}
 use Rattle.protox_ast.specs.Spelling.{dot, minus, open_brace, close_brace, equals, semicolon}
-use Rattle.protox_ast.specs.Ast.{join, last_place, no_comments, text_of, dotted_start, signed_span, syntax_of, scalar}
+use Rattle.protox_ast.specs.part.Ast.{join, last_place, no_comments, text_of, dotted_start, signed_span, syntax_of, scalar}
 use Rattle.protox_ast.specs.declared.ast.Ident as ident_type
 use Rattle.protox_ast.specs.declared.ast.TypeName as type_name
 use Rattle.protox_ast.specs.declared.ast.Int as int_type

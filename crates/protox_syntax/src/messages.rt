@@ -2,7 +2,7 @@
 
 ghost use Rattle.std.specs.Prelude.{◌≡◌, OnOk};
 ghost use Rattle.protox_grammar.specs.Reader.{any_word, head_in, is_word_of};
-ghost use Rattle.protox_grammar.specs.Rules.{barred_words};
+ghost use Rattle.protox_grammar.specs.part.Rules.{barred_words};
 ghost use Rattle.protox_syntax.specs.Rows.{rows_from};
 ghost use Rattle.protox_syntax.specs.Outcome.{Gives};
 ghost use Rattle.protox_syntax.specs.Reads.{add, element_at, elements_at, goes_on, mbody_at, message_at};

@@ -1,7 +1,7 @@
 //! Names and numbers.
 
 ghost use Rattle.std.specs.Prelude.{◌≡◌, ◌<◌, IfOk, length};
-ghost use Rattle.protox_ast.specs.Ast.{dotted_start, last_place, no_comments};
+ghost use Rattle.protox_ast.specs.part.Ast.{dotted_start, last_place, no_comments};
 ghost use Rattle.protox_grammar.specs.Reader.{optional};
 ghost use Rattle.protox_ast.specs.Spelling.{dot, minus};
 ghost use Rattle.protox_ast.specs.declared.ast.Ident as ident_type;

@@ -1,4 +1,4 @@
-use Rattle.protox_grammar.proofs.whole.Main as main
+use Rattle.protox_grammar.proofs.Main as main
 use Rattle.protox_grammar.proofs.unexpected.Goals as goal
 
 pub returns : goal.returns

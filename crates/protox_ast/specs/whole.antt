@@ -1,5 +1,0 @@
-pub mod Tree
-pub mod Spelling
-pub mod Keywords
-pub mod Depth
-pub mod Spells

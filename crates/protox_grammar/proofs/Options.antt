@@ -1,0 +1,131 @@
+-- The laws of options.
+use Rattle.std.proofs.Common.{◌≡◌, false, [], ◌∷◌, Option, codes, refl, inl, inr, ◌⊎◌}
+use Rattle.protox_lex.specs.Shapes.{Rows}
+use Rattle.protox_grammar.specs.Class.{all, none, only, words, union, among}
+use Rattle.protox_grammar.specs.Rule.{seq, choice, optional}
+use Rattle.protox_ast.specs.Tree as t
+use Rattle.protox_ast.specs.Spelling as s
+use Rattle.protox_ast.specs.Keywords as k
+use Rattle.protox_grammar.specs.Rules as r
+use Rattle.protox_grammar.proofs.Closed.{closed-spelled, closed-read}
+use Rattle.protox_grammar.proofs.Forms.{Lawful, word-laws, mark-laws, seq-laws, choice-laws, optional-laws, times-laws, named-laws, wide}
+use Rattle.protox_grammar.proofs.Parts as parts
+
+module _ {M : Type 0} (m : M) where
+  closed-laws : Lawful {M = M} r.closed false all none
+  closed-laws = record { spelled = closed-spelled; read = closed-read m }
+
+  part-back : (x : t.Part M) → r.to_part (r.from_part x) ≡ x
+  part-back (t.plain_part a) = refl
+  part-back (t.extension_part a b c) = refl
+
+  part-there : (x : t.Word M ⊎ (M × (t.TypeName M × M))) → r.from_part (r.to_part x) ≡ x
+  part-there (inl x) = refl
+  part-there (inr x) = refl
+
+  part-is : (x : t.Part M) → s.part x ≡ (choice words r.ident (seq (r.sign s.open_paren) (seq r.typename (r.sign s.close_paren)))).spell (r.from_part x)
+  unfolding r.part r.typename
+  part-is (t.plain_part a) = refl
+  part-is (t.extension_part a b c) = refl
+
+  part-obeys : (x : t.Part M) → Unit {0} → (choice words r.ident (seq (r.sign s.open_paren) (seq r.typename (r.sign s.close_paren)))).may (r.from_part x)
+  unfolding r.part r.typename
+  part-obeys (t.plain_part a) h = tt
+  part-obeys (t.extension_part a b c) h = (tt, (tt, tt))
+
+  part-allows : (x : t.Part M) → (choice words r.ident (seq (r.sign s.open_paren) (seq r.typename (r.sign s.close_paren)))).may (r.from_part x) → Unit {0}
+  unfolding r.part r.typename
+  part-allows (t.plain_part a) h = tt
+  part-allows (t.extension_part a b c) h = tt
+
+  pub part-laws : Lawful {M = M} r.part false (union words (only 45)) none
+  unfolding r.part r.typename
+  part-laws = wide _ _ (named-laws s.part r.free _ _ part-back part-there part-is
+      part-obeys part-allows (λ x h. h)
+      (choice-laws words (parts.ident-laws m) refl (seq-laws (mark-laws m s.open_paren 45 refl) (seq-laws (parts.typename-laws m) (mark-laws m s.close_paren 46 refl) refl) refl) refl)) refl refl
+
+  constant-back : (x : t.Constant M) → r.to_constant (r.from_constant x) ≡ x
+  constant-back (t.ident a) = refl
+  constant-back (t.integer a) = refl
+  constant-back (t.float a) = refl
+
+  constant-there : (x : t.Word M ⊎ (t.Number M ⊎ t.Float M)) → r.from_constant (r.to_constant x) ≡ x
+  constant-there (inl x) = refl
+  constant-there (inr (inl x)) = refl
+  constant-there (inr (inr x)) = refl
+
+  constant-is : (x : t.Constant M) → s.constant x ≡ (choice words r.ident (choice (only 39) r.integer r.float)).spell (r.from_constant x)
+  unfolding r.constant
+  constant-is (t.ident a) = refl
+  constant-is (t.integer a) = refl
+  constant-is (t.float a) = refl
+
+  constant-obeys : (x : t.Constant M) → Unit {0} → (choice words r.ident (choice (only 39) r.integer r.float)).may (r.from_constant x)
+  unfolding r.constant
+  constant-obeys (t.ident a) h = tt
+  constant-obeys (t.integer a) h = tt
+  constant-obeys (t.float a) h = tt
+
+  constant-allows : (x : t.Constant M) → (choice words r.ident (choice (only 39) r.integer r.float)).may (r.from_constant x) → Unit {0}
+  unfolding r.constant
+  constant-allows (t.ident a) h = tt
+  constant-allows (t.integer a) h = tt
+  constant-allows (t.float a) h = tt
+
+  pub constant-laws : Lawful {M = M} r.constant false (union words (among (39 ∷ 40 ∷ []))) none
+  unfolding r.constant
+  constant-laws = wide _ _ (named-laws s.constant r.free _ _ constant-back constant-there constant-is
+      constant-obeys constant-allows (λ x h. h)
+      (choice-laws words (parts.ident-laws m) refl (choice-laws (only 39) (parts.integer-laws m) refl (parts.float-laws m) refl) refl)) refl refl
+
+  value-back : (x : t.Value M) → r.to_value (r.from_value x) ≡ x
+  value-back (t.constant a b) = refl
+  value-back (t.strings a) = refl
+  value-back (t.aggregate a b c) = refl
+
+  value-there : (x : (Option M × t.Constant M) ⊎ (t.Strings M ⊎ (M × (Rows M × M)))) → r.from_value (r.to_value x) ≡ x
+  value-there (inl x) = refl
+  value-there (inr (inl x)) = refl
+  value-there (inr (inr x)) = refl
+
+  value-is : (x : t.Value M) → s.value x ≡ (choice (union words (among (39 ∷ 40 ∷ 43 ∷ []))) (seq (optional (only 43) (r.sign s.minus)) r.constant) (choice (only 41) r.strings (seq (r.sign s.open_brace) r.closed))).spell (r.from_value x)
+  unfolding r.value r.constant r.strings
+  value-is (t.constant a b) = refl
+  value-is (t.strings a) = refl
+  value-is (t.aggregate a b c) = refl
+
+  value-obeys : (x : t.Value M) → k.KeepsValue x → (choice (union words (among (39 ∷ 40 ∷ 43 ∷ []))) (seq (optional (only 43) (r.sign s.minus)) r.constant) (choice (only 41) r.strings (seq (r.sign s.open_brace) r.closed))).may (r.from_value x)
+  unfolding r.value r.constant r.strings
+  value-obeys (t.constant a b) h = (parts.given-all _ (λ y. tt) a, tt)
+  value-obeys (t.strings a) h = tt
+  value-obeys (t.aggregate a b c) h = (tt, h)
+
+  value-allows : (x : t.Value M) → (choice (union words (among (39 ∷ 40 ∷ 43 ∷ []))) (seq (optional (only 43) (r.sign s.minus)) r.constant) (choice (only 41) r.strings (seq (r.sign s.open_brace) r.closed))).may (r.from_value x) → k.KeepsValue x
+  unfolding r.value r.constant r.strings
+  value-allows (t.constant a b) h = tt
+  value-allows (t.strings a) h = tt
+  value-allows (t.aggregate a b c) h = h.1
+
+  pub value-laws : Lawful {M = M} r.value false (union words (among (39 ∷ 40 ∷ 43 ∷ 41 ∷ 47 ∷ []))) (only 41)
+  unfolding r.value r.constant r.strings
+  value-laws = wide _ _ (named-laws s.value k.KeepsValue _ _ value-back value-there value-is
+      value-obeys value-allows (λ x h. h)
+      (choice-laws (union words (among (39 ∷ 40 ∷ 43 ∷ []))) (seq-laws (optional-laws (only 43) (mark-laws m s.minus 43 refl) refl) constant-laws refl) refl (choice-laws (only 41) (parts.strings-laws m) refl (seq-laws (mark-laws m s.open_brace 47 refl) closed-laws refl) refl) refl)) refl refl
+
+  pub body-laws : Lawful {M = M} r.body false (union words (only 45)) (only 41)
+  unfolding r.body r.part r.value
+  body-laws = wide _ _ (named-laws s.body k.KeepsBody _ _ (λ x. refl) (λ x. refl) (λ x. refl)
+      (λ x h. (tt, (parts.each-all _ (λ y. (tt, tt)) x.others, (tt, h)))) (λ x h. h.1.1.1) (λ x h. h)
+      (seq-laws part-laws (seq-laws (times-laws (only 42) (seq-laws (mark-laws m s.dot 42 refl) part-laws refl) refl refl) (seq-laws (mark-laws m s.equals 54 refl) value-laws refl) refl) refl)) refl refl
+
+  pub option-laws : Lawful {M = M} r.option false (only 6) none
+  unfolding r.option r.body
+  option-laws = wide _ _ (named-laws s.option k.KeepsOption _ _ (λ x. refl) (λ x. refl) (λ x. refl)
+      (λ x h. (tt, (h, tt))) (λ x h. h.1.0) (λ x h. h)
+      (seq-laws (word-laws m (codes "option") 6 refl) (seq-laws body-laws (mark-laws m s.semicolon 56 refl) refl) refl)) refl refl
+
+  pub list-laws : Lawful {M = M} r.list false (only 49) none
+  unfolding r.list r.body
+  list-laws = wide _ _ (named-laws s.list k.KeepsList _ _ (λ x. refl) (λ x. refl) (λ x. refl)
+      (λ x h. (tt, (h.0, (parts.each-map _ _ (λ y h. (tt, h)) x.others h.1, tt)))) (λ x h. (h.1.0, parts.each-map _ _ (λ y h. h.1) x.others h.1.1.0)) (λ x h. h)
+      (seq-laws (mark-laws m s.open_bracket 49 refl) (seq-laws body-laws (seq-laws (times-laws (only 53) (seq-laws (mark-laws m s.comma 53 refl) body-laws refl) refl refl) (mark-laws m s.close_bracket 50 refl) refl) refl) refl)) refl refl

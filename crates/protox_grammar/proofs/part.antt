@@ -1,0 +1,4 @@
+pub mod Messages
+pub mod Main
+pub mod ReadYet
+pub mod SyntaxTree

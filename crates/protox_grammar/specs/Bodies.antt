@@ -1,0 +1,303 @@
+-- MACHINERY. The rules of the grammar that hold messages or stand in them, over the rule of a body, and the rule of files.
+use Rattle.std.specs.Prelude.{◌≤◌, ℕ, zero, suc, List, [], ◌∷◌, length, Err, Option, Some, None, ◌⊎◌, codes}
+use Rattle.std.proofs.Common.{inl, inr}
+use Rattle.protox_grammar.specs.Class.{only, all, but, among}
+use Rattle.protox_ast.specs.Tree as t
+use Rattle.protox_ast.specs.Spelling as s
+use Rattle.protox_ast.specs.Keywords as k
+use Rattle.protox_ast.specs.Depth as d
+use Rattle.protox_grammar.specs.Reader.{Reader, Deep}
+use Rattle.protox_grammar.specs.Rule.{Rule, seq, named_fits, unless, choice, optional, times}
+use Rattle.protox_grammar.specs.Rules.{the, sign, ident, int, list, label, map, normal, option, typename, enum, reserved, extensions, syntax, «import», «package», service}
+
+-- ---- what may stand in a message, over what is said of the bodies in it
+
+module _ {M : Type 0} (P : t.Mbody M → Type 0) where
+  abbrev pub GroupHas : t.Group M → Type 0
+  GroupHas (t.group_of m n e i l b) = k.Given k.KeepsList l × P b
+
+  abbrev pub KindHas : t.FieldKind M → Type 0
+  KindHas (t.normal x) = k.KeepsNormal x
+  KindHas (t.map x) = k.KeepsMap x
+  KindHas (t.group x) = GroupHas x
+
+  abbrev pub FieldHas : t.Field M → Type 0
+  FieldHas (t.field_of l x) = k.BeginsWithNoLabel (t.field_of l x) × KindHas x
+
+  abbrev pub OneofElementHas : t.OneofElement M → Type 0
+  OneofElementHas (t.oneof_empty m) = Unit {0}
+  OneofElementHas (t.oneof_option x) = k.KeepsOption x
+  OneofElementHas (t.oneof_field x) = k.BeginsWithNoOption x × FieldHas x
+
+  abbrev pub OneofElementsHas : t.OneofElements M → Type 0
+  OneofElementsHas t.no_oneof_elements = Unit {0}
+  OneofElementsHas (t.oneof_elements e es) = OneofElementHas e × OneofElementsHas es
+
+  abbrev pub OneofHas : t.Oneof M → Type 0
+  OneofHas (t.oneof_of m n o es c) = OneofElementsHas es
+
+  abbrev pub ExtendElementHas : t.ExtendElement M → Type 0
+  ExtendElementHas (t.extend_empty m) = Unit {0}
+  ExtendElementHas (t.extend_field x) = FieldHas x
+
+  abbrev pub ExtendElementsHas : t.ExtendElements M → Type 0
+  ExtendElementsHas t.no_extend_elements = Unit {0}
+  ExtendElementsHas (t.extend_elements e es) = ExtendElementHas e × ExtendElementsHas es
+
+  abbrev pub ExtendHas : t.Extend M → Type 0
+  ExtendHas (t.extend_of m n o es c) = ExtendElementsHas es
+
+  abbrev pub MessageHas : t.Message M → Type 0
+  MessageHas (t.message_of m n b) = P b
+
+  abbrev pub ElementHas : t.Element M → Type 0
+  ElementHas (t.empty m) = Unit {0}
+  ElementHas (t.field x) = k.BeginsWithNoElement x × FieldHas x
+  ElementHas (t.oneof x) = OneofHas x
+  ElementHas (t.enum x) = k.KeepsEnum x
+  ElementHas (t.message x) = MessageHas x
+  ElementHas (t.extend x) = ExtendHas x
+  ElementHas (t.option x) = k.KeepsOption x
+  ElementHas (t.reserved x) = Unit {0}
+  ElementHas (t.extensions x) = k.KeepsExtensions x
+
+  abbrev pub ElementsHas : t.Elements M → Type 0
+  ElementsHas t.no_elements = Unit {0}
+  ElementsHas (t.elements e es) = ElementHas e × ElementsHas es
+
+  abbrev pub MbodyHas : t.Mbody M → Type 0
+  MbodyHas (t.mbody_of o es c) = ElementsHas es
+
+  abbrev pub StatementHas : t.Statement M → Type 0
+  StatementHas (t.an_empty m) = Unit {0}
+  StatementHas (t.an_import x) = Unit {0}
+  StatementHas (t.a_package x) = Unit {0}
+  StatementHas (t.an_option x) = k.KeepsOption x
+  StatementHas (t.an_extend x) = ExtendHas x
+  StatementHas (t.a_message x) = MessageHas x
+  StatementHas (t.an_enum x) = k.KeepsEnum x
+  StatementHas (t.a_service x) = k.KeepsService x
+
+  abbrev pub FileHas : t.File M → Type 0
+  FileHas x = k.Each StatementHas x.statements
+
+-- a body, read so, after which anything may come
+abbrev pub sealed : {M : Type 0} → (t.Mbody M → Type 0) → (t.Mbody M → Type 0) → Reader M (t.Mbody M) → Rule M (t.Mbody M)
+sealed P F read = record { spell = s.mbody; may = P; fits = F; ends = λ x z. P x; read = read }
+
+-- ---- rules of messages, over the rule of a body
+
+abbrev pub to_group : {M : Type 0} → M × (t.Word M × (M × (t.Int M × (Option (t.OptionList M) × t.Mbody M)))) → t.Group M
+to_group x = t.group_of x.0 x.1.0 x.1.1.0 x.1.1.1.0 x.1.1.1.1.0 x.1.1.1.1.1
+
+abbrev pub from_group : {M : Type 0} → t.Group M → M × (t.Word M × (M × (t.Int M × (Option (t.OptionList M) × t.Mbody M))))
+from_group (t.group_of m n e i l b) = (m, (n, (e, (i, (l, b)))))
+
+unfoldable pub group : {M : Type 0} → Rule M (t.Mbody M) → Rule M (t.Group M)
+group b = named_fits s.group (GroupHas b.may) (GroupHas b.fits) to_group from_group
+    (seq (the (codes "group")) (seq ident (seq (sign s.equals) (seq int (seq (optional (only 49) list) b)))))
+
+abbrev pub to_field_kind : {M : Type 0} → (t.Map M ⊎ t.Group M) ⊎ t.Normal M → t.FieldKind M
+to_field_kind (inl (inl x)) = t.map x
+to_field_kind (inl (inr x)) = t.group x
+to_field_kind (inr x) = t.normal x
+
+abbrev pub from_field_kind : {M : Type 0} → t.FieldKind M → (t.Map M ⊎ t.Group M) ⊎ t.Normal M
+from_field_kind (t.map x) = inl (inl x)
+from_field_kind (t.group x) = inl (inr x)
+from_field_kind (t.normal x) = inr x
+
+unfoldable pub field_kind : {M : Type 0} → Rule M (t.Mbody M) → Rule M (t.FieldKind M)
+field_kind b = named_fits s.field_kind (KindHas b.may) (KindHas b.fits) to_field_kind from_field_kind
+    (unless (among (16 ∷ 18 ∷ [])) (choice (only 16) map (group b)) normal)
+
+abbrev pub to_field : {M : Type 0} → (t.Label M × t.FieldKind M) ⊎ t.FieldKind M → t.Field M
+to_field (inl x) = t.field_of (Some x.0) x.1
+to_field (inr x) = t.field_of None x
+
+abbrev pub from_field : {M : Type 0} → t.Field M → (t.Label M × t.FieldKind M) ⊎ t.FieldKind M
+from_field (t.field_of (Some l) x) = inl (l, x)
+from_field (t.field_of None x) = inr x
+
+unfoldable pub field : {M : Type 0} → Rule M (t.Mbody M) → Rule M (t.Field M)
+field b = named_fits s.field (FieldHas b.may) (FieldHas b.fits) to_field from_field
+    (unless (among (13 ∷ 14 ∷ 15 ∷ [])) (seq label (field_kind b)) (field_kind b))
+
+abbrev pub to_oneof_element : {M : Type 0} → M ⊎ (t.OptionStatement M ⊎ t.Field M) → t.OneofElement M
+to_oneof_element (inl x) = t.oneof_empty x
+to_oneof_element (inr (inl x)) = t.oneof_option x
+to_oneof_element (inr (inr x)) = t.oneof_field x
+
+abbrev pub from_oneof_element : {M : Type 0} → t.OneofElement M → M ⊎ (t.OptionStatement M ⊎ t.Field M)
+from_oneof_element (t.oneof_empty x) = inl x
+from_oneof_element (t.oneof_option x) = inr (inl x)
+from_oneof_element (t.oneof_field x) = inr (inr x)
+
+unfoldable pub oneof_element : {M : Type 0} → Rule M (t.Mbody M) → Rule M (t.OneofElement M)
+oneof_element b = named_fits s.oneof_element (OneofElementHas b.may) (OneofElementHas b.fits) to_oneof_element from_oneof_element
+    (choice (only 56) (sign s.semicolon) (unless (among (6 ∷ [])) option (field b)))
+
+abbrev pub to_oneof_elements : {M : Type 0} → List (t.OneofElement M) → t.OneofElements M
+to_oneof_elements [] = t.no_oneof_elements
+to_oneof_elements (x ∷ xs) = t.oneof_elements x (to_oneof_elements xs)
+
+abbrev pub from_oneof_elements : {M : Type 0} → t.OneofElements M → List (t.OneofElement M)
+from_oneof_elements t.no_oneof_elements = []
+from_oneof_elements (t.oneof_elements x xs) = x ∷ from_oneof_elements xs
+
+unfoldable pub oneof_elements : {M : Type 0} → Rule M (t.Mbody M) → Rule M (t.OneofElements M)
+oneof_elements b = named_fits s.oneof_elements (OneofElementsHas b.may) (OneofElementsHas b.fits) to_oneof_elements from_oneof_elements (times (but 48) (oneof_element b))
+
+abbrev pub to_oneof : {M : Type 0} → M × (t.Word M × (M × (t.OneofElements M × M))) → t.Oneof M
+to_oneof x = t.oneof_of x.0 x.1.0 x.1.1.0 x.1.1.1.0 x.1.1.1.1
+
+abbrev pub from_oneof : {M : Type 0} → t.Oneof M → M × (t.Word M × (M × (t.OneofElements M × M)))
+from_oneof (t.oneof_of m n o es c) = (m, (n, (o, (es, c))))
+
+unfoldable pub oneof : {M : Type 0} → Rule M (t.Mbody M) → Rule M (t.Oneof M)
+oneof b = named_fits s.oneof (OneofHas b.may) (OneofHas b.fits) to_oneof from_oneof
+    (seq (the (codes "oneof")) (seq ident (seq (sign s.open_brace) (seq (oneof_elements b) (sign s.close_brace)))))
+
+abbrev pub to_extend_element : {M : Type 0} → M ⊎ t.Field M → t.ExtendElement M
+to_extend_element (inl x) = t.extend_empty x
+to_extend_element (inr x) = t.extend_field x
+
+abbrev pub from_extend_element : {M : Type 0} → t.ExtendElement M → M ⊎ t.Field M
+from_extend_element (t.extend_empty x) = inl x
+from_extend_element (t.extend_field x) = inr x
+
+unfoldable pub extend_element : {M : Type 0} → Rule M (t.Mbody M) → Rule M (t.ExtendElement M)
+extend_element b = named_fits s.extend_element (ExtendElementHas b.may) (ExtendElementHas b.fits) to_extend_element from_extend_element
+    (choice (only 56) (sign s.semicolon) (field b))
+
+abbrev pub to_extend_elements : {M : Type 0} → List (t.ExtendElement M) → t.ExtendElements M
+to_extend_elements [] = t.no_extend_elements
+to_extend_elements (x ∷ xs) = t.extend_elements x (to_extend_elements xs)
+
+abbrev pub from_extend_elements : {M : Type 0} → t.ExtendElements M → List (t.ExtendElement M)
+from_extend_elements t.no_extend_elements = []
+from_extend_elements (t.extend_elements x xs) = x ∷ from_extend_elements xs
+
+unfoldable pub extend_elements : {M : Type 0} → Rule M (t.Mbody M) → Rule M (t.ExtendElements M)
+extend_elements b = named_fits s.extend_elements (ExtendElementsHas b.may) (ExtendElementsHas b.fits) to_extend_elements from_extend_elements (times (but 48) (extend_element b))
+
+abbrev pub to_extend : {M : Type 0} → M × (t.TypeName M × (M × (t.ExtendElements M × M))) → t.Extend M
+to_extend x = t.extend_of x.0 x.1.0 x.1.1.0 x.1.1.1.0 x.1.1.1.1
+
+abbrev pub from_extend : {M : Type 0} → t.Extend M → M × (t.TypeName M × (M × (t.ExtendElements M × M)))
+from_extend (t.extend_of m n o es c) = (m, (n, (o, (es, c))))
+
+unfoldable pub extend : {M : Type 0} → Rule M (t.Mbody M) → Rule M (t.Extend M)
+extend b = named_fits s.extend (ExtendHas b.may) (ExtendHas b.fits) to_extend from_extend
+    (seq (the (codes "extend")) (seq typename (seq (sign s.open_brace) (seq (extend_elements b) (sign s.close_brace)))))
+
+abbrev pub to_message : {M : Type 0} → M × (t.Word M × t.Mbody M) → t.Message M
+to_message x = t.message_of x.0 x.1.0 x.1.1
+
+abbrev pub from_message : {M : Type 0} → t.Message M → M × (t.Word M × t.Mbody M)
+from_message (t.message_of m n b) = (m, (n, b))
+
+unfoldable pub message : {M : Type 0} → Rule M (t.Mbody M) → Rule M (t.Message M)
+message b = named_fits s.message (MessageHas b.may) (MessageHas b.fits) to_message from_message
+    (seq (the (codes "message")) (seq ident b))
+
+-- what begins with a Ident of its own in a message
+abbrev pub Special : Type 0 → Type 0
+Special M = t.Oneof M ⊎ (t.Enum M ⊎ (t.Message M ⊎ (t.Extend M ⊎ (t.OptionStatement M ⊎ (t.Reserved M ⊎ t.Extensions M)))))
+
+abbrev pub to_element : {M : Type 0} → M ⊎ (Special M ⊎ t.Field M) → t.Element M
+to_element (inl x) = t.empty x
+to_element (inr (inl (inl x))) = t.oneof x
+to_element (inr (inl (inr (inl x)))) = t.enum x
+to_element (inr (inl (inr (inr (inl x))))) = t.message x
+to_element (inr (inl (inr (inr (inr (inl x)))))) = t.extend x
+to_element (inr (inl (inr (inr (inr (inr (inl x))))))) = t.option x
+to_element (inr (inl (inr (inr (inr (inr (inr (inl x)))))))) = t.reserved x
+to_element (inr (inl (inr (inr (inr (inr (inr (inr x)))))))) = t.extensions x
+to_element (inr (inr x)) = t.field x
+
+abbrev pub from_element : {M : Type 0} → t.Element M → M ⊎ (Special M ⊎ t.Field M)
+from_element (t.empty x) = inl x
+from_element (t.field x) = inr (inr x)
+from_element (t.oneof x) = inr (inl (inl x))
+from_element (t.enum x) = inr (inl (inr (inl x)))
+from_element (t.message x) = inr (inl (inr (inr (inl x))))
+from_element (t.extend x) = inr (inl (inr (inr (inr (inl x)))))
+from_element (t.option x) = inr (inl (inr (inr (inr (inr (inl x))))))
+from_element (t.reserved x) = inr (inl (inr (inr (inr (inr (inr (inl x)))))))
+from_element (t.extensions x) = inr (inl (inr (inr (inr (inr (inr (inr x)))))))
+
+abbrev pub special : {M : Type 0} → Rule M (t.Mbody M) → Rule M (Special M)
+special b = choice (only 17) (oneof b) (choice (only 5) enum (choice (only 12) (message b) (choice (only 11) (extend b) (choice (only 6) option (choice (only 34) reserved extensions)))))
+
+unfoldable pub element : {M : Type 0} → Rule M (t.Mbody M) → Rule M (t.Element M)
+element b = named_fits s.element (ElementHas b.may) (ElementHas b.fits) to_element from_element
+    (choice (only 56) (sign s.semicolon) (unless (among (17 ∷ 5 ∷ 12 ∷ 11 ∷ 6 ∷ 34 ∷ 35 ∷ [])) (special b) (field b)))
+
+abbrev pub to_elements : {M : Type 0} → List (t.Element M) → t.Elements M
+to_elements [] = t.no_elements
+to_elements (x ∷ xs) = t.elements x (to_elements xs)
+
+abbrev pub from_elements : {M : Type 0} → t.Elements M → List (t.Element M)
+from_elements t.no_elements = []
+from_elements (t.elements x xs) = x ∷ from_elements xs
+
+unfoldable pub elements : {M : Type 0} → Rule M (t.Mbody M) → Rule M (t.Elements M)
+elements b = named_fits s.elements (ElementsHas b.may) (ElementsHas b.fits) to_elements from_elements (times (but 48) (element b))
+
+abbrev pub to_mbody : {M : Type 0} → M × (t.Elements M × M) → t.Mbody M
+to_mbody x = t.mbody_of x.0 x.1.0 x.1.1
+
+abbrev pub from_mbody : {M : Type 0} → t.Mbody M → M × (t.Elements M × M)
+from_mbody (t.mbody_of o es c) = (o, (es, c))
+
+-- a body whose inner bodies follow the rule b
+unfoldable pub mbody : {M : Type 0} → Rule M (t.Mbody M) → Rule M (t.Mbody M)
+mbody b = named_fits s.mbody (MbodyHas b.may) (MbodyHas b.fits) to_mbody from_mbody
+    (seq (sign s.open_brace) (seq (elements b) (sign s.close_brace)))
+
+-- ---- levels
+
+abbrev pub FitsMbody : {M : Type 0} → ℕ → t.Mbody M → Type 0
+FitsMbody n b = k.KeepsMbody b × (suc (d.mbody_depth b) ≤ n)
+
+unfoldable pub read_mbody : {M : Type 0} → ℕ → Reader M (t.Mbody M)
+read_mbody zero xs = Err (Deep (length xs))
+read_mbody (suc n) xs = (mbody (sealed k.KeepsMbody (FitsMbody n) (read_mbody n))).read xs
+
+-- a body of at most n levels
+abbrev pub mbody_at : {M : Type 0} → ℕ → Rule M (t.Mbody M)
+mbody_at n = sealed k.KeepsMbody (FitsMbody n) (read_mbody n)
+
+-- ---- files
+
+abbrev pub Form : Type 0 → Type 0
+Form M = M ⊎ (t.Import M ⊎ (t.Package M ⊎ (t.OptionStatement M ⊎ (t.Extend M ⊎ (t.Message M ⊎ (t.Enum M ⊎ t.Service M))))))
+
+abbrev pub to_statement : {M : Type 0} → Form M → t.Statement M
+to_statement (inl x) = t.an_empty x
+to_statement (inr (inl x)) = t.an_import x
+to_statement (inr (inr (inl x))) = t.a_package x
+to_statement (inr (inr (inr (inl x)))) = t.an_option x
+to_statement (inr (inr (inr (inr (inl x))))) = t.an_extend x
+to_statement (inr (inr (inr (inr (inr (inl x)))))) = t.a_message x
+to_statement (inr (inr (inr (inr (inr (inr (inl x))))))) = t.an_enum x
+to_statement (inr (inr (inr (inr (inr (inr (inr x))))))) = t.a_service x
+
+abbrev pub from_statement : {M : Type 0} → t.Statement M → Form M
+from_statement (t.an_empty x) = inl x
+from_statement (t.an_import x) = inr (inl x)
+from_statement (t.a_package x) = inr (inr (inl x))
+from_statement (t.an_option x) = inr (inr (inr (inl x)))
+from_statement (t.an_extend x) = inr (inr (inr (inr (inl x))))
+from_statement (t.a_message x) = inr (inr (inr (inr (inr (inl x)))))
+from_statement (t.an_enum x) = inr (inr (inr (inr (inr (inr (inl x))))))
+from_statement (t.a_service x) = inr (inr (inr (inr (inr (inr (inr x))))))
+
+unfoldable pub statement : {M : Type 0} → Rule M (t.Mbody M) → Rule M (t.Statement M)
+statement b = named_fits s.statement (StatementHas b.may) (StatementHas b.fits) to_statement from_statement
+    (choice (only 56) (sign s.semicolon) (choice (only 2) «import» (choice (only 1) «package» (choice (only 6) option (choice (only 11) (extend b) (choice (only 12) (message b) (choice (only 5) enum service)))))))
+
+unfoldable pub file : {M : Type 0} → Rule M (t.Mbody M) → Rule M (t.File M)
+file b = named_fits s.spell (FileHas b.may) (FileHas b.fits) (λ x. record { syntax = x.0; statements = x.1 }) (λ x. (x.syntax, x.statements))
+    (seq (optional (only 0) syntax) (times all (statement b)))

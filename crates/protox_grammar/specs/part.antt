@@ -1,0 +1,3 @@
+pub mod Rules
+pub mod Reads
+pub mod Grammar

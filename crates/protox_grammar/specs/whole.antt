@@ -1,4 +1,0 @@
-pub mod Rules
-pub mod Bodies
-pub mod Reads
-pub mod Grammar

@@ -23,3 +23,6 @@ pub fn unexpected<M>(_mark: &M)
 pub fn ended<M>(_mark: &M)
     ensures { grammar.TightEnd M }
 {}
+
+#[cfg(test)]
+mod marks;

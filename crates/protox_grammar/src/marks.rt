@@ -1,0 +1,36 @@
+//! The laws at the marks that are used: none, and places.
+use crate::{accepts, ended, one_tree, unexpected};
+
+ghost use Rattle.protox_grammar.specs.Grammar as grammar;
+ghost use Rattle.protox_lex.specs.Faults.{Span};
+
+fn without_marks()
+    ensures one_tree { grammar.OneTree (Unit {0}) }
+    ensures accepts { grammar.AcceptsIff (Unit {0}) }
+    ensures unexpected { grammar.TightUnexpected (Unit {0}) }
+    ensures ended { grammar.TightEnd (Unit {0}) }
+{
+    one_tree(&());
+    accepts(&());
+    unexpected(&());
+    ended(&());
+}
+
+fn with_places()
+    ensures one_tree { grammar.OneTree Span }
+    ensures accepts { grammar.AcceptsIff Span }
+    ensures unexpected { grammar.TightUnexpected Span }
+    ensures ended { grammar.TightEnd Span }
+{
+    let place = 0usize..0;
+    one_tree(&place);
+    accepts(&place);
+    unexpected(&place);
+    ended(&place);
+}
+
+#[test]
+fn laws_at_marks() {
+    without_marks();
+    with_places();
+}

@@ -1,6 +1,6 @@
 -- The laws of reading one of two rules, by the next row.
 use Rattle.std.proofs.Common.{◌≡◌, suc, Bool, true, false, [], ◌∷◌, ◌++◌, length, ℕ, Ok, Err, refl, sym, ap, subst, ◌∙◌, inl, inr, ◌⊎◌}
-use Rattle.protox_grammar.specs.Reader.{Refusal, Unexpected}
+use Rattle.protox_grammar.specs.Reader.{Refusal, Unexpected, Deep}
 use Rattle.protox_lex.specs.Shapes.{Shape, Row, Rows}
 use Rattle.protox_grammar.specs.Class.{Set, class, within, in_set}
 use Rattle.protox_grammar.specs.Reader as reader
@@ -9,7 +9,7 @@ use Rattle.protox_grammar.specs.Rule.{Rule, Stops, Starts, on_sum, either, unsta
 use Rattle.protox_grammar.proofs.Takes.{bind_ok, ok_is}
 use Rattle.protox_grammar.proofs.Laws.{IsSpelled}
 use Rattle.protox_grammar.proofs.Sets.{stops-front, starts-within}
-use Rattle.protox_grammar.proofs.Reading.{left_of, Begins, Took, IsRead, failed, at_once, err-left, err-ok, map_err, stops-head, head-stops, head-starts, chosen, true-false, same-head}
+use Rattle.protox_grammar.proofs.Reading.{left_of, Concerns, Begins, Took, IsRead, failed, at_once, err-left, err-ok, map_err, stops-head, head-stops, head-starts, chosen, true-false, same-head}
 
 -- ---- one or the other
 
@@ -70,15 +70,23 @@ module _ {M A B : Type 0} (p : Shape → Bool) (P : Set) (a : Rule M A) (b : Rul
     | inr k ↦ let v = rb.viable xs e (map_err inr (b.read xs) e k.1) in either-begins-right xs (left_of e) k.0 v v.front refl
   ]
 
-  either-tight : (front : Rows M) (s : Row M) (rest : Rows M) → reader.either p (reader.mapped inl a.read) (reader.mapped inr b.read) (front ++ (s ∷ rest)) ≡ Err (Unexpected (suc (length rest)))
-      → (t : A ⊎ B) (z more : Rows M) → on_sum a.ends (λ u v. b.ends u v × Stops P (b.spell u ++ v)) t z → on_sum a.spell b.spell t ++ z ≡ front ++ (s ∷ more) → ⊥
-  either-tight front s rest h (inl t) z more k e = elim (chosen (head_in p (front ++ (s ∷ rest))) (reader.mapped inl a.read (front ++ (s ∷ rest))) (reader.mapped inr b.read (front ++ (s ∷ rest))) _ h) [
-    | inl c ↦ ra.tight front s rest (map_err inl (a.read (front ++ (s ∷ rest))) _ c.1) t z more k e
+  first-concerned : (e : Refusal) (t : A) → Concerns (either p P a b) e (inl t) → Concerns a e t
+  first-concerned (Unexpected n) t c = tt
+  first-concerned (Deep n) t c = c
+
+  second-concerned : (e : Refusal) (t : B) → Concerns (either p P a b) e (inr t) → Concerns b e t
+  second-concerned (Unexpected n) t c = tt
+  second-concerned (Deep n) t c = c.0
+
+  either-tight : (d : Refusal) (front : Rows M) (s : Row M) (rest : Rows M) → left_of d ≡ suc (length rest) → reader.either p (reader.mapped inl a.read) (reader.mapped inr b.read) (front ++ (s ∷ rest)) ≡ Err d
+      → (t : A ⊎ B) (z more : Rows M) → Concerns (either p P a b) d t → on_sum a.ends (λ u v. b.ends u v × Stops P (b.spell u ++ v)) t z → on_sum a.spell b.spell t ++ z ≡ front ++ (s ∷ more) → ⊥
+  either-tight d front s rest l h (inl t) z more g k e = elim (chosen (head_in p (front ++ (s ∷ rest))) (reader.mapped inl a.read (front ++ (s ∷ rest))) (reader.mapped inr b.read (front ++ (s ∷ rest))) _ h) [
+    | inl c ↦ ra.tight d front s rest l (map_err inl (a.read (front ++ (s ∷ rest))) d c.1) t z more (first-concerned d t g) k e
     | inr c ↦ true-false _ (head-starts p P same (a.spell t) z (starts-in t z k)) (ap (head_in p) e ∙ same-head p front s more rest ∙ c.0)
   ]
-  either-tight front s rest h (inr t) z more k e = elim (chosen (head_in p (front ++ (s ∷ rest))) (reader.mapped inl a.read (front ++ (s ∷ rest))) (reader.mapped inr b.read (front ++ (s ∷ rest))) _ h) [
+  either-tight d front s rest l h (inr t) z more g k e = elim (chosen (head_in p (front ++ (s ∷ rest))) (reader.mapped inl a.read (front ++ (s ∷ rest))) (reader.mapped inr b.read (front ++ (s ∷ rest))) _ h) [
     | inl c ↦ true-false _ (ap (head_in p) e ∙ same-head p front s more rest ∙ c.0) (head-stops p P same (b.spell t ++ z) k.1)
-    | inr c ↦ rb.tight front s rest (map_err inr (b.read (front ++ (s ∷ rest))) _ c.1) t z more k.0 e
+    | inr c ↦ rb.tight d front s rest l (map_err inr (b.read (front ++ (s ∷ rest))) d c.1) t z more (second-concerned d t g) k.0 e
   ]
 
   either-short : (xs : Rows M) → reader.either p (reader.mapped inl a.read) (reader.mapped inr b.read) xs ≡ Err (Unexpected 0)
@@ -159,11 +167,15 @@ module _ {M B : Type 0} (P : Set) (b : Rule M B) (eb : Bool) (fb gb : Set) (lb :
     | inr k ↦ let v = rb.viable xs e k.1 in unstarted-begins xs (left_of e) k.0 v v.front refl
   ]
 
-  unstarted-tight : (front : Rows M) (s : Row M) (rest : Rows M) → reader.unstarted test b.read (front ++ (s ∷ rest)) ≡ Err (Unexpected (suc (length rest)))
-      → (t : B) (z more : Rows M) → b.ends t z × Stops P (b.spell t ++ z) → b.spell t ++ z ≡ front ++ (s ∷ more) → ⊥
-  unstarted-tight front s rest h t z more k e = elim (chosen (head_in test (front ++ (s ∷ rest))) (failed (B × Rows M) (Unexpected (length (front ++ (s ∷ rest))))) (b.read (front ++ (s ∷ rest))) _ h) [
+  unstarted-concerned : (e : Refusal) (t : B) → Concerns (unstarted P b) e t → Concerns b e t
+  unstarted-concerned (Unexpected n) t c = tt
+  unstarted-concerned (Deep n) t c = c.0
+
+  unstarted-tight : (d : Refusal) (front : Rows M) (s : Row M) (rest : Rows M) → left_of d ≡ suc (length rest) → reader.unstarted test b.read (front ++ (s ∷ rest)) ≡ Err d
+      → (t : B) (z more : Rows M) → Concerns (unstarted P b) d t → b.ends t z × Stops P (b.spell t ++ z) → b.spell t ++ z ≡ front ++ (s ∷ more) → ⊥
+  unstarted-tight d front s rest l h t z more g k e = elim (chosen (head_in test (front ++ (s ∷ rest))) (failed (B × Rows M) (Unexpected (length (front ++ (s ∷ rest))))) (b.read (front ++ (s ∷ rest))) _ h) [
     | inl c ↦ true-false _ (ap (head_in test) e ∙ same-head test front s more rest ∙ c.0) (head-stops test P (λ s. refl) (b.spell t ++ z) k.1)
-    | inr c ↦ rb.tight front s rest c.1 t z more k.0 e
+    | inr c ↦ rb.tight d front s rest l c.1 t z more (unstarted-concerned d t g) k.0 e
   ]
 
   unstarted-short : (xs : Rows M) → reader.unstarted test b.read xs ≡ Err (Unexpected 0) → (t : B) (z : Rows M) → b.ends t z × Stops P (b.spell t ++ z) → b.spell t ++ z ≡ xs → ⊥

@@ -202,25 +202,25 @@ past d d' x f b front s z more m next (y ∷ t) a e =
     next t (f t (subst (λ (v : Row _). Matches d (v ∷ t)) p.0 a)) p.1
 
 -- where the reading stops at a row, none go on with it
-tight : {M : Type 0} (d : ℕ) (front : Rows M) (s : Row M) (rest : Rows M) → balanced_at d (front ++ (s ∷ rest)) ≡ Err (Unexpected (suc (length rest)))
+tight : {M : Type 0} (d : ℕ) (w : Refusal) (front : Rows M) (s : Row M) (rest : Rows M) → left_of w ≡ suc (length rest) → balanced_at d (front ++ (s ∷ rest)) ≡ Err w
     → (t z more : Rows M) (m : M) → Matches d t → t ++ (shut m ∷ z) ≡ front ++ (s ∷ more) → ⊥
-tight {M = M} d [] s rest h t z more m a e = elim (step d s) [
+tight {M = M} d w [] s rest l h t z more m a e = elim (step d s) [
   | goes d' f b g ↦ elim (bind_err (balanced_at d' rest) (after s) _ (sym (g rest) ∙ h)) [
-    | inl n ↦ omega (arith, left-within m d' rest _ n)
+    | inl n ↦ omega (arith, l, left-within m d' rest w n)
     | inr n ↦ ok-err _ _ n.2
   ]
   | ends c b f g ↦ ok-err _ _ (sym (g rest) ∙ h)
   | bars b f g ↦ never-begin d s b f t z more m a e
 ]
-tight {M = M} d (x ∷ front) s rest h t z more m a e = elim (step d x) [
+tight {M = M} d w (x ∷ front) s rest l h t z more m a e = elim (step d x) [
   | goes d' f b g ↦ elim (bind_err (balanced_at d' (front ++ (s ∷ rest))) (after x) _ (sym (g (front ++ (s ∷ rest))) ∙ h)) [
-    | inl n ↦ past d d' x f b front s z more m (λ u c i. tight d' front s rest n u z more m c i) t a e
+    | inl n ↦ past d d' x f b front s z more m (λ u c i. tight d' w front s rest l n u z more m c i) t a e
     | inr n ↦ ok-err _ _ n.2
   ]
   | ends c b f g ↦ ok-err _ _ (sym (g (front ++ (s ∷ rest))) ∙ h)
   | bars b f g ↦
-      let n = err-left {A = Rows M × Rows M} (length (x ∷ (front ++ (s ∷ rest)))) (Unexpected (suc (length rest))) (sym (g (front ++ (s ∷ rest))) ∙ h) in
-      omega (arith, n, length-append front (s ∷ rest))
+      let n = err-left {A = Rows M × Rows M} (length (x ∷ (front ++ (s ∷ rest)))) w (sym (g (front ++ (s ∷ rest))) ∙ h) in
+      omega (arith, l, n, length-append front (s ∷ rest))
 ]
 
 close-is : (s : Shape) → k.is_close_brace s ≡ true → s ≡ Mark close_brace
@@ -245,7 +245,7 @@ closed-read {M = M} m = record {
   takes = took;
   again = λ t z h n. rw (append_assoc t.0 (shut t.1 ∷ []) z, again 0 t.0 t.1 z (matches t.0 h), closes (shut t.1) z refl) refl;
   viable = viable;
-  tight = λ front s rest h t z more n e. stuck front s rest h t z more n e;
+  tight = λ d front s rest l h t z more c n e. stuck d front s rest l h t z more n e;
   short = λ xs h t z n e. complete xs h t z n e;
 }
   where
@@ -282,9 +282,9 @@ closed-read {M = M} m = record {
         let u = unfinished m 0 xs e (inside xs e h) in
         record { front = u.front; rest = u.rest; parts = u.parts; left_is = u.left_is; tree = (u.front ++ u.more, m); tree_may = (u.goes_on.braces, u.goes_on.tokens); more = u.more ++ (shut m ∷ []); goes_on = append_assoc u.front u.more (shut m ∷ []) }
 
-    stuck : (front : Rows M) (s : Row M) (rest : Rows M) → reader.seq (balanced_at 0) (reader.fixed (Mark close_brace)) (front ++ (s ∷ rest)) ≡ Err (Unexpected (suc (length rest)))
+    stuck : (d : Refusal) (front : Rows M) (s : Row M) (rest : Rows M) → left_of d ≡ suc (length rest) → reader.seq (balanced_at 0) (reader.fixed (Mark close_brace)) (front ++ (s ∷ rest)) ≡ Err d
         → (t : Rows M × M) (z more : Rows M) → k.BracesMatch t.0 × k.Each k.IsSignificant t.0 → (t.0 ++ (shut t.1 ∷ [])) ++ z ≡ front ++ (s ∷ more) → ⊥
-    stuck front s rest h t z more n e = tight 0 front s rest (inside (front ++ (s ∷ rest)) _ h) t.0 z more t.1 (matches t.0 n) (sym (append_assoc t.0 (shut t.1 ∷ []) z) ∙ e)
+    stuck d front s rest l h t z more n e = tight 0 d front s rest l (inside (front ++ (s ∷ rest)) d h) t.0 z more t.1 (matches t.0 n) (sym (append_assoc t.0 (shut t.1 ∷ []) z) ∙ e)
 
     complete : (xs : Rows M) → reader.seq (balanced_at 0) (reader.fixed (Mark close_brace)) xs ≡ Err (Unexpected 0) → (t : Rows M × M) (z : Rows M) → k.BracesMatch t.0 × k.Each k.IsSignificant t.0 → (t.0 ++ (shut t.1 ∷ [])) ++ z ≡ xs → ⊥
     complete xs h t z b e =

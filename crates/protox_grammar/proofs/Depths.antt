@@ -1,8 +1,10 @@
 -- How bodies are spelled at any depth, and read up to some depth.
-use Rattle.std.proofs.Common.{◌≡◌, ℕ, zero, suc, ◌+◌, ◌≤◌, false, ◌∷◌, ◌++◌, length, Err, refl, sym, ap, ◌∙◌, arith}
+use Rattle.std.proofs.Common.{◌≡◌, ℕ, zero, suc, ◌+◌, ◌≤◌, false, [], ◌∷◌, ◌++◌, refl, sym, ap, ◌∙◌, arith}
 use Rattle.protox_lex.specs.Shapes.{Mark, Rows}
 use Rattle.protox_grammar.specs.Class.{only, none}
-use Rattle.protox_grammar.specs.Reader.{Reader, Deep}
+use Rattle.protox_grammar.specs.Reader.{Reader}
+use Rattle.protox_grammar.specs.Reader as reader
+use Rattle.protox_grammar.proofs.Words.{mark-back}
 use Rattle.protox_grammar.specs.Rule.{Rule, Starts, row}
 use Rattle.protox_ast.specs.Tree as t
 use Rattle.protox_ast.specs.Spelling as s
@@ -29,7 +31,7 @@ at-level zero x h w = absurd (omega (arith, w))
 at-level (suc n) x h w = mbody-into (At n) n (at-level n) x h (omega (arith, w))
 
 deep : {M : Type 0} → Reader M (t.Mbody M)
-deep xs = Err (Deep (length xs))
+deep xs = reader.too_deep (Mark s.open_brace) xs
 
 module _ {M : Type 0} (m : M) where
   abbrev some_body : t.Mbody M
@@ -52,6 +54,9 @@ module _ {M : Type 0} (m : M) where
       let same : es ≡ es' = p ∙ sym q in
       (λ i. t.mbody_of ((h.0 i).at) (same i) ((j.0 i).at), j.1)
 
+  body-begins : (x : t.Mbody M) → (o : M) × (more : Rows M) × (s.mbody x ≡ row (Mark s.open_brace) o ∷ more)
+  body-begins (t.mbody_of o es c) = (o, s.elements es ++ (row (Mark s.close_brace) c ∷ []), refl)
+
   empty-starts : (x : t.Mbody M) (z : Rows M) → Starts false (only 47) (s.mbody x)
   empty-starts (t.mbody_of o es c) z = refl
 
@@ -63,13 +68,13 @@ module _ {M : Type 0} (m : M) where
   unfolding At deep rule.mbody
   level-laws zero = record {
     spelled = record { starts = λ x z h. empty-starts x z; follow = λ x z h w. h; ahead = λ x v y z h. h; once = zero-once };
-    read = too_deep-read (level 0) some_body refl;
+    read = too_deep-read (Mark s.open_brace) (mark-back s.open_brace) (level 0) some_body refl body-begins;
   }
   level-laws (suc n) =
       let l = sealed-spelled (mbody-laws m (At n) (λ x. ⊥) deep (level-laws n)).spelled in
       record {
         spelled = record { starts = l.starts; follow = l.follow; ahead = l.ahead; once = l.once };
-        read = too_deep-read (level (suc n)) some_body tt;
+        read = too_deep-read (Mark s.open_brace) (mark-back s.open_brace) (level (suc n)) some_body tt body-begins;
       }
 
   -- at any depth
@@ -90,7 +95,7 @@ module _ {M : Type 0} (m : M) where
   body-laws zero =
       said-laws {r = rule.sealed k.KeepsMbody (λ x. ⊥) deep} s.mbody k.KeepsMbody (rule.FitsMbody 0) (λ x z. k.KeepsMbody x) (λ x. refl) (λ x h. h) (λ x h. h)
       (λ x h. absurd (omega (arith, h.1))) (λ x h. absurd h) (λ x z h. h) (λ x z h. h)
-      (record { spelled = any-spelled (λ x. ⊥) deep; read = too_deep-read (rule.sealed k.KeepsMbody (λ x. ⊥) deep) some_body tt })
+      (record { spelled = any-spelled (λ x. ⊥) deep; read = too_deep-read (Mark s.open_brace) (mark-back s.open_brace) (rule.sealed k.KeepsMbody (λ x. ⊥) deep) some_body tt body-begins })
   body-laws (suc n) =
       let l = mbody-laws m k.KeepsMbody (rule.FitsMbody n) (rule.read_mbody n) (body-laws n) in
       said-laws s.mbody k.KeepsMbody (rule.FitsMbody (suc n)) (λ x z. k.KeepsMbody x) (λ x. refl)

@@ -1,7 +1,7 @@
 -- The laws of a test of the next row, of parts on a condition, and of a rule that anything may follow.
 use Rattle.std.proofs.Common.{◌≡◌, ℕ, suc, Bool, true, false, not, ◌&&◌, cond, [], ◌∷◌, ◌++◌, length, Result, Ok, Err, refl, sym, ap, subst, ◌∙◌, append_assoc, arith, inl, inr}
 use Rattle.std.proofs.lemmas.List.{length-append}
-use Rattle.protox_grammar.specs.Reader.{Refusal, Unexpected}
+use Rattle.protox_grammar.specs.Reader.{Refusal, Unexpected, Deep}
 use Rattle.protox_lex.specs.Shapes.{Row, Rows}
 use Rattle.protox_grammar.specs.Class.{Set, class, union, none, in_set}
 use Rattle.protox_grammar.specs.Reader as reader
@@ -10,7 +10,7 @@ use Rattle.protox_grammar.specs.Rule.{Rule, Stops, seq, joined, peek}
 use Rattle.protox_grammar.proofs.Takes.{ok_is}
 use Rattle.protox_grammar.proofs.Sets.{gated, starts-then}
 use Rattle.protox_grammar.proofs.Laws.{IsSpelled, ahead-past}
-use Rattle.protox_grammar.proofs.Reading.{IsRead, Took, Begins, left_of, bind_err, ok-err, err-ok, err-left, seq-read}
+use Rattle.protox_grammar.proofs.Reading.{Concerns, IsRead, Took, Begins, left_of, bind_err, ok-err, err-ok, err-left, seq-read}
 use Rattle.protox_grammar.proofs.Forms.{Lawful, stops-none}
 
 -- ---- the next row is in a set
@@ -48,11 +48,11 @@ module _ {M : Type 0} (G : Set) where
   peek-viable [] e h = absurd (ok-err _ e h)
   peek-viable (r ∷ rs) e h = record { front = []; rest = r ∷ rs; parts = refl; left_is = (peek-fault r rs (in_set G r.shape) e h).1; tree = tt; tree_may = tt; more = []; goes_on = refl }
 
-  peek-tight : (front : Rows M) (s : Row M) (rest : Rows M) → reader.peek (in_set G) (front ++ (s ∷ rest)) ≡ Err (Unexpected (suc (length rest))) → (z more : Rows M) → Stops (λ k. not (G k)) z → z ≡ front ++ (s ∷ more) → ⊥
-  peek-tight [] s rest h z more k e = clashes (G (class s.shape)) (peek-fault s rest (in_set G s.shape) _ h).0 (subst (Stops (λ k. not (G k))) e k)
-  peek-tight (f ∷ fs) s rest h z more k e =
-      let n = (peek-fault f (fs ++ (s ∷ rest)) (in_set G f.shape) (Unexpected (suc (length rest))) h).1 in
-      omega (arith, n, length-append fs (s ∷ rest))
+  peek-tight : (d : Refusal) (front : Rows M) (s : Row M) (rest : Rows M) → left_of d ≡ suc (length rest) → reader.peek (in_set G) (front ++ (s ∷ rest)) ≡ Err d → (z more : Rows M) → Stops (λ k. not (G k)) z → z ≡ front ++ (s ∷ more) → ⊥
+  peek-tight d [] s rest l h z more k e = clashes (G (class s.shape)) (peek-fault s rest (in_set G s.shape) d h).0 (subst (Stops (λ k. not (G k))) e k)
+  peek-tight d (f ∷ fs) s rest l h z more k e =
+      let n = (peek-fault f (fs ++ (s ∷ rest)) (in_set G f.shape) d h).1 in
+      omega (arith, l, n, length-append fs (s ∷ rest))
 
   peek-short : (xs : Rows M) → reader.peek (in_set G) xs ≡ Err (Unexpected 0) → ⊥
   peek-short [] h = ok-err _ _ h
@@ -68,7 +68,7 @@ module _ {M : Type 0} (G : Set) where
       takes = peek-takes;
       again = λ t z h k. peek-again z k;
       viable = peek-viable;
-      tight = λ front s rest h t z more k e. peek-tight front s rest h z more k e;
+      tight = λ d front s rest l h t z more c k e. peek-tight d front s rest l h z more k e;
       short = λ xs h t z k e. peek-short xs h;
     };
   }
@@ -146,6 +146,10 @@ module _ {M A B : Type 0} (C : A → B → Type 0) (a : Rule M A) (b : Rule M B)
   joined-takes : (xs : Rows M) (x : (A × B) × Rows M) → reader.seq a.read b.read xs ≡ Ok x → Took (joined C a b) xs x
   joined-takes xs x e = let k = plain-read.takes xs x e in record { parts = k.parts; fits = (met x.0.0 x.0.1 x.1 k.ends.0 k.ends.1, k.fits.0, k.fits.1); ends = k.ends }
 
+  plain-concerned : (e : Refusal) (t : A × B) → Concerns (joined C a b) e t → Concerns (seq a b) e t
+  plain-concerned (Unexpected n) t c = tt
+  plain-concerned (Deep n) t c = (c.1, c.2)
+
   pub joined-laws : Lawful (joined C a b) (ea && eb) (union fa (gated ea fb)) gb
   joined-laws = record {
     spelled = joined-spelled;
@@ -156,7 +160,7 @@ module _ {M A B : Type 0} (C : A → B → Type 0) (a : Rule M A) (b : Rule M B)
       takes = joined-takes;
       again = λ t z h k. plain-read.again t z (h.1, h.2) k;
       viable = joined-viable;
-      tight = plain-read.tight;
+      tight = λ d front s rest l h t z more c. plain-read.tight d front s rest l h t z more (plain-concerned d t c);
       short = plain-read.short;
     };
   }
@@ -179,6 +183,10 @@ sealed-read {M} {A} {r = r} l = record {
   takes = λ xs x h. let k = l.read.takes xs x h in record { parts = k.parts; fits = k.fits; ends = l.read.within x.0 k.fits };
   again = λ t z h k. l.read.again t z h (l.spelled.follow t z k (stops-none z));
   viable = λ xs h k. let v = l.read.viable xs h k in record { front = v.front; rest = v.rest; parts = v.parts; left_is = v.left_is; tree = v.tree; tree_may = v.tree_may; more = v.more; goes_on = v.goes_on };
-  tight = λ front s rest h t z more k j. l.read.tight front s rest h t z more (l.spelled.follow t z k (stops-none z)) j;
+  tight = λ d front s rest n h t z more c k j. l.read.tight d front s rest n h t z more (sealed-concerned d t c) (l.spelled.follow t z k (stops-none z)) j;
   short = λ xs h t z k j. l.read.short xs h t z (l.spelled.follow t z k (stops-none z)) j;
 }
+  where
+    sealed-concerned : (d : Refusal) (t : A) → Concerns (record { spell = r.spell; may = r.may; fits = r.fits; ends = λ t z. r.may t; read = r.read }) d t → Concerns r d t
+    sealed-concerned (Unexpected n) t c = tt
+    sealed-concerned (Deep n) t c = c

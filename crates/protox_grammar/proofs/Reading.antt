@@ -32,6 +32,11 @@ pub record Took {M A : Type 0} (r : Rule M A) (xs : Rows M) (x : A × Rows M) : 
   pub fits : r.fits x.0
   pub ends : r.ends x.0 x.1
 
+-- the trees that a refusal speaks of: where something is too deep, those that can be read
+abbrev pub Concerns : {M A : Type 0} → Rule M A → Refusal → A → Type 0
+Concerns r (Unexpected n) t = Unit {0}
+Concerns r (Deep n) t = r.fits t
+
 pub record IsRead {M A : Type 0} (r : Rule M A) : Type 0 where
   pub some : A
   pub some_may : r.may some
@@ -39,9 +44,9 @@ pub record IsRead {M A : Type 0} (r : Rule M A) : Type 0 where
   pub takes : (xs : Rows M) (x : A × Rows M) → r.read xs ≡ Ok x → Took r xs x
   pub again : (t : A) (z : Rows M) → r.fits t → r.ends t z → r.read (r.spell t ++ z) ≡ Ok (t, z)
   pub viable : (xs : Rows M) (e : Refusal) → r.read xs ≡ Err e → Begins r xs (left_of e)
-  -- no tree goes on with a row that was not expected
-  pub tight : (front : Rows M) (s : Row M) (rest : Rows M) → r.read (front ++ (s ∷ rest)) ≡ Err (Unexpected (suc (length rest)))
-      → (t : A) (z more : Rows M) → r.ends t z → r.spell t ++ z ≡ front ++ (s ∷ more) → ⊥
+  -- no tree goes on with a row that was not expected, and none that can be read with one that opens what is too deep
+  pub tight : (e : Refusal) (front : Rows M) (s : Row M) (rest : Rows M) → left_of e ≡ suc (length rest) → r.read (front ++ (s ∷ rest)) ≡ Err e
+      → (t : A) (z more : Rows M) → Concerns r e t → r.ends t z → r.spell t ++ z ≡ front ++ (s ∷ more) → ⊥
   -- and where the rows ended too soon, no tree has all of them
   pub short : (xs : Rows M) → r.read xs ≡ Err (Unexpected 0) → (t : A) (z : Rows M) → r.ends t z → r.spell t ++ z ≡ xs → ⊥
 
@@ -112,9 +117,9 @@ module _ {M : Type 0} (m0 : M) (w : Shape) (back : is_token w w ≡ true) (exact
   fixed-other s rs true e f k h = absurd (ok-err (s.at, rs) e h)
   fixed-other s rs false e f k h = k
 
-  fixed-tight : (front : Rows M) (s : Row M) (rest : Rows M) → reader.fixed w (front ++ (s ∷ rest)) ≡ Err (Unexpected (suc (length rest))) → (t : M) (z more : Rows M) → row w t ∷ z ≡ front ++ (s ∷ more) → ⊥
+  fixed-tight : (d : Refusal) (front : Rows M) (s : Row M) (rest : Rows M) → left_of d ≡ suc (length rest) → reader.fixed w (front ++ (s ∷ rest)) ≡ Err d → (t : M) (z more : Rows M) → row w t ∷ z ≡ front ++ (s ∷ more) → ⊥
   unfolding reader.fixed
-  fixed-tight [] s rest h t z more e =
+  fixed-tight d [] s rest l h t z more e =
       let same = ap (λ r. r.shape) (head-same (row w t) s z more e).0 in
       let no = fixed-other s rest (is_token w s.shape) _ _ refl h in
       differ (is_token w s.shape) (subst (λ v. is_token w v ≡ true) same back) no
@@ -122,9 +127,9 @@ module _ {M : Type 0} (m0 : M) (w : Shape) (back : is_token w w ≡ true) (exact
       differ : (b : Bool) → b ≡ true → b ≡ false → ⊥
       differ true p q = absurd cc
       differ false p q = absurd cc
-  fixed-tight (f ∷ fs) s rest h t z more e =
-      let n = fixed-fault f (fs ++ (s ∷ rest)) (is_token w f.shape) (Unexpected (suc (length rest))) h in
-      omega (arith, n, length-append fs (s ∷ rest))
+  fixed-tight d (f ∷ fs) s rest l h t z more e =
+      let n = fixed-fault f (fs ++ (s ∷ rest)) (is_token w f.shape) d h in
+      omega (arith, l, n, length-append fs (s ∷ rest))
 
   fixed-short : (xs : Rows M) → reader.fixed w xs ≡ Err (Unexpected 0) → (t : M) (z : Rows M) → row w t ∷ z ≡ xs → ⊥
   unfolding reader.fixed
@@ -139,7 +144,7 @@ module _ {M : Type 0} (m0 : M) (w : Shape) (back : is_token w w ≡ true) (exact
     takes = fixed-takes;
     again = λ t z h k. fixed-again t z;
     viable = fixed-viable;
-    tight = λ front s rest h t z more k e. fixed-tight front s rest h t z more e;
+    tight = λ d front s rest l h t z more c k e. fixed-tight d front s rest l h t z more e;
     short = λ xs h t z k e. fixed-short xs h t z e;
   }
 
@@ -168,14 +173,14 @@ module _ {M X : Type 0} (some : X × M) (see : Shape → Option X) (shape : X �
   leaf-viable [] e h = at_once (leaf see shape) [] some tt (left_of e) (err-left {A = (X × M) × Rows M} 0 e h)
   leaf-viable (r ∷ rs) e h = at_once (leaf see shape) (r ∷ rs) some tt (left_of e) (leaf-fault r rs (see r.shape) e h)
 
-  leaf-tight : (front : Rows M) (s : Row M) (rest : Rows M) → reader.leaf see (front ++ (s ∷ rest)) ≡ Err (Unexpected (suc (length rest))) → (t : X × M) (z more : Rows M) → row (shape t.0) t.1 ∷ z ≡ front ++ (s ∷ more) → ⊥
+  leaf-tight : (d : Refusal) (front : Rows M) (s : Row M) (rest : Rows M) → left_of d ≡ suc (length rest) → reader.leaf see (front ++ (s ∷ rest)) ≡ Err d → (t : X × M) (z more : Rows M) → row (shape t.0) t.1 ∷ z ≡ front ++ (s ∷ more) → ⊥
   unfolding reader.leaf
-  leaf-tight [] s rest h t z more e =
+  leaf-tight d [] s rest l h t z more e =
       let same : shape t.0 ≡ s.shape = ap (λ r. r.shape) (head-same (row (shape t.0) t.1) s z more e).0 in
-      ok-err ((t.0, s.at), rest) (Unexpected (suc (length rest))) (ap (reader.seen s rest) (sym (ap see (sym same) ∙ back t.0)) ∙ h)
-  leaf-tight (f ∷ fs) s rest h t z more e =
-      let n = leaf-fault f (fs ++ (s ∷ rest)) (see f.shape) (Unexpected (suc (length rest))) h in
-      omega (arith, n, length-append fs (s ∷ rest))
+      ok-err ((t.0, s.at), rest) d (ap (reader.seen s rest) (sym (ap see (sym same) ∙ back t.0)) ∙ h)
+  leaf-tight d (f ∷ fs) s rest l h t z more e =
+      let n = leaf-fault f (fs ++ (s ∷ rest)) (see f.shape) d h in
+      omega (arith, l, n, length-append fs (s ∷ rest))
 
   leaf-short : (xs : Rows M) → reader.leaf see xs ≡ Err (Unexpected 0) → (t : X × M) (z : Rows M) → row (shape t.0) t.1 ∷ z ≡ xs → ⊥
   unfolding reader.leaf
@@ -190,7 +195,7 @@ module _ {M X : Type 0} (some : X × M) (see : Shape → Option X) (shape : X �
     takes = leaf-takes;
     again = λ t z h k. leaf-again t z;
     viable = leaf-viable;
-    tight = λ front s rest h t z more k e. leaf-tight front s rest h t z more e;
+    tight = λ d front s rest l h t z more c k e. leaf-tight d front s rest l h t z more e;
     short = λ xs h t z k e. leaf-short xs h t z e;
   }
 
@@ -244,24 +249,32 @@ module _ {M A B : Type 0} (a : Rule M A) (b : Rule M B) (ea : Bool) (fa ga : Set
     ]
   ]
 
+  first-concerned : (e : Refusal) (t : A × B) → Concerns (seq a b) e t → Concerns a e t.0
+  first-concerned (Unexpected n) t c = tt
+  first-concerned (Deep n) t c = c.0
+
+  second-concerned : (e : Refusal) (t : A × B) → Concerns (seq a b) e t → Concerns b e t.1
+  second-concerned (Unexpected n) t c = tt
+  second-concerned (Deep n) t c = c.1
+
   -- the second part fails: the first part is that of every tree, so that the second goes on with the row
-  seq-tight-second : (front : Rows M) (s : Row M) (rest : Rows M) (x : A × Rows M) → Took a (front ++ (s ∷ rest)) x → b.read x.1 ≡ Err (Unexpected (suc (length rest)))
-      → (t : A × B) (z more : Rows M) → a.ends t.0 (b.spell t.1 ++ z) × b.ends t.1 z → (a.spell t.0 ++ b.spell t.1) ++ z ≡ front ++ (s ∷ more) → ⊥
-  seq-tight-second front s rest x ta k t z more e h =
-      let v = rb.viable x.1 _ k in
-      let cut = cut-same front (a.spell x.0 ++ v.front) (s ∷ rest) v.rest (ta.parts ∙ ap (λ u. a.spell x.0 ++ u) v.parts ∙ sym (append_assoc (a.spell x.0) v.front v.rest)) v.left_is in
+  seq-tight-second : (d : Refusal) (front : Rows M) (s : Row M) (rest : Rows M) (x : A × Rows M) → left_of d ≡ suc (length rest) → Took a (front ++ (s ∷ rest)) x → b.read x.1 ≡ Err d
+      → (t : A × B) (z more : Rows M) → Concerns b d t.1 → a.ends t.0 (b.spell t.1 ++ z) × b.ends t.1 z → (a.spell t.0 ++ b.spell t.1) ++ z ≡ front ++ (s ∷ more) → ⊥
+  seq-tight-second d front s rest x l ta k t z more c e h =
+      let v = rb.viable x.1 d k in
+      let cut = cut-same front (a.spell x.0 ++ v.front) (s ∷ rest) v.rest (ta.parts ∙ ap (λ u. a.spell x.0 ++ u) v.parts ∙ sym (append_assoc (a.spell x.0) v.front v.rest)) (sym l ∙ v.left_is) in
       let ys-is : x.1 ≡ v.front ++ (s ∷ rest) = v.parts ∙ ap (λ u. v.front ++ u) (sym cut.1) in
       let same : a.spell t.0 ++ (b.spell t.1 ++ z) ≡ a.spell x.0 ++ (v.front ++ (s ∷ more)) =
       sym (append_assoc (a.spell t.0) (b.spell t.1) z) ∙ h ∙ ap (λ u. u ++ (s ∷ more)) cut.0 ∙ append_assoc (a.spell x.0) v.front (s ∷ more) in
       let one = la.once t.0 x.0 (b.spell t.1 ++ z) (v.front ++ (s ∷ more)) e.0 (ahead-past la x.0 v.front s rest more (subst (a.ends x.0) ys-is ta.ends)) same in
-      rb.tight v.front s rest (subst (λ u. b.read u ≡ Err (Unexpected (suc (length rest)))) ys-is k) t.1 z more e.1 one.1
+      rb.tight d v.front s rest l (subst (λ u. b.read u ≡ Err d) ys-is k) t.1 z more c e.1 one.1
 
-  seq-tight : (front : Rows M) (s : Row M) (rest : Rows M) → reader.seq a.read b.read (front ++ (s ∷ rest)) ≡ Err (Unexpected (suc (length rest)))
-      → (t : A × B) (z more : Rows M) → a.ends t.0 (b.spell t.1 ++ z) × b.ends t.1 z → (a.spell t.0 ++ b.spell t.1) ++ z ≡ front ++ (s ∷ more) → ⊥
-  seq-tight front s rest h t z more e k = elim (bind_err (a.read (front ++ (s ∷ rest))) (λ v. b.read v.1 >>= λ y. Ok ((v.0, y.0), y.1)) _ h) [
-    | inl l ↦ ra.tight front s rest l t.0 (b.spell t.1 ++ z) more e.0 (sym (append_assoc (a.spell t.0) (b.spell t.1) z) ∙ k)
-    | inr p ↦ elim (bind_err (b.read p.0.1) (λ y. Ok ((p.0.0, y.0), y.1)) _ p.2) [
-      | inl l ↦ seq-tight-second front s rest p.0 (ra.takes (front ++ (s ∷ rest)) p.0 p.1) l t z more e k
+  seq-tight : (d : Refusal) (front : Rows M) (s : Row M) (rest : Rows M) → left_of d ≡ suc (length rest) → reader.seq a.read b.read (front ++ (s ∷ rest)) ≡ Err d
+      → (t : A × B) (z more : Rows M) → Concerns (seq a b) d t → a.ends t.0 (b.spell t.1 ++ z) × b.ends t.1 z → (a.spell t.0 ++ b.spell t.1) ++ z ≡ front ++ (s ∷ more) → ⊥
+  seq-tight d front s rest f h t z more c e k = elim (bind_err (a.read (front ++ (s ∷ rest))) (λ v. b.read v.1 >>= λ y. Ok ((v.0, y.0), y.1)) d h) [
+    | inl l ↦ ra.tight d front s rest f l t.0 (b.spell t.1 ++ z) more (first-concerned d t c) e.0 (sym (append_assoc (a.spell t.0) (b.spell t.1) z) ∙ k)
+    | inr p ↦ elim (bind_err (b.read p.0.1) (λ y. Ok ((p.0.0, y.0), y.1)) d p.2) [
+      | inl l ↦ seq-tight-second d front s rest p.0 f (ra.takes (front ++ (s ∷ rest)) p.0 p.1) l t z more (second-concerned d t c) e k
       | inr q ↦ absurd (ok-err _ _ q.2)
     ]
   ]
@@ -327,6 +340,10 @@ module _ {M A B : Type 0} (to : B → A) (from : A → B) (b : Rule M B) (back :
       let p = bind_ok (b.read xs) (λ y. Ok (to y.0, y.1)) x e in
       subst (Took (mapped to from b) xs) (ok_is (to p.0.0, p.0.1) x p.2) (took-mapped to from b there xs p.0 (rb.takes xs p.0 p.1))
 
+  from-concerned : (e : Refusal) (t : A) → Concerns (mapped to from b) e t → Concerns b e (from t)
+  from-concerned (Unexpected n) t c = tt
+  from-concerned (Deep n) t c = c
+
   pub mapped-read : IsRead (mapped to from b)
   mapped-read = record {
     some = to rb.some;
@@ -335,7 +352,7 @@ module _ {M A B : Type 0} (to : B → A) (from : A → B) (b : Rule M B) (back :
     takes = mapped-takes;
     again = λ t z h k. rw (rb.again (from t) z h k, back t) refl;
     viable = λ xs e h. begins-mapped to from b there xs (left_of e) (rb.viable xs e (map_err to (b.read xs) e h));
-    tight = λ front s rest h t z more k e. rb.tight front s rest (map_err to (b.read (front ++ (s ∷ rest))) (Unexpected (suc (length rest))) h) (from t) z more k e;
+    tight = λ d front s rest l h t z more c k e. rb.tight d front s rest l (map_err to (b.read (front ++ (s ∷ rest))) d h) (from t) z more (from-concerned d t c) k e;
     short = λ xs h t z k e. rb.short xs (map_err to (b.read xs) (Unexpected 0) h) (from t) z k e;
   }
 
@@ -349,7 +366,7 @@ nothing-read {M = M} = record {
   takes = λ xs x e. nothing-took xs x e;
   again = λ t z h k. refl;
   viable = λ xs e h. absurd (ok-err _ e h);
-  tight = λ front s rest h t z more k e. ok-err _ _ h;
+  tight = λ d front s rest l h t z more c k e. ok-err _ _ h;
   short = λ xs h t z k e. ok-err _ _ h;
 }
   where
@@ -386,20 +403,62 @@ same-head p (f ∷ fs) s xs ys = refl
 
 -- ---- what is too deep
 
-pub too_deep-read : {M A : Type 0} (a : Rule M A) (some : A) → a.may some → IsRead (too_deep a)
-too_deep-read {M = M} {A = A} a some m = record {
-  some = some;
-  some_may = m;
-  within = λ t h. absurd h;
-  takes = λ xs x e. absurd (err-ok x _ e);
-  again = λ t z h k. absurd h;
-  viable = λ xs e h. at_once (too_deep a) xs some m (left_of e) (deep-left (length xs) e h);
-  tight = λ front s rest h t z more k e. not-deep _ _ h;
-  short = λ xs h t z k e. not-deep _ _ h;
-}
-  where
-    deep-left : (n : ℕ) (e : Refusal) → failed (A × Rows M) (Deep n) ≡ failed (A × Rows M) e → left_of e ≡ n
-    deep-left n e h = let same : Deep n ≡ e = cc in sym (ap left_of same)
+module _ {M A : Type 0} (w : Shape) (back : is_token w w ≡ true) (a : Rule M A) (some : A) (some_may : a.may some)
+    (begins : (t : A) → (m : M) × (more : Rows M) × (a.spell t ≡ row w m ∷ more)) where
+  never-read : (xs : Rows M) (x : A × Rows M) → reader.too_deep w xs ≡ Ok x → ⊥
+  unfolding reader.too_deep
+  never-read [] x e = err-ok x _ e
+  never-read (r ∷ rs) x e = elim (chosen (is_token w r.shape) (failed (A × Rows M) (Deep (length (r ∷ rs)))) (failed (A × Rows M) (Unexpected (length (r ∷ rs)))) (Ok x) e) [
+    | inl h ↦ err-ok x _ h.1
+    | inr h ↦ err-ok x _ h.1
+  ]
 
-    not-deep : (m n : ℕ) → failed (A × Rows M) (Deep m) ≡ failed (A × Rows M) (Unexpected n) → ⊥
-    not-deep m n h = absurd cc
+  deep-left : (n : ℕ) (e : Refusal) → failed (A × Rows M) (Deep n) ≡ failed (A × Rows M) e → left_of e ≡ n
+  deep-left n e h = let same : Deep n ≡ e = cc in sym (ap left_of same)
+
+  too_deep-left : (xs : Rows M) (e : Refusal) → reader.too_deep {A = A} w xs ≡ Err e → left_of e ≡ length xs
+  unfolding reader.too_deep
+  too_deep-left [] e h = err-left {A = A × Rows M} 0 e h
+  too_deep-left (r ∷ rs) e h = elim (chosen (is_token w r.shape) (failed (A × Rows M) (Deep (length (r ∷ rs)))) (failed (A × Rows M) (Unexpected (length (r ∷ rs)))) (Err e) h) [
+    | inl k ↦ deep-left (length (r ∷ rs)) e k.1
+    | inr k ↦ err-left {A = A × Rows M} (length (r ∷ rs)) e k.1
+  ]
+
+  not-deep : (m n : ℕ) → failed (A × Rows M) (Deep m) ≡ failed (A × Rows M) (Unexpected n) → ⊥
+  not-deep m n h = absurd cc
+
+  -- where the row is not this token, no tree begins with it
+  other-row : (n : ℕ) (s : Row M) (rest : Rows M) → reader.too_deep {A = A} w (s ∷ rest) ≡ Err (Unexpected n) → (t : A) (z more : Rows M) → a.spell t ++ z ≡ s ∷ more → ⊥
+  unfolding reader.too_deep
+  other-row n s rest h t z more e =
+      let b = begins t in
+      let same : row w b.0 ≡ s = (head-same (row w b.0) s (b.1 ++ z) more (sym (ap (λ v. v ++ z) b.2) ∙ e)).0 in
+      let is : is_token w s.shape ≡ true = subst (λ (v : Row M). is_token w v.shape ≡ true) same back in
+      elim (chosen (is_token w s.shape) (failed (A × Rows M) (Deep (length (s ∷ rest)))) (failed (A × Rows M) (Unexpected (length (s ∷ rest)))) (Err (Unexpected n)) h) [
+        | inl k ↦ not-deep _ _ k.1
+        | inr k ↦ true-false _ is k.0
+      ]
+
+  too_deep-tight : (e : Refusal) (front : Rows M) (s : Row M) (rest : Rows M) → left_of e ≡ suc (length rest) → reader.too_deep {A = A} w (front ++ (s ∷ rest)) ≡ Err e
+      → (t : A) (z more : Rows M) → Concerns (too_deep w a) e t → a.spell t ++ z ≡ front ++ (s ∷ more) → ⊥
+  too_deep-tight (Deep n) front s rest l h t z more c e = absurd c
+  too_deep-tight (Unexpected n) [] s rest l h t z more c e = other-row n s rest h t z more e
+  too_deep-tight (Unexpected n) (f ∷ fs) s rest l h t z more c e =
+      let k = too_deep-left (f ∷ (fs ++ (s ∷ rest))) (Unexpected n) h in
+      omega (arith, l, k, length-append fs (s ∷ rest))
+
+  too_deep-short : (xs : Rows M) → reader.too_deep {A = A} w xs ≡ Err (Unexpected 0) → (t : A) (z : Rows M) → a.spell t ++ z ≡ xs → ⊥
+  too_deep-short [] h t z e = let b = begins t in let k : row w b.0 ∷ (b.1 ++ z) ≡ [] = sym (ap (λ v. v ++ z) b.2) ∙ e in absurd cc
+  too_deep-short (r ∷ rs) h t z e = let k = too_deep-left (r ∷ rs) (Unexpected 0) h in omega (arith, k)
+
+  pub too_deep-read : IsRead (too_deep w a)
+  too_deep-read = record {
+    some = some;
+    some_may = some_may;
+    within = λ t h. absurd h;
+    takes = λ xs x e. absurd (never-read xs x e);
+    again = λ t z h k. absurd h;
+    viable = λ xs e h. at_once (too_deep w a) xs some some_may (left_of e) (too_deep-left xs e h);
+    tight = λ e front s rest l h t z more c k j. too_deep-tight e front s rest l h t z more c j;
+    short = λ xs h t z k e. too_deep-short xs h t z e;
+  }

@@ -1,7 +1,7 @@
 -- The laws of reading again and again.
 use Rattle.std.proofs.Common.{◌≡◌, ℕ, zero, suc, ◌<◌, Bool, true, false, List, [], ◌∷◌, ◌++◌, length, Result, Ok, Err, refl, sym, ap, subst, ◌∙◌, append_assoc, arith, inl, inr}
 use Rattle.std.proofs.lemmas.List.{append-nil, length-append}
-use Rattle.protox_grammar.specs.Reader.{Refusal, Unexpected}
+use Rattle.protox_grammar.specs.Reader.{Refusal, Unexpected, Deep}
 use Rattle.protox_lex.specs.Shapes.{Shape, Row, Rows}
 use Rattle.protox_grammar.specs.Class.{Set, class, within}
 use Rattle.protox_grammar.specs.Reader as reader
@@ -12,7 +12,7 @@ use Rattle.protox_ast.specs.Keywords.{Each}
 use Rattle.protox_grammar.proofs.Takes.{bind_ok, ok_is}
 use Rattle.protox_grammar.proofs.Laws.{IsSpelled, ahead-past}
 use Rattle.protox_grammar.proofs.Sets.{starts-within}
-use Rattle.protox_grammar.proofs.Reading.{left_of, Begins, Took, IsRead, bind_err, cut-same, ok-err, err-ok, chosen, true-false, same-head, head-starts, head-stops, stops-head}
+use Rattle.protox_grammar.proofs.Reading.{left_of, Concerns, Begins, Took, IsRead, bind_err, cut-same, ok-err, err-ok, chosen, true-false, same-head, head-starts, head-stops, stops-head}
 
 pub some-rows : {M : Type 0} (f : Set) (ys : Rows M) → Starts false f ys → 0 < length ys
 some-rows f [] h = absurd cc
@@ -90,27 +90,35 @@ module _ {M A : Type 0} (p : Shape → Bool) (P : Set) (a : Rule M A) (same : (s
     | inr c ↦ absurd (ok-err _ e c.1)
   ]
 
-  tight_at : (n : ℕ) (front : Rows M) (s : Row M) (rest : Rows M) → length (front ++ (s ∷ rest)) < n → star_at p a.read n (front ++ (s ∷ rest)) ≡ Err (Unexpected (suc (length rest)))
-      → (ts : List A) (z more : Rows M) → Ends a.spell a.ends P ts z → many a.spell ts ++ z ≡ front ++ (s ∷ more) → ⊥
+  first-concerned : (e : Refusal) (t : A) (ts : List A) → Concerns rule e (t ∷ ts) → Concerns a e t
+  first-concerned (Unexpected n) t ts c = tt
+  first-concerned (Deep n) t ts c = c.0
+
+  others-concerned : (e : Refusal) (t : A) (ts : List A) → Concerns rule e (t ∷ ts) → Concerns rule e ts
+  others-concerned (Unexpected n) t ts c = tt
+  others-concerned (Deep n) t ts c = c.1
+
+  tight_at : (n : ℕ) (d : Refusal) (front : Rows M) (s : Row M) (rest : Rows M) → length (front ++ (s ∷ rest)) < n → left_of d ≡ suc (length rest) → star_at p a.read n (front ++ (s ∷ rest)) ≡ Err d
+      → (ts : List A) (z more : Rows M) → Concerns rule d ts → Ends a.spell a.ends P ts z → many a.spell ts ++ z ≡ front ++ (s ∷ more) → ⊥
   unfolding star_at
-  tight_at zero front s rest l h ts z more e k = omega arith
-  tight_at (suc n) front s rest l h [] z more e k = elim (chosen (head_in p (front ++ (s ∷ rest))) (a.read (front ++ (s ∷ rest)) >>= again_at n) (Ok ([], front ++ (s ∷ rest))) _ h) [
+  tight_at zero d front s rest l f h ts z more g e k = omega arith
+  tight_at (suc n) d front s rest l f h [] z more g e k = elim (chosen (head_in p (front ++ (s ∷ rest))) (a.read (front ++ (s ∷ rest)) >>= again_at n) (Ok ([], front ++ (s ∷ rest))) _ h) [
     | inl c ↦ true-false _ (ap (head_in p) k ∙ same-head p front s more rest ∙ c.0) (head-stops p P same z e)
     | inr c ↦ ok-err _ _ c.1
   ]
-  tight_at (suc n) front s rest l h (t ∷ ts) z more e k = elim (chosen (head_in p (front ++ (s ∷ rest))) (a.read (front ++ (s ∷ rest)) >>= again_at n) (Ok ([], front ++ (s ∷ rest))) _ h) [
+  tight_at (suc n) d front s rest l f h (t ∷ ts) z more g e k = elim (chosen (head_in p (front ++ (s ∷ rest))) (a.read (front ++ (s ∷ rest)) >>= again_at n) (Ok ([], front ++ (s ∷ rest))) _ h) [
     | inl c ↦ elim (bind_err (a.read (front ++ (s ∷ rest))) (again_at n) _ c.1) [
-      | inl q ↦ ra.tight front s rest q t (many a.spell ts ++ z) more e.0 (sym (append_assoc (a.spell t) (many a.spell ts) z) ∙ k)
+      | inl q ↦ ra.tight d front s rest f q t (many a.spell ts ++ z) more (first-concerned d t ts g) e.0 (sym (append_assoc (a.spell t) (many a.spell ts) z) ∙ k)
       | inr v ↦ elim (bind_err (star_at p a.read n v.0.1) (turn_at v.0.0) _ v.2) [
         | inl q ↦
             let took = ra.takes (front ++ (s ∷ rest)) v.0 v.1 in
             let less = shorter (front ++ (s ∷ rest)) v.0 took in
-            let b = viable_at n v.0.1 _ (omega arith) q in
-            let cut = cut-same front (a.spell v.0.0 ++ b.front) (s ∷ rest) b.rest (took.parts ∙ ap (λ u. a.spell v.0.0 ++ u) b.parts ∙ sym (append_assoc (a.spell v.0.0) b.front b.rest)) b.left_is in
+            let b = viable_at n v.0.1 d (omega arith) q in
+            let cut = cut-same front (a.spell v.0.0 ++ b.front) (s ∷ rest) b.rest (took.parts ∙ ap (λ u. a.spell v.0.0 ++ u) b.parts ∙ sym (append_assoc (a.spell v.0.0) b.front b.rest)) (sym f ∙ b.left_is) in
             let ys-is : v.0.1 ≡ b.front ++ (s ∷ rest) = b.parts ∙ ap (λ u. b.front ++ u) (sym cut.1) in
             let equal : a.spell t ++ (many a.spell ts ++ z) ≡ a.spell v.0.0 ++ (b.front ++ (s ∷ more)) = sym (append_assoc (a.spell t) (many a.spell ts) z) ∙ k ∙ ap (λ u. u ++ (s ∷ more)) cut.0 ∙ append_assoc (a.spell v.0.0) b.front (s ∷ more) in
             let one = la.once t v.0.0 (many a.spell ts ++ z) (b.front ++ (s ∷ more)) e.0 (ahead-past la v.0.0 b.front s rest more (subst (a.ends v.0.0) ys-is took.ends)) equal in
-            tight_at n b.front s rest (subst (λ u. length u < n) ys-is (omega arith)) (subst (λ u. star_at p a.read n u ≡ Err (Unexpected (suc (length rest)))) ys-is q) ts z more e.1 one.1
+            tight_at n d b.front s rest (subst (λ u. length u < n) ys-is (omega arith)) f (subst (λ u. star_at p a.read n u ≡ Err d) ys-is q) ts z more (others-concerned d t ts g) e.1 one.1
         | inr q ↦ ok-err _ _ q.2
       ]
     ]
@@ -152,6 +160,6 @@ module _ {M A : Type 0} (p : Shape → Bool) (P : Set) (a : Rule M A) (same : (s
     takes = λ xs x e. takes_at (suc (length xs)) xs x e;
     again = λ ts z f e. again_all (suc (length (many a.spell ts ++ z))) ts z f e (omega arith);
     viable = λ xs e h. viable_at (suc (length xs)) xs e (omega arith) h;
-    tight = λ front s rest h ts z more e k. tight_at (suc (length (front ++ (s ∷ rest)))) front s rest (omega arith) h ts z more e k;
+    tight = λ d front s rest f h ts z more g e k. tight_at (suc (length (front ++ (s ∷ rest)))) d front s rest (omega arith) f h ts z more g e k;
     short = λ xs h ts z e k. short_at (suc (length xs)) xs (omega arith) h ts z e k;
   }

@@ -1,12 +1,14 @@
 -- MACHINERY. The rules of the grammar that hold messages or stand in them, over the rule of a body, and the rule of files.
 use Rattle.std.specs.Prelude.{◌≤◌, ℕ, zero, suc, List, [], ◌∷◌, length, Err, Option, Some, None, ◌⊎◌, codes}
 use Rattle.std.proofs.Common.{inl, inr}
+use Rattle.protox_lex.specs.Shapes.{Mark}
 use Rattle.protox_grammar.specs.Class.{only, all, but, among}
 use Rattle.protox_ast.specs.Tree as t
 use Rattle.protox_ast.specs.Spelling as s
 use Rattle.protox_ast.specs.Keywords as k
 use Rattle.protox_ast.specs.Depth as d
-use Rattle.protox_grammar.specs.Reader.{Reader, Deep}
+use Rattle.protox_grammar.specs.Reader as reader
+use Rattle.protox_grammar.specs.Reader.{Reader}
 use Rattle.protox_grammar.specs.Rule.{Rule, seq, named_fits, unless, choice, optional, times}
 use Rattle.protox_grammar.specs.Rules.{the, sign, ident, int, list, label, map, normal, option, typename, enum, reserved, extensions, syntax, «import», «package», service}
 
@@ -262,7 +264,7 @@ abbrev pub FitsMbody : {M : Type 0} → ℕ → t.Mbody M → Type 0
 FitsMbody n b = k.KeepsMbody b × (suc (d.mbody_depth b) ≤ n)
 
 unfoldable pub read_mbody : {M : Type 0} → ℕ → Reader M (t.Mbody M)
-read_mbody zero xs = Err (Deep (length xs))
+read_mbody zero xs = reader.too_deep (Mark s.open_brace) xs
 read_mbody (suc n) xs = (mbody (sealed k.KeepsMbody (FitsMbody n) (read_mbody n))).read xs
 
 -- a body of at most n levels

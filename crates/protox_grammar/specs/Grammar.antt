@@ -1,10 +1,10 @@
 -- The laws of the grammar: what a list of rows is, and what the reader of the grammar finds.
-use Rattle.std.specs.Prelude.{◌≡◌, ◌↔◌, ◌≤◌, ℕ, suc, [], ◌∷◌, ◌++◌, length, Ok, Err}
+use Rattle.std.specs.Prelude.{◌≡◌, ◌↔◌, ◌<◌, ◌≤◌, ℕ, suc, [], ◌∷◌, ◌++◌, length, Ok, Err}
 use Rattle.protox_lex.specs.Shapes.{Row, Rows}
 use Rattle.protox_ast.specs.Tree.{File}
 use Rattle.protox_ast.specs.Depth.{depth}
 use Rattle.protox_ast.specs.Spells.{Spells, BeginsFile}
-use Rattle.protox_grammar.specs.Reader.{Unexpected}
+use Rattle.protox_grammar.specs.Reader.{Unexpected, Deep}
 use Rattle.protox_grammar.specs.Reads.{read}
 
 -- at this row, no file goes on
@@ -16,6 +16,16 @@ pub record IsUnexpected {M : Type 0} (rows : Rows M) (left : ℕ) : Type 0 where
   pub left_is : left ≡ suc (length rest)
   pub before : BeginsFile front
   pub with_it : BeginsFile (front ++ (here ∷ [])) → ⊥
+
+-- at this row something opens that is too deep: no file of at most n levels goes on
+pub record IsTooDeep {M : Type 0} (n : ℕ) (rows : Rows M) (left : ℕ) : Type 0 where
+  pub front : Rows M
+  pub here : Row M
+  pub rest : Rows M
+  pub parts : rows ≡ front ++ (here ∷ rest)
+  pub left_is : left ≡ suc (length rest)
+  pub before : BeginsFile front
+  pub with_it : (f : File M) (more : Rows M) → Spells (front ++ (here ∷ more)) f → n < depth f
 
 -- the rows begin a file and are none
 pub record IsEnded {M : Type 0} (rows : Rows M) : Type 0 where
@@ -35,6 +45,10 @@ AcceptsIff M = (n : ℕ) (rows : Rows M) (f : File M) → (read n rows ≡ Ok f)
 -- before a row that isn't expected there is some file, and with it none
 abbrev pub TightUnexpected : Type 0 → Type 0
 TightUnexpected M = (n left : ℕ) (rows : Rows M) → read n rows ≡ Err (Unexpected (suc left)) → IsUnexpected rows (suc left)
+
+-- before a row that opens something too deep there is some file, and with it only such as are deeper
+abbrev pub TightDeep : Type 0 → Type 0
+TightDeep M = (n left : ℕ) (rows : Rows M) → read n rows ≡ Err (Deep (suc left)) → IsTooDeep n rows (suc left)
 
 -- rows that ended too soon begin a file and are none
 abbrev pub TightEnd : Type 0 → Type 0

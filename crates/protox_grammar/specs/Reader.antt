@@ -49,6 +49,11 @@ unfoldable pub fixed : {M : Type 0} → Shape → Reader M M
 fixed w [] = Err (Unexpected 0)
 fixed w (r ∷ rs) = if is_token w r.shape then Ok (r.at, rs) else refuse (r ∷ rs)
 
+-- only this token is seen: what it opens is too deep
+unfoldable pub too_deep : {M A : Type 0} → Shape → Reader M A
+too_deep w [] = Err (Unexpected 0)
+too_deep w (r ∷ rs) = if is_token w r.shape then Err (Deep (length (r ∷ rs))) else refuse (r ∷ rs)
+
 -- a token with a value
 abbrev pub seen : {M X : Type 0} → Row M → Rows M → Option X → Result ((X × M) × Rows M) Refusal
 seen r rs (Some x) = Ok ((x, r.at), rs)

@@ -1,12 +1,12 @@
 -- MACHINERY. Rules of a grammar: what spells a tree, which trees there may be, what may follow one, and how it is read.
-use Rattle.std.specs.Prelude.{◌≡◌, List, [], ◌∷◌, ◌++◌, length, Bool, true, false, not, Option, Some, None, Err, ◌⊎◌}
+use Rattle.std.specs.Prelude.{◌≡◌, List, [], ◌∷◌, ◌++◌, length, Bool, true, false, not, Option, Some, None, ◌⊎◌}
 use Rattle.std.proofs.Common.{inl, inr}
 use Rattle.protox_lex.specs.Shapes.{Shape, Row, Rows}
 use Rattle.protox_grammar.specs.Class.{class, Set, in_set}
 use Rattle.protox_ast.specs.Spelling.{maybe, many}
 use Rattle.protox_ast.specs.Keywords.{Given, Each}
 use Rattle.protox_grammar.specs.Reader as reader
-use Rattle.protox_grammar.specs.Reader.{Reader, Deep}
+use Rattle.protox_grammar.specs.Reader.{Reader}
 
 -- no row of the set comes first
 abbrev pub Stops : {M : Type 0} → Set → Rows M → Type 0
@@ -104,14 +104,14 @@ star p P a = record {
   read = reader.star p a.read;
 }
 
--- a rule that is too deep to be read
-abbrev pub too_deep : {M A : Type 0} → Rule M A → Rule M A
-too_deep a = record {
+-- a rule that is too deep to be read, which begins with this token
+abbrev pub too_deep : {M A : Type 0} → Shape → Rule M A → Rule M A
+too_deep w a = record {
   spell = a.spell;
   may = a.may;
   fits = λ t. ⊥;
   ends = a.ends;
-  read = λ xs. Err (Deep (length xs));
+  read = reader.too_deep w;
 }
 
 -- ---- the forms that the grammar is written in

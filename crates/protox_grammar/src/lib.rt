@@ -19,6 +19,11 @@ pub fn unexpected<M>(_mark: &M)
     ensures { grammar.TightUnexpected M }
 {}
 
+/// Before a row that opens something too deep there is some file, and with it only such as are deeper.
+pub fn too_deep<M>(_mark: &M)
+    ensures { grammar.TightDeep M }
+{}
+
 /// Rows that ended too soon begin a file and are none.
 pub fn ended<M>(_mark: &M)
     ensures { grammar.TightEnd M }

@@ -100,7 +100,7 @@ module _ {M : Type 0} (m : M) where
         parts = parts;
         left_is = len;
         before = begins rows (suc left) v;
-        with_it = λ b. (file-laws m).read.tight v.front x rest h' b.0 [] b.1 (ends-of b.0 b.2.1)
+        with_it = λ b. (file-laws m).read.tight (Unexpected (suc (length rest))) v.front x rest refl h' b.0 [] b.1 tt (ends-of b.0 b.2.1)
             (append-nil ((r.file).spell b.0) ∙ spelling b.0 ∙ sym b.2.0 ∙ append_assoc v.front (x ∷ []) b.1);
       }
 

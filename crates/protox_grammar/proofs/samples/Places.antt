@@ -77,9 +77,11 @@ record AreThere : Type 0 where
   -- a group at the last level, and one too deep
   last_level : stop 2 a_group ≡ None
   too_deep : stop 1 a_group ≡ Some (Deep 3)
+  -- where no brace follows, that row is unexpected
+  no_brace : stop 1 (word "group" ∷ word "G" ∷ Mark s.equals ∷ number 1 ∷ Mark s.semicolon ∷ Mark s.close_brace ∷ []) ≡ Some (Unexpected 2)
 
 are_there : AreThere
-unfolding read r.strings r.syntax r.import_kind r.«import» r.fullident r.«package» r.typename r.part r.constant r.value r.body r.option r.list r.int r.type r.label r.normal r.map r.range_end r.range r.ranges r.names r.reserved_kind r.reserved r.extensions r.evalue r.enum_element r.enum r.rpc_type r.rpc_element r.rpc_end r.rpc r.service_element r.service rule.group rule.field_kind rule.field rule.oneof_element rule.oneof_elements rule.oneof rule.extend_element rule.extend_elements rule.extend rule.message rule.element rule.elements rule.mbody rule.read_mbody rule.statement rule.file reader.fixed reader.leaf reader.star_at reader.star r.balanced_at
+unfolding read r.strings r.syntax r.import_kind r.«import» r.fullident r.«package» r.typename r.part r.constant r.value r.body r.option r.list r.int r.type r.label r.normal r.map r.range_end r.range r.ranges r.names r.reserved_kind r.reserved r.extensions r.evalue r.enum_element r.enum r.rpc_type r.rpc_element r.rpc_end r.rpc r.service_element r.service rule.group rule.field_kind rule.field rule.oneof_element rule.oneof_elements rule.oneof rule.extend_element rule.extend_elements rule.extend rule.message rule.element rule.elements rule.mbody rule.read_mbody rule.statement rule.file reader.fixed reader.too_deep reader.leaf reader.star_at reader.star r.balanced_at
 are_there = record {
   to_listed = refl;
   unlisted = refl;
@@ -110,4 +112,5 @@ are_there = record {
   late_syntax = refl;
   last_level = refl;
   too_deep = refl;
+  no_brace = refl;
 }

@@ -3,5 +3,5 @@ pub mod Spelling
 pub mod Keywords
 pub mod Depth
 pub mod Spells
-pub mod Whole
+pub mod Embedding
 pub mod Ast

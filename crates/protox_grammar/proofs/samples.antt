@@ -1,5 +1,5 @@
 pub mod Build
 pub mod Spelled
 pub mod Barred
-pub mod Places
+pub mod Read
 pub mod Nodes

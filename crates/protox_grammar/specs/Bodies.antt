@@ -1,5 +1,5 @@
 -- MACHINERY. The rules of the grammar that hold messages or stand in them, over the rule of a body, and the rule of files.
-use Rattle.std.specs.Prelude.{◌≤◌, ℕ, zero, suc, List, [], ◌∷◌, length, Err, Option, Some, None, ◌⊎◌, codes}
+use Rattle.std.specs.Prelude.{◌≤◌, ℕ, zero, suc, List, [], ◌∷◌, Option, Some, None, ◌⊎◌, codes}
 use Rattle.std.proofs.Common.{inl, inr}
 use Rattle.protox_lex.specs.Shapes.{Mark}
 use Rattle.protox_grammar.specs.Class.{only, all, but, among}

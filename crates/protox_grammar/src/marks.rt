@@ -1,8 +1,8 @@
 //! The laws at the marks that are used: none, and places.
-use crate::{accepts, ended, one_tree, too_deep, unexpected};
-
 ghost use Rattle.protox_grammar.specs.Grammar as grammar;
 ghost use Rattle.protox_lex.specs.Faults.{Span};
+
+use crate::{accepts, ended, one_tree, too_deep, unexpected};
 
 fn without_marks()
     ensures one_tree { grammar.OneTree (Unit {0}) }

@@ -14,8 +14,8 @@ use Rattle.protox_ast.specs.part.Spelling as part_s
 use Rattle.protox_ast.specs.part.Keywords as part_k
 use Rattle.protox_ast.specs.part.Depth as part_d
 use Rattle.protox_ast.specs.part.Spells as part_spells
-use Rattle.protox_ast.specs.part.Whole as w
-use Rattle.protox_ast.specs.part.Whole.{whole_of}
+use Rattle.protox_ast.specs.part.Embedding as w
+use Rattle.protox_ast.specs.part.Embedding.{whole_of}
 use Rattle.protox_grammar.proofs.Ties.{type-both, type-first, type-rest}
 
 -- ---- how it is spelled

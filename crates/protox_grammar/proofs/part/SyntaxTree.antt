@@ -15,7 +15,7 @@ use Rattle.protox_ast.specs.Ast as ast
 use Rattle.protox_ast.specs.part.Tree as part
 use Rattle.protox_ast.specs.part.Ast as part_ast
 use Rattle.protox_ast.specs.part.Ast.{no_comments}
-use Rattle.protox_ast.specs.part.Whole as w
+use Rattle.protox_ast.specs.part.Embedding as w
 use Rattle.protox_grammar.proofs.part.ReadYet.{spelled}
 
 abbrev none : Span → Span → Comments

@@ -1,4 +1,4 @@
--- Where the reading of some rows stops, by computing.
+-- Which rows are read, and where the reading of others stops, by computing.
 use Rattle.std.proofs.Common.{◌≡◌, ℕ, List, [], ◌∷◌, Option, Some, None, Result, Ok, Err, refl}
 use Rattle.protox_lex.specs.Shapes.{Shape, Mark, Invalid}
 use Rattle.protox_ast.specs.Tree as t

@@ -9,7 +9,7 @@ use Rattle.protox_grammar.specs.Rule.{Rule, Stops, Starts, on_sum, either, unsta
 use Rattle.protox_grammar.proofs.Takes.{bind_ok, ok_is}
 use Rattle.protox_grammar.proofs.Laws.{IsSpelled}
 use Rattle.protox_grammar.proofs.Sets.{stops-front, starts-within}
-use Rattle.protox_grammar.proofs.Reading.{left_of, Concerns, Begins, Took, IsRead, failed, at_once, err-left, err-ok, map_err, stops-head, head-stops, head-starts, chosen, true-false, same-head}
+use Rattle.protox_grammar.proofs.Reading.{left_of, Concerns, Opens, unexpected-deep, Begins, Took, IsRead, failed, at_once, err-left, err-ok, map_err, stops-head, head-stops, head-starts, chosen, true-false, same-head}
 
 -- ---- one or the other
 
@@ -70,6 +70,29 @@ module _ {M A B : Type 0} (p : Shape → Bool) (P : Set) (a : Rule M A) (b : Rul
     | inr k ↦ let v = rb.viable xs e (map_err inr (b.read xs) e k.1) in either-begins-right xs (left_of e) k.0 v v.front refl
   ]
 
+  stops-as : (xs ys front : Rows M) (here : Row M) (rest more : Rows M) → xs ≡ front ++ (here ∷ rest) → ys ≡ front ++ (here ∷ more) → head_in p xs ≡ false → Stops P ys
+  stops-as xs ys front here rest more e f closed = stops-head p P same ys (ap (head_in p) f ∙ same-head p front here more rest ∙ sym (ap (head_in p) e) ∙ closed)
+
+  either-opens : (n : ℕ) (xs : Rows M) → reader.either p (reader.mapped inl a.read) (reader.mapped inr b.read) xs ≡ Err (Deep n) → Opens (either p P a b) xs n
+  either-opens n xs h = elim (chosen (head_in p xs) (reader.mapped inl a.read xs) (reader.mapped inr b.read xs) (Err (Deep n)) h) [
+    | inl k ↦
+        let v = ra.opens n xs (map_err inl (a.read xs) (Deep n) k.1) in
+        record { front = v.front; here = v.here; rest = v.rest; parts = v.parts; left_is = v.left_is; tree = inl v.tree; tree_may = v.tree_may; more = v.more; goes_on = v.goes_on }
+    | inr k ↦
+        let v = rb.opens n xs (map_err inr (b.read xs) (Deep n) k.1) in
+        record {
+          front = v.front;
+          here = v.here;
+          rest = v.rest;
+          parts = v.parts;
+          left_is = v.left_is;
+          tree = inr v.tree;
+          tree_may = (v.tree_may, stops-as xs (b.spell v.tree) v.front v.here v.rest v.more v.parts v.goes_on k.0);
+          more = v.more;
+          goes_on = v.goes_on;
+        }
+  ]
+
   first-concerned : (e : Refusal) (t : A) → Concerns (either p P a b) e (inl t) → Concerns a e t
   first-concerned (Unexpected n) t c = tt
   first-concerned (Deep n) t c = c
@@ -108,6 +131,7 @@ module _ {M A B : Type 0} (p : Shape → Bool) (P : Set) (a : Rule M A) (b : Rul
     takes = either-takes;
     again = either-again;
     viable = either-viable;
+    opens = either-opens;
     tight = either-tight;
     short = either-short;
   }
@@ -167,6 +191,24 @@ module _ {M B : Type 0} (P : Set) (b : Rule M B) (eb : Bool) (fb gb : Set) (lb :
     | inr k ↦ let v = rb.viable xs e k.1 in unstarted-begins xs (left_of e) k.0 v v.front refl
   ]
 
+  unstarted-opens : (n : ℕ) (xs : Rows M) → reader.unstarted test b.read xs ≡ Err (Deep n) → Opens (unstarted P b) xs n
+  unstarted-opens n xs h = elim (chosen (head_in test xs) (failed (B × Rows M) (Unexpected (length xs))) (b.read xs) (Err (Deep n)) h) [
+    | inl k ↦ absurd (unexpected-deep {A = B × Rows M} (length xs) n k.1)
+    | inr k ↦
+        let v = rb.opens n xs k.1 in
+        record {
+          front = v.front;
+          here = v.here;
+          rest = v.rest;
+          parts = v.parts;
+          left_is = v.left_is;
+          tree = v.tree;
+          tree_may = (v.tree_may, stops-head test P (λ s. refl) (b.spell v.tree) (ap (head_in test) v.goes_on ∙ same-head test v.front v.here v.more v.rest ∙ sym (ap (head_in test) v.parts) ∙ k.0));
+          more = v.more;
+          goes_on = v.goes_on;
+        }
+  ]
+
   unstarted-concerned : (e : Refusal) (t : B) → Concerns (unstarted P b) e t → Concerns b e t
   unstarted-concerned (Unexpected n) t c = tt
   unstarted-concerned (Deep n) t c = c.0
@@ -192,6 +234,7 @@ module _ {M B : Type 0} (P : Set) (b : Rule M B) (eb : Bool) (fb gb : Set) (lb :
     takes = unstarted-takes;
     again = λ t z f k. unstarted-again t z f.0 k.0 k.1;
     viable = unstarted-viable;
+    opens = unstarted-opens;
     tight = unstarted-tight;
     short = unstarted-short;
   }

@@ -5,14 +5,14 @@ use Rattle.std.proofs.lemmas.List.{length-append}
 use Rattle.protox_lex.specs.Shapes.{Shape, Mark, Row, Rows}
 use Rattle.protox_grammar.specs.Class.{none, all}
 use Rattle.protox_grammar.specs.Reader as reader
-use Rattle.protox_grammar.specs.Reader.{Refusal, Unexpected, ◌>>=◌}
+use Rattle.protox_grammar.specs.Reader.{Refusal, Unexpected, Deep, ◌>>=◌}
 use Rattle.protox_grammar.specs.Rule.{Starts, row}
 use Rattle.protox_ast.specs.Spelling.{close_brace}
 use Rattle.protox_ast.specs.Keywords as k
 use Rattle.protox_grammar.specs.Rules.{balanced_at, closed}
 use Rattle.protox_grammar.proofs.Takes.{bind_ok, ok_is}
 use Rattle.protox_grammar.proofs.Laws.{IsSpelled, head-same}
-use Rattle.protox_grammar.proofs.Reading.{IsRead, Took, Begins, left_of, bind_err, ok-err, err-ok, err-left, true-false}
+use Rattle.protox_grammar.proofs.Reading.{IsRead, Took, Begins, left_of, bind_err, ok-err, err-ok, err-left, unexpected-deep, true-false}
 
 -- tokens whose braces match, with so many open before
 record Matches {M : Type 0} (d : ℕ) (t : Rows M) : Type 0 where
@@ -201,6 +201,19 @@ past d d' x f b front s z more m next (y ∷ t) a e =
     let p = head-same y x (t ++ (shut m ∷ z)) (front ++ (s ∷ more)) e in
     next t (f t (subst (λ (v : Row _). Matches d (v ∷ t)) p.0 a)) p.1
 
+-- the reading never stops at what is too deep
+never-deep : {M : Type 0} (d n : ℕ) (xs : Rows M) → balanced_at d xs ≡ Err (Deep n) → ⊥
+unfolding balanced_at
+never-deep {M = M} d n [] h = unexpected-deep {A = Rows M × Rows M} 0 n h
+never-deep {M = M} d n (r ∷ xs) h = elim (step d r) [
+  | goes d' f b g ↦ elim (bind_err (balanced_at d' xs) (after r) (Deep n) (sym (g xs) ∙ h)) [
+    | inl k ↦ never-deep d' n xs k
+    | inr k ↦ ok-err _ _ k.2
+  ]
+  | ends a b f g ↦ ok-err _ _ (sym (g xs) ∙ h)
+  | bars b f g ↦ unexpected-deep {A = Rows M × Rows M} (length (r ∷ xs)) n (sym (g xs) ∙ h)
+]
+
 -- where the reading stops at a row, none go on with it
 tight : {M : Type 0} (d : ℕ) (w : Refusal) (front : Rows M) (s : Row M) (rest : Rows M) → left_of w ≡ suc (length rest) → balanced_at d (front ++ (s ∷ rest)) ≡ Err w
     → (t z more : Rows M) (m : M) → Matches d t → t ++ (shut m ∷ z) ≡ front ++ (s ∷ more) → ⊥
@@ -245,6 +258,7 @@ closed-read {M = M} m = record {
   takes = took;
   again = λ t z h n. rw (append_assoc t.0 (shut t.1 ∷ []) z, again 0 t.0 t.1 z (matches t.0 h), closes (shut t.1) z refl) refl;
   viable = viable;
+  opens = λ n xs h. absurd (never-deep 0 n xs (inside xs (Deep n) h));
   tight = λ d front s rest l h t z more c n e. stuck d front s rest l h t z more n e;
   short = λ xs h t z n e. complete xs h t z n e;
 }

@@ -4,7 +4,7 @@ use Rattle.protox_lex.specs.Shapes.{Mark, Rows}
 use Rattle.protox_grammar.specs.Class.{only, none}
 use Rattle.protox_grammar.specs.Reader.{Reader}
 use Rattle.protox_grammar.specs.Reader as reader
-use Rattle.protox_grammar.proofs.Words.{mark-back}
+use Rattle.protox_grammar.proofs.Words.{mark-back, mark-exact}
 use Rattle.protox_grammar.specs.Rule.{Rule, Starts, row}
 use Rattle.protox_ast.specs.Tree as t
 use Rattle.protox_ast.specs.Spelling as s
@@ -12,7 +12,7 @@ use Rattle.protox_ast.specs.Keywords as k
 use Rattle.protox_ast.specs.Depth as d
 use Rattle.protox_grammar.specs.Bodies as rule
 use Rattle.protox_grammar.proofs.Laws.{IsSpelled, head-same}
-use Rattle.protox_grammar.proofs.Reading.{too_deep-read}
+use Rattle.protox_grammar.proofs.ReadingTokens.{too_deep-read}
 use Rattle.protox_grammar.proofs.Forms.{Lawful, said-laws}
 use Rattle.protox_grammar.proofs.Joining.{sealed-spelled, sealed-read}
 use Rattle.protox_grammar.proofs.Messages.{mbody-laws}
@@ -37,10 +37,10 @@ module _ {M : Type 0} (m : M) where
   abbrev some_body : t.Mbody M
   some_body = t.mbody_of m t.no_elements m
 
-  at-some : (n : ℕ) → At n some_body
+  at-empty : (n : ℕ) (o c : M) → At n (t.mbody_of o t.no_elements c)
   unfolding At
-  at-some zero = refl
-  at-some (suc n) = tt
+  at-empty zero o c = refl
+  at-empty (suc n) o c = tt
 
   abbrev level : ℕ → Rule M (t.Mbody M)
   level n = rule.sealed (At n) (λ x. ⊥) deep
@@ -68,13 +68,13 @@ module _ {M : Type 0} (m : M) where
   unfolding At deep rule.mbody
   level-laws zero = record {
     spelled = record { starts = λ x z h. empty-starts x z; follow = λ x z h w. h; ahead = λ x v y z h. h; once = zero-once };
-    read = too_deep-read (Mark s.open_brace) (mark-back s.open_brace) (level 0) some_body refl body-begins;
+    read = too_deep-read (Mark s.open_brace) (mark-back s.open_brace) (level 0) some_body refl (mark-exact s.open_brace) body-begins (λ o. (t.mbody_of o t.no_elements m, refl, row (Mark s.close_brace) m ∷ [], refl));
   }
   level-laws (suc n) =
       let l = sealed-spelled (mbody-laws m (At n) (λ x. ⊥) deep (level-laws n)).spelled in
       record {
         spelled = record { starts = l.starts; follow = l.follow; ahead = l.ahead; once = l.once };
-        read = too_deep-read (Mark s.open_brace) (mark-back s.open_brace) (level (suc n)) some_body tt body-begins;
+        read = too_deep-read (Mark s.open_brace) (mark-back s.open_brace) (level (suc n)) some_body tt (mark-exact s.open_brace) body-begins (λ o. (t.mbody_of o t.no_elements m, tt, row (Mark s.close_brace) m ∷ [], refl));
       }
 
   -- at any depth
@@ -95,7 +95,7 @@ module _ {M : Type 0} (m : M) where
   body-laws zero =
       said-laws {r = rule.sealed k.KeepsMbody (λ x. ⊥) deep} s.mbody k.KeepsMbody (rule.FitsMbody 0) (λ x z. k.KeepsMbody x) (λ x. refl) (λ x h. h) (λ x h. h)
       (λ x h. absurd (omega (arith, h.1))) (λ x h. absurd h) (λ x z h. h) (λ x z h. h)
-      (record { spelled = any-spelled (λ x. ⊥) deep; read = too_deep-read (Mark s.open_brace) (mark-back s.open_brace) (rule.sealed k.KeepsMbody (λ x. ⊥) deep) some_body tt body-begins })
+      (record { spelled = any-spelled (λ x. ⊥) deep; read = too_deep-read (Mark s.open_brace) (mark-back s.open_brace) (rule.sealed k.KeepsMbody (λ x. ⊥) deep) some_body tt (mark-exact s.open_brace) body-begins (λ o. (t.mbody_of o t.no_elements m, tt, row (Mark s.close_brace) m ∷ [], refl)) })
   body-laws (suc n) =
       let l = mbody-laws m k.KeepsMbody (rule.FitsMbody n) (rule.read_mbody n) (body-laws n) in
       said-laws s.mbody k.KeepsMbody (rule.FitsMbody (suc n)) (λ x z. k.KeepsMbody x) (λ x. refl)

@@ -9,7 +9,8 @@ use Rattle.protox_grammar.specs.Rule.{Rule, Stops, Starts, fixed, seq, on_sum, n
 use Rattle.protox_grammar.proofs.Words.{word-exact, word-back, mark-exact, mark-back}
 use Rattle.protox_grammar.proofs.Sets.{gated, apart-at}
 use Rattle.protox_grammar.proofs.Laws.{IsSpelled, fixed-spelled, seq-spelled, either-spelled, nothing-spelled, mapped-spelled, star-spelled, unstarted-spelled, wider}
-use Rattle.protox_grammar.proofs.Reading.{Concerns, IsRead, Took, Begins, fixed-read, seq-read, mapped-read, nothing-read}
+use Rattle.protox_grammar.proofs.Reading.{Concerns, Opens, IsRead, Took, Begins, seq-read, mapped-read, nothing-read}
+use Rattle.protox_grammar.proofs.ReadingTokens.{fixed-read}
 use Rattle.protox_grammar.proofs.Choosing.{either-read, unstarted-read}
 use Rattle.protox_grammar.proofs.Repeat.{star-read}
 
@@ -61,6 +62,9 @@ module _ {M A : Type 0} {r : Rule M A} {e : Bool} {f g : Set} (spell : A → Row
   begins : (xs : Rows M) (n : ℕ) → Begins r xs n → Begins again_said xs n
   begins xs n v = record { front = v.front; rest = v.rest; parts = v.parts; left_is = v.left_is; tree = v.tree; tree_may = allows v.tree v.tree_may; more = v.more; goes_on = spelled v.tree ∙ v.goes_on }
 
+  said-opens : (xs : Rows M) (n : ℕ) → Opens r xs n → Opens again_said xs n
+  said-opens xs n v = record { front = v.front; here = v.here; rest = v.rest; parts = v.parts; left_is = v.left_is; tree = v.tree; tree_may = allows v.tree v.tree_may; more = v.more; goes_on = spelled v.tree ∙ v.goes_on }
+
   said-concerned : (d : Refusal) (t : A) → Concerns again_said d t → Concerns r d t
   said-concerned (Unexpected n) t c = tt
   said-concerned (Deep n) t c = fits_obeys t c
@@ -80,6 +84,7 @@ module _ {M A : Type 0} {r : Rule M A} {e : Bool} {f g : Set} (spell : A → Row
       takes = λ xs x h. took xs x (l.read.takes xs x h);
       again = λ t z h k. rw (spelled t) (l.read.again t z (fits_obeys t h) (ends_obeys t z k));
       viable = λ xs h k. begins xs _ (l.read.viable xs h k);
+      opens = λ n xs h. said-opens xs n (l.read.opens n xs h);
       tight = λ d front s rest n h t z more c k j. l.read.tight d front s rest n h t z more (said-concerned d t c) (ends_obeys t z k) (ap (λ v. v ++ z) (sym (spelled t)) ∙ j);
       short = λ xs h t z k j. l.read.short xs h t z (ends_obeys t z k) (ap (λ v. v ++ z) (sym (spelled t)) ∙ j);
     };

@@ -10,7 +10,7 @@ use Rattle.protox_grammar.specs.Rule.{Rule, Stops, seq, joined, peek}
 use Rattle.protox_grammar.proofs.Takes.{ok_is}
 use Rattle.protox_grammar.proofs.Sets.{gated, starts-then}
 use Rattle.protox_grammar.proofs.Laws.{IsSpelled, ahead-past}
-use Rattle.protox_grammar.proofs.Reading.{Concerns, IsRead, Took, Begins, left_of, bind_err, ok-err, err-ok, err-left, seq-read}
+use Rattle.protox_grammar.proofs.Reading.{Concerns, Opens, chosen, failed, unexpected-deep, IsRead, Took, Begins, left_of, bind_err, ok-err, err-ok, err-left, seq-read}
 use Rattle.protox_grammar.proofs.Forms.{Lawful, stops-none}
 
 -- ---- the next row is in a set
@@ -58,6 +58,13 @@ module _ {M : Type 0} (G : Set) where
   peek-short [] h = ok-err _ _ h
   peek-short (r ∷ rs) h = let n = (peek-fault r rs (in_set G r.shape) _ h).1 in omega (arith, n)
 
+  peek-deep : (n : ℕ) (xs : Rows M) → reader.peek (in_set G) xs ≡ Err (Deep n) → ⊥
+  peek-deep n [] h = ok-err _ _ h
+  peek-deep n (r ∷ rs) h = elim (chosen (in_set G r.shape) (Ok (tt, r ∷ rs)) (failed (Unit {0} × Rows M) (Unexpected (length (r ∷ rs)))) (Err (Deep n)) h) [
+    | inl k ↦ ok-err _ _ k.1
+    | inr k ↦ unexpected-deep {A = Unit {0} × Rows M} (length (r ∷ rs)) n k.1
+  ]
+
   pub peek-laws : Lawful {M = M} (peek G) true none (λ k. not (G k))
   peek-laws = record {
     spelled = record { starts = λ t z e. refl; follow = λ t z m s. s; ahead = λ t s y z e. e; once = λ t u y z p q e. (refl, e) };
@@ -68,6 +75,7 @@ module _ {M : Type 0} (G : Set) where
       takes = peek-takes;
       again = λ t z h k. peek-again z k;
       viable = peek-viable;
+      opens = λ n xs h. absurd (peek-deep n xs h);
       tight = λ d front s rest l h t z more c k e. peek-tight d front s rest l h z more k e;
       short = λ xs h t z k e. peek-short xs h;
     };
@@ -143,6 +151,44 @@ module _ {M A B : Type 0} (C : A → B → Type 0) (a : Rule M A) (b : Rule M B)
     ]
   ]
 
+  opens-first : (xs : Rows M) (n : ℕ) → Opens a xs n → Opens (joined C a b) xs n
+  opens-first xs n v = record {
+    front = v.front;
+    here = v.here;
+    rest = v.rest;
+    parts = v.parts;
+    left_is = v.left_is;
+    tree = (v.tree, some);
+    tree_may = (free v.tree, v.tree_may, some_may);
+    more = v.more ++ b.spell some;
+    goes_on = ap (λ u. u ++ b.spell some) v.goes_on ∙ append_assoc v.front (v.here ∷ v.more) (b.spell some);
+  }
+
+  opens-second : (xs : Rows M) (x : A × Rows M) (n : ℕ) → Took a xs x → Opens b x.1 n → Opens (joined C a b) xs n
+  opens-second xs x n ta v =
+      let is : v.front ++ (v.here ∷ (v.more ++ [])) ≡ b.spell v.tree ++ [] = sym (ap (λ u. u ++ []) v.goes_on ∙ append_assoc v.front (v.here ∷ v.more) []) in
+      let near : a.ends x.0 (b.spell v.tree ++ []) = subst (a.ends x.0) is (ahead-past la.spelled x.0 v.front v.here v.rest (v.more ++ []) (subst (a.ends x.0) v.parts ta.ends)) in
+      record {
+        front = a.spell x.0 ++ v.front;
+        here = v.here;
+        rest = v.rest;
+        parts = ta.parts ∙ ap (λ u. a.spell x.0 ++ u) v.parts ∙ sym (append_assoc (a.spell x.0) v.front (v.here ∷ v.rest));
+        left_is = v.left_is;
+        tree = (x.0, v.tree);
+        tree_may = (met x.0 v.tree [] near (lb.spelled.follow v.tree [] v.tree_may tt), la.read.within x.0 ta.fits, v.tree_may);
+        more = v.more;
+        goes_on = ap (λ u. a.spell x.0 ++ u) v.goes_on ∙ sym (append_assoc (a.spell x.0) v.front (v.here ∷ v.more));
+      }
+
+  joined-opens : (n : ℕ) (xs : Rows M) → reader.seq a.read b.read xs ≡ Err (Deep n) → Opens (joined C a b) xs n
+  joined-opens n xs h = elim (bind_err (a.read xs) (λ v. b.read v.1 >>= λ y. Ok ((v.0, y.0), y.1)) (Deep n) h) [
+    | inl k ↦ opens-first xs n (la.read.opens n xs k)
+    | inr p ↦ elim (bind_err (b.read p.0.1) (λ y. Ok ((p.0.0, y.0), y.1)) (Deep n) p.2) [
+      | inl k ↦ opens-second xs p.0 n (la.read.takes xs p.0 p.1) (lb.read.opens n p.0.1 k)
+      | inr q ↦ absurd (ok-err _ _ q.2)
+    ]
+  ]
+
   joined-takes : (xs : Rows M) (x : (A × B) × Rows M) → reader.seq a.read b.read xs ≡ Ok x → Took (joined C a b) xs x
   joined-takes xs x e = let k = plain-read.takes xs x e in record { parts = k.parts; fits = (met x.0.0 x.0.1 x.1 k.ends.0 k.ends.1, k.fits.0, k.fits.1); ends = k.ends }
 
@@ -160,6 +206,7 @@ module _ {M A B : Type 0} (C : A → B → Type 0) (a : Rule M A) (b : Rule M B)
       takes = joined-takes;
       again = λ t z h k. plain-read.again t z (h.1, h.2) k;
       viable = joined-viable;
+      opens = joined-opens;
       tight = λ d front s rest l h t z more c. plain-read.tight d front s rest l h t z more (plain-concerned d t c);
       short = plain-read.short;
     };
@@ -183,6 +230,7 @@ sealed-read {M} {A} {r = r} l = record {
   takes = λ xs x h. let k = l.read.takes xs x h in record { parts = k.parts; fits = k.fits; ends = l.read.within x.0 k.fits };
   again = λ t z h k. l.read.again t z h (l.spelled.follow t z k (stops-none z));
   viable = λ xs h k. let v = l.read.viable xs h k in record { front = v.front; rest = v.rest; parts = v.parts; left_is = v.left_is; tree = v.tree; tree_may = v.tree_may; more = v.more; goes_on = v.goes_on };
+  opens = λ n xs h. let v = l.read.opens n xs h in record { front = v.front; here = v.here; rest = v.rest; parts = v.parts; left_is = v.left_is; tree = v.tree; tree_may = v.tree_may; more = v.more; goes_on = v.goes_on };
   tight = λ d front s rest n h t z more c k j. l.read.tight d front s rest n h t z more (sealed-concerned d t c) (l.spelled.follow t z k (stops-none z)) j;
   short = λ xs h t z k j. l.read.short xs h t z (l.spelled.follow t z k (stops-none z)) j;
 }

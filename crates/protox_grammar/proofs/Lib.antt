@@ -3,6 +3,7 @@ pub mod Words
 pub mod Sets
 pub mod Laws
 pub mod Reading
+pub mod ReadingTokens
 pub mod Choosing
 pub mod Repeat
 pub mod Forms

@@ -13,7 +13,7 @@ use Rattle.protox_ast.specs.Depth as d
 use Rattle.protox_ast.specs.Spells.{Spells, BeginsFile}
 use Rattle.protox_grammar.specs.Bodies as rule
 use Rattle.protox_grammar.specs.Reads.{read}
-use Rattle.protox_grammar.specs.Grammar.{IsUnexpected, IsTooDeep, OneTree, AcceptsIff, TightUnexpected, TightDeep, TightEnd}
+use Rattle.protox_grammar.specs.Grammar.{IsUnexpected, OneTree, AcceptsIff, TightUnexpected, TightDeep, TightEnd}
 use Rattle.protox_grammar.proofs.Takes.{bind_ok, ok_is}
 use Rattle.protox_grammar.proofs.Reading.{Begins, bind_err, ok-err}
 use Rattle.protox_grammar.proofs.Forms.{Lawful}
@@ -118,28 +118,23 @@ module _ {M : Type 0} (m : M) where
   pub unexpected : TightUnexpected M
   unexpected n left rows h = let e = failed-so n rows _ h in let v = (laws n).read.viable rows _ e in unexpected-at n left rows e v v.rest refl
 
-  deep-at : (n left : ℕ) (rows : Rows M) → (file_at n).read rows ≡ Err (Deep (suc left)) → (v : Begins (file_at n) rows (suc left)) → (rest : Rows M) → v.rest ≡ rest → IsTooDeep n rows (suc left)
-  deep-at n left rows h v [] e = absurd (omega (arith, v.left_is, ap length e))
-  deep-at n left rows h v (x ∷ rest) e =
-      let parts : rows ≡ v.front ++ (x ∷ rest) = v.parts ∙ ap (λ u. v.front ++ u) e in
-      let len : suc left ≡ suc (length rest) = v.left_is ∙ ap length e in
-      let h' : (file_at n).read (v.front ++ (x ∷ rest)) ≡ Err (Deep (suc left)) = ap (file_at n).read (sym parts) ∙ h in
+  pub deep : TightDeep M
+  deep n left rows h =
+      let v = (laws n).read.opens (suc left) rows (failed-so n rows _ h) in
+      let h' : (file_at n).read (v.front ++ (v.here ∷ v.rest)) ≡ Err (Deep (suc left)) = ap (file_at n).read (sym v.parts) ∙ failed-so n rows _ h in
       record {
         front = v.front;
-        here = x;
-        rest = rest;
-        parts = parts;
-        left_is = len;
-        before = begins n rows (suc left) v;
-        with_it = λ f more b. elim (cases_lt n (d.depth f)) [
+        here = v.here;
+        rest = v.rest;
+        parts = v.parts;
+        left_is = v.left_is;
+        begins = (v.tree, v.more, (append_assoc v.front (v.here ∷ []) v.more ∙ sym v.goes_on ∙ spelling n v.tree, of-may n v.tree v.tree_may));
+        deeper = λ f more b. elim (cases_lt n (d.depth f)) [
           | inl lt ↦ lt
-          | inr le ↦ absurd ((laws n).read.tight (Deep (suc left)) v.front x rest len h' f [] more (fits-of n f b.1 le) (ends-of n f b.1)
+          | inr le ↦ absurd ((laws n).read.tight (Deep (suc left)) v.front v.here v.rest v.left_is h' f [] more (fits-of n f b.1 le) (ends-of n f b.1)
               (append-nil ((file_at n).spell f) ∙ spelling n f ∙ sym b.0))
         ];
       }
-
-  pub deep : TightDeep M
-  deep n left rows h = let e = failed-so n rows _ h in let v = (laws n).read.viable rows _ e in deep-at n left rows e v v.rest refl
 
   all-front : (n : ℕ) (rows : Rows M) (v : Begins (file_at n) rows 0) (rest : Rows M) → v.rest ≡ rest → rows ≡ v.front
   all-front n rows v [] e = v.parts ∙ ap (λ u. v.front ++ u) e ∙ append-nil v.front

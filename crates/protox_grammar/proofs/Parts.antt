@@ -14,7 +14,8 @@ use Rattle.protox_ast.specs.Keywords as k
 use Rattle.protox_grammar.specs.Rules as r
 use Rattle.protox_grammar.proofs.Sets.{place-le}
 use Rattle.protox_grammar.proofs.Laws.{leaf-spelled}
-use Rattle.protox_grammar.proofs.Reading.{leaf-read, chosen}
+use Rattle.protox_grammar.proofs.Reading.{chosen}
+use Rattle.protox_grammar.proofs.ReadingTokens.{leaf-read}
 use Rattle.protox_grammar.proofs.Begin.{name-stops, stops-name}
 use Rattle.protox_grammar.proofs.Forms.{Lawful, word-laws, mark-laws, seq-laws, unless-laws, choice-laws, optional-laws, times-laws, named-laws, wide}
 

@@ -1,12 +1,12 @@
 -- The laws of reading.
-use Rattle.std.proofs.Common.{◌≡◌, ℕ, suc, Bool, true, false, cond, List, [], ◌∷◌, ◌++◌, length, Option, Some, None, Result, Ok, Err, refl, sym, ap, subst, ◌∙◌, append_assoc, arith, inl, inr, ◌⊎◌}
+use Rattle.std.proofs.Common.{◌≡◌, ℕ, suc, Bool, true, false, cond, List, [], ◌∷◌, ◌++◌, length, Result, Ok, Err, refl, sym, ap, subst, ◌∙◌, append_assoc, arith, inl, inr, ◌⊎◌}
 use Rattle.std.proofs.lemmas.List.{length-append}
 use Rattle.protox_grammar.specs.Reader.{Refusal, Unexpected, Deep}
 use Rattle.protox_lex.specs.Shapes.{Shape, Row, Rows}
 use Rattle.protox_grammar.specs.Class.{Set, class}
 use Rattle.protox_grammar.specs.Reader as reader
 use Rattle.protox_grammar.specs.Reader.{◌>>=◌, head_in, is_token}
-use Rattle.protox_grammar.specs.Rule.{Rule, Stops, Starts, row, fixed, leaf, seq, nothing, mapped, too_deep}
+use Rattle.protox_grammar.specs.Rule.{Rule, Stops, Starts, seq, nothing, mapped}
 use Rattle.protox_grammar.proofs.Takes.{bind_ok, ok_is}
 use Rattle.protox_grammar.proofs.Laws.{IsSpelled, head-same, ahead-past}
 
@@ -26,6 +26,18 @@ pub record Begins {M A : Type 0} (r : Rule M A) (xs : Rows M) (left : ℕ) : Typ
   pub more : Rows M
   pub goes_on : r.spell tree ≡ front ++ more
 
+-- the rows up to the one that opens what is too deep, and this row, begin a tree
+pub record Opens {M A : Type 0} (r : Rule M A) (xs : Rows M) (left : ℕ) : Type 0 where
+  pub front : Rows M
+  pub here : Row M
+  pub rest : Rows M
+  pub parts : xs ≡ front ++ (here ∷ rest)
+  pub left_is : left ≡ suc (length rest)
+  pub tree : A
+  pub tree_may : r.may tree
+  pub more : Rows M
+  pub goes_on : r.spell tree ≡ front ++ (here ∷ more)
+
 -- what was read
 pub record Took {M A : Type 0} (r : Rule M A) (xs : Rows M) (x : A × Rows M) : Type 0 where
   pub parts : xs ≡ r.spell x.0 ++ x.1
@@ -44,6 +56,7 @@ pub record IsRead {M A : Type 0} (r : Rule M A) : Type 0 where
   pub takes : (xs : Rows M) (x : A × Rows M) → r.read xs ≡ Ok x → Took r xs x
   pub again : (t : A) (z : Rows M) → r.fits t → r.ends t z → r.read (r.spell t ++ z) ≡ Ok (t, z)
   pub viable : (xs : Rows M) (e : Refusal) → r.read xs ≡ Err e → Begins r xs (left_of e)
+  pub opens : (n : ℕ) (xs : Rows M) → r.read xs ≡ Err (Deep n) → Opens r xs n
   -- no tree goes on with a row that was not expected, and none that can be read with one that opens what is too deep
   pub tight : (e : Refusal) (front : Rows M) (s : Row M) (rest : Rows M) → left_of e ≡ suc (length rest) → r.read (front ++ (s ∷ rest)) ≡ Err e
       → (t : A) (z more : Rows M) → Concerns r e t → r.ends t z → r.spell t ++ z ≡ front ++ (s ∷ more) → ⊥
@@ -86,118 +99,13 @@ ok-err x e h = absurd cc
 pub err-ok : {A : Type 0} (x : A) (e : Refusal) → Err e ≡ Ok x → ⊥
 err-ok x e h = absurd cc
 
-module _ {M : Type 0} (m0 : M) (w : Shape) (back : is_token w w ≡ true) (exact : (s : Shape) → is_token w s ≡ true → s ≡ w) where
-  fixed-took : (r : Row M) (rs : Rows M) (b : Bool) (x : M × Rows M) (f : Refusal) → is_token w r.shape ≡ b → cond b (Ok (r.at, rs)) (Err f) ≡ Ok x → Took (fixed w) (r ∷ rs) x
-  fixed-took r rs true x f h e =
-      let same = ok_is (r.at, rs) x e in
-      let shape-is : r.shape ≡ w = exact r.shape h in
-      let parts : r ∷ rs ≡ row w r.at ∷ rs = ap (λ s. row s r.at ∷ rs) shape-is in
-      subst (Took (fixed w) (r ∷ rs)) same (record { parts = parts; fits = tt; ends = tt })
-  fixed-took r rs false x f h e = absurd (err-ok x f e)
+-- which way a test went
+pub chosen : {X : Type 0} (b : Bool) (x y z : X) → cond b x y ≡ z → ((b ≡ true) × (x ≡ z)) ⊎ ((b ≡ false) × (y ≡ z))
+chosen true x y z e = inl (refl, e)
+chosen false x y z e = inr (refl, e)
 
-  fixed-takes : (xs : Rows M) (x : M × Rows M) → reader.fixed w xs ≡ Ok x → Took (fixed w) xs x
-  unfolding reader.fixed
-  fixed-takes [] x e = absurd (err-ok x _ e)
-  fixed-takes (r ∷ rs) x e = fixed-took r rs (is_token w r.shape) x _ refl e
-
-  fixed-again : (t : M) (z : Rows M) → reader.fixed w (row w t ∷ z) ≡ Ok (t, z)
-  unfolding reader.fixed
-  fixed-again t z = rw back refl
-
-  fixed-fault : (r : Row M) (rs : Rows M) (b : Bool) (e : Refusal) → cond {A = Result (M × Rows M) Refusal} b (Ok (r.at, rs)) (Err (Unexpected (length (r ∷ rs)))) ≡ Err e → left_of e ≡ length (r ∷ rs)
-  fixed-fault r rs true e h = absurd (ok-err (r.at, rs) e h)
-  fixed-fault r rs false e h = err-left (length (r ∷ rs)) e h
-
-  fixed-viable : (xs : Rows M) (e : Refusal) → reader.fixed w xs ≡ Err e → Begins (fixed w) xs (left_of e)
-  unfolding reader.fixed
-  fixed-viable [] e h = at_once (fixed w) [] m0 tt (left_of e) (err-left {A = M × Rows M} 0 e h)
-  fixed-viable (r ∷ rs) e h = at_once (fixed w) (r ∷ rs) m0 tt (left_of e) (fixed-fault r rs (is_token w r.shape) e h)
-
-  fixed-other : (s : Row M) (rs : Rows M) (b : Bool) (e f : Refusal) → is_token w s.shape ≡ b → cond {A = Result (M × Rows M) Refusal} b (Ok (s.at, rs)) (Err f) ≡ Err e → is_token w s.shape ≡ false
-  fixed-other s rs true e f k h = absurd (ok-err (s.at, rs) e h)
-  fixed-other s rs false e f k h = k
-
-  fixed-tight : (d : Refusal) (front : Rows M) (s : Row M) (rest : Rows M) → left_of d ≡ suc (length rest) → reader.fixed w (front ++ (s ∷ rest)) ≡ Err d → (t : M) (z more : Rows M) → row w t ∷ z ≡ front ++ (s ∷ more) → ⊥
-  unfolding reader.fixed
-  fixed-tight d [] s rest l h t z more e =
-      let same = ap (λ r. r.shape) (head-same (row w t) s z more e).0 in
-      let no = fixed-other s rest (is_token w s.shape) _ _ refl h in
-      differ (is_token w s.shape) (subst (λ v. is_token w v ≡ true) same back) no
-    where
-      differ : (b : Bool) → b ≡ true → b ≡ false → ⊥
-      differ true p q = absurd cc
-      differ false p q = absurd cc
-  fixed-tight d (f ∷ fs) s rest l h t z more e =
-      let n = fixed-fault f (fs ++ (s ∷ rest)) (is_token w f.shape) d h in
-      omega (arith, l, n, length-append fs (s ∷ rest))
-
-  fixed-short : (xs : Rows M) → reader.fixed w xs ≡ Err (Unexpected 0) → (t : M) (z : Rows M) → row w t ∷ z ≡ xs → ⊥
-  unfolding reader.fixed
-  fixed-short [] h t z e = absurd cc
-  fixed-short (r ∷ rs) h t z e = let n = fixed-fault r rs (is_token w r.shape) (Unexpected 0) h in omega (arith, n)
-
-  pub fixed-read : IsRead {M = M} (fixed w)
-  fixed-read = record {
-    some = m0;
-    some_may = tt;
-    within = λ t h. tt;
-    takes = fixed-takes;
-    again = λ t z h k. fixed-again t z;
-    viable = fixed-viable;
-    tight = λ d front s rest l h t z more c k e. fixed-tight d front s rest l h t z more e;
-    short = λ xs h t z k e. fixed-short xs h t z e;
-  }
-
-module _ {M X : Type 0} (some : X × M) (see : Shape → Option X) (shape : X → Shape) (back : (x : X) → see (shape x) ≡ Some x) (exact : (s : Shape) (x : X) → see s ≡ Some x → s ≡ shape x) where
-  leaf-took : (r : Row M) (rs : Rows M) (o : Option X) (x : (X × M) × Rows M) → see r.shape ≡ o → reader.seen r rs o ≡ Ok x → Took (leaf see shape) (r ∷ rs) x
-  leaf-took r rs (Some v) x h e =
-      let parts : r ∷ rs ≡ row (shape v) r.at ∷ rs = ap (λ s. row s r.at ∷ rs) (exact r.shape v h) in
-      subst (Took (leaf see shape) (r ∷ rs)) (ok_is ((v, r.at), rs) x e) (record { parts = parts; fits = tt; ends = tt })
-  leaf-took r rs None x h e = absurd (err-ok x _ e)
-
-  leaf-takes : (xs : Rows M) (x : (X × M) × Rows M) → reader.leaf see xs ≡ Ok x → Took (leaf see shape) xs x
-  unfolding reader.leaf
-  leaf-takes [] x e = absurd (err-ok x _ e)
-  leaf-takes (r ∷ rs) x e = leaf-took r rs (see r.shape) x refl e
-
-  leaf-again : (t : X × M) (z : Rows M) → reader.leaf see (row (shape t.0) t.1 ∷ z) ≡ Ok (t, z)
-  unfolding reader.leaf
-  leaf-again t z = rw (back t.0) refl
-
-  leaf-fault : (r : Row M) (rs : Rows M) (o : Option X) (e : Refusal) → reader.seen r rs o ≡ Err e → left_of e ≡ length (r ∷ rs)
-  leaf-fault r rs (Some v) e h = absurd (ok-err ((v, r.at), rs) e h)
-  leaf-fault r rs None e h = err-left (length (r ∷ rs)) e h
-
-  leaf-viable : (xs : Rows M) (e : Refusal) → reader.leaf see xs ≡ Err e → Begins (leaf see shape) xs (left_of e)
-  unfolding reader.leaf
-  leaf-viable [] e h = at_once (leaf see shape) [] some tt (left_of e) (err-left {A = (X × M) × Rows M} 0 e h)
-  leaf-viable (r ∷ rs) e h = at_once (leaf see shape) (r ∷ rs) some tt (left_of e) (leaf-fault r rs (see r.shape) e h)
-
-  leaf-tight : (d : Refusal) (front : Rows M) (s : Row M) (rest : Rows M) → left_of d ≡ suc (length rest) → reader.leaf see (front ++ (s ∷ rest)) ≡ Err d → (t : X × M) (z more : Rows M) → row (shape t.0) t.1 ∷ z ≡ front ++ (s ∷ more) → ⊥
-  unfolding reader.leaf
-  leaf-tight d [] s rest l h t z more e =
-      let same : shape t.0 ≡ s.shape = ap (λ r. r.shape) (head-same (row (shape t.0) t.1) s z more e).0 in
-      ok-err ((t.0, s.at), rest) d (ap (reader.seen s rest) (sym (ap see (sym same) ∙ back t.0)) ∙ h)
-  leaf-tight d (f ∷ fs) s rest l h t z more e =
-      let n = leaf-fault f (fs ++ (s ∷ rest)) (see f.shape) d h in
-      omega (arith, l, n, length-append fs (s ∷ rest))
-
-  leaf-short : (xs : Rows M) → reader.leaf see xs ≡ Err (Unexpected 0) → (t : X × M) (z : Rows M) → row (shape t.0) t.1 ∷ z ≡ xs → ⊥
-  unfolding reader.leaf
-  leaf-short [] h t z e = absurd cc
-  leaf-short (r ∷ rs) h t z e = let n = leaf-fault r rs (see r.shape) (Unexpected 0) h in omega (arith, n)
-
-  pub leaf-read : IsRead {M = M} (leaf see shape)
-  leaf-read = record {
-    some = some;
-    some_may = tt;
-    within = λ t h. tt;
-    takes = leaf-takes;
-    again = λ t z h k. leaf-again t z;
-    viable = leaf-viable;
-    tight = λ d front s rest l h t z more c k e. leaf-tight d front s rest l h t z more e;
-    short = λ xs h t z k e. leaf-short xs h t z e;
-  }
+pub unexpected-deep : {A : Type 0} (m n : ℕ) → failed A (Unexpected m) ≡ failed A (Deep n) → ⊥
+unexpected-deep m n e = absurd cc
 
 module _ {M A B : Type 0} (a : Rule M A) (b : Rule M B) (ea : Bool) (fa ga : Set) (la : IsSpelled a ea fa ga) (ra : IsRead a) (rb : IsRead b) where
   seq-takes : (xs : Rows M) (x : (A × B) × Rows M) → reader.seq a.read b.read xs ≡ Ok x → Took (seq a b) xs x
@@ -246,6 +154,41 @@ module _ {M A B : Type 0} (a : Rule M A) (b : Rule M B) (ea : Bool) (fa ga : Set
     | inr p ↦ elim (bind_err (b.read p.0.1) (λ y. Ok ((p.0.0, y.0), y.1)) e p.2) [
       | inl k ↦ seq-begins-second xs p.0 (left_of e) (ra.takes xs p.0 p.1) (rb.viable p.0.1 e k)
       | inr q ↦ absurd (ok-err _ e q.2)
+    ]
+  ]
+
+  seq-opens-first : (xs : Rows M) (n : ℕ) → Opens a xs n → Opens (seq a b) xs n
+  seq-opens-first xs n v = record {
+    front = v.front;
+    here = v.here;
+    rest = v.rest;
+    parts = v.parts;
+    left_is = v.left_is;
+    tree = (v.tree, rb.some);
+    tree_may = (v.tree_may, rb.some_may);
+    more = v.more ++ b.spell rb.some;
+    goes_on = ap (λ u. u ++ b.spell rb.some) v.goes_on ∙ append_assoc v.front (v.here ∷ v.more) (b.spell rb.some);
+  }
+
+  seq-opens-second : (xs : Rows M) (x : A × Rows M) (n : ℕ) → Took a xs x → Opens b x.1 n → Opens (seq a b) xs n
+  seq-opens-second xs x n ta v = record {
+    front = a.spell x.0 ++ v.front;
+    here = v.here;
+    rest = v.rest;
+    parts = ta.parts ∙ ap (λ u. a.spell x.0 ++ u) v.parts ∙ sym (append_assoc (a.spell x.0) v.front (v.here ∷ v.rest));
+    left_is = v.left_is;
+    tree = (x.0, v.tree);
+    tree_may = (ra.within x.0 ta.fits, v.tree_may);
+    more = v.more;
+    goes_on = ap (λ u. a.spell x.0 ++ u) v.goes_on ∙ sym (append_assoc (a.spell x.0) v.front (v.here ∷ v.more));
+  }
+
+  seq-opens : (n : ℕ) (xs : Rows M) → reader.seq a.read b.read xs ≡ Err (Deep n) → Opens (seq a b) xs n
+  seq-opens n xs h = elim (bind_err (a.read xs) (λ v. b.read v.1 >>= λ y. Ok ((v.0, y.0), y.1)) (Deep n) h) [
+    | inl k ↦ seq-opens-first xs n (ra.opens n xs k)
+    | inr p ↦ elim (bind_err (b.read p.0.1) (λ y. Ok ((p.0.0, y.0), y.1)) (Deep n) p.2) [
+      | inl k ↦ seq-opens-second xs p.0 n (ra.takes xs p.0 p.1) (rb.opens n p.0.1 k)
+      | inr q ↦ absurd (ok-err _ _ q.2)
     ]
   ]
 
@@ -299,6 +242,7 @@ module _ {M A B : Type 0} (a : Rule M A) (b : Rule M B) (ea : Bool) (fa ga : Set
     takes = seq-takes;
     again = seq-again;
     viable = seq-viable;
+    opens = seq-opens;
     tight = seq-tight;
     short = seq-short;
   }
@@ -315,6 +259,19 @@ took-mapped to from b there xs x k = record {
 begins-mapped : {M A B : Type 0} (to : B → A) (from : A → B) (b : Rule M B) (there : (t : B) → from (to t) ≡ t) (xs : Rows M) (n : ℕ) → Begins b xs n → Begins (mapped to from b) xs n
 begins-mapped to from b there xs n v = record {
   front = v.front;
+  rest = v.rest;
+  parts = v.parts;
+  left_is = v.left_is;
+  tree = to v.tree;
+  tree_may = subst b.may (sym (there v.tree)) v.tree_may;
+  more = v.more;
+  goes_on = ap b.spell (there v.tree) ∙ v.goes_on;
+}
+
+opens-mapped : {M A B : Type 0} (to : B → A) (from : A → B) (b : Rule M B) (there : (t : B) → from (to t) ≡ t) (xs : Rows M) (n : ℕ) → Opens b xs n → Opens (mapped to from b) xs n
+opens-mapped to from b there xs n v = record {
+  front = v.front;
+  here = v.here;
   rest = v.rest;
   parts = v.parts;
   left_is = v.left_is;
@@ -352,6 +309,7 @@ module _ {M A B : Type 0} (to : B → A) (from : A → B) (b : Rule M B) (back :
     takes = mapped-takes;
     again = λ t z h k. rw (rb.again (from t) z h k, back t) refl;
     viable = λ xs e h. begins-mapped to from b there xs (left_of e) (rb.viable xs e (map_err to (b.read xs) e h));
+    opens = λ n xs h. opens-mapped to from b there xs n (rb.opens n xs (map_err to (b.read xs) (Deep n) h));
     tight = λ d front s rest l h t z more c k e. rb.tight d front s rest l (map_err to (b.read (front ++ (s ∷ rest))) d h) (from t) z more (from-concerned d t c) k e;
     short = λ xs h t z k e. rb.short xs (map_err to (b.read xs) (Unexpected 0) h) (from t) z k e;
   }
@@ -366,6 +324,7 @@ nothing-read {M = M} = record {
   takes = λ xs x e. nothing-took xs x e;
   again = λ t z h k. refl;
   viable = λ xs e h. absurd (ok-err _ e h);
+  opens = λ n xs h. absurd (ok-err _ _ h);
   tight = λ d front s rest l h t z more c k e. ok-err _ _ h;
   short = λ xs h t z k e. ok-err _ _ h;
 }
@@ -387,11 +346,6 @@ pub head-starts : {M : Type 0} (p : Shape → Bool) (P : Set) → ((s : Shape) �
 head-starts p P h [] z e = absurd cc
 head-starts p P h (y ∷ ys) z e = h y.shape ∙ e
 
--- which way a test went
-pub chosen : {X : Type 0} (b : Bool) (x y z : X) → cond b x y ≡ z → ((b ≡ true) × (x ≡ z)) ⊎ ((b ≡ false) × (y ≡ z))
-chosen true x y z e = inl (refl, e)
-chosen false x y z e = inr (refl, e)
-
 pub true-false : (b : Bool) → b ≡ true → b ≡ false → ⊥
 true-false true p q = absurd cc
 true-false false p q = absurd cc
@@ -400,65 +354,3 @@ true-false false p q = absurd cc
 pub same-head : {M : Type 0} (p : Shape → Bool) (front : Rows M) (s : Row M) (xs ys : Rows M) → head_in p (front ++ (s ∷ xs)) ≡ head_in p (front ++ (s ∷ ys))
 same-head p [] s xs ys = refl
 same-head p (f ∷ fs) s xs ys = refl
-
--- ---- what is too deep
-
-module _ {M A : Type 0} (w : Shape) (back : is_token w w ≡ true) (a : Rule M A) (some : A) (some_may : a.may some)
-    (begins : (t : A) → (m : M) × (more : Rows M) × (a.spell t ≡ row w m ∷ more)) where
-  never-read : (xs : Rows M) (x : A × Rows M) → reader.too_deep w xs ≡ Ok x → ⊥
-  unfolding reader.too_deep
-  never-read [] x e = err-ok x _ e
-  never-read (r ∷ rs) x e = elim (chosen (is_token w r.shape) (failed (A × Rows M) (Deep (length (r ∷ rs)))) (failed (A × Rows M) (Unexpected (length (r ∷ rs)))) (Ok x) e) [
-    | inl h ↦ err-ok x _ h.1
-    | inr h ↦ err-ok x _ h.1
-  ]
-
-  deep-left : (n : ℕ) (e : Refusal) → failed (A × Rows M) (Deep n) ≡ failed (A × Rows M) e → left_of e ≡ n
-  deep-left n e h = let same : Deep n ≡ e = cc in sym (ap left_of same)
-
-  too_deep-left : (xs : Rows M) (e : Refusal) → reader.too_deep {A = A} w xs ≡ Err e → left_of e ≡ length xs
-  unfolding reader.too_deep
-  too_deep-left [] e h = err-left {A = A × Rows M} 0 e h
-  too_deep-left (r ∷ rs) e h = elim (chosen (is_token w r.shape) (failed (A × Rows M) (Deep (length (r ∷ rs)))) (failed (A × Rows M) (Unexpected (length (r ∷ rs)))) (Err e) h) [
-    | inl k ↦ deep-left (length (r ∷ rs)) e k.1
-    | inr k ↦ err-left {A = A × Rows M} (length (r ∷ rs)) e k.1
-  ]
-
-  not-deep : (m n : ℕ) → failed (A × Rows M) (Deep m) ≡ failed (A × Rows M) (Unexpected n) → ⊥
-  not-deep m n h = absurd cc
-
-  -- where the row is not this token, no tree begins with it
-  other-row : (n : ℕ) (s : Row M) (rest : Rows M) → reader.too_deep {A = A} w (s ∷ rest) ≡ Err (Unexpected n) → (t : A) (z more : Rows M) → a.spell t ++ z ≡ s ∷ more → ⊥
-  unfolding reader.too_deep
-  other-row n s rest h t z more e =
-      let b = begins t in
-      let same : row w b.0 ≡ s = (head-same (row w b.0) s (b.1 ++ z) more (sym (ap (λ v. v ++ z) b.2) ∙ e)).0 in
-      let is : is_token w s.shape ≡ true = subst (λ (v : Row M). is_token w v.shape ≡ true) same back in
-      elim (chosen (is_token w s.shape) (failed (A × Rows M) (Deep (length (s ∷ rest)))) (failed (A × Rows M) (Unexpected (length (s ∷ rest)))) (Err (Unexpected n)) h) [
-        | inl k ↦ not-deep _ _ k.1
-        | inr k ↦ true-false _ is k.0
-      ]
-
-  too_deep-tight : (e : Refusal) (front : Rows M) (s : Row M) (rest : Rows M) → left_of e ≡ suc (length rest) → reader.too_deep {A = A} w (front ++ (s ∷ rest)) ≡ Err e
-      → (t : A) (z more : Rows M) → Concerns (too_deep w a) e t → a.spell t ++ z ≡ front ++ (s ∷ more) → ⊥
-  too_deep-tight (Deep n) front s rest l h t z more c e = absurd c
-  too_deep-tight (Unexpected n) [] s rest l h t z more c e = other-row n s rest h t z more e
-  too_deep-tight (Unexpected n) (f ∷ fs) s rest l h t z more c e =
-      let k = too_deep-left (f ∷ (fs ++ (s ∷ rest))) (Unexpected n) h in
-      omega (arith, l, k, length-append fs (s ∷ rest))
-
-  too_deep-short : (xs : Rows M) → reader.too_deep {A = A} w xs ≡ Err (Unexpected 0) → (t : A) (z : Rows M) → a.spell t ++ z ≡ xs → ⊥
-  too_deep-short [] h t z e = let b = begins t in let k : row w b.0 ∷ (b.1 ++ z) ≡ [] = sym (ap (λ v. v ++ z) b.2) ∙ e in absurd cc
-  too_deep-short (r ∷ rs) h t z e = let k = too_deep-left (r ∷ rs) (Unexpected 0) h in omega (arith, k)
-
-  pub too_deep-read : IsRead (too_deep w a)
-  too_deep-read = record {
-    some = some;
-    some_may = some_may;
-    within = λ t h. absurd h;
-    takes = λ xs x e. absurd (never-read xs x e);
-    again = λ t z h k. absurd h;
-    viable = λ xs e h. at_once (too_deep w a) xs some some_may (left_of e) (too_deep-left xs e h);
-    tight = λ e front s rest l h t z more c k j. too_deep-tight e front s rest l h t z more c j;
-    short = λ xs h t z k e. too_deep-short xs h t z e;
-  }

@@ -17,15 +17,15 @@ pub record IsUnexpected {M : Type 0} (rows : Rows M) (left : ℕ) : Type 0 where
   pub before : BeginsFile front
   pub with_it : BeginsFile (front ++ (here ∷ [])) → ⊥
 
--- at this row something opens that is too deep: no file of at most n levels goes on
+-- at this row something opens that is too deep: files go on, and all that do have more than n levels
 pub record IsTooDeep {M : Type 0} (n : ℕ) (rows : Rows M) (left : ℕ) : Type 0 where
   pub front : Rows M
   pub here : Row M
   pub rest : Rows M
   pub parts : rows ≡ front ++ (here ∷ rest)
   pub left_is : left ≡ suc (length rest)
-  pub before : BeginsFile front
-  pub with_it : (f : File M) (more : Rows M) → Spells (front ++ (here ∷ more)) f → n < depth f
+  pub begins : BeginsFile (front ++ (here ∷ []))
+  pub deeper : (f : File M) (more : Rows M) → Spells (front ++ (here ∷ more)) f → n < depth f
 
 -- the rows begin a file and are none
 pub record IsEnded {M : Type 0} (rows : Rows M) : Type 0 where
@@ -46,7 +46,7 @@ AcceptsIff M = (n : ℕ) (rows : Rows M) (f : File M) → (read n rows ≡ Ok f)
 abbrev pub TightUnexpected : Type 0 → Type 0
 TightUnexpected M = (n left : ℕ) (rows : Rows M) → read n rows ≡ Err (Unexpected (suc left)) → IsUnexpected rows (suc left)
 
--- before a row that opens something too deep there is some file, and with it only such as are deeper
+-- with a row that opens something too deep there is some file, and each such file is deeper
 abbrev pub TightDeep : Type 0 → Type 0
 TightDeep M = (n left : ℕ) (rows : Rows M) → read n rows ≡ Err (Deep (suc left)) → IsTooDeep n rows (suc left)
 

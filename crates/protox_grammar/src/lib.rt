@@ -19,7 +19,7 @@ pub fn unexpected<M>(_mark: &M)
     ensures { grammar.TightUnexpected M }
 {}
 
-/// Before a row that opens something too deep there is some file, and with it only such as are deeper.
+/// With a row that opens something too deep there is some file, and each such file is deeper.
 pub fn too_deep<M>(_mark: &M)
     ensures { grammar.TightDeep M }
 {}

@@ -9,7 +9,7 @@ use Rattle.protox_grammar.proofs.Begin.{among-none, places}
 use Rattle.protox_grammar.proofs.samples.Build as b
 use Rattle.protox_grammar.proofs.samples.Build.{rows, word}
 
-abbrev Breaks : t.File b.U → Type 0
+abbrev Breaks : t.File b.NoMark → Type 0
 Breaks f = k.KeepsKeywords f → ⊥
 
 -- message M { repeated f = 1; } with a type named `repeated`
@@ -75,10 +75,10 @@ newline-inside h = let e = h.0.1.0 in absurd cc
 
 -- ---- words that no rule bars
 
-abbrev of_word : List ℕ → t.FieldType b.U
+abbrev of_word : List ℕ → t.FieldType b.NoMark
 of_word w = t.named (record { leading_dot = None; name = record { first = (w, tt); others = [] } })
 
-abbrev named : List ℕ → t.Field b.U
+abbrev named : List ℕ → t.Field b.NoMark
 named w = b.unlabelled (of_word w)
 
 -- what a type of any field may begin with

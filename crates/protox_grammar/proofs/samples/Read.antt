@@ -12,7 +12,7 @@ use Rattle.protox_grammar.proofs.samples.Build as b
 use Rattle.protox_grammar.proofs.samples.Build.{rows, word, number, text}
 
 -- how many rows are left where the reading of a message with these rows stops
-abbrev left : Result (t.File b.U) Refusal → Option Refusal
+abbrev left : Result (t.File b.NoMark) Refusal → Option Refusal
 left (Ok f) = None
 left (Err e) = Some e
 

@@ -8,10 +8,10 @@ use Rattle.protox_ast.specs.Depth as d
 use Rattle.protox_ast.specs.Spells.{Spells}
 use Rattle.protox_grammar.proofs.Begin.{among-none}
 use Rattle.protox_grammar.proofs.samples.Build as b
-use Rattle.protox_grammar.proofs.samples.Build.{rows, word, number, decimal, text}
+use Rattle.protox_grammar.proofs.samples.Build.{rows, word, number, float, text}
 
 -- syntax = "proto" "3"; package a.b; import public "x"; import 'y'; ;
-abbrev head : t.File b.U
+abbrev head : t.File b.NoMark
 head = record {
   syntax = Some (record { keyword = tt; equals_sign = tt; value = b.strings "proto" ("3" ∷ []); end = tt });
   statements =
@@ -29,7 +29,7 @@ head-spelled : Spells (rows (
 head-spelled = (refl, (tt, (tt, (tt, (tt, tt)))))
 
 -- message M { .int32 f = 1; int32 f = 1 [yes = yes]; ; optional message.f f = 1; map<int32, group> f = 1; }
-abbrev fields : t.File b.U
+abbrev fields : t.File b.NoMark
 fields = b.of_message (
     t.field (b.unlabelled (t.named (b.rooted "int32" [])))
     ∷ t.field (t.field_of None (t.normal (b.normal b.int32 (b.list "yes" b.yes_value))))
@@ -67,11 +67,11 @@ fields-spelled = (
 )
 
 -- option (a.b).c = -inf; option d = { x { y: 1.5 } z < > / + }; option e = 'u' 'v'; option f = -7;
-abbrev options : t.File b.U
+abbrev options : t.File b.NoMark
 options = b.file (
-    t.an_option (record { keyword = tt; body = record { first = t.extension_part tt (b.name "a" ("b" ∷ [])) tt; others = (tt, t.plain_part (b.w "c")) ∷ []; equals_sign = tt; value = t.constant (Some tt) (t.ident (b.w "inf")) }; end = tt })
+    t.an_option (record { keyword = tt; body = record { first = t.extension_part tt (b.name "a" ("b" ∷ [])) tt; others = (tt, t.plain_part (b.ident "c")) ∷ []; equals_sign = tt; value = t.constant (Some tt) (t.ident (b.ident "inf")) }; end = tt })
     ∷ t.an_option (b.option "d" (t.aggregate tt (rows (
-    word "x" ∷ Mark s.open_brace ∷ word "y" ∷ Mark 58 ∷ decimal "1.5" ∷ Mark s.close_brace ∷ word "z" ∷ Mark s.open_angle ∷ Mark s.close_angle ∷ Mark 47 ∷ Mark 43 ∷ [])) tt))
+    word "x" ∷ Mark s.open_brace ∷ word "y" ∷ Mark 58 ∷ float "1.5" ∷ Mark s.close_brace ∷ word "z" ∷ Mark s.open_angle ∷ Mark s.close_angle ∷ Mark 47 ∷ Mark 43 ∷ [])) tt))
     ∷ t.an_option (b.option "e" (t.strings (b.strings "u" ("v" ∷ []))))
     ∷ t.an_option (b.option "f" (t.constant (Some tt) (t.integer (7, tt))))
     ∷ [])
@@ -79,19 +79,19 @@ options = b.file (
 options-spelled : Spells (rows (
     word "option" ∷ Mark s.open_paren ∷ word "a" ∷ Mark s.dot ∷ word "b" ∷ Mark s.close_paren ∷ Mark s.dot ∷ word "c" ∷ Mark s.equals ∷ Mark s.minus ∷ word "inf" ∷ Mark s.semicolon
     ∷ word "option" ∷ word "d" ∷ Mark s.equals ∷ Mark s.open_brace
-    ∷ word "x" ∷ Mark s.open_brace ∷ word "y" ∷ Mark 58 ∷ decimal "1.5" ∷ Mark s.close_brace ∷ word "z" ∷ Mark s.open_angle ∷ Mark s.close_angle ∷ Mark 47 ∷ Mark 43
+    ∷ word "x" ∷ Mark s.open_brace ∷ word "y" ∷ Mark 58 ∷ float "1.5" ∷ Mark s.close_brace ∷ word "z" ∷ Mark s.open_angle ∷ Mark s.close_angle ∷ Mark 47 ∷ Mark 43
     ∷ Mark s.close_brace ∷ Mark s.semicolon
     ∷ word "option" ∷ word "e" ∷ Mark s.equals ∷ text "u" ∷ text "v" ∷ Mark s.semicolon
     ∷ word "option" ∷ word "f" ∷ Mark s.equals ∷ Mark s.minus ∷ number 7 ∷ Mark s.semicolon ∷ [])) options
 options-spelled = (refl, (tt, ((refl, (refl, (refl, (refl, (refl, (refl, (refl, (refl, (refl, (refl, (refl, (refl, tt)))))))))))), (tt, (tt, tt)))))
 
 -- message M { oneof o { option yes = yes; message f = 1; group G = 2 { } ; } extend .A { option f = 1; } message M { message M { } } option yes = yes; }
-abbrev bodies : t.File b.U
+abbrev bodies : t.File b.NoMark
 bodies = b.of_message (
     b.oneof_of (
     t.oneof_option (b.option "yes" b.yes_value)
     ∷ t.oneof_field (b.unlabelled (t.named (b.name "message" [])))
-    ∷ t.oneof_field (t.field_of None (t.group (t.group_of tt (b.w "G") tt (b.plus 2) None (b.inside []))))
+    ∷ t.oneof_field (t.field_of None (t.group (t.group_of tt (b.ident "G") tt (b.plus 2) None (b.inside []))))
     ∷ t.oneof_empty tt ∷ [])
     ∷ t.extend (b.extend_of (b.rooted "A" []) (t.extend_field (b.unlabelled (t.named (b.name "option" []))) ∷ []))
     ∷ t.message (b.message (t.message (b.message []) ∷ []))
@@ -134,14 +134,14 @@ bodies-deep : d.depth bodies ≡ 3
 bodies-deep = refl
 
 -- enum E { option yes = yes; ; reserved 1, 2 to 3, -4 to max; reserved "A", "B" "C"; optional = 0; f = -1 [yes = yes]; }
-abbrev an_enum : t.File b.U
+abbrev an_enum : t.File b.NoMark
 an_enum = b.file (t.an_enum (b.enum_of (
     t.enum_option (b.option "yes" b.yes_value)
     ∷ t.enum_empty tt
     ∷ t.enum_reserved (record { keyword = tt; kind = t.ranges (b.ranges (b.one 1) (b.up_to 2 3 ∷ record { start = b.minus 4; stop = Some (t.up_to_max tt tt) } ∷ [])); end = tt })
     ∷ t.enum_reserved (record { keyword = tt; kind = t.names (record { first = b.strings "A" []; others = (tt, b.strings "B" ("C" ∷ [])) ∷ [] }); end = tt })
     ∷ b.value "optional"
-    ∷ t.enum_value (record { name = b.w "f"; equals_sign = tt; number = b.minus 1; options = b.list "yes" b.yes_value; end = tt })
+    ∷ t.enum_value (record { name = b.ident "f"; equals_sign = tt; number = b.minus 1; options = b.list "yes" b.yes_value; end = tt })
     ∷ [])) ∷ [])
 
 enum-spelled : Spells (rows (
@@ -176,7 +176,7 @@ enum-spelled = (
 )
 
 -- message M { extensions 5, 6 to max [yes = yes]; reserved 7; extensions 8; }
-abbrev ranges : t.File b.U
+abbrev ranges : t.File b.NoMark
 ranges = b.of_message (
     b.extensions (b.ranges (b.one 5) (b.up_to_max 6 ∷ [])) (b.list "yes" b.yes_value)
     ∷ t.reserved (record { keyword = tt; kind = t.ranges (b.ranges (b.one 7) []); end = tt })
@@ -191,7 +191,7 @@ ranges-spelled : Spells (rows (
 ranges-spelled = (refl, ((((λ e. absurd cc), (tt, tt)), (tt, ((tt, tt), tt))), tt))
 
 -- service S { option yes = yes; ; rpc R(stream stream) returns(.stream); rpc R(A) returns(A) { option yes = yes; ; } }
-abbrev a_service : t.File b.U
+abbrev a_service : t.File b.NoMark
 a_service = b.file (b.service (
     t.service_option (b.option "yes" b.yes_value)
     ∷ t.service_empty tt
@@ -224,7 +224,7 @@ service-spelled = (
 )
 
 -- extend A { int32 f = 1; ; }
-abbrev an_extend : t.File b.U
+abbrev an_extend : t.File b.NoMark
 an_extend = b.file (t.an_extend (b.extend_of (b.name "A" []) (t.extend_field (b.unlabelled b.int32) ∷ t.extend_empty tt ∷ [])) ∷ [])
 
 extend-spelled : Spells (rows (

@@ -7,6 +7,9 @@ pub mod Pattern
 pub mod Words
 pub mod Lexicon
 pub mod Strings
+pub mod BlockComments
+pub mod Nesting
+pub mod Kept
 pub mod Lexemes
 pub mod State
 pub mod Classes

@@ -1,8 +1,10 @@
 //! Cuts a Protocol Buffers source into tokens.
 #![tactic(auto)]
 
+mod block_comment;
 mod bytes;
 mod comment;
+mod comment_text;
 pub mod error;
 mod fault_list;
 mod found;

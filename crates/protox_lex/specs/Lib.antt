@@ -18,5 +18,8 @@ pub mod Found
 pub mod Lexing
 pub mod Pieces
 pub mod Table
+pub mod Gaps
 pub mod Grouping
+pub mod CommentState
+pub mod Attributing
 pub mod TableView

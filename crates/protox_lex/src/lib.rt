@@ -5,6 +5,7 @@ mod block_comment;
 mod bytes;
 mod comment;
 mod comment_text;
+pub mod comments;
 pub mod error;
 mod fault_list;
 mod found;

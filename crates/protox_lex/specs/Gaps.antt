@@ -1,5 +1,5 @@
 -- The comments of a gap, and the declarations that they belong to.
-use Rattle.std.specs.Prelude.{◌≡◌, ℕ, Bool, true, false, not, ◌&&◌, ◌||◌, ◌==◌, if◌then◌else◌, List, [], ◌∷◌, ◌++◌, drop, Option, Some, None}
+use Rattle.std.specs.Prelude.{◌≡◌, ℕ, Bool, true, false, not, ◌&&◌, ◌||◌, ◌==◌, if◌then◌else◌, List, [], ◌∷◌, ◌++◌, drop, slice_get, Option, Some, None}
 use Rattle.std.specs.List.{list_all}
 use Rattle.protox_lex.specs.Table.{is_gap}
 use Rattle.protox_lex.specs.Shapes.{Shape, Mark, LineComment, BlockComment, Newline}
@@ -7,6 +7,10 @@ use Rattle.protox_lex.specs.Shapes.{Shape, Mark, LineComment, BlockComment, Newl
 -- It holds comments and newlines alone.
 abbrev pub IsGap : List Shape → Type 0
 IsGap gap = list_all is_gap gap ≡ true
+
+-- Each of the lists is a gap.
+abbrev pub HoldGaps : List (List Shape) → Type 0
+HoldGaps gaps = (k : ℕ) (gap : List Shape) → slice_get gaps k ≡ Some gap → IsGap gap
 
 -- ---- items
 

@@ -123,10 +123,12 @@ impl Comments {
         ensures err { OnErr result (self.new ≡ self.old) }
     {
         match self.open_block.take() {
-            Some(Block {
-                mut text,
-                of_lines: true,
-            }) => {
+            Some(
+                Block {
+                    mut text,
+                    of_lines: true,
+                },
+            ) => {
                 let pushed = text.push_str(comment.as_str());
                 self.open_block = Some(Block {
                     text,

@@ -4,6 +4,8 @@
 mod block_comment;
 mod bytes;
 mod comment;
+#[cfg(test)]
+mod comment_tests;
 mod comment_text;
 pub mod comments;
 pub mod error;

@@ -50,8 +50,8 @@ returns-in_default c =
     record {
       within = omega arith;
       some =
-      λ next.
-      ap (λ s. outcome s rest next) c.reset-in_default.ensures ∙ empty_outcome true rest next ∙ sym (ap (λ xs. attribution xs false next) here)
-      ∙ sym (ap (λ b. attribution (map shape_of gap) b next) c.if-at_start.false);
+          λ next.
+          ap (λ s. outcome s rest next) c.reset-in_default.ensures ∙ empty_outcome true rest next ∙ sym (ap (λ xs. attribution xs false next) here)
+          ∙ sym (ap (λ b. attribution (map shape_of gap) b next) c.if-at_start.false);
       none = λ e. absurd (cc);
     }

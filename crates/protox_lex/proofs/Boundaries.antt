@@ -11,8 +11,8 @@ use Rattle.std.specs.Char.{is_ascii_digit, is_ascii_hexdigit, len_utf8}
 use Rattle.std.specs.Prelude.{encode_utf8, ◌++◌}
 use Rattle.protox_lex.specs.declared.scan.Kind.{Kind}
 use Rattle.protox_lex.specs.declared.scan.Kind.TheVariants.{Identifier, Integer, Float, String, Mark, LineComment, BlockComment, Newline}
-use Rattle.protox_lex.specs.Pattern.{Pattern, one, many, ◌⋅◌, ◌∣◌, maybe, some, Fits}
-use Rattle.protox_lex.specs.Lexicon.{pattern, IsLongest, IsLineOpener, is_letter, is_word, is_octal, is_nonzero, is_e, is_sign, is_f, is_x, is_quote, is_mark, is_blank, is_not_newline, byte, digits, exponent, suffix}
+use Rattle.protox_lex.specs.Pattern.{Pattern, one, many, ◌⋅◌, ◌∣◌, maybe, some, Fits, IsLongest}
+use Rattle.protox_lex.specs.Lexicon.{pattern, IsLineOpener, is_letter, is_word, is_octal, is_nonzero, is_e, is_sign, is_f, is_x, is_quote, is_mark, is_blank, is_not_newline, byte, digits, exponent, suffix}
 use Rattle.protox_lex.specs.Scanning.{first, line_len, scan}
 use Rattle.std.proofs.lemmas.Grind.{get_or_after_one}
 use Rattle.protox_lex.proofs.Fitting.{first_passes, one_then_rest}
@@ -149,7 +149,7 @@ float_ascii = (
 )
 
 -- What follows a lexeme's longest match is text.
-pub longest_utf8 : (kind : Kind) (text : List ℕ) (n : ℕ) → IsLongest kind text n → IsUtf8 text → IsUtf8 (drop n text)
+pub longest_utf8 : (kind : Kind) (text : List ℕ) (n : ℕ) → IsLongest pattern kind text n → IsUtf8 text → IsUtf8 (drop n text)
 longest_utf8 Identifier text n h u = fits_utf8 (pattern Identifier) text n (letter_ascii, word_ascii) u h.fits
 longest_utf8 Integer text n h u = fits_utf8 (pattern Integer) text n integer_ascii u h.fits
 longest_utf8 Float text n h u = fits_utf8 (pattern Float) text n float_ascii u h.fits
@@ -166,13 +166,13 @@ longest_utf8 LineComment text n h u =
 longest_utf8 BlockComment text n h u = fits_utf8 (pattern BlockComment) text n (byte_ascii 47 (omega arith), byte_ascii 42 (omega arith)) u h.fits
 longest_utf8 Newline text n h u = fits_utf8 (pattern Newline) text n (byte_ascii 10 (omega arith)) u h.fits
 
-pub longest_boundary : (kind : Kind) (text : List ℕ) (n : ℕ) → IsLongest kind text n → n ≤ length text → IsUtf8 text → IsCharBoundary text n
+pub longest_boundary : (kind : Kind) (text : List ℕ) (n : ℕ) → IsLongest pattern kind text n → n ≤ length text → IsUtf8 text → IsCharBoundary text n
 longest_boundary kind text n h within u = IsCharBoundary-from_drop text n within (longest_utf8 kind text n h u)
 
 -- the same of what the scan finds
 pub scan_boundary : (text : List ℕ) (kind : Kind) (n : ℕ) → scan text ≡ Some (kind, n) → n ≤ length text → IsUtf8 text → IsCharBoundary text n
 scan_boundary text kind n e within u =
-    let P : Option (Kind × ℕ) → Type 0 = λ r. MatchOption r ((k : Kind) (m : ℕ) → Fits (pattern k) text m → ⊥) (λ p. IsLongest p.0 text p.1) in
+    let P : Option (Kind × ℕ) → Type 0 = λ r. MatchOption r ((k : Kind) (m : ℕ) → Fits (pattern k) text m → ⊥) (λ p. IsLongest pattern p.0 text p.1) in
     longest_boundary kind text n (subst P e (scan_longest text)) within u
 
 -- A text may be cut behind its first character.
@@ -184,7 +184,7 @@ char_boundary text rest next c n u same parts size =
 
 pub scan_mark : (text : List ℕ) (kind : Kind) (n : ℕ) → scan text ≡ Some (kind, n) → kind ≡ Mark → is_mark (first text) ≡ true
 scan_mark text kind n e mark =
-    let P : Option (Kind × ℕ) → Type 0 = λ r. MatchOption r ((k : Kind) (m : ℕ) → Fits (pattern k) text m → ⊥) (λ p. IsLongest p.0 text p.1) in
+    let P : Option (Kind × ℕ) → Type 0 = λ r. MatchOption r ((k : Kind) (m : ℕ) → Fits (pattern k) text m → ⊥) (λ p. IsLongest pattern p.0 text p.1) in
     let Q : Kind → Type 0 = λ k. Fits (pattern k) text n in
     let fits : Fits (pattern kind) text n = (subst P e (scan_longest text)).fits in
     first_passes is_mark text (subst Q mark fits).1
@@ -215,14 +215,14 @@ last_boundary text start stop u moves within ascii =
 
 pub scan_quote : (text : List ℕ) (kind : Kind) (n : ℕ) → scan text ≡ Some (kind, n) → kind ≡ String → is_quote (first text) ≡ true
 scan_quote text kind n e quote =
-    let P : Option (Kind × ℕ) → Type 0 = λ r. MatchOption r ((k : Kind) (m : ℕ) → Fits (pattern k) text m → ⊥) (λ p. IsLongest p.0 text p.1) in
+    let P : Option (Kind × ℕ) → Type 0 = λ r. MatchOption r ((k : Kind) (m : ℕ) → Fits (pattern k) text m → ⊥) (λ p. IsLongest pattern p.0 text p.1) in
     let Q : Kind → Type 0 = λ k. Fits (pattern k) text n in
     let fits : Fits (pattern kind) text n = (subst P e (scan_longest text)).fits in
     first_passes is_quote text (subst Q quote fits).1
 
 pub scan_line : (text : List ℕ) (kind : Kind) (n : ℕ) → scan text ≡ Some (kind, n) → kind ≡ LineComment → IsLineOpener text n
 scan_line text kind n e line =
-    let P : Option (Kind × ℕ) → Type 0 = λ r. MatchOption r ((k : Kind) (m : ℕ) → Fits (pattern k) text m → ⊥) (λ p. IsLongest p.0 text p.1) in
+    let P : Option (Kind × ℕ) → Type 0 = λ r. MatchOption r ((k : Kind) (m : ℕ) → Fits (pattern k) text m → ⊥) (λ p. IsLongest pattern p.0 text p.1) in
     let Q : Kind → Type 0 = λ k. Fits (pattern k) text n in
     let fits : Fits (pattern kind) text n = (subst P e (scan_longest text)).fits in
     go (subst Q line fits) where
@@ -236,7 +236,7 @@ scan_line text kind n e line =
 
 pub scan_block : (text : List ℕ) (kind : Kind) (n : ℕ) → scan text ≡ Some (kind, n) → kind ≡ BlockComment → (2 ≤ length text) × (get_or text 1 0 ≡ 42)
 scan_block text kind n e block =
-    let P : Option (Kind × ℕ) → Type 0 = λ r. MatchOption r ((k : Kind) (m : ℕ) → Fits (pattern k) text m → ⊥) (λ p. IsLongest p.0 text p.1) in
+    let P : Option (Kind × ℕ) → Type 0 = λ r. MatchOption r ((k : Kind) (m : ℕ) → Fits (pattern k) text m → ⊥) (λ p. IsLongest pattern p.0 text p.1) in
     let Q : Kind → Type 0 = λ k. Fits (pattern k) text n in
     let fits : Fits (pattern kind) text n = (subst P e (scan_longest text)).fits in
     let (m, size, slash, (is_one, second)) = one_then_rest (λ x. x == 47) (byte 42) text n (subst Q block fits) in

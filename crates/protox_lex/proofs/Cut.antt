@@ -7,8 +7,8 @@ use Rattle.std.specs.Option.{MatchOption}
 use Rattle.std.specs.Str.{chars}
 use Rattle.protox_lex.specs.declared.scan.Kind.{Kind}
 use Rattle.protox_lex.specs.declared.scan.Kind.TheVariants.{Identifier, Integer, Float, String, Mark, LineComment, BlockComment, Newline}
-use Rattle.protox_lex.specs.Pattern.{Fits}
-use Rattle.protox_lex.specs.Lexicon.{pattern, IsLongest, is_blank}
+use Rattle.protox_lex.specs.Pattern.{Fits, IsLongest}
+use Rattle.protox_lex.specs.Lexicon.{pattern, is_blank}
 use Rattle.protox_lex.specs.Scanning.{scan}
 use Rattle.protox_lex.specs.Lexemes.{Lexeme, lexeme, lexeme_or, first_lexeme, blanks, cut_from, cut, IsLexeme, IsCut}
 use Rattle.protox_lex.specs.BlockComments.{Ending, marks_of, ending, len_to}
@@ -54,14 +54,14 @@ lexeme_moves Newline at text n h l = omega arith
 pub first_moves : (at : ℕ) (text : List ℕ) → at < (first_lexeme at text).stop
 unfolding first_lexeme
 first_moves at text = go (scan text) (scan_longest text) where
-  go : (r : Option (Kind × ℕ)) → MatchOption r ((k : Kind) (m : ℕ) → Fits (pattern k) text m → ⊥) (λ p. IsLongest p.0 text p.1) → at < (lexeme_or at text r).stop
+  go : (r : Option (Kind × ℕ)) → MatchOption r ((k : Kind) (m : ℕ) → Fits (pattern k) text m → ⊥) (λ p. IsLongest pattern p.0 text p.1) → at < (lexeme_or at text r).stop
   go None h = let some_bytes = len_utf8_bounds (get_or (chars text) 0 0) in omega arith
   go (Some p) h = lexeme_moves p.0 at text p.1 (fits_some p.0 text p.1 h.fits) (fits_within (pattern p.0) text p.1 h.fits)
 
 pub first_is_lexeme : (at : ℕ) (text : List ℕ) → IsLexeme at text (first_lexeme at text)
 unfolding first_lexeme
 first_is_lexeme at text = go (scan text) (scan_longest text) where
-  go : (r : Option (Kind × ℕ)) → MatchOption r ((k : Kind) (m : ℕ) → Fits (pattern k) text m → ⊥) (λ p. IsLongest p.0 text p.1) → IsLexeme at text (lexeme_or at text r)
+  go : (r : Option (Kind × ℕ)) → MatchOption r ((k : Kind) (m : ℕ) → Fits (pattern k) text m → ⊥) (λ p. IsLongest pattern p.0 text p.1) → IsLexeme at text (lexeme_or at text r)
   go None h = inr (h, refl)
   go (Some p) h = inl (p.0, p.1, h, refl)
 

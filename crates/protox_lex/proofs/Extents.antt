@@ -13,8 +13,8 @@ use Rattle.protox_lex.specs.declared.scan.Kind.{Kind}
 use Rattle.protox_lex.specs.declared.scan.Kind.TheVariants.{Identifier, Integer, Float, String, Mark, LineComment, BlockComment, Newline}
 use Rattle.protox_lex.specs.BlockComments.{marks_of, ending, len_to}
 use Rattle.protox_lex.specs.Lexemes.{Lexeme, lexeme, string, block_comment, invalid, IsLexeme}
-use Rattle.protox_lex.specs.Lexicon.{pattern, IsLongest, is_x, is_octal, is_quote}
-use Rattle.protox_lex.specs.Pattern.{Fits}
+use Rattle.protox_lex.specs.Lexicon.{pattern, is_x, is_octal, is_quote}
+use Rattle.protox_lex.specs.Pattern.{Fits, IsLongest}
 use Rattle.protox_lex.specs.Strings as spec
 use Rattle.protox_lex.proofs.Boundaries.{longest_utf8, last_boundary, char_boundary}
 use Rattle.protox_lex.proofs.Cut.{fits_some}
@@ -258,7 +258,7 @@ block_stands at text u h =
     let (low, high) = len_bounds text h in
     stands_by at text (len_to text (ending (marks_of text))) (block_comment at text) refl refl (omega arith) high (len_utf8_after text u h)
 
-kind_stands : (kind : Kind) (at : ℕ) (text : List ℕ) (n : ℕ) → IsLongest kind text n → IsUtf8 text → Stands at text (lexeme kind at text n)
+kind_stands : (kind : Kind) (at : ℕ) (text : List ℕ) (n : ℕ) → IsLongest pattern kind text n → IsUtf8 text → Stands at text (lexeme kind at text n)
 kind_stands Identifier at text n h u = stands_by at text n _ refl refl (fits_some Identifier text n h.fits) (fits_within (pattern Identifier) text n h.fits) (longest_utf8 Identifier text n h u)
 kind_stands Integer at text n h u = stands_by at text n _ refl refl (fits_some Integer text n h.fits) (fits_within (pattern Integer) text n h.fits) (longest_utf8 Integer text n h u)
 kind_stands Float at text n h u = stands_by at text n _ refl refl (fits_some Float text n h.fits) (fits_within (pattern Float) text n h.fits) (longest_utf8 Float text n h u)

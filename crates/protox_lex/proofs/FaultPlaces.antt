@@ -12,8 +12,8 @@ use Rattle.protox_lex.specs.declared.scan.Kind.{Kind}
 use Rattle.protox_lex.specs.declared.scan.Kind.TheVariants.{Identifier, Integer, Float, String, Mark, LineComment, BlockComment, Newline}
 use Rattle.protox_lex.specs.Faults.{LiesIn, SpanLiesIn, span_from}
 use Rattle.protox_lex.specs.Lexemes.{Lexeme, IsLexeme, lexeme, prefix_of, value_fits, has_suffix, space_faults, range_faults, suffix_faults, hash_faults}
-use Rattle.protox_lex.specs.Lexicon.{pattern, IsLongest, is_letter, is_x}
-use Rattle.protox_lex.specs.Pattern.{Fits}
+use Rattle.protox_lex.specs.Lexicon.{pattern, is_letter, is_x}
+use Rattle.protox_lex.specs.Pattern.{Fits, IsLongest}
 use Rattle.protox_lex.specs.BlockComments.{Mark as CommentMark, opens, closes, Ending, ending, marks_of, nested_faults, faults_to}
 use Rattle.protox_lex.specs.Strings as spec
 use Rattle.protox_lex.proofs.BlockExtent.{Lies, EndLies, ending_lies, marks_lie}

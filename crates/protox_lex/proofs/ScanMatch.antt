@@ -6,10 +6,10 @@ use Rattle.std.proofs.lemmas.Grind.{get_or_after_one}
 use Rattle.std.specs.List.{prefix_len}
 use Rattle.std.specs.Option.{MatchOption}
 use Rattle.std.specs.Char.{is_ascii_digit}
-use Rattle.protox_lex.specs.Pattern.{Pattern, many, ◌⋅◌, maybe, Fits}
+use Rattle.protox_lex.specs.Pattern.{Pattern, many, ◌⋅◌, maybe, Fits, IsLongest}
 use Rattle.protox_lex.specs.declared.scan.Kind.{Kind}
 use Rattle.protox_lex.specs.declared.scan.Kind.TheVariants.{Identifier, Integer, Float, String, Mark, LineComment, BlockComment, Newline}
-use Rattle.protox_lex.specs.Lexicon.{pattern, IsLongest, is_letter, is_word, is_quote, is_mark, is_not_newline, byte, digits, exponent, suffix}
+use Rattle.protox_lex.specs.Lexicon.{pattern, is_letter, is_word, is_quote, is_mark, is_not_newline, byte, digits, exponent, suffix}
 use Rattle.protox_lex.specs.Scanning.{first, digits_len, tail_len, fraction_len, number, line_len, scan}
 use Rattle.protox_lex.proofs.Fitting.{first_passes, passes_first, some_fits, run_ends, run_more, one_then, one_then_empty}
 use Rattle.protox_lex.proofs.Numbers.{ending_fits}
@@ -238,10 +238,10 @@ scan_fits text =
 
 -- The scan finds the longest match, and nothing where no pattern matches.
 pub scan_longest : (text : List ℕ)
-    → MatchOption (scan text) ((kind : Kind) (m : ℕ) → Fits (pattern kind) text m → ⊥) (λ p. IsLongest p.0 text p.1)
+    → MatchOption (scan text) ((kind : Kind) (m : ℕ) → Fits (pattern kind) text m → ⊥) (λ p. IsLongest pattern p.0 text p.1)
 scan_longest text = go (scan text) (scan_fits text) (λ kind m f. scan_bound kind text m f) where
   go : (r : Option (Kind × ℕ)) → MatchOption r (Unit {0}) (λ p. Fits (pattern p.0) text p.1)
       → ((kind : Kind) (m : ℕ) → Fits (pattern kind) text m → AtMost r m)
-      → MatchOption r ((kind : Kind) (m : ℕ) → Fits (pattern kind) text m → ⊥) (λ p. IsLongest p.0 text p.1)
+      → MatchOption r ((kind : Kind) (m : ℕ) → Fits (pattern kind) text m → ⊥) (λ p. IsLongest pattern p.0 text p.1)
   go None f bound = bound
   go (Some p) f bound = record { fits = f; longest = bound }

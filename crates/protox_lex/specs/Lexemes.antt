@@ -6,8 +6,8 @@ use Rattle.std.specs.Str.{chars}
 use Rattle.std.specs.Str.Parse.{digits_value}
 use Rattle.protox_lex.specs.declared.scan.Kind.{Kind}
 use Rattle.protox_lex.specs.declared.scan.Kind.TheVariants as kind
-use Rattle.protox_lex.specs.Pattern.{Fits}
-use Rattle.protox_lex.specs.Lexicon.{pattern, IsLongest, is_blank, is_letter, is_x, is_f}
+use Rattle.protox_lex.specs.Pattern.{Fits, IsLongest}
+use Rattle.protox_lex.specs.Lexicon.{pattern, is_blank, is_letter, is_x, is_f}
 use Rattle.protox_lex.specs.Scanning.{scan}
 use Rattle.protox_lex.specs.declared.error.ParseErrorKind.{ParseErrorKind}
 use Rattle.protox_lex.specs.declared.error.ParseErrorKind.TheVariants.{IntegerOutOfRange, NoSpaceBetweenIntAndIdent, FloatSuffixOutsideTextFormat, HashCommentOutsideTextFormat}
@@ -178,7 +178,7 @@ invalid at text = plain Invalid at (len_utf8 (slice_index (chars text) 0))
 -- The lexeme at a place is the longest match of a pattern, and one invalid character where none matches.
 abbrev pub IsLexeme : ℕ → List ℕ → Lexeme → Type 0
 IsLexeme at text x =
-    ((k : Kind) × (n : ℕ) × IsLongest k text n × (x ≡ lexeme k at text n))
+    ((k : Kind) × (n : ℕ) × IsLongest pattern k text n × (x ≡ lexeme k at text n))
     ⊎ (((k : Kind) (n : ℕ) → Fits (pattern k) text n → ⊥) × (x ≡ invalid at text))
 
 -- how many skipped bytes stand at the front

@@ -80,11 +80,6 @@ pattern LineComment = (byte 47 ⋅ byte 47 ∣ byte 35) ⋅ many is_not_newline 
 pattern BlockComment = byte 47 ⋅ byte 42
 pattern Newline = byte 10
 
--- The first n bytes of the text are the longest match of a pattern, and it is one of that kind.
-pub record IsLongest (kind : Kind) (text : List ℕ) (n : ℕ) : Type 0 where
-  pub fits : Fits (pattern kind) text n
-  pub longest : (other : Kind) (m : ℕ) → Fits (pattern other) text m → m ≤ n
-
 -- the text begins with `#` or `//`, within n bytes
 abbrev pub IsLineOpener : List ℕ → ℕ → Type 0
 IsLineOpener text n = ((slice_index text 0 ≡ 35) × (1 ≤ n)) ⊎ ((slice_index text 0 ≡ 47) × (slice_index text 1 ≡ 47) × (2 ≤ n))

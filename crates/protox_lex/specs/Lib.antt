@@ -7,6 +7,7 @@ pub mod Pattern
 pub mod Words
 pub mod Lexicon
 pub mod Strings
+pub mod StringPieces
 pub mod BlockComments
 pub mod Nesting
 pub mod Kept

@@ -10,10 +10,10 @@ use Rattle.protox_lex.specs.Lexicon.{is_not_newline}
 use Rattle.protox_lex.specs.BlockComments.{without_margins, without_returns, comment_text, is_one_line}
 
 -- all pass
-abbrev AllPass : (ℕ → Bool) → List ℕ → Type 0
+abbrev pub AllPass : (ℕ → Bool) → List ℕ → Type 0
 AllPass p xs = prefix_len p xs ≡ length xs
 
-head_passes : (p : ℕ → Bool) (x : ℕ) (xs : List ℕ) → AllPass p (x ∷ xs) → (p x ≡ true) × AllPass p xs
+pub head_passes : (p : ℕ → Bool) (x : ℕ) (xs : List ℕ) → AllPass p (x ∷ xs) → (p x ≡ true) × AllPass p xs
 head_passes p x xs h =
     elim (cases_Bool (p x)) [
       | inl e ↦ let both : 1 + prefix_len p xs ≡ length (x ∷ xs) = rw e at h in (e, omega arith)

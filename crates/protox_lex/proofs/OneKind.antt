@@ -129,7 +129,7 @@ digit_apart b h = grind (arith, nat_tests)
 quote_apart : (b : ℕ) → is_quote b ≡ true → (is_letter b ≡ false) × (is_ascii_digit b ≡ false)
 quote_apart b h = (grind (arith, nat_tests), grind (arith, nat_tests))
 
-mark_apart : (b : ℕ) → is_mark b ≡ true → (is_letter b ≡ false) × (is_ascii_digit b ≡ false) × (is_quote b ≡ false) × (eqb b 10 ≡ false) × (eqb b 35 ≡ false)
+pub mark_apart : (b : ℕ) → is_mark b ≡ true → (is_letter b ≡ false) × (is_ascii_digit b ≡ false) × (is_quote b ≡ false) × (eqb b 10 ≡ false) × (eqb b 35 ≡ false)
 mark_apart b h = (grind (arith, nat_tests), grind (arith, nat_tests), grind (arith, nat_tests), grind (arith, nat_tests), grind (arith, nat_tests))
 
 kind_is : (kind : Kind) (text : List ℕ) (n : ℕ) → Fits (pattern kind) text n → kind ≡ kind_of text n

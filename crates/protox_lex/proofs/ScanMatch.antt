@@ -16,7 +16,7 @@ use Rattle.protox_lex.proofs.Numbers.{ending_fits}
 use Rattle.protox_lex.proofs.NumberMatch.{number_fits, integer_bound, float_bound}
 
 -- tests of the first byte, in the order of the scan
-data Case (text : List ℕ) : Type 0 where
+pub data Case (text : List ℕ) : Type 0 where
   at_letter : is_letter (first text) ≡ true → scan text ≡ Some (Identifier, prefix_len is_word text) → Case text
   at_digit : is_ascii_digit (first text) ≡ true → scan text ≡ Some (number text) → Case text
   at_fraction : first text ≡ 46 → is_ascii_digit (get_or text 1 0) ≡ true → scan text ≡ Some (Float, 1 + fraction_len (drop 1 text)) → Case text
@@ -32,7 +32,7 @@ data Case (text : List ℕ) : Type 0 where
   at_other : is_letter (first text) ≡ false → is_ascii_digit (first text) ≡ false → is_quote (first text) ≡ false → eqb (first text) 35 ≡ false
       → is_mark (first text) ≡ false → eqb (first text) 10 ≡ false → scan text ≡ None → Case text
 
-scan_case : (text : List ℕ) → Case text
+pub scan_case : (text : List ℕ) → Case text
 unfolding scan
 scan_case text =
     let b = first text in
@@ -73,26 +73,26 @@ AtMost (Some p) m = m ≤ p.1
 at_most : (text : List ℕ) (p : Kind × ℕ) (m : ℕ) → scan text ≡ Some p → m ≤ p.1 → AtMost (scan text) m
 at_most text p m e h = rw e h
 
-letter_word : (b : ℕ) → is_letter b ≡ true → is_word b ≡ true
+pub letter_word : (b : ℕ) → is_letter b ≡ true → is_word b ≡ true
 letter_word b h = grind (arith, nat_tests)
 
 digit_not_letter : (b : ℕ) → is_ascii_digit b ≡ true → is_letter b ≡ false
 digit_not_letter b h = grind (arith, nat_tests)
 
 module _ (text : List ℕ) where
-  scan_letter : is_letter (first text) ≡ true → scan text ≡ Some (Identifier, prefix_len is_word text)
+  pub scan_letter : is_letter (first text) ≡ true → scan text ≡ Some (Identifier, prefix_len is_word text)
   unfolding scan
   scan_letter h = rw h refl
 
-  scan_digit : is_ascii_digit (first text) ≡ true → scan text ≡ Some (number text)
+  pub scan_digit : is_ascii_digit (first text) ≡ true → scan text ≡ Some (number text)
   unfolding scan
   scan_digit h = rw (digit_not_letter (first text) h, h) refl
 
-  scan_fraction : first text ≡ 46 → is_ascii_digit (get_or text 1 0) ≡ true → scan text ≡ Some (Float, 1 + fraction_len (drop 1 text))
+  pub scan_fraction : first text ≡ 46 → is_ascii_digit (get_or text 1 0) ≡ true → scan text ≡ Some (Float, 1 + fraction_len (drop 1 text))
   unfolding scan
   scan_fraction p d = rw (p, d) refl
 
-  scan_quote : (first text ≡ 39) ⊎ (first text ≡ 34) → scan text ≡ Some (String, 1)
+  pub scan_quote : (first text ≡ 39) ⊎ (first text ≡ 34) → scan text ≡ Some (String, 1)
   unfolding scan
   scan_quote (inl q) = rw q refl
   scan_quote (inr q) = rw q refl

@@ -23,4 +23,5 @@ pub mod Gaps
 pub mod Grouping
 pub mod CommentState
 pub mod Attributing
+pub mod LexesBack
 pub mod TableView

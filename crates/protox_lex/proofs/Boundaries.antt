@@ -1,5 +1,5 @@
 -- A lexeme ends where a character does.
-use Rattle.std.proofs.Common.{◌≡◌, ℕ, zero, suc, ◌+◌, ◌-◌, ◌<◌, ◌≤◌, Bool, true, false, ◌==◌, eqb, ltb, inl, inr, List, [], ◌∷◌, length, drop, get_or, refl, sym, ap, ◌∙◌, subst, drop-drop, add-zero, zero-add, arith, Option, Some}
+use Rattle.std.proofs.Common.{◌≡◌, ℕ, zero, suc, ◌+◌, ◌-◌, ◌<◌, ◌≤◌, Bool, true, false, ◌==◌, eqb, ltb, inl, inr, List, [], ◌∷◌, length, drop, get_or, refl, sym, ap, ◌∙◌, subst, drop-drop, length-drop, add-zero, zero-add, arith, Option, Some}
 use Rattle.std.proofs.lemmas.Bool.{cases_Bool, true≢false, ltb-true, ltb-false, eqb-true}
 use Rattle.std.proofs.lemmas.Bool.Decides.{nat_tests}
 use Rattle.std.proofs.lemmas.List.Sums.{prefix_len-le-length, prefix_len_stops}
@@ -10,9 +10,9 @@ use Rattle.std.specs.Option.{MatchOption}
 use Rattle.std.specs.Char.{is_ascii_digit, is_ascii_hexdigit, len_utf8}
 use Rattle.std.specs.Prelude.{encode_utf8, ◌++◌}
 use Rattle.protox_lex.specs.declared.scan.Kind.{Kind}
-use Rattle.protox_lex.specs.declared.scan.Kind.TheVariants.{Identifier, Integer, Float, String, Mark, LineComment, Newline}
-use Rattle.protox_lex.specs.Pattern.{Pattern, one, many, ◌⋅◌, ◌∣◌, maybe, some, Fits}
-use Rattle.protox_lex.specs.Lexicon.{pattern, IsLongest, IsLineOpener, is_letter, is_word, is_octal, is_nonzero, is_e, is_sign, is_f, is_x, is_quote, is_mark, is_blank, is_not_newline, byte, digits, exponent, suffix}
+use Rattle.protox_lex.specs.declared.scan.Kind.TheVariants.{Identifier, Integer, Float, String, Mark, LineComment, BlockComment, Newline}
+use Rattle.protox_lex.specs.Pattern.{Pattern, one, many, ◌⋅◌, ◌∣◌, maybe, some, Fits, IsLongest}
+use Rattle.protox_lex.specs.Lexicon.{pattern, IsLineOpener, is_letter, is_word, is_octal, is_nonzero, is_e, is_sign, is_f, is_x, is_quote, is_mark, is_blank, is_not_newline, byte, digits, exponent, suffix}
 use Rattle.protox_lex.specs.Scanning.{first, line_len, scan}
 use Rattle.std.proofs.lemmas.Grind.{get_or_after_one}
 use Rattle.protox_lex.proofs.Fitting.{first_passes, one_then_rest}
@@ -149,7 +149,7 @@ float_ascii = (
 )
 
 -- What follows a lexeme's longest match is text.
-pub longest_utf8 : (kind : Kind) (text : List ℕ) (n : ℕ) → IsLongest kind text n → IsUtf8 text → IsUtf8 (drop n text)
+pub longest_utf8 : (kind : Kind) (text : List ℕ) (n : ℕ) → IsLongest pattern kind text n → IsUtf8 text → IsUtf8 (drop n text)
 longest_utf8 Identifier text n h u = fits_utf8 (pattern Identifier) text n (letter_ascii, word_ascii) u h.fits
 longest_utf8 Integer text n h u = fits_utf8 (pattern Integer) text n integer_ascii u h.fits
 longest_utf8 Float text n h u = fits_utf8 (pattern Float) text n float_ascii u h.fits
@@ -163,15 +163,16 @@ longest_utf8 LineComment text n h u =
     let same : n ≡ i + line_len (drop i text) = omega arith in
     let P : List ℕ → Type 0 = λ t. IsUtf8 t in
     subst P (drop-drop (line_len (drop i text)) i text ∙ ap (λ k. drop k text) (sym same)) (line_utf8 (drop i text) after_opener)
+longest_utf8 BlockComment text n h u = fits_utf8 (pattern BlockComment) text n (byte_ascii 47 (omega arith), byte_ascii 42 (omega arith)) u h.fits
 longest_utf8 Newline text n h u = fits_utf8 (pattern Newline) text n (byte_ascii 10 (omega arith)) u h.fits
 
-pub longest_boundary : (kind : Kind) (text : List ℕ) (n : ℕ) → IsLongest kind text n → n ≤ length text → IsUtf8 text → IsCharBoundary text n
+pub longest_boundary : (kind : Kind) (text : List ℕ) (n : ℕ) → IsLongest pattern kind text n → n ≤ length text → IsUtf8 text → IsCharBoundary text n
 longest_boundary kind text n h within u = IsCharBoundary-from_drop text n within (longest_utf8 kind text n h u)
 
 -- the same of what the scan finds
 pub scan_boundary : (text : List ℕ) (kind : Kind) (n : ℕ) → scan text ≡ Some (kind, n) → n ≤ length text → IsUtf8 text → IsCharBoundary text n
 scan_boundary text kind n e within u =
-    let P : Option (Kind × ℕ) → Type 0 = λ r. MatchOption r ((k : Kind) (m : ℕ) → Fits (pattern k) text m → ⊥) (λ p. IsLongest p.0 text p.1) in
+    let P : Option (Kind × ℕ) → Type 0 = λ r. MatchOption r ((k : Kind) (m : ℕ) → Fits (pattern k) text m → ⊥) (λ p. IsLongest pattern p.0 text p.1) in
     longest_boundary kind text n (subst P e (scan_longest text)) within u
 
 -- A text may be cut behind its first character.
@@ -183,12 +184,12 @@ char_boundary text rest next c n u same parts size =
 
 pub scan_mark : (text : List ℕ) (kind : Kind) (n : ℕ) → scan text ≡ Some (kind, n) → kind ≡ Mark → is_mark (first text) ≡ true
 scan_mark text kind n e mark =
-    let P : Option (Kind × ℕ) → Type 0 = λ r. MatchOption r ((k : Kind) (m : ℕ) → Fits (pattern k) text m → ⊥) (λ p. IsLongest p.0 text p.1) in
+    let P : Option (Kind × ℕ) → Type 0 = λ r. MatchOption r ((k : Kind) (m : ℕ) → Fits (pattern k) text m → ⊥) (λ p. IsLongest pattern p.0 text p.1) in
     let Q : Kind → Type 0 = λ k. Fits (pattern k) text n in
     let fits : Fits (pattern kind) text n = (subst P e (scan_longest text)).fits in
     first_passes is_mark text (subst Q mark fits).1
 
-blank_ascii : Ascii is_blank
+pub blank_ascii : Ascii is_blank
 blank_ascii b h = grind (arith, nat_tests)
 
 pub blanks_boundary : (text : List ℕ) (n : ℕ) → n ≡ prefix_len is_blank text → IsUtf8 text → IsCharBoundary text n
@@ -214,14 +215,14 @@ last_boundary text start stop u moves within ascii =
 
 pub scan_quote : (text : List ℕ) (kind : Kind) (n : ℕ) → scan text ≡ Some (kind, n) → kind ≡ String → is_quote (first text) ≡ true
 scan_quote text kind n e quote =
-    let P : Option (Kind × ℕ) → Type 0 = λ r. MatchOption r ((k : Kind) (m : ℕ) → Fits (pattern k) text m → ⊥) (λ p. IsLongest p.0 text p.1) in
+    let P : Option (Kind × ℕ) → Type 0 = λ r. MatchOption r ((k : Kind) (m : ℕ) → Fits (pattern k) text m → ⊥) (λ p. IsLongest pattern p.0 text p.1) in
     let Q : Kind → Type 0 = λ k. Fits (pattern k) text n in
     let fits : Fits (pattern kind) text n = (subst P e (scan_longest text)).fits in
     first_passes is_quote text (subst Q quote fits).1
 
 pub scan_line : (text : List ℕ) (kind : Kind) (n : ℕ) → scan text ≡ Some (kind, n) → kind ≡ LineComment → IsLineOpener text n
 scan_line text kind n e line =
-    let P : Option (Kind × ℕ) → Type 0 = λ r. MatchOption r ((k : Kind) (m : ℕ) → Fits (pattern k) text m → ⊥) (λ p. IsLongest p.0 text p.1) in
+    let P : Option (Kind × ℕ) → Type 0 = λ r. MatchOption r ((k : Kind) (m : ℕ) → Fits (pattern k) text m → ⊥) (λ p. IsLongest pattern p.0 text p.1) in
     let Q : Kind → Type 0 = λ k. Fits (pattern k) text n in
     let fits : Fits (pattern kind) text n = (subst P e (scan_longest text)).fits in
     go (subst Q line fits) where
@@ -232,6 +233,17 @@ scan_line text kind n e line =
           let next : eqb (get_or text 1 0) 47 ≡ true = ap (λ v. eqb v 47) (sym (get_or_after_one text 0 0)) ∙ c in
           inr (eqb-true (first text) 47 slash, eqb-true (get_or text 1 0) 47 next, omega arith)
       go (i, j, size, inr (is_one, hash), rest) = inl (eqb-true (first text) 35 (first_passes (λ x. x == 35) text hash), omega arith)
+
+pub scan_block : (text : List ℕ) (kind : Kind) (n : ℕ) → scan text ≡ Some (kind, n) → kind ≡ BlockComment → (2 ≤ length text) × (get_or text 1 0 ≡ 42)
+scan_block text kind n e block =
+    let P : Option (Kind × ℕ) → Type 0 = λ r. MatchOption r ((k : Kind) (m : ℕ) → Fits (pattern k) text m → ⊥) (λ p. IsLongest pattern p.0 text p.1) in
+    let Q : Kind → Type 0 = λ k. Fits (pattern k) text n in
+    let fits : Fits (pattern kind) text n = (subst P e (scan_longest text)).fits in
+    let (m, size, slash, (is_one, second)) = one_then_rest (λ x. x == 47) (byte 42) text n (subst Q block fits) in
+    let c = first_passes (λ x. x == 42) (drop 1 text) second in
+    let some = prefix_len-le-length (λ x. x == 42) (drop 1 text) in
+    let next : eqb (get_or text 1 0) 42 ≡ true = ap (λ v. eqb v 42) (sym (get_or_after_one text 0 0)) ∙ c in
+    (omega (arith, length-drop 1 text), eqb-true (get_or text 1 0) 42 next)
 
 -- A text may be cut behind an ASCII byte.
 pub ascii_boundary : (text : List ℕ) (n : ℕ) → IsUtf8 text → 0 < n → n ≤ length text → get_or text (n - 1) 0 < 128 → IsCharBoundary text n

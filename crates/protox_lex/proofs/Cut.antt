@@ -6,11 +6,13 @@ use Rattle.std.proofs.lemmas.Str.{len_utf8_bounds}
 use Rattle.std.specs.Option.{MatchOption}
 use Rattle.std.specs.Str.{chars}
 use Rattle.protox_lex.specs.declared.scan.Kind.{Kind}
-use Rattle.protox_lex.specs.declared.scan.Kind.TheVariants.{Identifier, Integer, Float, String, Mark, LineComment, Newline}
-use Rattle.protox_lex.specs.Pattern.{Fits}
-use Rattle.protox_lex.specs.Lexicon.{pattern, IsLongest, is_blank}
+use Rattle.protox_lex.specs.declared.scan.Kind.TheVariants.{Identifier, Integer, Float, String, Mark, LineComment, BlockComment, Newline}
+use Rattle.protox_lex.specs.Pattern.{Fits, IsLongest}
+use Rattle.protox_lex.specs.Lexicon.{pattern, is_blank}
 use Rattle.protox_lex.specs.Scanning.{scan}
 use Rattle.protox_lex.specs.Lexemes.{Lexeme, lexeme, lexeme_or, first_lexeme, blanks, cut_from, cut, IsLexeme, IsCut}
+use Rattle.protox_lex.specs.BlockComments.{Ending, marks_of, ending, len_to}
+use Rattle.protox_lex.proofs.Fitting.{fits_within}
 use Rattle.protox_lex.proofs.OneKind.{one_kind}
 use Rattle.protox_lex.proofs.ScanMatch.{scan_longest}
 
@@ -30,29 +32,36 @@ fits_some String text n (is_one, h) = omega arith
 fits_some Mark text n (is_one, h) = omega arith
 fits_some LineComment text n (i, j, e, inl (k, l, e2, (is_one, h), g), f) = omega arith
 fits_some LineComment text n (i, j, e, inr (is_one, h), f) = omega arith
+fits_some BlockComment text n (i, j, e, (is_one, h), f) = omega arith
 fits_some Newline text n (is_one, h) = omega arith
 
+-- a comment has a byte, if the text has one
+block_moves : (at : ℕ) (text : List ℕ) (end : Option Ending) → 1 ≤ length text → at < at + len_to text end
+block_moves at text None h = omega arith
+block_moves at text (Some e) h = omega arith
+
 -- each lexeme has a byte
-pub lexeme_moves : (kind : Kind) (at : ℕ) (text : List ℕ) (n : ℕ) → 1 ≤ n → at < (lexeme kind at text n).stop
-lexeme_moves Identifier at text n h = omega arith
-lexeme_moves Integer at text n h = omega arith
-lexeme_moves Float at text n h = omega arith
-lexeme_moves String at text n h = omega arith
-lexeme_moves Mark at text n h = omega arith
-lexeme_moves LineComment at text n h = omega arith
-lexeme_moves Newline at text n h = omega arith
+pub lexeme_moves : (kind : Kind) (at : ℕ) (text : List ℕ) (n : ℕ) → 1 ≤ n → n ≤ length text → at < (lexeme kind at text n).stop
+lexeme_moves Identifier at text n h l = omega arith
+lexeme_moves Integer at text n h l = omega arith
+lexeme_moves Float at text n h l = omega arith
+lexeme_moves String at text n h l = omega arith
+lexeme_moves Mark at text n h l = omega arith
+lexeme_moves LineComment at text n h l = omega arith
+lexeme_moves BlockComment at text n h l = block_moves at text (ending (marks_of text)) (omega arith)
+lexeme_moves Newline at text n h l = omega arith
 
 pub first_moves : (at : ℕ) (text : List ℕ) → at < (first_lexeme at text).stop
 unfolding first_lexeme
 first_moves at text = go (scan text) (scan_longest text) where
-  go : (r : Option (Kind × ℕ)) → MatchOption r ((k : Kind) (m : ℕ) → Fits (pattern k) text m → ⊥) (λ p. IsLongest p.0 text p.1) → at < (lexeme_or at text r).stop
+  go : (r : Option (Kind × ℕ)) → MatchOption r ((k : Kind) (m : ℕ) → Fits (pattern k) text m → ⊥) (λ p. IsLongest pattern p.0 text p.1) → at < (lexeme_or at text r).stop
   go None h = let some_bytes = len_utf8_bounds (get_or (chars text) 0 0) in omega arith
-  go (Some p) h = lexeme_moves p.0 at text p.1 (fits_some p.0 text p.1 h.fits)
+  go (Some p) h = lexeme_moves p.0 at text p.1 (fits_some p.0 text p.1 h.fits) (fits_within (pattern p.0) text p.1 h.fits)
 
 pub first_is_lexeme : (at : ℕ) (text : List ℕ) → IsLexeme at text (first_lexeme at text)
 unfolding first_lexeme
 first_is_lexeme at text = go (scan text) (scan_longest text) where
-  go : (r : Option (Kind × ℕ)) → MatchOption r ((k : Kind) (m : ℕ) → Fits (pattern k) text m → ⊥) (λ p. IsLongest p.0 text p.1) → IsLexeme at text (lexeme_or at text r)
+  go : (r : Option (Kind × ℕ)) → MatchOption r ((k : Kind) (m : ℕ) → Fits (pattern k) text m → ⊥) (λ p. IsLongest pattern p.0 text p.1) → IsLexeme at text (lexeme_or at text r)
   go None h = inr (h, refl)
   go (Some p) h = inl (p.0, p.1, h, refl)
 
@@ -129,6 +138,7 @@ lexeme_start Float at text n = refl
 lexeme_start String at text n = refl
 lexeme_start Mark at text n = refl
 lexeme_start LineComment at text n = refl
+lexeme_start BlockComment at text n = refl
 lexeme_start Newline at text n = refl
 
 pub first_start : (at : ℕ) (text : List ℕ) → (first_lexeme at text).start ≡ at

@@ -10,29 +10,17 @@ use Rattle.std.specs.Str.{IsUtf8, IsCharBoundary, chars}
 use Rattle.std.specs.Str.Parse.{digits_value}
 use Rattle.std.specs.Prelude.{encode_utf8, encode_utf8_all, if◌then◌else◌, min}
 use Rattle.protox_lex.specs.declared.scan.Kind.{Kind}
-use Rattle.protox_lex.specs.declared.scan.Kind.TheVariants.{Identifier, Integer, Float, String, Mark, LineComment, Newline}
-use Rattle.protox_lex.specs.Lexemes.{Lexeme, lexeme, string, invalid, IsLexeme}
-use Rattle.protox_lex.specs.Lexicon.{pattern, IsLongest, is_x, is_octal, is_quote}
-use Rattle.protox_lex.specs.Pattern.{Pattern, one, many, ◌⋅◌, ◌∣◌, maybe, Fits}
+use Rattle.protox_lex.specs.declared.scan.Kind.TheVariants.{Identifier, Integer, Float, String, Mark, LineComment, BlockComment, Newline}
+use Rattle.protox_lex.specs.BlockComments.{marks_of, ending, len_to}
+use Rattle.protox_lex.specs.Lexemes.{Lexeme, lexeme, string, block_comment, invalid, IsLexeme}
+use Rattle.protox_lex.specs.Lexicon.{pattern, is_x, is_octal, is_quote}
+use Rattle.protox_lex.specs.Pattern.{Fits, IsLongest}
 use Rattle.protox_lex.specs.Strings as spec
 use Rattle.protox_lex.proofs.Boundaries.{longest_utf8, last_boundary, char_boundary}
 use Rattle.protox_lex.proofs.Cut.{fits_some}
-use Rattle.protox_lex.proofs.Fitting.{first_passes}
+use Rattle.protox_lex.proofs.Fitting.{first_passes, fits_within}
+use Rattle.protox_lex.proofs.BlockExtent.{len_bounds, len_utf8_after}
 use Rattle.protox_lex.proofs.Literal.{piece_some}
-
--- ---- patterns
-
-pub fits_within : (p : Pattern) (text : List ℕ) (n : ℕ) → Fits p text n → n ≤ length text
-fits_within (one p) text n (is_one, starts) = let within = prefix_len-le-length p text in omega arith
-fits_within (many p) text n run = le_trans run (prefix_len-le-length p text)
-fits_within (a ⋅ b) text n (i, j, size, f, g) =
-    let front = fits_within a text i f in
-    let back = fits_within b (drop i text) j g in
-    omega (arith, length-drop i text)
-fits_within (a ∣ b) text n (inl f) = fits_within a text n f
-fits_within (a ∣ b) text n (inr f) = fits_within b text n f
-fits_within (maybe a) text n (inl none) = omega arith
-fits_within (maybe a) text n (inr f) = fits_within a text n f
 
 -- ---- pieces of a string
 
@@ -262,13 +250,22 @@ string_stands at (b ∷ text) u q =
     let place : at + (1 + n) - at ≡ 1 + n = omega arith in
     stands_by at (b ∷ text) (1 + n) (string at (b ∷ text)) refl (add_assoc at 1 n) (omega arith) (omega arith) (IsUtf8-drop (b ∷ text) (1 + n) u (subst P place boundary))
 
-kind_stands : (kind : Kind) (at : ℕ) (text : List ℕ) (n : ℕ) → IsLongest kind text n → IsUtf8 text → Stands at text (lexeme kind at text n)
+two_bytes : (text : List ℕ) (n : ℕ) → Fits (pattern BlockComment) text n → 2 ≤ length text
+two_bytes text n (i, j, size, (i_one, f), (j_one, g)) = let within = fits_within (pattern BlockComment) text n (i, j, size, (i_one, f), (j_one, g)) in omega arith
+
+block_stands : (at : ℕ) (text : List ℕ) → IsUtf8 text → 2 ≤ length text → Stands at text (block_comment at text)
+block_stands at text u h =
+    let (low, high) = len_bounds text h in
+    stands_by at text (len_to text (ending (marks_of text))) (block_comment at text) refl refl (omega arith) high (len_utf8_after text u h)
+
+kind_stands : (kind : Kind) (at : ℕ) (text : List ℕ) (n : ℕ) → IsLongest pattern kind text n → IsUtf8 text → Stands at text (lexeme kind at text n)
 kind_stands Identifier at text n h u = stands_by at text n _ refl refl (fits_some Identifier text n h.fits) (fits_within (pattern Identifier) text n h.fits) (longest_utf8 Identifier text n h u)
 kind_stands Integer at text n h u = stands_by at text n _ refl refl (fits_some Integer text n h.fits) (fits_within (pattern Integer) text n h.fits) (longest_utf8 Integer text n h u)
 kind_stands Float at text n h u = stands_by at text n _ refl refl (fits_some Float text n h.fits) (fits_within (pattern Float) text n h.fits) (longest_utf8 Float text n h u)
 kind_stands String at text n h u = string_stands at text u (first_passes is_quote text h.fits.1)
 kind_stands Mark at text n h u = stands_by at text n _ refl refl (fits_some Mark text n h.fits) (fits_within (pattern Mark) text n h.fits) (longest_utf8 Mark text n h u)
 kind_stands LineComment at text n h u = stands_by at text n _ refl refl (fits_some LineComment text n h.fits) (fits_within (pattern LineComment) text n h.fits) (longest_utf8 LineComment text n h u)
+kind_stands BlockComment at text n h u = block_stands at text u (two_bytes text n h.fits)
 kind_stands Newline at text n h u = stands_by at text n _ refl refl (fits_some Newline text n h.fits) (fits_within (pattern Newline) text n h.fits) (longest_utf8 Newline text n h u)
 
 -- the first character lies within the text

@@ -1,5 +1,5 @@
 -- The faults of a lexeme lie in the source.
-use Rattle.std.proofs.Common.{◌≡◌, ℕ, zero, suc, ◌+◌, ◌-◌, ◌<◌, ◌≤◌, Bool, true, false, not, ◌&&◌, ◌==◌, eqb, inl, inr, List, [], ◌∷◌, ◌++◌, length, take, drop, get_or, refl, sym, ap, ◌∙◌, subst, cond, length-drop, length-take-le, arith, le_refl, le_trans, Some, None}
+use Rattle.std.proofs.Common.{◌≡◌, ℕ, zero, suc, ◌+◌, ◌-◌, ◌<◌, ◌≤◌, Bool, true, false, not, ◌&&◌, ◌==◌, eqb, inl, inr, List, [], ◌∷◌, ◌++◌, length, take, drop, get_or, refl, sym, ap, ◌∙◌, subst, cond, length-drop, length-take-le, arith, le_refl, le_trans, Option, Some, None}
 use Rattle.std.proofs.lemmas.Bool.{cases_Bool, false≢true, and_parts}
 use Rattle.std.proofs.lemmas.Bool.Decides.{nat_tests}
 use Rattle.std.proofs.lemmas.List.Sums.{prefix_len-le-length}
@@ -9,27 +9,17 @@ use Rattle.std.specs.Char.{is_ascii_alphabetic}
 use Rattle.protox_lex.specs.declared.error.ParseErrorKind.{ParseErrorKind}
 use Rattle.protox_lex.specs.declared.error.ParseErrorKind.TheVariants.{IntegerOutOfRange, NoSpaceBetweenIntAndIdent, FloatSuffixOutsideTextFormat, HashCommentOutsideTextFormat}
 use Rattle.protox_lex.specs.declared.scan.Kind.{Kind}
-use Rattle.protox_lex.specs.declared.scan.Kind.TheVariants.{Identifier, Integer, Float, String, Mark, LineComment, Newline}
+use Rattle.protox_lex.specs.declared.scan.Kind.TheVariants.{Identifier, Integer, Float, String, Mark, LineComment, BlockComment, Newline}
 use Rattle.protox_lex.specs.Faults.{LiesIn, SpanLiesIn, span_from}
 use Rattle.protox_lex.specs.Lexemes.{Lexeme, IsLexeme, lexeme, prefix_of, value_fits, has_suffix, space_faults, range_faults, suffix_faults, hash_faults}
-use Rattle.protox_lex.specs.Lexicon.{pattern, IsLongest, is_letter, is_x}
-use Rattle.protox_lex.specs.Pattern.{Fits}
+use Rattle.protox_lex.specs.Lexicon.{pattern, is_letter, is_x}
+use Rattle.protox_lex.specs.Pattern.{Fits, IsLongest}
+use Rattle.protox_lex.specs.BlockComments.{Mark as CommentMark, opens, closes, Ending, ending, marks_of, nested_faults, faults_to}
 use Rattle.protox_lex.specs.Strings as spec
-use Rattle.protox_lex.proofs.Extents.{Stands, fits_within}
-
--- P holds of each
-abbrev pub Every : {T : Type 0} → (T → Type 0) → List T → Type 0
-Every P [] = Unit {0}
-Every P (x ∷ xs) = P x × Every P xs
-
-pub every_append : {T : Type 0} (P : T → Type 0) (xs ys : List T) → Every P xs → Every P ys → Every P (xs ++ ys)
-every_append P [] ys h k = k
-every_append P (x ∷ xs) ys (here, h) k = (here, every_append P xs ys h k)
-
-pub all_every : {T : Type 0} (P Q : T → Type 0) (xs : List T) → ((x : T) → P x → Q x) → Every P xs → All Q xs
-all_every P Q [] f h k d l = absurd (omega arith)
-all_every P Q (x ∷ xs) f (here, h) zero d l = f x here
-all_every P Q (x ∷ xs) f (here, h) (suc k) d l = all_every P Q xs f h k d (omega arith)
+use Rattle.protox_lex.proofs.BlockExtent.{Lies, EndLies, ending_lies, marks_lie}
+use Rattle.protox_lex.proofs.Each.{Every, every_append}
+use Rattle.protox_lex.proofs.Extents.{Stands}
+use Rattle.protox_lex.proofs.Fitting.{fits_within}
 
 -- ---- numbers and comments
 
@@ -104,6 +94,18 @@ pieces_lie size bad at (spec.wrong is_escape n ∷ ps) h within = pieces_lie siz
 pieces_lie size bad at (spec.ends ∷ ps) h within = closed_lie size bad at h (omega arith)
 pieces_lie size bad at (spec.breaks ∷ ps) h within = every_append (LiesIn size) (spec.closed bad at) _ (closed_lie size bad at h (omega arith)) ((omega arith, omega arith), tt)
 
+-- ---- block comments
+
+nested_lie : (size start : ℕ) (text : List ℕ) (ms : List CommentMark) → Every (Lies text) ms → start + length text ≤ size → Every (LiesIn size) (nested_faults start ms)
+nested_lie size start text [] h whole = tt
+nested_lie size start text (opens at ∷ ms) (here, h) whole = ((omega arith, omega arith), nested_lie size start text ms h whole)
+nested_lie size start text (closes at ∷ ms) (here, h) whole = nested_lie size start text ms h whole
+
+to_lie : (size start : ℕ) (text : List ℕ) (ms : List CommentMark) (end : Option Ending) → Every (Lies text) ms → EndLies (Lies text) end → start + length text ≤ size
+    → Every (LiesIn size) (faults_to start ms end)
+to_lie size start text ms None h e whole = every_append (LiesIn size) (nested_faults start ms) _ (nested_lie size start text ms h whole) (tt, tt)
+to_lie size start text ms (Some end) h e whole = nested_lie size start text end.before e.0 whole
+
 -- ---- lexemes
 
 kind_lie : (size : ℕ) (kind : Kind) (at : ℕ) (text : List ℕ) (n : ℕ) → Fits (pattern kind) text n → at + length text ≤ size → (lexeme kind at text n).stop ≤ at + length text
@@ -118,6 +120,7 @@ kind_lie size String at text n f whole stop = pieces_lie size None (at + 1) (spe
 kind_lie size Mark at text n f whole stop = tt
 kind_lie size LineComment at text n f whole stop =
     let within = fits_within (pattern LineComment) text n f in hash_lie size at (take n text) (omega (arith, length-take-le n text within))
+kind_lie size BlockComment at text n f whole stop = to_lie size at text (marks_of text) (ending (marks_of text)) (marks_lie text) (ending_lies text) whole
 kind_lie size Newline at text n f whole stop = tt
 
 pub lexeme_lie : (size at : ℕ) (text : List ℕ) (x : Lexeme) → IsLexeme at text x → at + length text ≤ size → Stands at text x → Every (LiesIn size) x.faults

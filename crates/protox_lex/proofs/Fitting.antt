@@ -1,9 +1,9 @@
 -- What a front that fits says of the bytes.
-use Rattle.std.proofs.Common.{◌≡◌, ℕ, suc, ◌+◌, ◌-◌, ◌≤◌, Bool, true, false, ltb, inl, inr, List, [], ◌∷◌, drop, get_or, refl, sym, ◌∙◌, subst, arith}
+use Rattle.std.proofs.Common.{◌≡◌, ℕ, suc, ◌+◌, ◌-◌, ◌≤◌, Bool, true, false, ltb, inl, inr, List, [], ◌∷◌, length, drop, get_or, refl, sym, ◌∙◌, subst, length-drop, le_trans, arith}
 use Rattle.std.proofs.lemmas.Bool.{cases_Bool, true≢false, false≢true, ltb-true, ltb-false}
-use Rattle.std.proofs.lemmas.List.Sums.{prefix_len_passes}
+use Rattle.std.proofs.lemmas.List.Sums.{prefix_len_passes, prefix_len-le-length}
 use Rattle.std.specs.List.{prefix_len}
-use Rattle.protox_lex.specs.Pattern.{Pattern, one, ◌⋅◌, some, Fits}
+use Rattle.protox_lex.specs.Pattern.{Pattern, one, many, ◌⋅◌, ◌∣◌, maybe, some, Fits}
 
 -- the first byte passes
 pub first_passes : (p : ℕ → Bool) (text : List ℕ) → 1 ≤ prefix_len p text → p (get_or text 0 0) ≡ true
@@ -65,3 +65,16 @@ one_then_rest p q (b ∷ text) n f = one_then p q b text n f
 
 pub then_one_rest : (p : ℕ → Bool) (q : Pattern) (text : List ℕ) (m : ℕ) → 1 ≤ prefix_len p text → Fits q (drop 1 text) m → Fits (one p ⋅ q) text (suc m)
 then_one_rest p q text m starts f = (1, m, omega arith, (refl, starts), f)
+
+-- a front that fits lies within the text
+pub fits_within : (p : Pattern) (text : List ℕ) (n : ℕ) → Fits p text n → n ≤ length text
+fits_within (one p) text n (is_one, starts) = let within = prefix_len-le-length p text in omega arith
+fits_within (many p) text n run = le_trans run (prefix_len-le-length p text)
+fits_within (a ⋅ b) text n (i, j, size, f, g) =
+    let front = fits_within a text i f in
+    let back = fits_within b (drop i text) j g in
+    omega (arith, length-drop i text)
+fits_within (a ∣ b) text n (inl f) = fits_within a text n f
+fits_within (a ∣ b) text n (inr f) = fits_within b text n f
+fits_within (maybe a) text n (inl none) = omega arith
+fits_within (maybe a) text n (inr f) = fits_within a text n f

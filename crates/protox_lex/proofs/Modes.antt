@@ -1,12 +1,13 @@
--- A string literal has no fault of the mode.
-use Rattle.std.proofs.Common.{◌≡◌, ◌∙◌, sym, zero, suc, arith, ◌<◌, ℕ, ◌+◌, length, Bool, true, false, not, cond, List, [], ◌∷◌, ◌++◌, refl, get_or, drop, take, ap, Some, None}
+-- Integers, string literals and block comments have no fault of the mode.
+use Rattle.std.proofs.Common.{◌≡◌, ◌∙◌, sym, zero, suc, arith, ◌<◌, ℕ, ◌+◌, length, Bool, true, false, not, cond, List, [], ◌∷◌, ◌++◌, refl, get_or, drop, take, ap, Option, Some, None}
 use Rattle.std.specs.Prelude.{filter}
 use Rattle.std.proofs.lemmas.List.{take_more}
 use Rattle.std.proofs.lemmas.List.Elements.{filter-append}
 use Rattle.protox_lex.specs.declared.error.ParseErrorKind.{ParseErrorKind}
 use Rattle.protox_lex.specs.declared.error.ParseErrorKind.TheVariants.{InvalidStringEscape, InvalidStringCharacters, NoSpaceBetweenIntAndIdent, IntegerOutOfRange}
 use Rattle.protox_lex.specs.Faults.{Span, span_from, is_of_mode, faults_in}
-use Rattle.protox_lex.specs.Lexemes.{in_mode, string, integer, range_faults, value_fits}
+use Rattle.protox_lex.specs.BlockComments.{Mark, opens, closes, Ending, marks_of, ending, nested_fault, nested_faults, faults_to}
+use Rattle.protox_lex.specs.Lexemes.{in_mode, block_comment, string, integer, range_faults, value_fits}
 use Rattle.protox_lex.specs.Strings as spec
 
 abbrev kept : List ParseErrorKind → List ParseErrorKind
@@ -45,6 +46,24 @@ range_kept false s = refl
 pub integer_in_mode : (text_format : Bool) (at : ℕ) (text : List ℕ) (n : ℕ) → in_mode text_format (integer at text n) ≡ integer at text n
 integer_in_mode true at text n = ap (λ fs. record (integer at text n) { faults = fs }) (space_kept _ _ (range_faults at (take n text)) _ (range_kept (value_fits (take n text)) _))
 integer_in_mode false at text n = refl
+
+nested_kept : (start : ℕ) (ms : List Mark) (fs gs : List ParseErrorKind) → kept fs ≡ gs → kept (nested_faults start ms ++ fs) ≡ nested_faults start ms ++ gs
+nested_kept start [] fs gs e = e
+nested_kept start (opens at ∷ ms) fs gs e = ap (λ t. nested_fault start at ∷ t) (nested_kept start ms fs gs e)
+nested_kept start (closes at ∷ ms) fs gs e = nested_kept start ms fs gs e
+
+nested_alone : (start : ℕ) (ms : List Mark) → kept (nested_faults start ms) ≡ nested_faults start ms
+nested_alone start [] = refl
+nested_alone start (opens at ∷ ms) = ap (λ t. nested_fault start at ∷ t) (nested_alone start ms)
+nested_alone start (closes at ∷ ms) = nested_alone start ms
+
+to_kept : (start : ℕ) (ms : List Mark) (end : Option Ending) → kept (faults_to start ms end) ≡ faults_to start ms end
+to_kept start ms None = nested_kept start ms _ _ refl
+to_kept start ms (Some e) = nested_alone start e.before
+
+pub block_in_mode : (text_format : Bool) (at : ℕ) (text : List ℕ) → in_mode text_format (block_comment at text) ≡ block_comment at text
+block_in_mode true at text = ap (λ fs. record (block_comment at text) { faults = fs }) (to_kept at (marks_of text) (ending (marks_of text)))
+block_in_mode false at text = refl
 
 front_nil : (xs ys : List ParseErrorKind) → xs ++ ys ≡ [] → xs ≡ []
 front_nil [] ys e = refl

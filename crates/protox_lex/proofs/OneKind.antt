@@ -7,7 +7,7 @@ use Rattle.std.proofs.lemmas.Grind.{get_or_after_one}
 use Rattle.std.proofs.lemmas.List.Sums.{prefix_len_passes}
 use Rattle.std.specs.Char.{is_ascii_digit, is_ascii_hexdigit}
 use Rattle.protox_lex.specs.declared.scan.Kind.{Kind}
-use Rattle.protox_lex.specs.declared.scan.Kind.TheVariants.{Identifier, Integer, Float, String, Mark, LineComment, Newline}
+use Rattle.protox_lex.specs.declared.scan.Kind.TheVariants.{Identifier, Integer, Float, String, Mark, LineComment, BlockComment, Newline}
 use Rattle.protox_lex.specs.Pattern.{one, many, ◌⋅◌, maybe, some, Fits}
 use Rattle.protox_lex.specs.Lexicon.{pattern, is_letter, is_word, is_octal, is_nonzero, is_e, is_f, is_x, is_quote, is_mark, byte, digits, any_digits, exponent, suffix}
 use Rattle.protox_lex.specs.Scanning.{first, digits_len}
@@ -30,6 +30,7 @@ kind_of text n =
     else if b == 35 then LineComment
     else if leb n 1 then Mark
     else if b == 46 then Float
+    else if get_or text 1 0 == 42 then BlockComment
     else LineComment
 
 or_right : (a b : Bool) → b ≡ true → (a || b) ≡ true
@@ -128,7 +129,7 @@ digit_apart b h = grind (arith, nat_tests)
 quote_apart : (b : ℕ) → is_quote b ≡ true → (is_letter b ≡ false) × (is_ascii_digit b ≡ false)
 quote_apart b h = (grind (arith, nat_tests), grind (arith, nat_tests))
 
-mark_apart : (b : ℕ) → is_mark b ≡ true → (is_letter b ≡ false) × (is_ascii_digit b ≡ false) × (is_quote b ≡ false) × (eqb b 10 ≡ false) × (eqb b 35 ≡ false)
+pub mark_apart : (b : ℕ) → is_mark b ≡ true → (is_letter b ≡ false) × (is_ascii_digit b ≡ false) × (is_quote b ≡ false) × (eqb b 10 ≡ false) × (eqb b 35 ≡ false)
 mark_apart b h = (grind (arith, nat_tests), grind (arith, nat_tests), grind (arith, nat_tests), grind (arith, nat_tests), grind (arith, nat_tests))
 
 kind_is : (kind : Kind) (text : List ℕ) (n : ℕ) → Fits (pattern kind) text n → kind ≡ kind_of text n
@@ -149,9 +150,17 @@ kind_is Mark text n (is_one, starts) =
 kind_is LineComment text n (i, j, size, inl f, rest) =
     let (m, two, slash, (is_one, second)) = one_then_rest (λ x. x == 47) (byte 47) text i f in
     let b = eqb-true (first text) 47 slash in
-    rw (b, lt-leb-false n 1 (omega arith)) refl
+    let c = first_passes (λ x. x == 47) (drop 1 text) second in
+    let next : eqb (get_or text 1 0) 47 ≡ true = ap (λ v. eqb v 47) (sym (get_or_after_one text 0 0)) ∙ c in
+    rw (b, eqb-true (get_or text 1 0) 47 next, lt-leb-false n 1 (omega arith)) refl
 kind_is LineComment text n (i, j, size, inr (is_one, hash), rest) =
     let b = eqb-true (first text) 35 (first_passes (λ x. x == 35) text hash) in rw b refl
+kind_is BlockComment text n f =
+    let (m, size, slash, (is_one, second)) = one_then_rest (λ x. x == 47) (byte 42) text n f in
+    let b = eqb-true (first text) 47 slash in
+    let c = first_passes (λ x. x == 42) (drop 1 text) second in
+    let next : eqb (get_or text 1 0) 42 ≡ true = ap (λ v. eqb v 42) (sym (get_or_after_one text 0 0)) ∙ c in
+    rw (b, eqb-true (get_or text 1 0) 42 next, lt-leb-false n 1 (omega arith)) refl
 kind_is Newline text n (is_one, starts) =
     let b = eqb-true (first text) 10 (first_passes (λ x. x == 10) text starts) in rw b refl
 

@@ -15,7 +15,8 @@ use Rattle.protox_lex.specs.Table.{is_gap, in_front, rows_of, gaps_of, faults_of
 use Rattle.protox_lex.proofs.Boundaries.{blanks_boundary}
 use Rattle.protox_lex.proofs.Cut.{cut_is_cut}
 use Rattle.protox_lex.proofs.Extents.{Stands, lexeme_stands}
-use Rattle.protox_lex.proofs.FaultPlaces.{Every, every_append, all_every, lexeme_lie}
+use Rattle.protox_lex.proofs.Each.{Every, every_append, all_every}
+use Rattle.protox_lex.proofs.FaultPlaces.{lexeme_lie}
 use Rattle.std.proofs.lemmas.Str.{IsUtf8-drop}
 
 -- what stands behind the blanks is text

@@ -6,23 +6,24 @@ use Rattle.std.proofs.lemmas.Grind.{get_or_after_one}
 use Rattle.std.specs.List.{prefix_len}
 use Rattle.std.specs.Option.{MatchOption}
 use Rattle.std.specs.Char.{is_ascii_digit}
-use Rattle.protox_lex.specs.Pattern.{Pattern, many, ◌⋅◌, maybe, Fits}
+use Rattle.protox_lex.specs.Pattern.{Pattern, many, ◌⋅◌, maybe, Fits, IsLongest}
 use Rattle.protox_lex.specs.declared.scan.Kind.{Kind}
-use Rattle.protox_lex.specs.declared.scan.Kind.TheVariants.{Identifier, Integer, Float, String, Mark, LineComment, Newline}
-use Rattle.protox_lex.specs.Lexicon.{pattern, IsLongest, is_letter, is_word, is_quote, is_mark, is_not_newline, byte, digits, exponent, suffix}
+use Rattle.protox_lex.specs.declared.scan.Kind.TheVariants.{Identifier, Integer, Float, String, Mark, LineComment, BlockComment, Newline}
+use Rattle.protox_lex.specs.Lexicon.{pattern, is_letter, is_word, is_quote, is_mark, is_not_newline, byte, digits, exponent, suffix}
 use Rattle.protox_lex.specs.Scanning.{first, digits_len, tail_len, fraction_len, number, line_len, scan}
 use Rattle.protox_lex.proofs.Fitting.{first_passes, passes_first, some_fits, run_ends, run_more, one_then, one_then_empty}
 use Rattle.protox_lex.proofs.Numbers.{ending_fits}
 use Rattle.protox_lex.proofs.NumberMatch.{number_fits, integer_bound, float_bound}
 
 -- tests of the first byte, in the order of the scan
-data Case (text : List ℕ) : Type 0 where
+pub data Case (text : List ℕ) : Type 0 where
   at_letter : is_letter (first text) ≡ true → scan text ≡ Some (Identifier, prefix_len is_word text) → Case text
   at_digit : is_ascii_digit (first text) ≡ true → scan text ≡ Some (number text) → Case text
   at_fraction : first text ≡ 46 → is_ascii_digit (get_or text 1 0) ≡ true → scan text ≡ Some (Float, 1 + fraction_len (drop 1 text)) → Case text
   at_quote : is_quote (first text) ≡ true → scan text ≡ Some (String, 1) → Case text
   at_hash : first text ≡ 35 → scan text ≡ Some (LineComment, 1 + line_len (drop 1 text)) → Case text
   at_line : first text ≡ 47 → get_or text 1 0 ≡ 47 → scan text ≡ Some (LineComment, 2 + line_len (drop 2 text)) → Case text
+  at_block : first text ≡ 47 → get_or text 1 0 ≡ 42 → scan text ≡ Some (BlockComment, 2) → Case text
   at_mark : is_mark (first text) ≡ true
       → (first text ≡ 46 → is_ascii_digit (get_or text 1 0) ≡ false)
       → (first text ≡ 47 → eqb (get_or text 1 0) 47 ≡ false)
@@ -31,7 +32,7 @@ data Case (text : List ℕ) : Type 0 where
   at_other : is_letter (first text) ≡ false → is_ascii_digit (first text) ≡ false → is_quote (first text) ≡ false → eqb (first text) 35 ≡ false
       → is_mark (first text) ≡ false → eqb (first text) 10 ≡ false → scan text ≡ None → Case text
 
-scan_case : (text : List ℕ) → Case text
+pub scan_case : (text : List ℕ) → Case text
 unfolding scan
 scan_case text =
     let b = first text in
@@ -48,11 +49,14 @@ scan_case text =
               | inl hash ↦ at_hash (eqb-true b 35 hash) (rw (l, d, f, q, hash) refl)
               | inr h ↦ elim (cases_Bool (eqb b 47 && eqb c 47)) [
                 | inl both ↦ let (x, y) = and_parts (eqb b 47) (eqb c 47) both in at_line (eqb-true b 47 x) (eqb-true c 47 y) (rw (l, d, f, q, h, both) refl)
-                | inr s ↦ elim (cases_Bool (is_mark b)) [
-                  | inl m ↦ at_mark m (λ e. grind (arith, nat_tests)) (λ e. grind (arith, nat_tests)) (rw (l, d, f, q, h, s, m) refl)
-                  | inr m ↦ elim (cases_Bool (eqb b 10)) [
-                    | inl n ↦ at_newline (eqb-true b 10 n) (rw (l, d, f, q, h, s, m, n) refl)
-                    | inr n ↦ at_other l d q h m n (rw (l, d, f, q, h, s, m, n) refl)
+                | inr s ↦ elim (cases_Bool (eqb b 47 && eqb c 42)) [
+                  | inl both ↦ let (x, y) = and_parts (eqb b 47) (eqb c 42) both in at_block (eqb-true b 47 x) (eqb-true c 42 y) (rw (l, d, f, q, h, s, both) refl)
+                  | inr k ↦ elim (cases_Bool (is_mark b)) [
+                    | inl m ↦ at_mark m (λ e. grind (arith, nat_tests)) (λ e. grind (arith, nat_tests)) (rw (l, d, f, q, h, s, k, m) refl)
+                    | inr m ↦ elim (cases_Bool (eqb b 10)) [
+                      | inl n ↦ at_newline (eqb-true b 10 n) (rw (l, d, f, q, h, s, k, m, n) refl)
+                      | inr n ↦ at_other l d q h m n (rw (l, d, f, q, h, s, k, m, n) refl)
+                    ]
                   ]
                 ]
               ]
@@ -69,26 +73,26 @@ AtMost (Some p) m = m ≤ p.1
 at_most : (text : List ℕ) (p : Kind × ℕ) (m : ℕ) → scan text ≡ Some p → m ≤ p.1 → AtMost (scan text) m
 at_most text p m e h = rw e h
 
-letter_word : (b : ℕ) → is_letter b ≡ true → is_word b ≡ true
+pub letter_word : (b : ℕ) → is_letter b ≡ true → is_word b ≡ true
 letter_word b h = grind (arith, nat_tests)
 
 digit_not_letter : (b : ℕ) → is_ascii_digit b ≡ true → is_letter b ≡ false
 digit_not_letter b h = grind (arith, nat_tests)
 
 module _ (text : List ℕ) where
-  scan_letter : is_letter (first text) ≡ true → scan text ≡ Some (Identifier, prefix_len is_word text)
+  pub scan_letter : is_letter (first text) ≡ true → scan text ≡ Some (Identifier, prefix_len is_word text)
   unfolding scan
   scan_letter h = rw h refl
 
-  scan_digit : is_ascii_digit (first text) ≡ true → scan text ≡ Some (number text)
+  pub scan_digit : is_ascii_digit (first text) ≡ true → scan text ≡ Some (number text)
   unfolding scan
   scan_digit h = rw (digit_not_letter (first text) h, h) refl
 
-  scan_fraction : first text ≡ 46 → is_ascii_digit (get_or text 1 0) ≡ true → scan text ≡ Some (Float, 1 + fraction_len (drop 1 text))
+  pub scan_fraction : first text ≡ 46 → is_ascii_digit (get_or text 1 0) ≡ true → scan text ≡ Some (Float, 1 + fraction_len (drop 1 text))
   unfolding scan
   scan_fraction p d = rw (p, d) refl
 
-  scan_quote : (first text ≡ 39) ⊎ (first text ≡ 34) → scan text ≡ Some (String, 1)
+  pub scan_quote : (first text ≡ 39) ⊎ (first text ≡ 34) → scan text ≡ Some (String, 1)
   unfolding scan
   scan_quote (inl q) = rw q refl
   scan_quote (inr q) = rw q refl
@@ -100,6 +104,10 @@ module _ (text : List ℕ) where
   scan_line : first text ≡ 47 → get_or text 1 0 ≡ 47 → scan text ≡ Some (LineComment, 2 + line_len (drop 2 text))
   unfolding scan
   scan_line h n = rw (h, n) refl
+
+  scan_block : first text ≡ 47 → get_or text 1 0 ≡ 42 → scan text ≡ Some (BlockComment, 2)
+  unfolding scan
+  scan_block h n = rw (h, n) refl
 
   scan_newline : first text ≡ 10 → scan text ≡ Some (Newline, 1)
   unfolding scan
@@ -116,6 +124,7 @@ mark_bound text m = elim (scan_case text) [
   | at_quote q e ↦ absurd (grind (arith, nat_tests))
   | at_hash h e ↦ absurd (grind (arith, nat_tests))
   | at_line h n e ↦ at_most text _ 1 e (omega arith)
+  | at_block h n e ↦ at_most text _ 1 e (omega arith)
   | at_mark h p s e ↦ at_most text _ 1 e (omega arith)
   | at_newline h e ↦ absurd (grind (arith, nat_tests))
   | at_other l d q h k n e ↦ absurd (true≢false (sym m ∙ k))
@@ -150,6 +159,7 @@ no_empty String m (e, h) = absurd (omega arith)
 no_empty Mark m (e, h) = absurd (omega arith)
 no_empty LineComment m (i, j, size, inl f, rest) = one_then_empty (λ x. x == 47) (byte 47) i f
 no_empty LineComment m (i, j, size, inr (e, h), rest) = absurd (omega arith)
+no_empty BlockComment m f = one_then_empty (λ x. x == 47) (byte 42) m f
 no_empty Newline m (e, h) = absurd (omega arith)
 
 scan_bound : (kind : Kind) (text : List ℕ) (m : ℕ) → Fits (pattern kind) text m → AtMost (scan text) m
@@ -180,6 +190,10 @@ scan_bound LineComment (b ∷ text) n (i, j, size, inr (is_one, hash), rest) =
     let P : ℕ → Type 0 = λ k. Fits line (drop k (b ∷ text)) j in
     let bound = line_bound text j (subst P is_one rest) in
     at_most (b ∷ text) _ n (scan_hash (b ∷ text) (eqb-true b 35 (first_passes (λ x. x == 35) (b ∷ text) hash))) (omega arith)
+scan_bound BlockComment (b ∷ text) n f =
+    let (m, size, slash, (is_one, starts)) = one_then (λ x. x == 47) (byte 42) b text n f in
+    let next : get_or text 0 0 ≡ 42 = eqb-true (get_or text 0 0) 42 (first_passes (λ x. x == 42) text starts) in
+    at_most (b ∷ text) _ n (scan_block (b ∷ text) (eqb-true b 47 slash) next) (omega arith)
 scan_bound Newline (b ∷ text) n (is_one, starts) =
     at_most (b ∷ text) _ n (scan_newline (b ∷ text) (eqb-true b 10 (first_passes (λ x. x == 10) (b ∷ text) starts))) (omega arith)
 
@@ -216,6 +230,7 @@ scan_fits text =
       | at_quote q e ↦ subst P (sym e) (refl, passes_first is_quote text refl q)
       | at_hash h e ↦ subst P (sym e) (1, line_len (drop 1 text), refl, inr (refl, starts_with text 35 refl h), line_fits (drop 1 text))
       | at_line h n e ↦ subst P (sym e) (2, line_len (drop 2 text), refl, inl (1, 1, refl, (refl, starts_with text 47 refl h), (refl, starts_with (drop 1 text) 47 refl (second text 47 n))), line_fits (drop 2 text))
+      | at_block h n e ↦ subst P (sym e) (1, 1, refl, (refl, starts_with text 47 refl h), (refl, starts_with (drop 1 text) 42 refl (second text 42 n)))
       | at_mark h p s e ↦ subst P (sym e) (refl, passes_first is_mark text refl h)
       | at_newline h e ↦ subst P (sym e) (refl, passes_first (λ x. x == 10) text refl (eq-eqb (first text) 10 h))
       | at_other l d q h k n e ↦ subst P (sym e) tt
@@ -223,10 +238,10 @@ scan_fits text =
 
 -- The scan finds the longest match, and nothing where no pattern matches.
 pub scan_longest : (text : List ℕ)
-    → MatchOption (scan text) ((kind : Kind) (m : ℕ) → Fits (pattern kind) text m → ⊥) (λ p. IsLongest p.0 text p.1)
+    → MatchOption (scan text) ((kind : Kind) (m : ℕ) → Fits (pattern kind) text m → ⊥) (λ p. IsLongest pattern p.0 text p.1)
 scan_longest text = go (scan text) (scan_fits text) (λ kind m f. scan_bound kind text m f) where
   go : (r : Option (Kind × ℕ)) → MatchOption r (Unit {0}) (λ p. Fits (pattern p.0) text p.1)
       → ((kind : Kind) (m : ℕ) → Fits (pattern kind) text m → AtMost r m)
-      → MatchOption r ((kind : Kind) (m : ℕ) → Fits (pattern kind) text m → ⊥) (λ p. IsLongest p.0 text p.1)
+      → MatchOption r ((kind : Kind) (m : ℕ) → Fits (pattern kind) text m → ⊥) (λ p. IsLongest pattern p.0 text p.1)
   go None f bound = bound
   go (Some p) f bound = record { fits = f; longest = bound }

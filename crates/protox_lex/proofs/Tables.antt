@@ -1,11 +1,19 @@
 -- Tables of lexemes.
-use Rattle.std.proofs.Common.{◌≡◌, ◌+◌, inl, inr, length, arith, ℕ, zero, suc, List, [], ◌∷◌, ◌++◌, get_or, refl, sym, ap, ◌∙◌, append-nil, Bool, true, false, Some, None}
+use Rattle.std.proofs.Common.{◌≡◌, ◌+◌, inl, inr, length, arith, ℕ, zero, suc, List, [], ◌∷◌, ◌++◌, get_or, refl, sym, ap, ◌∙◌, subst, append-nil, Bool, true, false, Option, Some, None}
 use Rattle.std.proofs.lemmas.Bool.{cases_Bool}
-use Rattle.std.specs.Prelude.{slice_get}
+use Rattle.std.proofs.lemmas.List.{map-append}
+use Rattle.std.proofs.lemmas.Option.{slice_get-map}
+use Rattle.std.specs.Borrow.{Bor}
+use Rattle.std.specs.Option.{option_map, option_copied}
+use Rattle.std.specs.Prelude.{slice_get, IfSome, map}
+use Rattle.protox_lex.specs.declared.token.Token.{Token}
+use Rattle.protox_lex.specs.Tokens.{shape_of}
 use Rattle.protox_lex.specs.declared.error.ParseErrorKind.{ParseErrorKind}
 use Rattle.protox_lex.specs.declared.token_table.TableDraft.{TableDraft}
 use Rattle.protox_lex.specs.Faults.{faults_in}
+use Rattle.protox_lex.specs.Gaps.{IsGap, HoldGaps}
 use Rattle.protox_lex.specs.Lexemes.{Lexeme}
+use Rattle.protox_lex.specs.Shapes.{Shape}
 use Rattle.protox_lex.specs.Table.{is_gap, in_front, rows_of, gaps_of, faults_of, table_of}
 use Rattle.protox_lex.specs.TableView.{finished}
 
@@ -48,3 +56,42 @@ nothing_released text_format xss k errors none = sym (ap (λ fs. errors ++ fs) (
   no_faults : (text_format : Bool) → faults_in text_format [] ≡ []
   no_faults true = refl
   no_faults false = refl
+
+-- ---- gaps hold comments and newlines
+
+in_front_gap : (x : Shape) (gaps : List (List Shape)) → is_gap x ≡ true → HoldGaps gaps → HoldGaps (in_front (x ∷ []) gaps)
+in_front_gap x [] h g k gap e = absurd (cc)
+in_front_gap x (first ∷ gaps) h g zero gap e =
+    let same : x ∷ first ≡ gap = cc in
+    let P : List Shape → Type 0 = λ xs. IsGap xs in
+    let both : IsGap (x ∷ first) = rw h (g zero first refl) in
+    subst P same both
+in_front_gap x (first ∷ gaps) h g (suc k) gap e = g (suc k) gap e
+
+one_more_gap : (gaps : List (List Shape)) → HoldGaps gaps → HoldGaps ([] ∷ gaps)
+one_more_gap gaps g zero gap e =
+    let same : [] ≡ gap = cc in
+    let P : List Shape → Type 0 = λ xs. IsGap xs in
+    subst P same refl
+one_more_gap gaps g (suc k) gap e = g k gap e
+
+hold_gaps : (xs : List Lexeme) → HoldGaps (gaps_of xs)
+hold_gaps [] = one_more_gap [] (λ k gap e. absurd (cc))
+hold_gaps (x ∷ xs) =
+    let P : List (List Shape) → Type 0 = λ gaps. HoldGaps gaps in
+    elim (cases_Bool (is_gap x.shape)) [
+      | inl gap ↦ rw gap (in_front_gap x.shape (gaps_of xs) gap (hold_gaps xs))
+      | inr row ↦ rw row (one_more_gap (gaps_of xs) (hold_gaps xs))
+    ]
+
+pub gaps_held : (gaps : List (List Shape)) (xs : List Lexeme) → gaps ≡ gaps_of xs → HoldGaps gaps
+gaps_held gaps xs e = let P : List (List Shape) → Type 0 = λ gs. HoldGaps gs in subst P (sym e) (hold_gaps xs)
+
+-- a gap that is lent
+pub lent_gap : (gaps : List (List Token)) (k : ℕ) (r : Option (Bor (List Token))) → HoldGaps (map (map shape_of) gaps) → option_copied r ≡ slice_get gaps k → IfSome r (λ gap. IsGap (map shape_of gap.now))
+lent_gap gaps k None h e = tt
+lent_gap gaps k (Some gap) h e = h k (map shape_of gap.now) (slice_get-map (map shape_of) gaps k ∙ ap (option_map (map shape_of)) (sym e))
+
+-- the gaps of a draft, once the last has ended
+pub ended_gaps : (ended : List (List Token)) (begun : List Token) → map (map shape_of) (ended ++ begun ∷ []) ≡ map (map shape_of) ended ++ in_front (map shape_of begun) ([] ∷ [])
+ended_gaps ended begun = map-append (map shape_of) ended (begun ∷ []) ∙ ap (λ g. map (map shape_of) ended ++ g ∷ []) (sym (append-nil (map shape_of begun)))

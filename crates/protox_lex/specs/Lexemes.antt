@@ -6,13 +6,14 @@ use Rattle.std.specs.Str.{chars}
 use Rattle.std.specs.Str.Parse.{digits_value}
 use Rattle.protox_lex.specs.declared.scan.Kind.{Kind}
 use Rattle.protox_lex.specs.declared.scan.Kind.TheVariants as kind
-use Rattle.protox_lex.specs.Pattern.{Fits}
-use Rattle.protox_lex.specs.Lexicon.{pattern, IsLongest, is_blank, is_letter, is_x, is_f}
+use Rattle.protox_lex.specs.Pattern.{Fits, IsLongest}
+use Rattle.protox_lex.specs.Lexicon.{pattern, is_blank, is_letter, is_x, is_f}
 use Rattle.protox_lex.specs.Scanning.{scan}
 use Rattle.protox_lex.specs.declared.error.ParseErrorKind.{ParseErrorKind}
 use Rattle.protox_lex.specs.declared.error.ParseErrorKind.TheVariants.{IntegerOutOfRange, NoSpaceBetweenIntAndIdent, FloatSuffixOutsideTextFormat, HashCommentOutsideTextFormat}
 use Rattle.protox_lex.specs.Faults.{span_from, faults_in}
-use Rattle.protox_lex.specs.Shapes.{Shape, Ident, Int, Float, Str, Mark, LineComment, Newline, Invalid}
+use Rattle.protox_lex.specs.Shapes.{Shape, Ident, Int, Float, Str, Mark, LineComment, BlockComment, Newline, Invalid}
+use Rattle.protox_lex.specs.BlockComments.{marks_of, ending, len_to, faults_to, content_to, comment_text, is_one_line}
 use Rattle.protox_lex.specs.Strings.{pieces, value_of, len_of, is_one_run, faults_of}
 
 -- `borrowed` says that the value is a piece of the source as it stands, or none is kept. The faults are those of a place outside aggregates.
@@ -137,6 +138,22 @@ line_comment at text n = record {
   faults = hash_faults at (take n text);
 }
 
+-- ---- block comments
+
+-- a block comment. Where it has a fault, its text is empty.
+abbrev pub block_comment : ℕ → List ℕ → Lexeme
+block_comment at text =
+    let end = ending (marks_of text) in
+    let faults = faults_to at (marks_of text) end in
+    let content = content_to faults text end in
+    record {
+      start = at;
+      stop = at + len_to text end;
+      shape = BlockComment (comment_text content);
+      borrowed = is_one_line content;
+      faults = faults;
+    }
+
 -- ---- lexemes
 
 -- a lexeme of n bytes whose value is its bytes, without a fault
@@ -151,6 +168,7 @@ lexeme kind.Float at text n = float at text n
 lexeme kind.String at text n = string at text
 lexeme kind.Mark at text n = plain (Mark (slice_index text 0)) at n
 lexeme kind.LineComment at text n = line_comment at text n
+lexeme kind.BlockComment at text n = block_comment at text
 lexeme kind.Newline at text n = plain Newline at n
 
 -- one character
@@ -160,7 +178,7 @@ invalid at text = plain Invalid at (len_utf8 (slice_index (chars text) 0))
 -- The lexeme at a place is the longest match of a pattern, and one invalid character where none matches.
 abbrev pub IsLexeme : ℕ → List ℕ → Lexeme → Type 0
 IsLexeme at text x =
-    ((k : Kind) × (n : ℕ) × IsLongest k text n × (x ≡ lexeme k at text n))
+    ((k : Kind) × (n : ℕ) × IsLongest pattern k text n × (x ≡ lexeme k at text n))
     ⊎ (((k : Kind) (n : ℕ) → Fits (pattern k) text n → ⊥) × (x ≡ invalid at text))
 
 -- how many skipped bytes stand at the front

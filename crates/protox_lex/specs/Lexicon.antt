@@ -3,7 +3,7 @@ use Rattle.std.specs.Prelude.{◌≡◌, ℕ, ◌≤◌, Bool, not, ◌||◌, �
 use Rattle.std.specs.Char.{is_ascii_alphabetic, is_ascii_alphanumeric, is_ascii_digit, is_ascii_hexdigit}
 use Rattle.std.specs.Int.{is_in_range}
 use Rattle.protox_lex.specs.declared.scan.Kind.{Kind}
-use Rattle.protox_lex.specs.declared.scan.Kind.TheVariants.{Identifier, Integer, Float, String, Mark, LineComment, Newline}
+use Rattle.protox_lex.specs.declared.scan.Kind.TheVariants.{Identifier, Integer, Float, String, Mark, LineComment, BlockComment, Newline}
 use Rattle.protox_lex.specs.Pattern.{Pattern, one, many, ◌⋅◌, ◌∣◌, maybe, some, Fits}
 
 -- [A-Za-z_]; [A-Za-z0-9_]; [0-9]; [0-7]; [1-9]; [0-9A-Fa-f]; [eE]; [+-]; [fF]; [xX]; ['"]
@@ -60,7 +60,7 @@ exponent = one is_e ⋅ maybe (one is_sign) ⋅ digits
 abbrev pub suffix : Pattern
 suffix = maybe (one is_f)
 
--- what the lexemes of each kind match. A string goes on behind that, up to its own end.
+-- what the lexemes of each kind match. A string and a block comment go on behind that, up to their own end.
 abbrev pub pattern : Kind → Pattern
 pattern Identifier = one is_letter ⋅ many is_word
 pattern Integer =
@@ -77,12 +77,8 @@ pattern Float =
 pattern String = one is_quote
 pattern Mark = one is_mark
 pattern LineComment = (byte 47 ⋅ byte 47 ∣ byte 35) ⋅ many is_not_newline ⋅ maybe (byte 10)
+pattern BlockComment = byte 47 ⋅ byte 42
 pattern Newline = byte 10
-
--- The first n bytes of the text are the longest match of a pattern, and it is one of that kind.
-pub record IsLongest (kind : Kind) (text : List ℕ) (n : ℕ) : Type 0 where
-  pub fits : Fits (pattern kind) text n
-  pub longest : (other : Kind) (m : ℕ) → Fits (pattern other) text m → m ≤ n
 
 -- the text begins with `#` or `//`, within n bytes
 abbrev pub IsLineOpener : List ℕ → ℕ → Type 0

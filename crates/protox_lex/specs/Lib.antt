@@ -7,6 +7,10 @@ pub mod Pattern
 pub mod Words
 pub mod Lexicon
 pub mod Strings
+pub mod StringPieces
+pub mod BlockComments
+pub mod Nesting
+pub mod Kept
 pub mod Lexemes
 pub mod State
 pub mod Classes
@@ -15,5 +19,9 @@ pub mod Found
 pub mod Lexing
 pub mod Pieces
 pub mod Table
+pub mod Gaps
 pub mod Grouping
+pub mod CommentState
+pub mod Attributing
+pub mod LexesBack
 pub mod TableView

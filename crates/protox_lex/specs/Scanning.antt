@@ -3,7 +3,7 @@ use Rattle.std.specs.Prelude.{ℕ, ◌+◌, ◌&&◌, ◌==◌, nat_lt, if◌the
 use Rattle.std.specs.List.{prefix_len}
 use Rattle.std.specs.Char.{is_ascii_digit, is_ascii_hexdigit}
 use Rattle.protox_lex.specs.declared.scan.Kind.{Kind}
-use Rattle.protox_lex.specs.declared.scan.Kind.TheVariants.{Identifier, Integer, Float, String, Mark, LineComment, Newline}
+use Rattle.protox_lex.specs.declared.scan.Kind.TheVariants.{Identifier, Integer, Float, String, Mark, LineComment, BlockComment, Newline}
 use Rattle.protox_lex.specs.Lexicon.{is_letter, is_word, is_octal, is_e, is_sign, is_f, is_x, is_quote, is_mark, is_not_newline}
 
 abbrev pub first : List ℕ → ℕ
@@ -66,6 +66,7 @@ scan text =
     else if is_quote b then Some (String, 1)
     else if b == 35 then Some (LineComment, 1 + line_len (drop 1 text))
     else if b == 47 && slice_index text 1 == 47 then Some (LineComment, 2 + line_len (drop 2 text))
+    else if b == 47 && slice_index text 1 == 42 then Some (BlockComment, 2)
     else if is_mark b then Some (Mark, 1)
     else if b == 10 then Some (Newline, 1)
     else None

@@ -9,6 +9,7 @@ ghost use Rattle.protox_lex.specs.Lexicon.{is_mark, is_quote, IsLineOpener};
 ghost use Rattle.protox_lex.specs.Found.{lexeme_of};
 ghost use Rattle.protox_lex.specs.Tokens.{shape_of, borrowed_of};
 
+use crate::block_comment::read_block_comment;
 use crate::comment::read_line_comment;
 use crate::error::ParseErrorKind;
 use crate::number::{read_float, read_integer};
@@ -81,6 +82,7 @@ fn read_kind(
     requires mark { kind ≡ Kind.Mark → is_mark (slice_index text.now 0) ≡ true }
     requires quote { kind ≡ Kind.String → is_quote (slice_index text.now 0) ≡ true }
     requires opener { kind ≡ Kind.LineComment → IsLineOpener text.now len }
+    requires block { kind ≡ Kind.BlockComment → (2 ≤ length text.now) × (slice_index text.now 1 ≡ 42) }
     ensures value { IfOk result (λ f. lexeme_of start f ≡ spec.in_mode text_format (spec.lexeme kind start text.now len)) }
     ensures within { IfOk result (λ f. (start < f.stop) × (f.stop ≤ start + length text.now)) }
     ensures boundary { IfOk result (λ f. IsCharBoundary text.now (f.stop - start)) }
@@ -97,11 +99,12 @@ fn read_kind(
         Kind::Newline => Ok(plain(alloc, Token::Newline, start, len)),
         Kind::String => read_string(alloc, text, start),
         Kind::LineComment => read_line_comment(alloc, text, len, start, text_format),
+        Kind::BlockComment => read_block_comment(alloc, text, start),
     }
 }
 
 /// The lexeme at the front.
-#[tactic(auto, using(crate::proofs::Boundaries::scan_boundary, crate::proofs::Boundaries::scan_mark, crate::proofs::Boundaries::scan_quote, crate::proofs::Boundaries::scan_line), unfolding(crate::specs::Lexemes::first_lexeme))]
+#[tactic(auto, using(crate::proofs::Boundaries::scan_boundary, crate::proofs::Boundaries::scan_mark, crate::proofs::Boundaries::scan_quote, crate::proofs::Boundaries::scan_line, crate::proofs::Boundaries::scan_block), unfolding(crate::specs::Lexemes::first_lexeme))]
 pub(crate) fn read_lexeme(
     alloc: Global,
     text: &str,

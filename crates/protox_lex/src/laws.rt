@@ -1,11 +1,18 @@
 //! Laws of the definitions that the contracts cite. Each is a function that does nothing: its
 //! contract is the law.
-ghost use Rattle.std.specs.Prelude.{◌≡◌, ◌+◌, ◌++◌, ℕ, List, length, take};
+ghost use Rattle.std.specs.Prelude.{◌≡◌, ◌+◌, ◌++◌, ◌∷◌, [], ℕ, Bool, true, false, if◌then◌else◌, List, None, length, take, map, flat_map};
 ghost use Rattle.std.specs.List.{All};
 ghost use Rattle.std.specs.Str.{IsUtf8};
-ghost use Rattle.protox_lex.specs.Faults.{LiesIn};
+ghost use Rattle.protox_lex.specs.declared.error.ParseErrorKind.TheVariants.{InvalidStringCharacters, InvalidStringEscape};
+ghost use Rattle.protox_lex.specs.Faults.{LiesIn, span_from};
 ghost use Rattle.protox_lex.specs.Lexemes as spec;
+ghost use Rattle.protox_lex.specs.LexesBack.{AreBytes, ArePrintable, spaced};
+ghost use Rattle.protox_lex.specs.Lexicon.{is_quote};
 ghost use Rattle.protox_lex.specs.Pattern.{Pattern, Fits};
+ghost use Rattle.protox_lex.specs.Printed.{printed};
+ghost use Rattle.protox_lex.specs.Shapes.{Shape, Str};
+ghost use Rattle.protox_lex.specs.StringPieces.{IsPieces, all_wrong, begins_wrong};
+ghost use Rattle.protox_lex.specs.Strings.{Piece, wrong, len_of, pieces, faults_of as string_faults};
 ghost use Rattle.protox_lex.specs.Table.{rows_of, gaps_of, faults_of, StandBetween};
 ghost use Rattle.protox_lex.specs.Words.{IsWordOf};
 
@@ -40,4 +47,33 @@ pub fn faults_lie_in_source()
 pub fn gaps_surround_rows()
     ensures gaps { (lexemes : List spec.Lexeme) → length (gaps_of lexemes) ≡ length (rows_of lexemes) + 1 }
     ensures faults { (lexemes : List spec.Lexeme) → length (faults_of lexemes) ≡ length (rows_of lexemes) + 1 }
+{}
+
+/// A string literal's text has one cut into pieces, and each piece is the longest match of the piece
+/// table.
+#[tactic(auto, using(crate::proofs::StringPieces::pieces_are, crate::proofs::StringPieces::only_pieces))]
+pub fn pieces_are_longest()
+    ensures is { (quote : ℕ) (text : List ℕ) → is_quote quote ≡ true → IsPieces quote text (pieces quote text) }
+    ensures only { (quote : ℕ) (text : List ℕ) (ps : List Piece) → is_quote quote ≡ true → IsPieces quote text ps → ps ≡ pieces quote text }
+{}
+
+/// Invalid pieces that adjoin are one fault, of the first one's kind.
+#[tactic(auto, using(crate::proofs::StringPieces::adjoining))]
+pub fn invalid_pieces_adjoin()
+    ensures { (at : ℕ) (is_escape : Bool) (n : ℕ) (more rest : List Piece) → all_wrong more ≡ true → begins_wrong rest ≡ false
+        → string_faults None at (wrong is_escape n ∷ more ++ rest)
+        ≡ (let span = span_from at (at + n + len_of more) in if is_escape then InvalidStringEscape span else InvalidStringCharacters span) ∷ string_faults None (at + n + len_of more) rest }
+{}
+
+/// Identifiers, integers, floats, strings and marks, printed and joined by one space, are cut into
+/// the same again, without a fault in either mode.
+#[tactic(auto, using(crate::proofs::ShapesBack::gives))]
+pub fn printed_forms_lex_back()
+    ensures { (xs : List Shape) → ArePrintable xs → (map (λ x. x.shape) (spec.cut 0 (spaced xs)) ≡ xs) × (flat_map (λ x. x.faults) (spec.cut 0 (spaced xs)) ≡ []) }
+{}
+
+/// A string that is printed in double quotes is one lexeme of its bytes, without a fault.
+#[tactic(auto, using(crate::proofs::ShapesBack::string_alone))]
+pub fn strings_lex_back()
+    ensures { (s : List ℕ) → AreBytes s → (borrowed : Bool) × (spec.cut 0 (printed (Str s)) ≡ record { start = 0; stop = length (printed (Str s)); shape = Str s; borrowed = borrowed; faults = [] } ∷ []) }
 {}

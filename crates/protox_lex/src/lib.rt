@@ -1,8 +1,13 @@
 //! Cuts a Protocol Buffers source into tokens.
 #![tactic(auto)]
 
+mod block_comment;
 mod bytes;
 mod comment;
+#[cfg(test)]
+mod comment_tests;
+mod comment_text;
+pub mod comments;
 pub mod error;
 mod fault_list;
 mod found;

@@ -13,6 +13,7 @@ pub enum Kind {
     String,
     Mark,
     LineComment,
+    BlockComment,
     Newline,
 }
 
@@ -149,6 +150,8 @@ pub fn scan(text: &[u8]) -> Option<(Kind, usize)>
         Some((Kind::LineComment, 1 + line_len(&text[1..])))
     } else if first == b'/' && second == b'/' {
         Some((Kind::LineComment, 2 + line_len(&text[2..])))
+    } else if first == b'/' && second == b'*' {
+        Some((Kind::BlockComment, 2))
     } else if is_in(Class::Mark, first) {
         Some((Kind::Mark, 1))
     } else if first == b'\n' {

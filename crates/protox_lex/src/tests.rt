@@ -152,6 +152,66 @@ fn comments_and_characters(rt: HostRuntime) -> Result<(), Fail> {
     Ok(())
 }
 
+#[test]
+fn block_comments(rt: HostRuntime) -> Result<(), Fail> {
+    let cases = [
+        ("/* foo\n * bar\n quz*/", "/* foo\n bar\nquz*/ "),
+        (
+            "foo /* /* bar\n */ */ quz",
+            "foo /**/ quz NestedBlockComment { span: 7..9 } ",
+        ),
+        (
+            "/* /* */ foo",
+            "/**/ foo NestedBlockComment { span: 3..5 } ",
+        ),
+        (
+            "/* /* */ /* foo",
+            "/**/ /**/ NestedBlockComment { span: 3..5 } UnexpectedEof { expected: \"comment terminator\" } ",
+        ),
+        (
+            "/* x",
+            "/**/ UnexpectedEof { expected: \"comment terminator\" } ",
+        ),
+        (
+            "/*/",
+            "/**/ UnexpectedEof { expected: \"comment terminator\" } ",
+        ),
+        ("/**/ \t\n", "/**/ \n "),
+        ("/* a\r\n\u{a0}\n ** b\r *\n*/", "/* a\n* b\r *\n*/ "),
+        ("/*\n\u{2003}**/x", "/*\n*/ x "),
+    ];
+    for (source, expected) in cases {
+        let found = lexed(rt.alloc(), source, false)?;
+        assert_eq!(rt; found.as_str(), expected, "in {source}");
+    }
+    Ok(())
+}
+
+// `/*`, so many times.
+fn openers(alloc: Global, count: usize) -> Result<String, AllocError> {
+    let mut source = String::new(alloc);
+    for _ in 0..count {
+        source.push_str("/*")?;
+    }
+    Ok(source)
+}
+
+#[test]
+fn many_levels(rt: HostRuntime) -> Result<(), Fail> {
+    let alloc = rt.alloc();
+    let source = openers(alloc, 100_000)?;
+    let mut lexer = Token::lexer(alloc, source.as_str());
+    let comment = lexer.next()?;
+    assert!(rt; comment.is_some());
+    let faults = lexer.errors();
+    assert_eq!(rt; faults.len(), 100_000);
+    assert!(rt;
+        matches!(&faults[0], ParseErrorKind::NestedBlockComment { span } if span.start == 2 && span.end == 4)
+    );
+    assert!(rt; matches!(&faults[99_999], ParseErrorKind::UnexpectedEof { .. }));
+    Ok(())
+}
+
 // The spans of the rows.
 fn push_spans(out: &mut String, alloc: Global, rows: &[Row<'_>]) -> Result<(), AllocError> {
     for row in rows {

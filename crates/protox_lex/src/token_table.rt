@@ -1,8 +1,9 @@
 //! The table of a source: its tokens, and the comments and newlines before each.
-ghost use Rattle.std.specs.Prelude.{◌≡◌, ◌∷◌, ◌++◌, [], List, length, map, slice_get, slice_index_or, true, OnOk, OnErr, IfOk, IsOk};
+ghost use Rattle.std.specs.Prelude.{◌≡◌, ◌∷◌, ◌++◌, [], List, length, map, slice_get, slice_index_or, true, OnOk, OnErr, IfOk, IfSome, IsOk};
 ghost use Rattle.std.specs.Option.{option_map};
 ghost use Rattle.protox_lex.specs.Faults.{faults_in};
 ghost use Rattle.protox_lex.specs.Found.{lexeme_of};
+ghost use Rattle.protox_lex.specs.Gaps.{IsGap};
 ghost use Rattle.protox_lex.specs.Lexemes as spec;
 ghost use Rattle.protox_lex.specs.Table.{is_gap, table_of, invalid_faults};
 ghost use Rattle.protox_lex.specs.TableView.{row_of, shape_of_lent, shapes_of_lent, finished};
@@ -120,6 +121,10 @@ impl<'a> Model for TokenTable<'a> {
     ghost use Rattle.protox_lex.specs.TableView.{table_seen};
 
     ghost view = { table_seen };
+
+    ghost use Rattle.protox_lex.specs.Gaps.{HoldGaps};
+
+    ghost invariant = { λ t. HoldGaps (table_seen t).gaps };
 }
 
 // Cuts a source into lexemes.
@@ -147,6 +152,7 @@ fn draft<'a>(alloc: Global, source: &'a str) -> Result<TableDraft<'a>, AllocErro
 
 impl<'a> TokenTable<'a> {
     /// The table of a source.
+    #[tactic(auto, using(crate::proofs::Tables::gaps_held))]
     pub fn new(alloc: Global, source: &'a str) -> Result<TokenTable<'a>, AllocError>
         ensures { IfOk result (λ table. table ≡ table_of (spec.cut 0 source.entry.now)) }
     {
@@ -185,7 +191,8 @@ impl<'a> TokenTable<'a> {
 
     /// The comments and newlines before row `k`, or at `rows()` those before the end. None past it.
     pub fn gap(&self, k: usize) -> Option<&[Token<'a>]>
-        ensures { option_map shapes_of_lent result ≡ slice_get self.now.gaps k }
+        ensures value { option_map shapes_of_lent result ≡ slice_get self.now.gaps k }
+        ensures gap { IfSome result (λ gap. IsGap (map shape_of gap.now)) }
     {
         self.gaps.get(k)
     }

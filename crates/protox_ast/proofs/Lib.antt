@@ -1,1 +1,2 @@
 pub mod NamePlaces
+pub mod Standing

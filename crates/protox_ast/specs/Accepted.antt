@@ -1,11 +1,12 @@
 -- When a source is accepted, and which syntax tree it gives.
 use Rattle.std.specs.Prelude.{◌≡◌, ◌≢◌, ◌≤◌, ℕ, List, [], length}
-use Rattle.protox_lex.specs.Faults.{Span, LiesIn}
+use Rattle.protox_lex.specs.Faults.{LiesIn}
 use Rattle.protox_lex.specs.declared.error.SyntaxFailure.{SyntaxFailure}
 use Rattle.protox_lex.specs.declared.error.SyntaxFailure.TheVariants.{Faults, OutOfMemory}
 use Rattle.protox_lex.specs.Shapes.{Invalid}
 use Rattle.protox_lex.specs.Lexemes.{Lexeme, cut}
-use Rattle.protox_lex.specs.Table.{rows_of}
+use Rattle.protox_lex.specs.Table.{table_of}
+use Rattle.protox_ast.specs.Places.{Place, placed}
 use Rattle.protox_ast.specs.part.Tree as t
 use Rattle.protox_ast.specs.Keywords.{Each}
 use Rattle.protox_ast.specs.part.Spells.{Spells}
@@ -23,9 +24,9 @@ abbrev pub IsClean : Lexeme → Type 0
 IsClean x = (x.faults ≡ []) × (x.shape ≡ Invalid → ⊥)
 
 -- The source fits the length limit, has no lexical fault, and its tokens spell the tree, which is at most 31 levels deep and has no fault of the parser.
-pub record IsAccepted (source : List ℕ) (f : t.File Span) : Type 0 where
+pub record IsAccepted (source : List ℕ) (f : t.File Place) : Type 0 where
   pub fits : Fits source
-  pub spells : Spells (rows_of (cut 0 source)) f
+  pub spells : Spells (placed (table_of (cut 0 source))) f
   pub clean : Each IsClean (cut 0 source)
   pub levels : depth f ≤ 31
   pub fine : IsFine f
@@ -37,7 +38,7 @@ FaultsLieIn source (Faults v) = Fits source × (v.items ≢ []) × Each (LiesIn 
 
 -- the syntax tree is that of a tree which the source's tokens spell
 abbrev pub IsFileOf : List ℕ → file_type.File → Type 0
-IsFileOf source file = (f : t.File Span) × IsAccepted source f × (file ≡ ast.file (length source) f)
+IsFileOf source file = (f : t.File Place) × IsAccepted source f × (file ≡ ast.file (length source) f)
 
 -- memory ran out
 abbrev pub IsOutOfMemory : SyntaxFailure → Type 0

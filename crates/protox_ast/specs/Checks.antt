@@ -3,7 +3,7 @@ use Rattle.std.specs.Prelude.{◌≡◌, ℕ, Bool, true, not, ◌&&◌, ◌||�
 use Rattle.std.specs.List.{list_all, list_any, slice_split}
 use Rattle.std.specs.Str.{bytes_eq}
 use Rattle.std.specs.Str.Lossy.{utf8_valid_len}
-use Rattle.protox_lex.specs.Faults.{Span}
+use Rattle.protox_ast.specs.Places.{Place}
 use Rattle.protox_ast.specs.part.Tree as t
 use Rattle.protox_ast.specs.Ast.{strings_value, text_of}
 use Rattle.protox_ast.specs.Keywords.{Given, Each}
@@ -28,18 +28,18 @@ abbrev pub is_import_path : List ℕ → Bool
 is_import_path path = list_all is_plain_component (components path)
 
 -- the syntax statement names a syntax that there is
-abbrev pub HasKnownSyntax : t.Syntax Span → Type 0
+abbrev pub HasKnownSyntax : t.Syntax Place → Type 0
 HasKnownSyntax x = is_known_syntax (strings_value x.value) ≡ true
 
 -- an import's string is text, and a path of plain components
-abbrev pub ImportsFile : t.Import Span → Type 0
+abbrev pub ImportsFile : t.Import Place → Type 0
 ImportsFile x = (is_text (strings_value x.value) ≡ true) × (is_import_path (text_of (strings_value x.value)) ≡ true)
 
-abbrev pub StatementIsFine : t.Statement Span → Type 0
-StatementIsFine (t.an_empty span) = Unit {0}
+abbrev pub StatementIsFine : t.Statement Place → Type 0
+StatementIsFine (t.an_empty place) = Unit {0}
 StatementIsFine (t.an_import x) = ImportsFile x
 StatementIsFine (t.a_message x) = Unit {0}
 
 -- no fault of the parser is at a node of the tree
-abbrev pub IsFine : t.File Span → Type 0
+abbrev pub IsFine : t.File Place → Type 0
 IsFine f = Given HasKnownSyntax f.syntax × Each StatementIsFine f.statements

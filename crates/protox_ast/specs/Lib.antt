@@ -9,6 +9,7 @@ pub mod Keywords
 pub mod Depth
 pub mod Spells
 pub mod ReadYet
+pub mod Places
 pub mod Ast
 pub mod Checks
 pub mod Accepted

@@ -1,1 +1,1 @@
-pub mod Failing
+pub mod Translating

@@ -3,15 +3,17 @@
 #![tactic(auto)]
 
 ghost use Rattle.std.specs.Prelude.{◌≡◌, ◌≤◌, ◌↔◌, IsTrue, IfOk, IfErr, MatchResult, length, []};
-ghost use Rattle.protox_ast.specs.Accepted.{Fits, IsAccepted};
+ghost use Rattle.protox_ast.specs.Accepted.{Fits, IsAccepted, IsFileOf};
 ghost use Rattle.protox_ast.specs.part.Ast as ast_of;
 ghost use Rattle.protox_ast.specs.part.Tree as tree;
 ghost use Rattle.protox_generate.specs.Checks.{file_faults};
 ghost use Rattle.protox_generate.specs.File.{file_descriptor};
-ghost use Rattle.protox_lex.specs.Faults.{Span};
+ghost use Rattle.protox_ast.specs.Places.{Place};
 ghost use Rattle.protox_parse.specs.Failures.{IsOutOfMemory, IsRefusalOf};
 
 mod failure;
+#[cfg(test)]
+mod comment_tests;
 #[cfg(test)]
 mod tests;
 
@@ -35,15 +37,34 @@ pub fn source_fits(len: usize) -> bool
     len <= 2147483647
 }
 
+// The descriptor of a file whose syntax tree this is; or what the generator's checks find, or that
+// memory ran out.
+fn translated(
+    alloc: Global,
+    file: ast::File,
+    name: &str,
+    source: &str,
+) -> Result<FileDescriptorProto, ParseFailure>
+    requires { IsFileOf source.now file }
+    ensures found { IfOk result (λ d. (file_faults file ≡ []) × (d ≡ file_descriptor name.now source.now file)) }
+    ensures only { file_faults file ≡ [] → MatchResult result (λ d. d ≡ file_descriptor name.now source.now file) IsOutOfMemory }
+    ensures refused { IfErr result (IsRefusalOf name.now source.now) }
+{
+    match generate_file(alloc, file, name, source) {
+        Ok(descriptor) => Ok(descriptor),
+        Err(failure) => Err(refused(alloc, name, source, failure)),
+    }
+}
+
 /// The descriptor of the file of this name and this source, with its locations; or what is wrong
 /// with the source, or that memory ran out.
 pub fn parse(alloc: Global, name: &str, source: &str) -> Result<FileDescriptorProto, ParseFailure>
     // What is answered is the translation of a tree that the source's tokens spell.
-    ensures found { IfOk result (λ d. (f : tree.File Span) × IsAccepted source.now f
+    ensures found { IfOk result (λ d. (f : tree.File Place) × IsAccepted source.now f
         × (file_faults (ast_of.file (length source.now) f) ≡ [])
         × (d ≡ file_descriptor name.now source.now (ast_of.file (length source.now) f))) }
     // Such a source is answered so, unless memory ran out.
-    ensures only { (f : tree.File Span) → IsAccepted source.now f → file_faults (ast_of.file (length source.now) f) ≡ []
+    ensures only { (f : tree.File Place) → IsAccepted source.now f → file_faults (ast_of.file (length source.now) f) ≡ []
         → MatchResult result (λ d. d ≡ file_descriptor name.now source.now (ast_of.file (length source.now) f)) IsOutOfMemory }
     // A refusal names its file and holds its source, and its faults lie in it.
     ensures refused { IfErr result (IsRefusalOf name.now source.now) }
@@ -51,12 +72,8 @@ pub fn parse(alloc: Global, name: &str, source: &str) -> Result<FileDescriptorPr
     if !source_fits(source.len()) {
         return Err(too_large(alloc, name));
     }
-    let file = match parse_file(alloc, source) {
-        Ok(file) => file,
-        Err(failure) => return Err(refused(alloc, name, source, failure)),
-    };
-    match generate_file(alloc, file, name, source) {
-        Ok(descriptor) => Ok(descriptor),
+    match parse_file(alloc, source) {
+        Ok(file) => translated(alloc, file, name, source),
         Err(failure) => Err(refused(alloc, name, source, failure)),
     }
 }

@@ -1,7 +1,6 @@
 -- What is judged of the table of a source is what is said of the source.
 use Rattle.std.proofs.Common.{◌≡◌, ℕ, ◌+◌, ◌≤◌, List, [], length, Option, Some, None, option_map, Result, Ok, Err, IfOk, IfErr, MatchResult, refl, sym, ap, subst, ◌∙◌, arith}
 use Rattle.std.specs.Prelude.{filter_map}
-use Rattle.protox_lex.specs.Faults.{Span}
 use Rattle.protox_lex.specs.Shapes.{Rows}
 use Rattle.protox_lex.specs.Lexemes.{cut}
 use Rattle.protox_lex.specs.Table.{Table, rows_of, faults_of, table_of}
@@ -10,28 +9,29 @@ use Rattle.protox_lex.specs.declared.error.SyntaxFailure.TheVariants.{Faults, Ou
 use Rattle.protox_lex.proofs.Tables.{faults_of_length}
 use Rattle.protox_ast.specs.part.Tree as tree
 use Rattle.protox_ast.specs.part.Ast as ast
+use Rattle.protox_ast.specs.Places.{Place, placed}
 use Rattle.protox_ast.specs.part.Spelling as s
 use Rattle.protox_ast.specs.part.Depth.{depth}
 use Rattle.protox_ast.specs.Accepted.{Fits, IsAccepted, FaultsLieIn, IsFileOf, IsOutOfMemory}
 use Rattle.protox_ast.specs.declared.ast.File.{File}
 use Rattle.protox_grammar.proofs.part.Main.{one_tree, shallow}
 use Rattle.protox_syntax.specs.Weave.{released}
-use Rattle.protox_syntax.specs.Judging.{IsWhole, Judges, made, syntax_or_default, with_comments}
+use Rattle.protox_syntax.specs.Judging.{IsWhole, Judges, made, syntax_or_default, stated_at}
 use Rattle.protox_syntax.proofs.Fine.{seen_file, read-whole, whole-read, notes-fine, fine-notes}
 use Rattle.protox_syntax.proofs.Judged.{Read}
-use Rattle.protox_syntax.proofs.Same.{here, syntax_and_span}
+use Rattle.protox_syntax.proofs.Same.{here, syntax_and_place}
 use Rattle.protox_syntax.proofs.TableFaults.{empty-released, released-empty, clean-empty, empty-clean}
 
-default-same : (x : Option (tree.Syntax Span)) → syntax_or_default (option_map syntax_and_span x) ≡ ast.file_syntax x
+default-same : (x : Option (tree.Syntax Place)) → syntax_or_default (option_map syntax_and_place x) ≡ ast.file_syntax x
 default-same None = refl
 default-same (Some x) = refl
 
-comments-same : (x : Option (tree.Syntax Span)) → option_map with_comments (option_map syntax_and_span x) ≡ option_map ast.syntax_place x
+comments-same : (x : Option (tree.Syntax Place)) → option_map stated_at (option_map syntax_and_place x) ≡ option_map ast.syntax_place x
 comments-same None = refl
 comments-same (Some x) = refl
 
 -- what is made of a tree's rows is the syntax tree of it
-made-file : (size : ℕ) (rows : Rows Span) (f : tree.File Span) → rows ≡ s.spell f → made size rows (seen_file f) ≡ ast.file size f
+made-file : (size : ℕ) (rows : Rows Place) (f : tree.File Place) → rows ≡ s.spell f → made size rows (seen_file f) ≡ ast.file size f
 made-file size rows f e = λ i. record {
   span = ast.rows_span size (e i);
   syntax = default-same f.syntax i;
@@ -50,14 +50,14 @@ module _ (source : List ℕ) where
   counted = faults_of_length (cut 0 source)
 
   -- a tree that the source spells is read as it is
-  accepted-whole : (f : tree.File Span) → IsAccepted source f → IsWhole tab (seen_file f)
+  accepted-whole : (f : tree.File Place) → IsAccepted source f → IsWhole tab (seen_file f)
   accepted-whole f a =
-      (read-whole tab.rows f a.spells, notes-fine tab.rows f a.spells a.fine, empty-released tab.faults (clean-empty (cut 0 source) a.clean) 0 (length tab.rows + 1))
+      (read-whole (placed tab) f a.spells, notes-fine (placed tab) f a.spells a.fine, empty-released tab.faults (clean-empty (cut 0 source) a.clean) 0 (length tab.rows + 1))
 
   -- what is read as a whole is a tree that the source spells
-  whole-accepted : Fits source → (x : Read) → IsWhole tab x → (f : tree.File Span) × IsAccepted source f × (x ≡ seen_file f)
+  whole-accepted : Fits source → (x : Read) → IsWhole tab x → (f : tree.File Place) × IsAccepted source f × (x ≡ seen_file f)
   whole-accepted fits x w =
-      let g = whole-read tab.rows x w.0 in
+      let g = whole-read (placed tab) x w.0 in
       let bare = subst (λ n. released tab.faults 0 n ≡ []) (sym counted) w.2 in
       let deep : depth g.0 ≤ 31 = omega (arith, shallow g.0) in (
         g.0,
@@ -66,7 +66,7 @@ module _ (source : List ℕ) where
           spells = g.1;
           clean = empty-clean (cut 0 source) (released-empty tab.faults bare);
           levels = deep;
-          fine = fine-notes tab.rows g.0 g.1 w.1;
+          fine = fine-notes (placed tab) g.0 g.1 w.1;
         },
         g.2,
       )
@@ -75,15 +75,15 @@ module _ (source : List ℕ) where
   judged-found fits (Err e) j = tt
   judged-found fits (Ok file) j =
       let a = whole-accepted fits j.0 j.1 in
-      (a.0, a.1, j.2 ∙ ap (made (length source) tab.rows) a.2 ∙ made-file (length source) tab.rows a.0 a.1.spells.0)
+      (a.0, a.1, j.2 ∙ ap (made (length source) (placed tab)) a.2 ∙ made-file (length source) (placed tab) a.0 a.1.spells.0)
 
-  pub judged-only : (r : Result File SyntaxFailure) → Judges tab (length source) r → (f : tree.File Span) → IsAccepted source f → MatchResult r (λ file. file ≡ ast.file (length source) f) IsOutOfMemory
+  pub judged-only : (r : Result File SyntaxFailure) → Judges tab (length source) r → (f : tree.File Place) → IsAccepted source f → MatchResult r (λ file. file ≡ ast.file (length source) f) IsOutOfMemory
   judged-only (Err OutOfMemory) j f a = tt
   judged-only (Err (Faults v)) j f a = absurd (j.2 (seen_file f) (accepted-whole f a))
   judged-only (Ok file) j f a =
       let b = whole-accepted a.fits j.0 j.1 in
-      let same = one_tree here tab.rows b.0 f b.1.spells a.spells in
-      j.2 ∙ ap (made (length source) tab.rows) (b.2 ∙ ap seen_file same) ∙ made-file (length source) tab.rows f a.spells.0
+      let same = one_tree here (placed tab) b.0 f b.1.spells a.spells in
+      j.2 ∙ ap (made (length source) (placed tab)) (b.2 ∙ ap seen_file same) ∙ made-file (length source) (placed tab) f a.spells.0
 
   pub judged-refused : Fits source → (r : Result File SyntaxFailure) → Judges tab (length source) r → IfErr r (FaultsLieIn source)
   judged-refused fits (Ok file) j = tt

@@ -22,11 +22,14 @@ use Rattle.protox_syntax.specs.Weave.{released, weave, refusal, row_at}
 use Rattle.protox_syntax.specs.Judging.{IsTableOf, IsWhole}
 use Rattle.protox_syntax.proofs.Weaving.{append-empty, each-append, each-front, weave-each, note-stays, nothing-noted, weave-none, released-none}
 use Rattle.protox_syntax.proofs.TableFaults.{all-each, each-at, invalid-faulty}
+use Rattle.protox_ast.proofs.Standing.{Stand, bare, bare-placed, as-many}
 use Rattle.protox_syntax.proofs.NotesLie.{notes-lie}
+use Rattle.protox_ast.specs.Places.{placed}
+use Rattle.protox_ast.specs.declared.ast.Comments.{Comments}
 use Rattle.protox_syntax.proofs.Refusals.{left-within, row-lies}
 
 abbrev pub Read : Type 0
-Read = Option (Syntax × Span) × Statements
+Read = Option (Syntax × (Span × Comments)) × Statements
 
 -- what is said of the faults of a table
 abbrev pub IsJudged : Table → ℕ → List ParseErrorKind → Type 0
@@ -53,6 +56,12 @@ module _ (t : Table) (size : ℕ) (tab : IsTableOf size t) where
   stands : StandBetween 0 size t.rows
   stands = rw (tab.3) (subst (λ n. StandBetween 0 n (rows_of (cut 0 tab.0))) tab.2 (stand tab.0 tab.1))
 
+  bare-rows : bare (placed t) ≡ t.rows
+  bare-rows = bare-placed true t.rows t.gaps
+
+  stood : Stand 0 size (placed t)
+  stood = subst (StandBetween 0 size) (sym bare-rows) stands
+
   entries-lie : (i : ℕ) → Each (LiesIn size) (slice_index_or t.faults i [])
   entries-lie i =
       let all : All (AllLie size) (faults_of (cut 0 tab.0)) = subst (λ n. All (AllLie n) (faults_of (cut 0 tab.0))) tab.2 (lie tab.0 tab.1) in
@@ -65,13 +74,13 @@ module _ (t : Table) (size : ℕ) (tab : IsTableOf size t) where
   woven-lie total left notes h = weave-each t.faults total (LiesIn size) entries-lie notes h left
 
   -- a check of the syntax statement failed
-  pub stopped-judged : (notes : List Note) (total left : ℕ) (errors : List ParseErrorKind) → notes ≡ syntax_if_any_notes t.rows → (notes ≡ [] → ⊥) → errors ≡ weave t.faults total notes left → IsJudged t size errors
+  pub stopped-judged : (notes : List Note) (total left : ℕ) (errors : List ParseErrorKind) → notes ≡ syntax_if_any_notes (placed t) → (notes ≡ [] → ⊥) → errors ≡ weave t.faults total notes left → IsJudged t size errors
   stopped-judged [] total left errors is some woven = absurd (some refl)
   stopped-judged (n ∷ ns) total left errors is some woven =
-      let lies : Each (λ (n : Note). LiesIn size n.fault) (n ∷ ns) = subst (λ (xs : List Note). Each (λ (n : Note). LiesIn size n.fault) xs) (sym is) (each-front _ (syntax_if_any_notes t.rows) (then_notes statements_notes (syntax_if_any_at t.rows)) (notes-lie 0 size t.rows stands)) in (
+      let lies : Each (λ (n : Note). LiesIn size n.fault) (n ∷ ns) = subst (λ (xs : List Note). Each (λ (n : Note). LiesIn size n.fault) xs) (sym is) (each-front _ (syntax_if_any_notes (placed t)) (then_notes statements_notes (syntax_if_any_at (placed t))) (notes-lie 0 size (placed t) stood)) in (
         (λ e. note-stays t.faults total n ns left (sym woven ∙ e)),
         subst (λ (xs : List ParseErrorKind). Each (LiesIn size) xs) (sym woven) (woven-lie total left (n ∷ ns) lies),
-        (λ x w. some (is ∙ (append-empty (syntax_if_any_notes t.rows) _ w.1).0)),
+        (λ x w. some (is ∙ (append-empty (syntax_if_any_notes (placed t)) _ w.1).0)),
       )
 
   fault-lies : (expected : List ℕ) (i : ℕ) (o : Option (Row Span)) → slice_get t.rows i ≡ o → Each (LiesIn size) (option_to_list (refusal expected o))
@@ -100,11 +109,11 @@ module _ (t : Table) (size : ℕ) (tab : IsTableOf size t) where
           invalid-entry i x e (is-invalid x.shape v) (subst (λ k. slice_index_or t.faults k [] ≡ []) same at)
 
   -- a row doesn't fit
-  pub refused-judged : (notes : List Note) (total left : ℕ) (expected : List ℕ) (woven errors : List ParseErrorKind) → total ≡ length t.rows + 1 → whole t.rows ≡ Err (Unexpected left) → notes ≡ all_notes t.rows → woven ≡ weave t.faults total notes left → errors ≡ woven ++ option_to_list (refusal expected (row_at t.rows left)) → IsJudged t size errors
+  pub refused-judged : (notes : List Note) (total left : ℕ) (expected : List ℕ) (woven errors : List ParseErrorKind) → total ≡ length t.rows + 1 → whole (placed t) ≡ Err (Unexpected left) → notes ≡ all_notes (placed t) → woven ≡ weave t.faults total notes left → errors ≡ woven ++ option_to_list (refusal expected (row_at t.rows left)) → IsJudged t size errors
   refused-judged notes total left expected woven errors is read noted w e =
-      let lies : Each (λ (n : Note). LiesIn size n.fault) notes = subst (λ (xs : List Note). Each (λ (n : Note). LiesIn size n.fault) xs) (sym noted) (notes-lie 0 size t.rows stands) in
+      let lies : Each (λ (n : Note). LiesIn size n.fault) notes = subst (λ (xs : List Note). Each (λ (n : Note). LiesIn size n.fault) xs) (sym noted) (notes-lie 0 size (placed t) stood) in
       let all = e ∙ ap (λ v. v ++ option_to_list (refusal expected (row_at t.rows left))) w in (
-        (λ n. some-fault expected left total (row_at t.rows left) notes is (left-within t.rows left read) refl (sym all ∙ n)),
+        (λ n. some-fault expected left total (row_at t.rows left) notes is (subst (λ n. left ≤ n) (as-many true t.rows t.gaps) (left-within (placed t) left read)) refl (sym all ∙ n)),
         subst (λ (xs : List ParseErrorKind). Each (LiesIn size) xs) (sym all) (each-append (LiesIn size) (weave t.faults total notes left) _ (woven-lie total left notes lies) (fault-lies expected (length t.rows - left) (row_at t.rows left) refl)),
         (λ x v. ok-err x (Unexpected left) (sym v.0 ∙ read)),
       )
@@ -113,16 +122,16 @@ module _ (t : Table) (size : ℕ) (tab : IsTableOf size t) where
   bare-total total is = let e : total - 0 ≡ length t.rows + 1 = omega (arith, is) in weave-none t.faults total 0 ∙ ap (released t.faults 0) e
 
   -- all rows are read, and there are faults
-  pub faulty-judged : (notes : List Note) (total : ℕ) (errors : List ParseErrorKind) → total ≡ length t.rows + 1 → notes ≡ all_notes t.rows → errors ≡ weave t.faults total notes 0 → (errors ≡ [] → ⊥) → IsJudged t size errors
+  pub faulty-judged : (notes : List Note) (total : ℕ) (errors : List ParseErrorKind) → total ≡ length t.rows + 1 → notes ≡ all_notes (placed t) → errors ≡ weave t.faults total notes 0 → (errors ≡ [] → ⊥) → IsJudged t size errors
   faulty-judged notes total errors is noted woven some =
-      let lies : Each (λ (n : Note). LiesIn size n.fault) notes = subst (λ (xs : List Note). Each (λ (n : Note). LiesIn size n.fault) xs) (sym noted) (notes-lie 0 size t.rows stands) in (
+      let lies : Each (λ (n : Note). LiesIn size n.fault) notes = subst (λ (xs : List Note). Each (λ (n : Note). LiesIn size n.fault) xs) (sym noted) (notes-lie 0 size (placed t) stood) in (
         some,
         subst (λ (xs : List ParseErrorKind). Each (LiesIn size) xs) (sym woven) (woven-lie total 0 notes lies),
         (λ x w. some (woven ∙ ap (λ ns. weave t.faults total ns 0) (noted ∙ w.1) ∙ bare-total total is ∙ w.2)),
       )
 
   -- all rows are read, and there is no fault
-  pub whole-judged : (notes : List Note) (total : ℕ) (errors : List ParseErrorKind) (x : Read) → total ≡ length t.rows + 1 → whole t.rows ≡ Ok x → notes ≡ all_notes t.rows → errors ≡ weave t.faults total notes 0 → errors ≡ [] → IsWhole t x
+  pub whole-judged : (notes : List Note) (total : ℕ) (errors : List ParseErrorKind) (x : Read) → total ≡ length t.rows + 1 → whole (placed t) ≡ Ok x → notes ≡ all_notes (placed t) → errors ≡ weave t.faults total notes 0 → errors ≡ [] → IsWhole t x
   whole-judged notes total errors x is read noted woven none =
       let unnoted = nothing-noted t.faults total notes 0 (sym woven ∙ none) in
       (read, sym noted ∙ unnoted, sym (bare-total total is) ∙ ap (λ ns. weave t.faults total ns 0) (sym unnoted) ∙ sym woven ∙ none)

@@ -1,4 +1,6 @@
 pub mod Turns
+pub mod PlacedRows
+pub mod Declared
 pub mod Same
 pub mod Spans
 pub mod Texts

@@ -2,7 +2,7 @@
 use Rattle.std.proofs.Common.{◌≡◌, ℕ, zero, suc, ◌≤◌, Option, Bool, true, false, cond, List, [], ◌∷◌, ◌++◌, length, codes, Result, Ok, Err, refl, ap, subst, arith}
 use Rattle.protox_lex.specs.Faults.{Span, SpanLiesIn, LiesIn}
 use Rattle.protox_lex.specs.Shapes.{Rows}
-use Rattle.protox_lex.specs.Table.{StandBetween}
+use Rattle.protox_ast.specs.Places.{Place}
 use Rattle.protox_lex.specs.declared.error.ParseErrorKind.{ParseErrorKind}
 use Rattle.protox_lex.specs.declared.error.ParseErrorKind.TheVariants.{InvalidUtf8String, InvalidImport, UnknownSyntax}
 use Rattle.protox_ast.specs.part.Tree as tree
@@ -23,58 +23,43 @@ use Rattle.protox_grammar.proofs.part.Messages as messages
 use Rattle.protox_grammar.proofs.Tests.{words-class}
 use Rattle.protox_grammar.proofs.Shows.{Shows, optional-shows}
 use Rattle.protox_syntax.specs.Reads as reads
+use Rattle.protox_ast.proofs.Standing.{Stand, stand-after, stand-front}
 use Rattle.protox_syntax.specs.Notes.{is_invalid, one_note, noted, syntax_faults, text_faults, path_faults, checked, syntax_front, syntax_check, syntax_notes, syntax_if_any_notes, import_front, import_check, import_notes, statement_notes, then_notes, notes_from, statements_notes}
 use Rattle.protox_syntax.specs.Whole.{all_notes}
 use Rattle.protox_syntax.specs.declared.notes.Note.{Note}
 use Rattle.protox_syntax.proofs.Same.{here, strings-shows, import_kind-shows, statement-shows, syntax_if_any-shows}
 use Rattle.protox_syntax.proofs.Fine.{seq-split, shown-back}
 
--- ---- rows that stand between two places
+-- ---- places of strings
 
--- The second rows stand behind the first.
-pub stand-after : (low high : ℕ) (a b : Rows Span) → StandBetween low high (a ++ b) → (m : ℕ) × (low ≤ m) × StandBetween m high b
-stand-after low high [] b h = (low, omega arith, h)
-stand-after low high (x ∷ a) b h =
-    let p = stand-after x.at.end high a b h.2 in
-    (p.0, omega (arith, h.0, h.1, p.1), p.2)
+abbrev text_place : tree.Text Place → Span
+text_place y = y.1.span
 
-pub in-order : (low high : ℕ) (a : Rows Span) → StandBetween low high a → low ≤ high
-in-order low high [] h = h
-in-order low high (x ∷ a) h = omega (arith, h.0, h.1, in-order x.at.end high a h.2)
-
--- The first rows stand there too.
-pub stand-front : (low high : ℕ) (a b : Rows Span) → StandBetween low high (a ++ b) → StandBetween low high a
-stand-front low high [] b h = in-order low high b h
-stand-front low high (x ∷ a) b h = (h.0, h.1, stand-front x.at.end high a b h.2)
-
-abbrev text_place : tree.Text Span → Span
-text_place y = y.1
-
-others-lie : (first : Span) (high : ℕ) (last : Span) (xs : List (tree.Text Span)) → first.start ≤ last.end → StandBetween last.end high (s.many s.string xs) → SpanLiesIn high (ast.join first (ast.last_place text_place last xs))
+others-lie : (first : Span) (high : ℕ) (last : Span) (xs : List (tree.Text Place)) → first.start ≤ last.end → Stand last.end high (s.many s.string xs) → SpanLiesIn high (ast.join first (ast.last_place text_place last xs))
 others-lie first high last [] le h = (le, h)
-others-lie first high last (x ∷ xs) le h = others-lie first high x.1 xs (omega (arith, le, h.0, h.1)) h.2
+others-lie first high last (x ∷ xs) le h = others-lie first high x.1.span xs (omega (arith, le, h.0, h.1)) h.2
 
 -- A run of strings lies where its rows stand.
-pub strings-lie : (low high : ℕ) (x : tree.Strings Span) → StandBetween low high (s.strings x) → SpanLiesIn high (ast.strings_span x)
-strings-lie low high x h = others-lie x.first.1 high x.first.1 x.others (omega (arith, h.1)) h.2
+pub strings-lie : (low high : ℕ) (x : tree.Strings Place) → Stand low high (s.strings x) → SpanLiesIn high (ast.strings_span x)
+strings-lie low high x h = others-lie x.first.1.span high x.first.1.span x.others (omega (arith, h.1)) h.2
 
 -- ---- rows that are left where a rule was read
 
-read-after : {A : Type 0} (a : Rule Span A) → IsRead a → (low high : ℕ) (xs : Rows Span) (x : A × Rows Span) → a.read xs ≡ Ok x → StandBetween low high xs → (m : ℕ) × (low ≤ m) × StandBetween m high x.1
-read-after a l low high xs x e h = stand-after low high (a.spell x.0) x.1 (subst (StandBetween low high) (l.takes xs x e).parts h)
+read-after : {A : Type 0} (a : Rule Place A) → IsRead a → (low high : ℕ) (xs : Rows Place) (x : A × Rows Place) → a.read xs ≡ Ok x → Stand low high xs → (m : ℕ) × (low ≤ m) × Stand m high x.1
+read-after a l low high xs x e h = stand-after low high (a.spell x.0) x.1 (subst (Stand low high) (l.takes xs x e).parts h)
 
-shown-after : {A B : Type 0} (a : Rule Span A) → IsRead a → (f : A → B) (b : Reader Span B) → Shows f a.read b → (low high : ℕ) (xs : Rows Span) (x : B × Rows Span) → b xs ≡ Ok x → StandBetween low high xs → (m : ℕ) × (low ≤ m) × StandBetween m high x.1
+shown-after : {A B : Type 0} (a : Rule Place A) → IsRead a → (f : A → B) (b : Reader Place B) → Shows f a.read b → (low high : ℕ) (xs : Rows Place) (x : B × Rows Place) → b xs ≡ Ok x → Stand low high xs → (m : ℕ) × (low ≤ m) × Stand m high x.1
 shown-after a l f b k low high xs x e h =
     let y = shown-back k xs x e in
     let p = read-after a l low high xs y.0 y.1 h in
-    (p.0, p.1, subst (λ v. StandBetween p.0 high v) (ap (λ t. t.1) y.2) p.2)
+    (p.0, p.1, subst (λ v. Stand p.0 high v) (ap (λ t. t.1) y.2) p.2)
 
-strings-read : (low high : ℕ) (xs : Rows Span) (x : (List ℕ × Span) × Rows Span) → reads.strings_at xs ≡ Ok x → StandBetween low high xs → SpanLiesIn high x.0.1
+strings-read : (low high : ℕ) (xs : Rows Place) (x : (List ℕ × Span) × Rows Place) → reads.strings_at xs ≡ Ok x → Stand low high xs → SpanLiesIn high x.0.1
 unfolding r.strings
 strings-read low high xs x e h =
     let y = shown-back strings-shows xs x e in
     let k = ((parts.strings-laws here).read.takes xs y.0 y.1).parts in
-    subst (λ v. SpanLiesIn high v) (ap (λ t. t.0.1) y.2) (strings-lie low high y.0.0 (stand-front low high (s.strings y.0.0) y.0.1 (subst (StandBetween low high) k h)))
+    subst (λ v. SpanLiesIn high v) (ap (λ t. t.0.1) y.2) (strings-lie low high y.0.0 (stand-front low high (s.strings y.0.0) y.0.1 (subst (Stand low high) k h)))
 
 -- ---- notes of one node
 
@@ -89,30 +74,30 @@ each-cond : {A : Type 0} (P : A → Type 0) (b : Bool) (xs ys : List A) → Each
 each-cond P true xs ys h k = h
 each-cond P false xs ys h k = k
 
-one-lies : (high : ℕ) (fault : ParseErrorKind) (ys : Rows Span) → LiesIn high fault → Each (NoteLies high) (one_note fault ys)
+one-lies : (high : ℕ) (fault : ParseErrorKind) (ys : Rows Place) → LiesIn high fault → Each (NoteLies high) (one_note fault ys)
 one-lies high fault ys h = each-cond (NoteLies high) (head_in is_invalid ys) [] (record { left = length ys; fault = fault } ∷ []) tt (h, tt)
 
-noted-lies : (high : ℕ) (faults : List ParseErrorKind) (ys : Rows Span) → Each (LiesIn high) faults → Each (NoteLies high) (noted faults ys)
+noted-lies : (high : ℕ) (faults : List ParseErrorKind) (ys : Rows Place) → Each (LiesIn high) faults → Each (NoteLies high) (noted faults ys)
 noted-lies high [] ys h = tt
 noted-lies high (f ∷ fs) ys h = each-both (NoteLies high) (one_note f ys) (noted fs ys) (one-lies high f ys h.0) (noted-lies high fs ys h.1)
 
-checked-lies : {A : Type 0} (high : ℕ) (notes : A → Rows Span → List Note) (read : Result (A × Rows Span) Refusal) → ((x : A × Rows Span) → read ≡ Ok x → Each (NoteLies high) (notes x.0 x.1)) → Each (NoteLies high) (checked notes read)
+checked-lies : {A : Type 0} (high : ℕ) (notes : A → Rows Place → List Note) (read : Result (A × Rows Place) Refusal) → ((x : A × Rows Place) → read ≡ Ok x → Each (NoteLies high) (notes x.0 x.1)) → Each (NoteLies high) (checked notes read)
 checked-lies high notes (Ok x) h = h x refl
 checked-lies high notes (Err e) h = tt
 
-then-lies : {A : Type 0} (high : ℕ) (notes : Rows Span → List Note) (read : Result (A × Rows Span) Refusal) → ((x : A × Rows Span) → read ≡ Ok x → Each (NoteLies high) (notes x.1)) → Each (NoteLies high) (then_notes notes read)
+then-lies : {A : Type 0} (high : ℕ) (notes : Rows Place → List Note) (read : Result (A × Rows Place) Refusal) → ((x : A × Rows Place) → read ≡ Ok x → Each (NoteLies high) (notes x.1)) → Each (NoteLies high) (then_notes notes read)
 then-lies high notes (Ok x) h = h x refl
 then-lies high notes (Err e) h = tt
 
-syntax_check-lies : (high : ℕ) (value : List ℕ) (span : Span) (ys : Rows Span) → SpanLiesIn high span → Each (NoteLies high) (noted (syntax_faults value span) ys)
+syntax_check-lies : (high : ℕ) (value : List ℕ) (span : Span) (ys : Rows Place) → SpanLiesIn high span → Each (NoteLies high) (noted (syntax_faults value span) ys)
 syntax_check-lies high value span ys h = noted-lies high (syntax_faults value span) ys (each-cond (LiesIn high) (is_known_syntax value) [] (UnknownSyntax span (ast.text_of value) ∷ []) tt (h, tt))
 
-import_check-lies : (high : ℕ) (value : List ℕ) (span : Span) (ys : Rows Span) → SpanLiesIn high span → Each (NoteLies high) (noted (text_faults value span) ys ++ noted (path_faults (ast.text_of value) span) ys)
+import_check-lies : (high : ℕ) (value : List ℕ) (span : Span) (ys : Rows Place) → SpanLiesIn high span → Each (NoteLies high) (noted (text_faults value span) ys ++ noted (path_faults (ast.text_of value) span) ys)
 import_check-lies high value span ys h = each-both (NoteLies high) (noted (text_faults value span) ys) (noted (path_faults (ast.text_of value) span) ys)
     (noted-lies high (text_faults value span) ys (each-cond (LiesIn high) (is_text value) [] (InvalidUtf8String span ∷ []) tt (h, tt)))
     (noted-lies high (path_faults (ast.text_of value) span) ys (each-cond (LiesIn high) (is_import_path (ast.text_of value)) [] (InvalidImport span ∷ []) tt (h, tt)))
 
-syntax_front-lies : (low high : ℕ) (xs : Rows Span) (x : (Span × (Span × (List ℕ × Span))) × Rows Span) → syntax_front xs ≡ Ok x → StandBetween low high xs → SpanLiesIn high x.0.1.1.1
+syntax_front-lies : (low high : ℕ) (xs : Rows Place) (x : (Place × (Place × (List ℕ × Span))) × Rows Place) → syntax_front xs ≡ Ok x → Stand low high xs → SpanLiesIn high x.0.1.1.1
 syntax_front-lies low high xs x e h =
     let a = seq-split (reads.the (codes "syntax")) (seq (reads.sign s.equals) reads.strings_at) xs x e in
     let b = seq-split (reads.sign s.equals) reads.strings_at a.0 (x.0.1, x.1) a.2 in
@@ -120,7 +105,7 @@ syntax_front-lies low high xs x e h =
     let q = read-after (r.sign s.equals) (mark-laws here s.equals 54 refl).read p.0 high a.0 (x.0.1.0, b.0) b.1 p.2 in
     strings-read q.0 high b.0 (x.0.1.1, x.1) b.2 q.2
 
-import_front-lies : (low high : ℕ) (xs : Rows Span) (x : (Span × (Option (ImportKind × Span) × (List ℕ × Span))) × Rows Span) → import_front xs ≡ Ok x → StandBetween low high xs → SpanLiesIn high x.0.1.1.1
+import_front-lies : (low high : ℕ) (xs : Rows Place) (x : (Place × (Option (ImportKind × Span) × (List ℕ × Span))) × Rows Place) → import_front xs ≡ Ok x → Stand low high xs → SpanLiesIn high x.0.1.1.1
 import_front-lies low high xs x e h =
     let a = seq-split (reads.the (codes "import")) (seq (optional reads.is_import_kind reads.import_kind_at) reads.strings_at) xs x e in
     let b = seq-split (optional reads.is_import_kind reads.import_kind_at) reads.strings_at a.0 (x.0.1, x.1) a.2 in
@@ -129,23 +114,23 @@ import_front-lies low high xs x e h =
     (optional-shows reads.is_import_kind (in_set (among (3 ∷ 4 ∷ []))) (words-class (codes "weak" ∷ codes "public" ∷ []) refl) import_kind-shows) p.0 high a.0 (x.0.1.0, b.0) b.1 p.2 in
     strings-read q.0 high b.0 (x.0.1.1, x.1) b.2 q.2
 
-syntax-lies : (low high : ℕ) (xs : Rows Span) → StandBetween low high xs → Each (NoteLies high) (syntax_notes xs)
+syntax-lies : (low high : ℕ) (xs : Rows Place) → Stand low high xs → Each (NoteLies high) (syntax_notes xs)
 unfolding syntax_notes
 syntax-lies low high xs h = checked-lies high syntax_check (syntax_front xs) (λ x e. syntax_check-lies high x.0.1.1.0 x.0.1.1.1 x.1 (syntax_front-lies low high xs x e h))
 
-import-lies : (low high : ℕ) (xs : Rows Span) → StandBetween low high xs → Each (NoteLies high) (import_notes xs)
+import-lies : (low high : ℕ) (xs : Rows Place) → Stand low high xs → Each (NoteLies high) (import_notes xs)
 unfolding import_notes
 import-lies low high xs h = checked-lies high import_check (import_front xs) (λ x e. import_check-lies high x.0.1.1.0 x.0.1.1.1 x.1 (import_front-lies low high xs x e h))
 
 -- ---- notes of statements and of a file
 
-statement-lies : (low high : ℕ) (xs : Rows Span) → StandBetween low high xs → Each (NoteLies high) (statement_notes xs)
+statement-lies : (low high : ℕ) (xs : Rows Place) → Stand low high xs → Each (NoteLies high) (statement_notes xs)
 unfolding statement_notes
 statement-lies low high xs h =
     each-cond (NoteLies high) (head_in (reads.is_mark s.semicolon) xs) [] _ tt
     (each-cond (NoteLies high) (head_in (reads.is_word (codes "import")) xs) (import_notes xs) [] (import-lies low high xs h) tt)
 
-from-lies : (n low high : ℕ) (xs : Rows Span) → StandBetween low high xs → Each (NoteLies high) (notes_from n xs)
+from-lies : (n low high : ℕ) (xs : Rows Place) → Stand low high xs → Each (NoteLies high) (notes_from n xs)
 unfolding notes_from
 from-lies zero low high xs h = tt
 from-lies (suc n) low high [] h = tt
@@ -155,16 +140,16 @@ from-lies (suc n) low high (y ∷ ys) h =
     let p = shown-after r.statement (messages.statement-laws here).read _ reads.statement_at statement-shows low high (y ∷ ys) x e h in
     from-lies n p.0 high x.1 p.2))
 
-statements-lie : (low high : ℕ) (xs : Rows Span) → StandBetween low high xs → Each (NoteLies high) (statements_notes xs)
+statements-lie : (low high : ℕ) (xs : Rows Place) → Stand low high xs → Each (NoteLies high) (statements_notes xs)
 unfolding statements_notes
 statements-lie low high xs h = from-lies (suc (length xs)) low high xs h
 
-syntax_if_any-lies : (low high : ℕ) (xs : Rows Span) → StandBetween low high xs → Each (NoteLies high) (syntax_if_any_notes xs)
+syntax_if_any-lies : (low high : ℕ) (xs : Rows Place) → Stand low high xs → Each (NoteLies high) (syntax_if_any_notes xs)
 unfolding syntax_if_any_notes
 syntax_if_any-lies low high xs h = each-cond (NoteLies high) (head_in (reads.is_word (codes "syntax")) xs) (syntax_notes xs) [] (syntax-lies low high xs h) tt
 
 -- What is noted of rows lies in the source that they stand in.
-pub notes-lie : (low high : ℕ) (rows : Rows Span) → StandBetween low high rows → Each (λ (n : Note). LiesIn high n.fault) (all_notes rows)
+pub notes-lie : (low high : ℕ) (rows : Rows Place) → Stand low high rows → Each (λ (n : Note). LiesIn high n.fault) (all_notes rows)
 notes-lie low high rows h =
     each-both (NoteLies high) (syntax_if_any_notes rows) (then_notes statements_notes (reads.syntax_if_any_at rows)) (syntax_if_any-lies low high rows h)
     (then-lies high statements_notes (reads.syntax_if_any_at rows) (λ x e.

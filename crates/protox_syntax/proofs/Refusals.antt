@@ -4,6 +4,7 @@ use Rattle.std.specs.Prelude.{slice_get}
 use Rattle.std.proofs.lemmas.List.{length-append}
 use Rattle.protox_lex.specs.Faults.{Span, SpanLiesIn}
 use Rattle.protox_lex.specs.Shapes.{Row, Rows}
+use Rattle.protox_ast.specs.Places.{Place}
 use Rattle.protox_lex.specs.Table.{StandBetween}
 use Rattle.protox_grammar.specs.Class.{only, all}
 use Rattle.protox_grammar.specs.Reader.{Reader, Refusal, Unexpected, ◌>>=◌}
@@ -18,22 +19,21 @@ use Rattle.protox_syntax.specs.Reads as reads
 use Rattle.protox_syntax.specs.Whole.{whole}
 use Rattle.protox_syntax.proofs.Same.{here, syntax_if_any-shows, statements-shows}
 use Rattle.protox_syntax.proofs.Fine.{shown-back}
-use Rattle.protox_syntax.proofs.NotesLie.{in-order}
 
 -- the row that is refused is one of those that were read
-err-within : {A B : Type 0} (a : Rule Span A) → IsRead a → (f : A → B) (b : Reader Span B) → Shows f a.read b → (xs : Rows Span) (e : Refusal) → b xs ≡ Err e → left_of e ≤ length xs
+err-within : {A B : Type 0} (a : Rule Place A) → IsRead a → (f : A → B) (b : Reader Place B) → Shows f a.read b → (xs : Rows Place) (e : Refusal) → b xs ≡ Err e → left_of e ≤ length xs
 err-within a l f b h xs e n =
     let v = l.viable xs e (map_err f (a.read xs) e (sym (h.same xs) ∙ n)) in
     omega (arith, v.left_is, ap length v.parts, length-append v.front v.rest)
 
 -- what was read leaves no more than there was
-ok-within : {A B : Type 0} (a : Rule Span A) → IsRead a → (f : A → B) (b : Reader Span B) → Shows f a.read b → (xs : Rows Span) (x : B × Rows Span) → b xs ≡ Ok x → length x.1 ≤ length xs
+ok-within : {A B : Type 0} (a : Rule Place A) → IsRead a → (f : A → B) (b : Reader Place B) → Shows f a.read b → (xs : Rows Place) (x : B × Rows Place) → b xs ≡ Ok x → length x.1 ≤ length xs
 ok-within a l f b h xs x n =
     let p = shown-back h xs x n in
     let k = l.takes xs p.0 p.1 in
     omega (arith, ap length k.parts, length-append (a.spell p.0.0) p.0.1, ap (λ v. length v.1) p.2)
 
-pub left-within : (rows : Rows Span) (left : ℕ) → whole rows ≡ Err (Unexpected left) → left ≤ length rows
+pub left-within : (rows : Rows Place) (left : ℕ) → whole rows ≡ Err (Unexpected left) → left ≤ length rows
 left-within rows left e =
     elim (bind_err (reads.syntax_if_any_at rows) (λ s. reads.statements_at s.1 >>= λ f. Ok (s.0, f.0)) (Unexpected left) e) [
       | inl n ↦ err-within (optional (only 0) r.syntax) (optional-laws (only 0) (parts.syntax-laws here) refl).read _ reads.syntax_if_any_at syntax_if_any-shows rows (Unexpected left) n
@@ -45,6 +45,10 @@ left-within rows left e =
         | inr q ↦ absurd (ok-err _ (Unexpected left) q.2)
       ]
     ]
+
+in-order : (low high : ℕ) (a : Rows Span) → StandBetween low high a → low ≤ high
+in-order low high [] h = h
+in-order low high (x ∷ a) h = omega (arith, h.0, h.1, in-order x.at.end high a h.2)
 
 -- a row of those that stand in order lies where they stand
 pub row-lies : (low high : ℕ) (rows : Rows Span) (i : ℕ) (x : Row Span) → StandBetween low high rows → slice_get rows i ≡ Some x → SpanLiesIn high x.at

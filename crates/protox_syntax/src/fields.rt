@@ -1,20 +1,20 @@
 //! Fields.
 
 ghost use Rattle.std.specs.Prelude.{◌≡◌, option_map};
-ghost use Rattle.protox_ast.specs.Ast.{scalar};
+ghost use Rattle.protox_ast.specs.part.Ast.{scalar};
 ghost use Rattle.protox_grammar.specs.Reader.{head_in};
 ghost use Rattle.protox_grammar.specs.Rules.{find_scalar, all_scalars};
-ghost use Rattle.protox_syntax.specs.Rows.{rows_from};
 ghost use Rattle.protox_syntax.specs.Outcome.{Gives};
 ghost use Rattle.protox_syntax.specs.Reads.{is_scalar, scalar_at, type_at, normal_at};
 
 use crate::expected::Expected;
-use crate::leaf::{copied, expect_mark, join, refused};
-use crate::names::{ident, int, no_comments, typename};
+use crate::leaf::{expect_mark, join, refused};
+use crate::names::{ident, int, typename};
 use crate::refused::Refused;
+use crate::rows::{Unread, comments_of};
 use protox_ast::ast::{Field, FieldKind, Ty};
 use protox_lex::error::Span;
-use protox_lex::lex::{Row, Token};
+use protox_lex::lex::Token;
 use std::alloc::Global;
 
 // The scalar type that the word names.
@@ -41,42 +41,42 @@ fn scalar_type(word: &str) -> Option<Ty>
     }
 }
 
-fn sees_scalar(rows: &[Row<'_>]) -> bool
-    ensures { result ≡ head_in is_scalar (rows_from rows.now) }
+fn sees_scalar(rows: &Unread<'_, '_>) -> bool
+    ensures { result ≡ head_in is_scalar rows.now }
 {
-    match rows {
-        [first, ..] => match &first.token {
+    match rows.first() {
+        Some(first) => match first.token() {
             Ok(Token::Ident(word)) => scalar_type(word).is_some(),
             _ => false,
         },
-        [] => false,
+        None => false,
     }
 }
 
 #[tactic(auto, unfolding(protox_grammar::specs::Reader::leaf, crate::specs::Reads::scalar_at))]
-fn scalar_word<'t, 'a>(rows: &'t [Row<'a>]) -> Result<(Ty, Span, &'t [Row<'a>]), Refused>
-    ensures { Gives (λ x. ((x.0, x.1), rows_from x.2.now)) result (scalar_at (rows_from rows.now)) }
+fn scalar_word<'t, 'a>(rows: Unread<'t, 'a>) -> Result<(Ty, Span, Unread<'t, 'a>), Refused>
+    ensures { Gives (λ x. ((x.0, x.1), x.2)) result (scalar_at rows.entry) }
 {
-    if let [first, rest @ ..] = rows {
-        if let Ok(Token::Ident(word)) = &first.token {
+    if let Some((first, rest)) = rows.split() {
+        if let Ok(Token::Ident(word)) = first.token() {
             if let Some(ty) = scalar_type(word) {
-                return Ok((ty, copied(&first.span), rest));
+                return Ok((ty, first.span(), rest));
             }
         }
     }
-    Err(refused(rows, Expected::Type))
+    Err(refused(&rows, Expected::Type))
 }
 
 /// type = one of the 15 scalar words | typename
 #[tactic(auto, unfolding(crate::specs::Reads::type_at))]
 fn field_type<'t, 'a>(
     alloc: Global,
-    rows: &'t [Row<'a>],
+    rows: Unread<'t, 'a>,
     expected: Expected,
-) -> Result<(Ty, Span, &'t [Row<'a>]), Refused>
-    ensures { Gives (λ x. ((x.0, x.1), rows_from x.2.now)) result (type_at (rows_from rows.now)) }
+) -> Result<(Ty, Span, Unread<'t, 'a>), Refused>
+    ensures { Gives (λ x. ((x.0, x.1), x.2)) result (type_at rows.entry) }
 {
-    if sees_scalar(rows) {
+    if sees_scalar(&rows) {
         return scalar_word(rows);
     }
     let (name, span, rest) = typename(alloc, rows, expected)?;
@@ -95,17 +95,18 @@ fn after_type(ty: &Ty) -> Expected {
 #[tactic(auto, unfolding(crate::specs::Reads::normal_at))]
 pub(crate) fn normal<'t, 'a>(
     alloc: Global,
-    rows: &'t [Row<'a>],
+    rows: Unread<'t, 'a>,
     expected: Expected,
-) -> Result<(Field, &'t [Row<'a>]), Refused>
-    ensures { Gives (λ x. (x.0, rows_from x.1.now)) result (normal_at (rows_from rows.now)) }
+) -> Result<(Field, Unread<'t, 'a>), Refused>
+    ensures { Gives (λ x. (x.0, x.1)) result (normal_at rows.entry) }
 {
+    let begun = rows.again();
     let (ty, ty_span, rest) = field_type(alloc, rows, expected)?;
     let (name, rest) = ident(alloc, rest, after_type(&ty))?;
     let (_, rest) = expect_mark(rest, b'=', Expected::Equals)?;
     let (number, rest) = int(rest)?;
     let (end, rest) = expect_mark(rest, b';', Expected::SemicolonOrOptions)?;
-    let span = join(&ty_span, &end);
+    let span = join(&ty_span, &end.span());
     Ok((
         Field {
             label: None,
@@ -113,7 +114,7 @@ pub(crate) fn normal<'t, 'a>(
             kind: FieldKind::Normal { ty, ty_span },
             number,
             options: None,
-            comments: no_comments(alloc),
+            comments: comments_of(alloc, &begun, &end)?,
             span,
         },
         rest,

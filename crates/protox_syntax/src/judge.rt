@@ -1,20 +1,20 @@
 //! Reads a whole table, and says what is wrong with it.
 
 ghost use Rattle.std.specs.Prelude.{◌≡◌, ◌+◌, ◌++◌, [], length, Ok, Err, OnOk, option_map, option_to_list};
-ghost use Rattle.protox_ast.specs.Ast.{rows_span};
+ghost use Rattle.protox_ast.specs.Places.{placed};
+ghost use Rattle.protox_syntax.specs.Rows.{rows_from};
 ghost use Rattle.protox_grammar.specs.Reader.{Unexpected};
-ghost use Rattle.protox_syntax.specs.Judging.{IsTableOf, Judges, made, syntax_or_default, with_comments};
+ghost use Rattle.protox_syntax.specs.Judging.{IsTableOf, Judges, bare_span, made, syntax_or_default, stated_at};
 ghost use Rattle.protox_syntax.specs.Notes.{syntax_if_any_notes};
 ghost use Rattle.protox_syntax.specs.Reads.{syntax_if_any_at};
-ghost use Rattle.protox_syntax.specs.Rows.{rows_from};
 ghost use Rattle.protox_syntax.specs.Whole.{whole, all_notes};
 
 use crate::expected::Expected;
 use crate::leaf::{copied, join};
-use crate::names::no_comments;
 use crate::notes::Note;
 use crate::progress::{refusal, woven};
 use crate::refused::Refused;
+use crate::rows::Unread;
 use crate::statement_types::Statements;
 use crate::statements::{statements, syntax_if_any};
 use protox_ast::ast::{Comments, File, Syntax};
@@ -25,7 +25,7 @@ use std::alloc::{AllocError, Global};
 
 // From the first row to the last; without any row from the end of the source to its start.
 fn file_span(rows: &[Row<'_>], size: usize) -> Span
-    ensures { result ≡ rows_span size (rows_from rows.now) }
+    ensures { result ≡ bare_span size (rows_from rows.now) }
 {
     match rows {
         [] => size..0,
@@ -34,7 +34,7 @@ fn file_span(rows: &[Row<'_>], size: usize) -> Span
     }
 }
 
-fn syntax_or_default(syntax: &Option<(Syntax, Span)>) -> Syntax
+fn syntax_or_default(syntax: &Option<(Syntax, (Span, Comments))>) -> Syntax
     ensures { result ≡ syntax_or_default syntax.now }
 {
     match syntax {
@@ -43,29 +43,29 @@ fn syntax_or_default(syntax: &Option<(Syntax, Span)>) -> Syntax
     }
 }
 
-fn with_comments(alloc: Global, syntax: Option<(Syntax, Span)>) -> Option<(Span, Comments)>
-    ensures { result ≡ option_map with_comments syntax }
+fn stated_at(syntax: Option<(Syntax, (Span, Comments))>) -> Option<(Span, Comments)>
+    ensures { result ≡ option_map stated_at syntax }
 {
     match syntax {
-        Some((_, span)) => Some((span, no_comments(alloc))),
+        Some((_, place)) => Some(place),
         None => None,
     }
 }
 
 fn made(
     alloc: Global,
-    rows: &[Row<'_>],
+    table: &TokenTable<'_>,
     size: usize,
-    syntax: Option<(Syntax, Span)>,
+    syntax: Option<(Syntax, (Span, Comments))>,
     statements: Statements,
 ) -> File
-    ensures { result ≡ made size (rows_from rows.now) (syntax, statements) }
+    ensures { result ≡ made size (placed table.now) (syntax, statements) }
 {
     let Statements { imports, items } = statements;
     File {
-        span: file_span(rows, size),
+        span: file_span(table.as_rows(), size),
         syntax: syntax_or_default(&syntax),
-        syntax_span: with_comments(alloc, syntax),
+        syntax_span: stated_at(syntax),
         package: None,
         imports,
         options: Items::new(alloc),
@@ -81,7 +81,7 @@ fn stopped(
     notes: Vec<Note>,
 ) -> Result<File, SyntaxFailure>
     requires table { IsTableOf size table.now }
-    requires notes { notes.items ≡ syntax_if_any_notes table.now.rows }
+    requires notes { notes.items ≡ syntax_if_any_notes (placed table.now) }
     requires some { notes.items ≡ [] → ⊥ }
     ensures { Judges table.now size result }
 {
@@ -104,8 +104,8 @@ fn refused(
     expected: Expected,
 ) -> Result<File, SyntaxFailure>
     requires table { IsTableOf size table.now }
-    requires read { whole table.now.rows ≡ Err (Unexpected left) }
-    requires notes { notes.items ≡ all_notes table.now.rows }
+    requires read { whole (placed table.now) ≡ Err (Unexpected left) }
+    requires notes { notes.items ≡ all_notes (placed table.now) }
     ensures { Judges table.now size result }
 {
     let rows = table.as_rows();
@@ -134,19 +134,18 @@ fn finished(
     table: &TokenTable<'_>,
     size: usize,
     notes: Vec<Note>,
-    syntax: Option<(Syntax, Span)>,
+    syntax: Option<(Syntax, (Span, Comments))>,
     statements: Statements,
 ) -> Result<File, SyntaxFailure>
     requires table { IsTableOf size table.now }
-    requires read { whole table.now.rows ≡ Ok (syntax, statements) }
-    requires notes { notes.items ≡ all_notes table.now.rows }
+    requires read { whole (placed table.now) ≡ Ok (syntax, statements) }
+    requires notes { notes.items ≡ all_notes (placed table.now) }
     ensures { Judges table.now size result }
 {
-    let rows = table.as_rows();
-    let total = rows.len() + 1;
+    let total = table.as_rows().len() + 1;
     let errors = woven(alloc, table, total, notes, 0)?;
     if errors.is_empty() {
-        return Ok(made(alloc, rows, size, syntax, statements));
+        return Ok(made(alloc, table, size, syntax, statements));
     }
     Err(SyntaxFailure::Faults(errors))
 }
@@ -155,12 +154,12 @@ fn after_syntax(
     alloc: Global,
     table: &TokenTable<'_>,
     size: usize,
-    syntax: Option<(Syntax, Span)>,
-    rest: &[Row<'_>],
+    syntax: Option<(Syntax, (Span, Comments))>,
+    rest: Unread<'_, '_>,
 ) -> Result<File, SyntaxFailure>
     requires table { IsTableOf size table.now }
-    requires read { syntax_if_any_at table.now.rows ≡ Ok (syntax, rows_from rest.now) }
-    requires notes { syntax_if_any_notes table.now.rows ≡ [] }
+    requires read { syntax_if_any_at (placed table.now) ≡ Ok (syntax, rest) }
+    requires notes { syntax_if_any_notes (placed table.now) ≡ [] }
     ensures { Judges table.now size result }
 {
     let mut notes = Vec::new(alloc);
@@ -181,7 +180,7 @@ pub(crate) fn judge(
     ensures { Judges table.now size result }
 {
     let mut notes = Vec::new(alloc);
-    let read = syntax_if_any(alloc, &mut notes, table.as_rows());
+    let read = syntax_if_any(alloc, &mut notes, Unread::all(table));
     match read {
         Err(Refused::OutOfMemory) => Err(SyntaxFailure::OutOfMemory),
         _ if !notes.is_empty() => stopped(alloc, table, size, notes),

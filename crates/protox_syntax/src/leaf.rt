@@ -1,17 +1,17 @@
 //! Single rows.
 
 ghost use Rattle.std.specs.Prelude.{◌≡◌, length};
-ghost use Rattle.protox_ast.specs.Ast.{join};
+ghost use Rattle.protox_ast.specs.part.Ast.{join};
 ghost use Rattle.protox_grammar.specs.Reader.{is_token, head_in, fixed};
 ghost use Rattle.protox_lex.specs.Shapes.{Ident, Mark};
 ghost use Rattle.protox_lex.specs.Tokens.{shape_of, shape_of_result};
-ghost use Rattle.protox_syntax.specs.Rows.{rows_from};
 ghost use Rattle.protox_syntax.specs.Outcome.{Gives};
 
 use crate::expected::Expected;
 use crate::refused::Refused;
+use crate::rows::{RowAt, Unread};
 use protox_lex::error::Span;
-use protox_lex::lex::{Row, Token};
+use protox_lex::lex::Token;
 
 /// From the start of the one to the end of the other.
 pub(crate) fn join(start: &Span, end: &Span) -> Span
@@ -72,27 +72,27 @@ fn is_mark_token(token: &Token<'_>, mark: u8) -> bool
 }
 
 /// Whether this word comes next.
-pub(crate) fn sees_word(rows: &[Row<'_>], word: &str) -> bool
-    ensures { result ≡ head_in (is_token (Ident word.now)) (rows_from rows.now) }
+pub(crate) fn sees_word(rows: &Unread<'_, '_>, word: &str) -> bool
+    ensures { result ≡ head_in (is_token (Ident word.now)) rows.now }
 {
-    match rows {
-        [first, ..] => is_word(&first.token, word),
-        [] => false,
+    match rows.first() {
+        Some(first) => is_word(first.token(), word),
+        None => false,
     }
 }
 
 /// Whether this mark comes next.
-pub(crate) fn sees_mark(rows: &[Row<'_>], mark: u8) -> bool
-    ensures { result ≡ head_in (is_token (Mark mark)) (rows_from rows.now) }
+pub(crate) fn sees_mark(rows: &Unread<'_, '_>, mark: u8) -> bool
+    ensures { result ≡ head_in (is_token (Mark mark)) rows.now }
 {
-    match rows {
-        [first, ..] => is_mark(&first.token, mark),
-        [] => false,
+    match rows.first() {
+        Some(first) => is_mark(first.token(), mark),
+        None => false,
     }
 }
 
 /// The first of these rows doesn't fit.
-pub(crate) fn refused(rows: &[Row<'_>], expected: Expected) -> Refused
+pub(crate) fn refused(rows: &Unread<'_, '_>, expected: Expected) -> Refused
     ensures { result ≡ Refused.At (length rows.now) expected }
 {
     Refused::At {
@@ -104,29 +104,29 @@ pub(crate) fn refused(rows: &[Row<'_>], expected: Expected) -> Refused
 /// Takes this word.
 #[tactic(auto, unfolding(protox_grammar::specs::Reader::fixed))]
 pub(crate) fn expect_word<'t, 'a>(
-    rows: &'t [Row<'a>],
+    rows: Unread<'t, 'a>,
     word: &str,
     expected: Expected,
-) -> Result<(Span, &'t [Row<'a>]), Refused>
-    ensures { Gives (λ x. (x.0, rows_from x.1.now)) result (fixed (Ident word.now) (rows_from rows.now)) }
+) -> Result<(RowAt<'t, 'a>, Unread<'t, 'a>), Refused>
+    ensures { Gives (λ x. (x.0.at, x.1)) result (fixed (Ident word.now) rows.entry) }
 {
-    match rows {
-        [first, rest @ ..] if is_word(&first.token, word) => Ok((copied(&first.span), rest)),
-        _ => Err(refused(rows, expected)),
+    match rows.split() {
+        Some((first, rest)) if is_word(first.token(), word) => Ok((first, rest)),
+        _ => Err(refused(&rows, expected)),
     }
 }
 
 /// Takes this mark.
 #[tactic(auto, unfolding(protox_grammar::specs::Reader::fixed))]
 pub(crate) fn expect_mark<'t, 'a>(
-    rows: &'t [Row<'a>],
+    rows: Unread<'t, 'a>,
     mark: u8,
     expected: Expected,
-) -> Result<(Span, &'t [Row<'a>]), Refused>
-    ensures { Gives (λ x. (x.0, rows_from x.1.now)) result (fixed (Mark mark) (rows_from rows.now)) }
+) -> Result<(RowAt<'t, 'a>, Unread<'t, 'a>), Refused>
+    ensures { Gives (λ x. (x.0.at, x.1)) result (fixed (Mark mark) rows.entry) }
 {
-    match rows {
-        [first, rest @ ..] if is_mark(&first.token, mark) => Ok((copied(&first.span), rest)),
-        _ => Err(refused(rows, expected)),
+    match rows.split() {
+        Some((first, rest)) if is_mark(first.token(), mark) => Ok((first, rest)),
+        _ => Err(refused(&rows, expected)),
     }
 }

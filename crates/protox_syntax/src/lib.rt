@@ -11,6 +11,7 @@ mod notes;
 pub mod parse;
 mod progress;
 mod refused;
+mod rows;
 mod statement_types;
 mod statements;
 mod strings;

@@ -3,31 +3,30 @@
 ghost use Rattle.std.specs.Prelude.{◌≡◌, OnOk};
 ghost use Rattle.protox_grammar.specs.Reader.{any_word, head_in, is_word_of};
 ghost use Rattle.protox_grammar.specs.part.Rules.{barred_words};
-ghost use Rattle.protox_syntax.specs.Rows.{rows_from};
 ghost use Rattle.protox_syntax.specs.Outcome.{Gives};
 ghost use Rattle.protox_syntax.specs.Reads.{add, element_at, elements_at, goes_on, mbody_at, message_at};
 
 use crate::expected::Expected;
 use crate::fields::normal;
 use crate::leaf::{expect_mark, expect_word, is_mark, join, refused, sees_mark};
-use crate::names::{ident, no_comments};
+use crate::names::ident;
+use crate::rows::{RowAt, Unread, comments_of};
 use crate::refused::Refused;
 use protox_ast::ast::{Message, MessageBody, MessageItem};
 use protox_descriptor::values::Items;
-use protox_lex::error::Span;
-use protox_lex::lex::{Row, Token};
+use protox_lex::lex::Token;
 use std::alloc::{AllocError, Global};
 
 // Whether a word comes next that begins something else than a field without a label.
-fn sees_barred_word(rows: &[Row<'_>]) -> bool
-    ensures { result ≡ head_in (is_word_of barred_words) (rows_from rows.now) }
+fn sees_barred_word(rows: &Unread<'_, '_>) -> bool
+    ensures { result ≡ head_in (is_word_of barred_words) rows.now }
 {
-    match rows {
-        [first, ..] => match &first.token {
+    match rows.first() {
+        Some(first) => match first.token() {
             Ok(Token::Ident(word)) => is_barred_word(word),
             _ => false,
         },
-        [] => false,
+        None => false,
     }
 }
 
@@ -45,27 +44,27 @@ fn is_barred_word(word: &str) -> bool
 #[tactic(auto, unfolding(crate::specs::Reads::element_at))]
 fn element<'t, 'a>(
     alloc: Global,
-    rows: &'t [Row<'a>],
-) -> Result<(Option<MessageItem>, &'t [Row<'a>]), Refused>
-    ensures { Gives (λ x. (x.0, rows_from x.1.now)) result (element_at (rows_from rows.now)) }
+    rows: Unread<'t, 'a>,
+) -> Result<(Option<MessageItem>, Unread<'t, 'a>), Refused>
+    ensures { Gives (λ x. (x.0, x.1)) result (element_at rows.entry) }
 {
-    if sees_mark(rows, b';') {
+    if sees_mark(&rows, b';') {
         let (_, rest) = expect_mark(rows, b';', Expected::Semicolon)?;
         return Ok((None, rest));
     }
-    if sees_barred_word(rows) {
-        return Err(refused(rows, Expected::MessageBody));
+    if sees_barred_word(&rows) {
+        return Err(refused(&rows, Expected::MessageBody));
     }
     let (field, rest) = normal(alloc, rows, Expected::MessageBody)?;
     Ok((Some(MessageItem::Field(field)), rest))
 }
 
-fn goes_on(rows: &[Row<'_>]) -> bool
-    ensures { result ≡ head_in goes_on (rows_from rows.now) }
+fn goes_on(rows: &Unread<'_, '_>) -> bool
+    ensures { result ≡ head_in goes_on rows.now }
 {
-    match rows {
-        [first, ..] => !is_mark(&first.token, b'}'),
-        [] => false,
+    match rows.first() {
+        Some(first) => !is_mark(first.token(), b'}'),
+        None => false,
     }
 }
 
@@ -81,14 +80,13 @@ fn put(items: &mut Items<MessageItem>, element: Option<MessageItem>) -> Result<(
 #[tactic(auto, unfolding(crate::specs::Reads::elements_at))]
 fn elements<'t, 'a>(
     alloc: Global,
-    rows: &'t [Row<'a>],
-) -> Result<(Items<MessageItem>, &'t [Row<'a>]), Refused>
-    ensures { Gives (λ x. (x.0, rows_from x.1.now)) result (elements_at (rows_from rows.now)) }
+    rows: Unread<'t, 'a>,
+) -> Result<(Items<MessageItem>, Unread<'t, 'a>), Refused>
+    ensures { Gives (λ x. (x.0, x.1)) result (elements_at rows.entry) }
 {
     let mut items = Items::new(alloc);
-    let (_, first) = rows.split_at(0);
-    let mut rest = first;
-    'more: while goes_on(rest) {
+    let mut rest = rows;
+    'more: while goes_on(&rest) {
         let (element, after) = element(alloc, rest)?;
         put(&mut items, element)?;
         rest = after;
@@ -100,11 +98,11 @@ fn elements<'t, 'a>(
 #[tactic(auto, unfolding(crate::specs::Reads::mbody_at))]
 fn mbody<'t, 'a>(
     alloc: Global,
-    rows: &'t [Row<'a>],
-) -> Result<(MessageBody, Span, &'t [Row<'a>]), Refused>
-    ensures { Gives (λ x. ((x.0, x.1), rows_from x.2.now)) result (mbody_at (rows_from rows.now)) }
+    rows: Unread<'t, 'a>,
+) -> Result<(MessageBody, (RowAt<'t, 'a>, RowAt<'t, 'a>), Unread<'t, 'a>), Refused>
+    ensures { Gives (λ x. ((x.0, (x.1.0.at, x.1.1.at)), x.2)) result (mbody_at rows.entry) }
 {
-    let (_, rest) = expect_mark(rows, b'{', Expected::LeftBrace)?;
+    let (start, rest) = expect_mark(rows, b'{', Expected::LeftBrace)?;
     let (items, rest) = elements(alloc, rest)?;
     let (end, rest) = expect_mark(rest, b'}', Expected::MessageBody)?;
     Ok((
@@ -114,7 +112,7 @@ fn mbody<'t, 'a>(
             options: Items::new(alloc),
             reserved: Items::new(alloc),
         },
-        end,
+        (start, end),
         rest,
     ))
 }
@@ -123,19 +121,20 @@ fn mbody<'t, 'a>(
 #[tactic(auto, unfolding(crate::specs::Reads::message_at))]
 pub(crate) fn message<'t, 'a>(
     alloc: Global,
-    rows: &'t [Row<'a>],
-) -> Result<(Message, &'t [Row<'a>]), Refused>
-    ensures { Gives (λ x. (x.0, rows_from x.1.now)) result (message_at (rows_from rows.now)) }
+    rows: Unread<'t, 'a>,
+) -> Result<(Message, Unread<'t, 'a>), Refused>
+    ensures { Gives (λ x. (x.0, x.1)) result (message_at rows.entry) }
 {
+    let begun = rows.again();
     let (start, rest) = expect_word(rows, "message", Expected::Statement)?;
     let (name, rest) = ident(alloc, rest, Expected::Ident)?;
-    let (body, end, rest) = mbody(alloc, rest)?;
+    let (body, (open, close), rest) = mbody(alloc, rest)?;
     Ok((
         Message {
             name,
             body,
-            comments: no_comments(alloc),
-            span: join(&start, &end),
+            comments: comments_of(alloc, &begun, &open)?,
+            span: join(&start.span(), &close.span()),
         },
         rest,
     ))

@@ -1,56 +1,45 @@
 //! Names and numbers.
 
 ghost use Rattle.std.specs.Prelude.{◌≡◌, ◌<◌, IfOk, length};
-ghost use Rattle.protox_ast.specs.part.Ast.{dotted_start, last_place, no_comments};
-ghost use Rattle.protox_grammar.specs.Reader.{optional};
+ghost use Rattle.protox_ast.specs.part.Ast.{dotted_start, last_place, span_if_any};
+ghost use Rattle.protox_grammar.specs.Reader.{mapped, optional};
 ghost use Rattle.protox_ast.specs.Spelling.{dot, minus};
 ghost use Rattle.protox_ast.specs.declared.ast.Ident as ident_type;
-ghost use Rattle.protox_syntax.specs.Rows.{rows_from};
 ghost use Rattle.protox_syntax.specs.Outcome.{Gives};
 ghost use Rattle.protox_syntax.specs.Reads.{ident_at, more_part_at, parts_at, name_span, typename_at, integer_at, int_at, is_mark, sign};
 
 use crate::expected::Expected;
 use crate::leaf::{copied, expect_mark, join, refused, sees_mark};
 use crate::refused::Refused;
-use protox_ast::ast::{Comments, FullIdent, Ident, Int, TypeName};
+use crate::rows::Unread;
+use protox_ast::ast::{FullIdent, Ident, Int, TypeName};
 use protox_descriptor::values::{Items, Text};
 use protox_lex::error::Span;
-use protox_lex::lex::{Row, Token};
+use protox_lex::lex::Token;
 use std::alloc::Global;
-
-/// No comments: none are given to declarations yet.
-pub(crate) fn no_comments(alloc: Global) -> Comments
-    ensures { result ≡ no_comments }
-{
-    Comments {
-        leading_detached_comments: Items::new(alloc),
-        leading_comment: None,
-        trailing_comment: None,
-    }
-}
 
 /// ident
 #[tactic(auto, unfolding(protox_grammar::specs::Reader::leaf, crate::specs::Reads::ident_at))]
 pub(crate) fn ident<'t, 'a>(
     alloc: Global,
-    rows: &'t [Row<'a>],
+    rows: Unread<'t, 'a>,
     expected: Expected,
-) -> Result<(Ident, &'t [Row<'a>]), Refused>
-    ensures { Gives (λ x. (x.0, rows_from x.1.now)) result (ident_at (rows_from rows.now)) }
+) -> Result<(Ident, Unread<'t, 'a>), Refused>
+    ensures { Gives (λ x. (x.0, x.1)) result (ident_at rows.entry) }
 {
-    if let [first, rest @ ..] = rows {
-        if let Ok(Token::Ident(text)) = &first.token {
+    if let Some((first, rest)) = rows.split() {
+        if let Ok(Token::Ident(text)) = first.token() {
             let value = Text::copy(alloc, text)?;
-            let span = copied(&first.span);
+            let span = first.span();
             return Ok((Ident { value, span }, rest));
         }
     }
-    Err(refused(rows, expected))
+    Err(refused(&rows, expected))
 }
 
 #[tactic(auto, unfolding(crate::specs::Reads::more_part_at))]
-fn more_part<'t, 'a>(alloc: Global, rows: &'t [Row<'a>]) -> Result<(Ident, &'t [Row<'a>]), Refused>
-    ensures { Gives (λ x. (x.0, rows_from x.1.now)) result (more_part_at (rows_from rows.now)) }
+fn more_part<'t, 'a>(alloc: Global, rows: Unread<'t, 'a>) -> Result<(Ident, Unread<'t, 'a>), Refused>
+    ensures { Gives (λ x. (x.0, x.1)) result (more_part_at rows.entry) }
 {
     let (_, rest) = expect_mark(rows, b'.', Expected::Dot)?;
     ident(alloc, rest, Expected::Ident)
@@ -60,17 +49,17 @@ fn more_part<'t, 'a>(alloc: Global, rows: &'t [Row<'a>]) -> Result<(Ident, &'t [
 #[tactic(auto, unfolding(crate::specs::Reads::parts_at))]
 fn parts<'t, 'a>(
     alloc: Global,
-    rows: &'t [Row<'a>],
+    rows: Unread<'t, 'a>,
     expected: Expected,
-) -> Result<(Items<Ident>, &'t [Row<'a>]), Refused>
-    ensures read { Gives (λ x. (x.0, rows_from x.1.now)) result (parts_at (rows_from rows.now)) }
+) -> Result<(Items<Ident>, Unread<'t, 'a>), Refused>
+    ensures read { Gives (λ x. (x.0, x.1)) result (parts_at rows.entry) }
     ensures some { IfOk result (λ x. 0 < length x.0) }
 {
     let (first, after_first) = ident(alloc, rows, expected)?;
     let mut parts = Items::new(alloc);
     parts.push(first)?;
     let mut rest = after_first;
-    'more: while sees_mark(rest, b'.') {
+    'more: while sees_mark(&rest, b'.') {
         let (part, after) = more_part(alloc, rest)?;
         parts.push(part)?;
         rest = after;
@@ -105,12 +94,12 @@ fn name_span(dot: &Option<Span>, parts: &[Ident]) -> Span
     }
 }
 
-fn dot_if_any<'t, 'a>(rows: &'t [Row<'a>]) -> Result<(Option<Span>, &'t [Row<'a>]), Refused>
-    ensures { Gives (λ x. (x.0, rows_from x.1.now)) result (optional (is_mark dot) (sign dot) (rows_from rows.now)) }
+fn dot_if_any<'t, 'a>(rows: Unread<'t, 'a>) -> Result<(Option<Span>, Unread<'t, 'a>), Refused>
+    ensures { Gives (λ x. (x.0, x.1)) result (mapped span_if_any (optional (is_mark dot) (sign dot)) rows.entry) }
 {
-    if sees_mark(rows, b'.') {
+    if sees_mark(&rows, b'.') {
         let (dot, rest) = expect_mark(rows, b'.', Expected::Dot)?;
-        return Ok((Some(dot), rest));
+        return Ok((Some(dot.span()), rest));
     }
     Ok((None, rows))
 }
@@ -127,10 +116,10 @@ fn first_part(dot: &Option<Span>, expected: Expected) -> Expected {
 #[tactic(auto, unfolding(crate::specs::Reads::typename_at))]
 pub(crate) fn typename<'t, 'a>(
     alloc: Global,
-    rows: &'t [Row<'a>],
+    rows: Unread<'t, 'a>,
     expected: Expected,
-) -> Result<(TypeName, Span, &'t [Row<'a>]), Refused>
-    ensures { Gives (λ x. ((x.0, x.1), rows_from x.2.now)) result (typename_at (rows_from rows.now)) }
+) -> Result<(TypeName, Span, Unread<'t, 'a>), Refused>
+    ensures { Gives (λ x. ((x.0, x.1), x.2)) result (typename_at rows.entry) }
 {
     let (leading_dot, rest) = dot_if_any(rows)?;
     let (parts, rest) = parts(alloc, rest, first_part(&leading_dot, expected))?;
@@ -147,31 +136,31 @@ pub(crate) fn typename<'t, 'a>(
 
 /// integer
 #[tactic(auto, unfolding(protox_grammar::specs::Reader::leaf, crate::specs::Reads::integer_at))]
-fn integer<'t, 'a>(rows: &'t [Row<'a>]) -> Result<(u64, Span, &'t [Row<'a>]), Refused>
-    ensures { Gives (λ x. ((x.0, x.1), rows_from x.2.now)) result (integer_at (rows_from rows.now)) }
+fn integer<'t, 'a>(rows: Unread<'t, 'a>) -> Result<(u64, Span, Unread<'t, 'a>), Refused>
+    ensures { Gives (λ x. ((x.0, x.1), x.2)) result (integer_at rows.entry) }
 {
-    if let [first, rest @ ..] = rows {
-        if let Ok(Token::IntLiteral(value)) = &first.token {
-            return Ok((*value, copied(&first.span), rest));
+    if let Some((first, rest)) = rows.split() {
+        if let Ok(Token::IntLiteral(value)) = first.token() {
+            return Ok((*value, first.span(), rest));
         }
     }
-    Err(refused(rows, Expected::Int))
+    Err(refused(&rows, Expected::Int))
 }
 
-fn minus_if_any<'t, 'a>(rows: &'t [Row<'a>]) -> Result<(Option<Span>, &'t [Row<'a>]), Refused>
-    ensures { Gives (λ x. (x.0, rows_from x.1.now)) result (optional (is_mark minus) (sign minus) (rows_from rows.now)) }
+fn minus_if_any<'t, 'a>(rows: Unread<'t, 'a>) -> Result<(Option<Span>, Unread<'t, 'a>), Refused>
+    ensures { Gives (λ x. (x.0, x.1)) result (mapped span_if_any (optional (is_mark minus) (sign minus)) rows.entry) }
 {
-    if sees_mark(rows, b'-') {
+    if sees_mark(&rows, b'-') {
         let (minus, rest) = expect_mark(rows, b'-', Expected::Minus)?;
-        return Ok((Some(minus), rest));
+        return Ok((Some(minus.span()), rest));
     }
     Ok((None, rows))
 }
 
 /// int = "-"? integer
 #[tactic(auto, unfolding(crate::specs::Reads::int_at))]
-pub(crate) fn int<'t, 'a>(rows: &'t [Row<'a>]) -> Result<(Int, &'t [Row<'a>]), Refused>
-    ensures { Gives (λ x. (x.0, rows_from x.1.now)) result (int_at (rows_from rows.now)) }
+pub(crate) fn int<'t, 'a>(rows: Unread<'t, 'a>) -> Result<(Int, Unread<'t, 'a>), Refused>
+    ensures { Gives (λ x. (x.0, x.1)) result (int_at rows.entry) }
 {
     let (minus, rest) = minus_if_any(rows)?;
     let (value, number, rest) = integer(rest)?;

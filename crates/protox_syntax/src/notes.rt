@@ -4,13 +4,12 @@ ghost use Rattle.std.specs.Prelude.{◌≡◌, ◌++◌, ◌==◌, OnOk};
 ghost use Rattle.std.specs.List.{list_any};
 ghost use Rattle.protox_ast.specs.Checks.{is_known_syntax, is_text, is_import_path, is_plain_component};
 ghost use Rattle.protox_grammar.specs.Reader.{head_in};
-ghost use Rattle.protox_syntax.specs.Rows.{rows_from};
 ghost use Rattle.protox_syntax.specs.Notes.{is_invalid, one_note, noted, syntax_faults, text_faults, path_faults};
 
 use crate::leaf::copied;
+use crate::rows::Unread;
 use crate::strings::text_of;
 use protox_lex::error::{ParseErrorKind, Span};
-use protox_lex::lex::Row;
 use std::alloc::{AllocError, Global};
 
 /// A fault, and how many rows are left with the one that is looked at when it is found.
@@ -20,22 +19,22 @@ pub(crate) struct Note {
     pub fault: ParseErrorKind,
 }
 
-fn sees_invalid(rows: &[Row<'_>]) -> bool
-    ensures { result ≡ head_in is_invalid (rows_from rows.now) }
+fn sees_invalid(rows: &Unread<'_, '_>) -> bool
+    ensures { result ≡ head_in is_invalid rows.now }
 {
-    match rows {
-        [first, ..] => first.token.is_err(),
-        [] => false,
+    match rows.first() {
+        Some(first) => first.token().is_err(),
+        None => false,
     }
 }
 
 /// A fault of the node before these rows. An invalid token behind the node is the only fault there.
 pub(crate) fn add_note(
     notes: &mut Vec<Note>,
-    rows: &[Row<'_>],
+    rows: &Unread<'_, '_>,
     fault: ParseErrorKind,
 ) -> Result<(), AllocError>
-    ensures { OnOk result (notes.new.items ≡ notes.old.items ++ one_note fault (rows_from rows.now)) }
+    ensures { OnOk result (notes.new.items ≡ notes.old.items ++ one_note fault rows.now) }
 {
     if sees_invalid(rows) {
         return Ok(());
@@ -86,11 +85,11 @@ fn is_import_path(path: &str) -> bool
 pub(crate) fn check_syntax(
     alloc: Global,
     notes: &mut Vec<Note>,
-    rows: &[Row<'_>],
+    rows: &Unread<'_, '_>,
     value: &[u8],
     span: &Span,
 ) -> Result<(), AllocError>
-    ensures { OnOk result (notes.new.items ≡ notes.old.items ++ noted (syntax_faults value.now span.now) (rows_from rows.now)) }
+    ensures { OnOk result (notes.new.items ≡ notes.old.items ++ noted (syntax_faults value.now span.now) rows.now) }
 {
     if is_known_syntax(value) {
         return Ok(());
@@ -105,11 +104,11 @@ pub(crate) fn check_syntax(
 /// Whether an import's string is text.
 pub(crate) fn check_text(
     notes: &mut Vec<Note>,
-    rows: &[Row<'_>],
+    rows: &Unread<'_, '_>,
     value: &[u8],
     span: &Span,
 ) -> Result<(), AllocError>
-    ensures { OnOk result (notes.new.items ≡ notes.old.items ++ noted (text_faults value.now span.now) (rows_from rows.now)) }
+    ensures { OnOk result (notes.new.items ≡ notes.old.items ++ noted (text_faults value.now span.now) rows.now) }
 {
     if is_text(value) {
         return Ok(());
@@ -124,11 +123,11 @@ pub(crate) fn check_text(
 /// Whether an import's text is a path of plain components.
 pub(crate) fn check_path(
     notes: &mut Vec<Note>,
-    rows: &[Row<'_>],
+    rows: &Unread<'_, '_>,
     path: &str,
     span: &Span,
 ) -> Result<(), AllocError>
-    ensures { OnOk result (notes.new.items ≡ notes.old.items ++ noted (path_faults path.now span.now) (rows_from rows.now)) }
+    ensures { OnOk result (notes.new.items ≡ notes.old.items ++ noted (path_faults path.now span.now) rows.now) }
 {
     if is_import_path(path) {
         return Ok(());

@@ -17,60 +17,57 @@ use Rattle.protox_ast.specs.declared.ast.FileItem.TheVariants as file_item
 use Rattle.protox_ast.specs.declared.ast.File as file_type
 use Rattle.protox_ast.specs.part.Tree as t
 use Rattle.protox_ast.specs.part.Spelling.{spell}
-pub use Rattle.protox_ast.specs.Ast.{join, last_place, text_of, ident, fullident, last_part, typename, dotted_start, typename_span, signed_span, int, values, strings_value, strings_span, syntax_of, file_syntax, import_kind, scalar, type, type_span, rows_span}
+use Rattle.protox_ast.specs.Places.{Place}
+pub use Rattle.protox_ast.specs.Ast.{join, last_place, text_of, ident, fullident, last_part, typename, dotted_start, typename_span, signed_span, int, values, strings_value, strings_span, syntax_of, file_syntax, import_kind, scalar, type, type_span, dotted_first, type_first, span_if_any, comments, rows_span}
 
--- comments aren't given to declarations yet
-abbrev pub no_comments : Comments
-no_comments = record { leading_detached_comments = []; leading_comment = None; trailing_comment = None }
+abbrev pub syntax_place : t.Syntax Place → Span × Comments
+syntax_place x = (join x.keyword.span x.end.span, comments x.keyword x.end)
 
-abbrev pub syntax_place : t.Syntax Span → Span × Comments
-syntax_place x = (join x.keyword x.end, no_comments)
-
-abbrev pub «import» : t.Import Span → import_type.Import
+abbrev pub «import» : t.Import Place → import_type.Import
 «import» x = record {
   kind = option_map import_kind x.kind;
   value = text_of (strings_value x.value);
   value_span = strings_span x.value;
-  comments = no_comments;
-  span = join x.keyword x.end;
+  comments = comments x.keyword x.end;
+  span = join x.keyword.span x.end.span;
 }
 
-abbrev pub normal : t.Normal Span → field_type.Field
+abbrev pub normal : t.Normal Place → field_type.Field
 normal x = roll-Field (record {
   label = None;
   name = ident x.name;
   kind = kind.Normal (type x.type) (type_span x.type);
   number = int x.number;
   options = None;
-  comments = no_comments;
-  span = join (type_span x.type) x.end;
+  comments = comments (type_first x.type) x.end;
+  span = join (type_span x.type) x.end.span;
 })
 
 -- an empty statement leaves nothing
-abbrev pub element : t.Element Span → Option MessageItem
-element (t.empty span) = None
+abbrev pub element : t.Element Place → Option MessageItem
+element (t.empty place) = None
 element (t.field x) = Some (item.Field (normal x))
 
-abbrev pub mbody : t.Mbody Span → MessageBody
+abbrev pub mbody : t.Mbody Place → MessageBody
 mbody x = roll-MessageBody (record { items = filter_map element x.elements; extensions = []; options = []; reserved = [] })
 
-abbrev pub message : t.Message Span → message_type.Message
-message x = roll-Message (record { name = ident x.name; body = mbody x.body; comments = no_comments; span = join x.keyword x.body.close_at })
+abbrev pub message : t.Message Place → message_type.Message
+message x = roll-Message (record { name = ident x.name; body = mbody x.body; comments = comments x.keyword x.body.open_at; span = join x.keyword.span x.body.close_at.span })
 
 -- ---- files
 
-abbrev pub imported : t.Statement Span → Option import_type.Import
+abbrev pub imported : t.Statement Place → Option import_type.Import
 imported (t.an_import x) = Some («import» x)
-imported (t.an_empty span) = None
+imported (t.an_empty place) = None
 imported (t.a_message x) = None
 
-abbrev pub file_element : t.Statement Span → Option FileItem
+abbrev pub file_element : t.Statement Place → Option FileItem
 file_element (t.a_message x) = Some (file_item.Message (message x))
-file_element (t.an_empty span) = None
+file_element (t.an_empty place) = None
 file_element (t.an_import x) = None
 
 -- the tree of a source of so many bytes
-abbrev pub file : ℕ → t.File Span → file_type.File
+abbrev pub file : ℕ → t.File Place → file_type.File
 file size x = record {
   span = rows_span size (spell x);
   syntax = file_syntax x.syntax;

@@ -1,5 +1,5 @@
--- The syntax trees of two files, by computing. The n-th token, from 0, has the span from n to n + 1; the comments of a declaration are here
--- the numbers of the two tokens that they hang on.
+-- The syntax trees of two files, by computing. The n-th token, from 0, has the span from n to n + 1, and its number as the text of the comments
+-- before and behind it.
 use Rattle.std.proofs.Common.{◌≡◌, ℕ, suc, List, [], ◌∷◌, Some, None, false, true, codes, refl}
 use Rattle.protox_lex.specs.Faults.{Span}
 use Rattle.protox_lex.specs.Shapes.{Shape, Ident, Str, Mark, Row}
@@ -23,30 +23,32 @@ use Rattle.protox_ast.specs.declared.ast.Message.{roll-Message}
 use Rattle.protox_ast.specs.declared.ast.FileItem.TheVariants as declaration
 use Rattle.protox_ast.specs.Tree as t
 use Rattle.protox_ast.specs.Ast as ast
+use Rattle.protox_ast.specs.Places.{Place}
 
 -- from the token i to the token j
 abbrev span : ℕ → ℕ → Span
 span i j = record { start = i; end = suc j }
 
--- the place of the token n
-abbrev at : ℕ → Span
-at n = span n n
+-- the span of the token n
+abbrev spot : ℕ → Span
+spot n = span n n
 
-abbrev hung : Span → Span → Comments
-hung first last = record { leading_detached_comments = []; leading_comment = Some (first.start ∷ []); trailing_comment = Some (last.start ∷ []) }
+-- its place
+abbrev at : ℕ → Place
+at n = record { span = spot n; detached = []; leading = Some (n ∷ []); trailing = Some (n ∷ []) }
 
 abbrev on : ℕ → ℕ → Comments
 on i j = record { leading_detached_comments = []; leading_comment = Some (i ∷ []); trailing_comment = Some (j ∷ []) }
 
 abbrev named : List ℕ → ℕ → name_type.Ident
-named x n = record { value = x; span = at n }
+named x n = record { value = x; span = spot n }
 
-abbrev row : Shape → ℕ → Row Span
+abbrev row : Shape → ℕ → Row Place
 row s n = record { shape = s; at = at n }
 
 -- syntax = "proto" "3"; package a.b; import weak "x"; ; option (x).y = -1.5; option k = { u: 'v' };
 -- enum E { V = -1; reserved 1, 2 to max; option k = yes; } service S { rpc R(stream A) returns (.B) { ; } }
-abbrev declarations : t.File Span
+abbrev declarations : t.File Place
 declarations = record {
   syntax = Some (record { keyword = at 0; equals_sign = at 1; value = record { first = (codes "proto", at 2); others = (codes "3", at 3) ∷ [] }; end = at 4 });
   statements =
@@ -113,12 +115,12 @@ declarations = record {
       ∷ [];
 }
 
-declarations-seen : ast.file hung 73 declarations ≡ record {
+declarations-seen : ast.file 73 declarations ≡ record {
   span = span 0 72;
   syntax = Proto3;
   syntax_span = Some (span 0 4, on 0 4);
   «package» = Some (record { name = named (codes "a") 6 ∷ named (codes "b") 8 ∷ []; comments = on 5 9; span = span 5 9 });
-  imports = record { kind = Some (Weak, at 11); value = ast.text_of (codes "x"); value_span = at 12; comments = on 10 13; span = span 10 13 } ∷ [];
+  imports = record { kind = Some (Weak, spot 11); value = ast.text_of (codes "x"); value_span = spot 12; comments = on 10 13; span = span 10 13 } ∷ [];
   options =
       record {
         body = record {
@@ -133,12 +135,12 @@ declarations-seen : ast.file hung 73 declarations ≡ record {
   items =
       declaration.Enum (record {
         name = named (codes "E") 35;
-        options = record { body = record { name = part.Ident (named (codes "k") 50) ∷ []; value = value.Ident false (named (codes "yes") 52) (at 52) }; comments = on 49 53; span = span 49 53 } ∷ [];
+        options = record { body = record { name = part.Ident (named (codes "k") 50) ∷ []; value = value.Ident false (named (codes "yes") 52) (spot 52) }; comments = on 49 53; span = span 49 53 } ∷ [];
         values = record { name = named (codes "V") 37; number = record { negative = true; value = 1; span = span 39 40 }; options = None; comments = on 37 41; span = span 37 41 } ∷ [];
         reserved = record {
           kind = reserved.Ranges (
-              record { start = record { negative = false; value = 1; span = at 43 }; end = range_end.None }
-              ∷ record { start = record { negative = false; value = 2; span = at 45 }; end = range_end.Max (at 47) } ∷ []);
+              record { start = record { negative = false; value = 1; span = spot 43 }; end = range_end.None }
+              ∷ record { start = record { negative = false; value = 2; span = spot 45 }; end = range_end.Max (spot 47) } ∷ []);
           comments = on 42 48;
           span = span 42 48;
         } ∷ [];
@@ -151,9 +153,9 @@ declarations-seen : ast.file hung 73 declarations ≡ record {
         methods = record {
           name = named (codes "R") 59;
           input_ty = record { leading_dot = None; name = named (codes "A") 62 ∷ [] };
-          output_ty = record { leading_dot = Some (at 66); name = named (codes "B") 67 ∷ [] };
+          output_ty = record { leading_dot = Some (spot 66); name = named (codes "B") 67 ∷ [] };
           options = [];
-          client_streaming = Some (at 61);
+          client_streaming = Some (spot 61);
           server_streaming = None;
           comments = on 58 71;
           span = span 58 71;
@@ -167,7 +169,7 @@ declarations-seen = refl
 
 -- message M { optional .A f = 1 [k = "u" "v"]; map<int32, B> m = 2; group G = 3 { } oneof o { ; int32 x = 4; } extend C { int32 x = 5; }
 -- message N { } ; extensions 6 to 7; reserved "r" "s"; }
-abbrev a_message : t.File Span
+abbrev a_message : t.File Place
 a_message = record {
   syntax = None;
   statements = t.a_message (t.message_of (at 0) (codes "M", at 1) (t.mbody_of (at 2) (
@@ -226,7 +228,7 @@ a_message = record {
       t.no_elements))))))))) (at 65))) ∷ [];
 }
 
-message-seen : ast.file hung 66 a_message ≡ record {
+message-seen : ast.file 66 a_message ≡ record {
   span = span 0 65;
   syntax = Proto2;
   syntax_span = None;
@@ -238,10 +240,10 @@ message-seen : ast.file hung 66 a_message ≡ record {
     body = roll-MessageBody (record {
       items =
           item.Field (roll-Field (record {
-            label = Some (label.Optional, at 3);
+            label = Some (label.Optional, spot 3);
             name = named (codes "f") 6;
-            kind = kind.Normal (ty.Named (record { leading_dot = Some (at 4); name = named (codes "A") 5 ∷ [] })) (span 4 5);
-            number = record { negative = false; value = 1; span = at 8 };
+            kind = kind.Normal (ty.Named (record { leading_dot = Some (spot 4); name = named (codes "A") 5 ∷ [] })) (span 4 5);
+            number = record { negative = false; value = 1; span = spot 8 };
             options = Some (record {
               options = record { name = part.Ident (named (codes "k") 10) ∷ []; value = value.String (record { value = codes "uv"; span = span 12 13 }) } ∷ [];
               span = span 9 14;
@@ -252,8 +254,8 @@ message-seen : ast.file hung 66 a_message ≡ record {
           ∷ item.Field (roll-Field (record {
             label = None;
             name = named (codes "m") 22;
-            kind = kind.Map (span 16 21) ty.Int32 (at 18) (ty.Named (record { leading_dot = None; name = named (codes "B") 20 ∷ [] })) (at 20);
-            number = record { negative = false; value = 2; span = at 24 };
+            kind = kind.Map (span 16 21) ty.Int32 (spot 18) (ty.Named (record { leading_dot = None; name = named (codes "B") 20 ∷ [] })) (spot 20);
+            number = record { negative = false; value = 2; span = spot 24 };
             options = None;
             comments = on 16 25;
             span = span 16 25;
@@ -261,8 +263,8 @@ message-seen : ast.file hung 66 a_message ≡ record {
           ∷ item.Field (roll-Field (record {
             label = None;
             name = named (codes "G") 27;
-            kind = kind.Group (at 26) (roll-MessageBody (record { items = []; extensions = []; options = []; reserved = [] }));
-            number = record { negative = false; value = 3; span = at 29 };
+            kind = kind.Group (spot 26) (roll-MessageBody (record { items = []; extensions = []; options = []; reserved = [] }));
+            number = record { negative = false; value = 3; span = spot 29 };
             options = None;
             comments = on 26 30;
             span = span 26 31;
@@ -273,8 +275,8 @@ message-seen : ast.file hung 66 a_message ≡ record {
             fields = roll-Field (record {
               label = None;
               name = named (codes "x") 37;
-              kind = kind.Normal ty.Int32 (at 36);
-              number = record { negative = false; value = 4; span = at 39 };
+              kind = kind.Normal ty.Int32 (spot 36);
+              number = record { negative = false; value = 4; span = spot 39 };
               options = None;
               comments = on 36 40;
               span = span 36 40;
@@ -287,8 +289,8 @@ message-seen : ast.file hung 66 a_message ≡ record {
             fields = roll-Field (record {
               label = None;
               name = named (codes "x") 46;
-              kind = kind.Normal ty.Int32 (at 45);
-              number = record { negative = false; value = 5; span = at 48 };
+              kind = kind.Normal ty.Int32 (spot 45);
+              number = record { negative = false; value = 5; span = spot 48 };
               options = None;
               comments = on 45 49;
               span = span 45 49;
@@ -304,7 +306,7 @@ message-seen : ast.file hung 66 a_message ≡ record {
           }))
           ∷ [];
       extensions = record {
-        ranges = record { start = record { negative = false; value = 6; span = at 57 }; end = range_end.Int (record { negative = false; value = 7; span = at 59 }) } ∷ [];
+        ranges = record { start = record { negative = false; value = 6; span = spot 57 }; end = range_end.Int (record { negative = false; value = 7; span = spot 59 }) } ∷ [];
         options = None;
         comments = on 56 60;
         span = span 56 60;

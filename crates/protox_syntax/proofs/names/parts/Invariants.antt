@@ -1,5 +1,4 @@
 use Rattle.std.proofs.Common.{◌≡◌, ◌<◌, length}
-use Rattle.protox_syntax.specs.Rows.{rows_from}
 use Rattle.protox_grammar.specs.Reader.{star, gathered}
 use Rattle.protox_ast.specs.Spelling.{dot}
 use Rattle.protox_syntax.specs.Reads.{is_mark, more_part_at, parts_at, push}
@@ -7,7 +6,7 @@ use Rattle.protox_syntax.proofs.names.parts.Given as goal
 
 abbrev pub invariant-more : goal.invariant-more
 invariant-more l = record {
-  read : gathered push l.parts (star (is_mark dot) more_part_at (rows_from l.rest)) ≡ parts_at (rows_from l.rows);
+  read : gathered push l.parts (star (is_mark dot) more_part_at l.rest) ≡ parts_at l.fn.rows;
   some : 0 < length l.parts;
 }
 

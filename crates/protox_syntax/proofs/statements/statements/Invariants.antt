@@ -1,5 +1,4 @@
 use Rattle.std.proofs.Common.{◌≡◌, ◌++◌, length}
-use Rattle.protox_syntax.specs.Rows.{rows_from}
 use Rattle.protox_grammar.specs.Reader.{star, gathered}
 use Rattle.protox_syntax.specs.Reads.{add_statement, anything, statement_at, statements_at}
 use Rattle.protox_syntax.specs.Notes.{statements_notes}
@@ -7,8 +6,8 @@ use Rattle.protox_syntax.proofs.statements.statements.Given as goal
 
 abbrev pub invariant-more : goal.invariant-more
 invariant-more l = record {
-  read : gathered add_statement l.file (star anything statement_at (rows_from l.rest)) ≡ statements_at (rows_from l.rows);
-  notes : l.notes.items ++ statements_notes (rows_from l.rest) ≡ l.fn.notes.items ++ statements_notes (rows_from l.rows);
+  read : gathered add_statement l.file (star anything statement_at l.rest) ≡ statements_at l.fn.rows;
+  notes : l.notes.items ++ statements_notes l.rest ≡ l.fn.notes.items ++ statements_notes l.fn.rows;
 }
 
 abbrev pub decreases-more : goal.decreases-more

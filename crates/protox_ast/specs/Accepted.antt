@@ -7,12 +7,13 @@ use Rattle.protox_lex.specs.Shapes.{Invalid}
 use Rattle.protox_lex.specs.Lexemes.{Lexeme, cut}
 use Rattle.protox_lex.specs.Table.{table_of}
 use Rattle.protox_ast.specs.Places.{Place, placed}
-use Rattle.protox_ast.specs.part.Tree as t
+use Rattle.protox_ast.specs.Tree as t
 use Rattle.protox_ast.specs.Keywords.{Each}
-use Rattle.protox_ast.specs.part.Spells.{Spells}
-use Rattle.protox_ast.specs.part.Depth.{depth}
+use Rattle.protox_ast.specs.Spells.{Spells}
+use Rattle.protox_ast.specs.Depth.{depth}
+use Rattle.protox_ast.specs.ReadYet.{IsReadYet}
 use Rattle.protox_ast.specs.Checks.{IsFine}
-use Rattle.protox_ast.specs.part.Ast as ast
+use Rattle.protox_ast.specs.Ast as ast
 use Rattle.protox_ast.specs.declared.ast.File as file_type
 
 -- how many bytes a source may have
@@ -23,13 +24,15 @@ Fits source = length source ≤ 2147483647
 abbrev pub IsClean : Lexeme → Type 0
 IsClean x = (x.faults ≡ []) × (x.shape ≡ Invalid → ⊥)
 
--- The source fits the length limit, has no lexical fault, and its tokens spell the tree, which is at most 31 levels deep and has no fault of the parser.
+-- The source fits the length limit, has no lexical fault, and its tokens spell the tree, which is at most 31 levels deep, has no fault of the parser,
+-- and holds only what the parser reads today.
 pub record IsAccepted (source : List ℕ) (f : t.File Place) : Type 0 where
   pub fits : Fits source
   pub spells : Spells (placed (table_of (cut 0 source))) f
   pub clean : Each IsClean (cut 0 source)
   pub levels : depth f ≤ 31
   pub fine : IsFine f
+  pub read_yet : IsReadYet f
 
 -- the faults of a failure lie in the source, and there are some; or memory ran out
 abbrev pub FaultsLieIn : List ℕ → SyntaxFailure → Type 0

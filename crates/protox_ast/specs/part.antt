@@ -5,3 +5,4 @@ pub mod Depth
 pub mod Spells
 pub mod Embedding
 pub mod Ast
+pub mod Checks

@@ -14,7 +14,9 @@ use Rattle.protox_ast.specs.part.Spelling as s
 use Rattle.protox_ast.specs.part.Ast as ast
 use Rattle.protox_ast.specs.Places.{Place}
 use Rattle.protox_ast.specs.Keywords.{Each}
-use Rattle.protox_ast.specs.Accepted.{IsFileOf, FaultsLieIn}
+use Rattle.protox_ast.specs.Accepted as whole
+use Rattle.protox_ast.specs.Accepted.{FaultsLieIn}
+use Rattle.protox_grammar.proofs.part.Accepted.{IsFileOf, file-part}
 use Rattle.protox_ast.specs.Steps.{of_item, of_field, of_message, of_body, body-gives, message-gives, field-gives, item-field, kind-normal}
 use Rattle.protox_ast.specs.declared.ast.File.{File}
 use Rattle.protox_ast.specs.declared.ast.Syntax.{Syntax}
@@ -289,8 +291,9 @@ spelled : (source : List ℕ) (file : File) → IsUtf8 source → (k : IsFileOf 
 spelled source file u k = subst (Stand 0 (length source)) k.1.spells.0 (tokens-stand source u)
 
 -- The length of an accepted source, its tree's weight and how far its spans reach are at most 2147483647.
-pub file-fits : (source : List ℕ) (file : File) → IsUtf8 source → IsFileOf source file → (length source ≤ 2147483647) × (file_weight file ≤ 2147483647) × (file_reach file ≤ 2147483647)
-file-fits source file u k =
+pub file-fits : (source : List ℕ) (file : File) → IsUtf8 source → whole.IsFileOf source file → (length source ≤ 2147483647) × (file_weight file ≤ 2147483647) × (file_reach file ≤ 2147483647)
+file-fits source file u whole_file =
+    let k = file-part source file whole_file in
     let rows = spelled source file u k in
     let n = length source in
     let f = k.0 in
@@ -300,20 +303,21 @@ file-fits source file u k =
     (fits, omega (arith, weight, fits), omega (arith, farthest, fits))
 
 -- All that is wrong with the tree of a source lies in the source.
-pub faults-lie : (source : List ℕ) (file : File) → IsUtf8 source → IsFileOf source file → Each (LiesIn (length source)) (file_faults file)
-faults-lie source file u k =
+pub faults-lie : (source : List ℕ) (file : File) → IsUtf8 source → whole.IsFileOf source file → Each (LiesIn (length source)) (file_faults file)
+faults-lie source file u whole_file =
+    let k = file-part source file whole_file in
     let n = length source in
     let f = k.0 in
     let rows = stand-after 0 n (s.maybe s.syntax f.syntax) (s.many s.statement f.statements) (spelled source file u k) in
     subst (λ x. Each (LiesIn n) (file_faults x)) (sym k.2) (statements-lie (ast.file_syntax f.syntax) rows.0 n f.statements rows.2)
 
 -- A failure with just these faults lies in the source.
-pub failure-lies : (source : List ℕ) (file : File) → IsUtf8 source → IsFileOf source file → (failure : SyntaxFailure) → IsFailure (file_faults file) failure → FaultsLieIn source failure
+pub failure-lies : (source : List ℕ) (file : File) → IsUtf8 source → whole.IsFileOf source file → (failure : SyntaxFailure) → IsFailure (file_faults file) failure → FaultsLieIn source failure
 failure-lies source file u k OutOfMemory h = tt
 failure-lies source file u k (Faults found) h =
-    (k.1.fits, subst (λ l. l ≢ []) (sym h.0) h.1, subst (Each (LiesIn (length source))) (sym h.0) (faults-lie source file u k))
+    ((file-part source file k).1.fits, subst (λ l. l ≢ []) (sym h.0) h.1, subst (Each (LiesIn (length source))) (sym h.0) (faults-lie source file u k))
 
 -- A result that is an answer or a failure with just these faults has no fault outside the source.
-pub outcome-lies : {T : Type 0} (source : List ℕ) (file : File) → IsUtf8 source → IsFileOf source file → (P : T → Type 0) (result : Result T SyntaxFailure) → MatchResult result P (IsFailure (file_faults file)) → IfErr result (FaultsLieIn source)
+pub outcome-lies : {T : Type 0} (source : List ℕ) (file : File) → IsUtf8 source → whole.IsFileOf source file → (P : T → Type 0) (result : Result T SyntaxFailure) → MatchResult result P (IsFailure (file_faults file)) → IfErr result (FaultsLieIn source)
 outcome-lies source file u k P (Ok x) h = tt
 outcome-lies source file u k P (Err e) h = failure-lies source file u k e h

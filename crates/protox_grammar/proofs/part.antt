@@ -2,3 +2,4 @@ pub mod Messages
 pub mod Main
 pub mod ReadYet
 pub mod SyntaxTree
+pub mod Accepted

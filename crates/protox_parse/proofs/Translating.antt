@@ -1,8 +1,8 @@
 -- What is said of the translation of a syntax tree is said of the tree that it is of.
 use Rattle.std.proofs.Common.{◌≡◌, ℕ, List, [], Result, Ok, Err, IfOk, MatchResult, ap, sym, ◌∙◌}
 use Rattle.protox_ast.specs.Accepted.{IsAccepted, IsFileOf}
-use Rattle.protox_ast.specs.part.Ast as ast_of
-use Rattle.protox_ast.specs.part.Tree as tree
+use Rattle.protox_ast.specs.Ast as ast_of
+use Rattle.protox_ast.specs.Tree as tree
 use Rattle.protox_ast.specs.declared.ast.File.{File}
 use Rattle.protox_descriptor.specs.declared.descriptor.FileDescriptorProto.{FileDescriptorProto}
 use Rattle.protox_generate.specs.Checks.{file_faults}

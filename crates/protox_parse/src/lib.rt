@@ -4,8 +4,8 @@
 
 ghost use Rattle.std.specs.Prelude.{◌≡◌, ◌≤◌, ◌↔◌, IsTrue, IfOk, IfErr, MatchResult, length, []};
 ghost use Rattle.protox_ast.specs.Accepted.{Fits, IsAccepted, IsFileOf};
-ghost use Rattle.protox_ast.specs.part.Ast as ast_of;
-ghost use Rattle.protox_ast.specs.part.Tree as tree;
+ghost use Rattle.protox_ast.specs.Ast as ast_of;
+ghost use Rattle.protox_ast.specs.Tree as tree;
 ghost use Rattle.protox_generate.specs.Checks.{file_faults};
 ghost use Rattle.protox_generate.specs.File.{file_descriptor};
 ghost use Rattle.protox_ast.specs.Places.{Place};

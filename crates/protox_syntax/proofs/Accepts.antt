@@ -12,9 +12,14 @@ use Rattle.protox_ast.specs.part.Ast as ast
 use Rattle.protox_ast.specs.Places.{Place, placed}
 use Rattle.protox_ast.specs.part.Spelling as s
 use Rattle.protox_ast.specs.part.Depth.{depth}
-use Rattle.protox_ast.specs.Accepted.{Fits, IsAccepted, FaultsLieIn, IsFileOf, IsOutOfMemory}
+use Rattle.protox_ast.specs.Accepted as whole
+use Rattle.protox_ast.specs.Accepted.{Fits, FaultsLieIn, IsOutOfMemory}
+use Rattle.protox_ast.specs.Ast as whole_ast
+use Rattle.protox_ast.specs.Tree as whole_tree
 use Rattle.protox_ast.specs.declared.ast.File.{File}
+use Rattle.protox_grammar.proofs.part.Accepted.{IsAccepted, accepted-part, file-whole}
 use Rattle.protox_grammar.proofs.part.Main.{one_tree, shallow}
+use Rattle.protox_grammar.proofs.part.SyntaxTree.{file-same}
 use Rattle.protox_syntax.specs.Weave.{released}
 use Rattle.protox_syntax.specs.Judging.{IsWhole, Judges, made, syntax_or_default, stated_at}
 use Rattle.protox_syntax.proofs.Fine.{seen_file, read-whole, whole-read, notes-fine, fine-notes}
@@ -71,19 +76,25 @@ module _ (source : List ℕ) where
         g.2,
       )
 
-  pub judged-found : Fits source → (r : Result File SyntaxFailure) → Judges tab (length source) r → IfOk r (IsFileOf source)
+  pub judged-found : Fits source → (r : Result File SyntaxFailure) → Judges tab (length source) r → IfOk r (whole.IsFileOf source)
   judged-found fits (Err e) j = tt
   judged-found fits (Ok file) j =
       let a = whole-accepted fits j.0 j.1 in
-      (a.0, a.1, j.2 ∙ ap (made (length source) (placed tab)) a.2 ∙ made-file (length source) (placed tab) a.0 a.1.spells.0)
+      file-whole source file (a.0, a.1, j.2 ∙ ap (made (length source) (placed tab)) a.2 ∙ made-file (length source) (placed tab) a.0 a.1.spells.0)
 
-  pub judged-only : (r : Result File SyntaxFailure) → Judges tab (length source) r → (f : tree.File Place) → IsAccepted source f → MatchResult r (λ file. file ≡ ast.file (length source) f) IsOutOfMemory
-  judged-only (Err OutOfMemory) j f a = tt
-  judged-only (Err (Faults v)) j f a = absurd (j.2 (seen_file f) (accepted-whole f a))
-  judged-only (Ok file) j f a =
+  part-only : (r : Result File SyntaxFailure) → Judges tab (length source) r → (g : tree.File Place) → IsAccepted source g → MatchResult r (λ file. file ≡ ast.file (length source) g) IsOutOfMemory
+  part-only (Err OutOfMemory) j g a = tt
+  part-only (Err (Faults v)) j g a = absurd (j.2 (seen_file g) (accepted-whole g a))
+  part-only (Ok file) j g a =
       let b = whole-accepted a.fits j.0 j.1 in
-      let same = one_tree here (placed tab) b.0 f b.1.spells a.spells in
-      j.2 ∙ ap (made (length source) (placed tab)) (b.2 ∙ ap seen_file same) ∙ made-file (length source) (placed tab) f a.spells.0
+      let same = one_tree here (placed tab) b.0 g b.1.spells a.spells in
+      j.2 ∙ ap (made (length source) (placed tab)) (b.2 ∙ ap seen_file same) ∙ made-file (length source) (placed tab) g a.spells.0
+
+  pub judged-only : (r : Result File SyntaxFailure) → Judges tab (length source) r → (f : whole_tree.File Place) → whole.IsAccepted source f → MatchResult r (λ file. file ≡ whole_ast.file (length source) f) IsOutOfMemory
+  judged-only r j f a =
+      let p = accepted-part source f a in
+      let same = sym (file-same (length source) p.0) ∙ ap (whole_ast.file (length source)) p.1 in
+      subst (λ (t : File). MatchResult r (λ file. file ≡ t) IsOutOfMemory) same (part-only r j p.0 p.2)
 
   pub judged-refused : Fits source → (r : Result File SyntaxFailure) → Judges tab (length source) r → IfErr r (FaultsLieIn source)
   judged-refused fits (Ok file) j = tt

@@ -2,8 +2,8 @@
 
 ghost use Rattle.std.specs.Prelude.{◌≡◌, IfOk, IfErr, MatchResult, length};
 ghost use Rattle.protox_ast.specs.Accepted.{Fits, IsAccepted, IsFileOf, FaultsLieIn, IsOutOfMemory};
-ghost use Rattle.protox_ast.specs.part.Ast as ast_of;
-ghost use Rattle.protox_ast.specs.part.Tree as tree;
+ghost use Rattle.protox_ast.specs.Ast as ast_of;
+ghost use Rattle.protox_ast.specs.Tree as tree;
 ghost use Rattle.protox_ast.specs.Places.{Place};
 
 use crate::judge::judge;

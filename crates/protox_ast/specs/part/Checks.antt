@@ -1,0 +1,14 @@
+-- MACHINERY. What is asked of the nodes of what the parser reads today.
+use Rattle.protox_ast.specs.Places.{Place}
+use Rattle.protox_ast.specs.part.Tree as t
+pub use Rattle.protox_ast.specs.Checks.{is_known_syntax, is_text, components, is_plain_component, is_import_path, HasKnownSyntax, ImportsFile}
+use Rattle.protox_ast.specs.Keywords.{Given, Each}
+
+abbrev pub StatementIsFine : t.Statement Place → Type 0
+StatementIsFine (t.an_empty place) = Unit {0}
+StatementIsFine (t.an_import x) = ImportsFile x
+StatementIsFine (t.a_message x) = Unit {0}
+
+-- no fault of the parser is at a node of the tree
+abbrev pub IsFine : t.File Place → Type 0
+IsFine f = Given HasKnownSyntax f.syntax × Each StatementIsFine f.statements

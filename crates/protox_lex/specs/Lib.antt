@@ -1,6 +1,7 @@
 pub mod Shapes
 pub mod Faults
 pub mod FaultTexts
+pub mod FaultNotes
 pub mod Tokens
 pub mod Printed
 pub mod Pattern

@@ -64,12 +64,12 @@ impl Comments {
     {
         match self.open_block.take() {
             None => {
-                self.may_trail = false;
+                self.detach();
                 Ok(())
             }
             Some(block) if self.may_trail => {
                 self.trailing = Some(block.text);
-                self.may_trail = false;
+                self.detach();
                 Ok(())
             }
             Some(Block { text, of_lines }) => match self.detached.push(text) {

@@ -65,6 +65,15 @@ fn invalid(alloc: Global, text: &str, start: usize) -> Found<'_>
     }
 }
 
+// The first `len` bytes.
+fn front(text: &str, len: usize) -> &str
+    requires within { len ≤ length text.now }
+    requires boundary { IsCharBoundary text.now len }
+    ensures { result.now ≡ take len text.now }
+{
+    &text[..len]
+}
+
 // The lexeme of a kind, of which `len` bytes match.
 fn read_kind(
     alloc: Global,
@@ -89,7 +98,7 @@ fn read_kind(
     ensures free { let x = spec.lexeme kind start text.now len in x.borrowed ≡ true → faults_in text_format x.faults ≡ [] → IsOk result }
 {
     match kind {
-        Kind::Identifier => Ok(plain(alloc, Token::Ident(&text[..len]), start, len)),
+        Kind::Identifier => Ok(plain(alloc, Token::Ident(front(text, len)), start, len)),
         Kind::Integer => read_integer(alloc, text, len, start),
         Kind::Float => read_float(alloc, text, len, start, text_format),
         Kind::Mark => match mark_of(text.as_bytes()[0]) {

@@ -1,6 +1,7 @@
-//! Laws of the definitions that the contracts cite. Each is a function that does nothing: its
-//! contract is the law.
-ghost use Rattle.std.specs.Prelude.{◌≡◌, ◌+◌, ◌++◌, ◌∷◌, [], ℕ, Bool, true, false, if◌then◌else◌, List, None, length, take, map, flat_map};
+//! Laws of the definitions that the contracts cite. Each is a function that does nothing, or nothing
+//! but compare: its contract is the law.
+ghost use Rattle.std.specs.Prelude.{◌≡◌, ◌↔◌, IsTrue, ◌+◌, ◌++◌, ◌∷◌, [], ℕ, Bool, true, false, if◌then◌else◌, List, None, length, take, map, flat_map};
+ghost use Rattle.std.specs.Cow.{cow_str_bytes};
 ghost use Rattle.std.specs.List.{All};
 ghost use Rattle.std.specs.Str.{IsUtf8};
 ghost use Rattle.protox_lex.specs.declared.error.ParseErrorKind.TheVariants.{InvalidStringCharacters, InvalidStringEscape};
@@ -14,7 +15,10 @@ ghost use Rattle.protox_lex.specs.Shapes.{Shape, Str};
 ghost use Rattle.protox_lex.specs.StringPieces.{IsPieces, all_wrong, begins_wrong};
 ghost use Rattle.protox_lex.specs.Strings.{Piece, wrong, len_of, pieces, faults_of as string_faults};
 ghost use Rattle.protox_lex.specs.Table.{rows_of, gaps_of, faults_of, StandBetween};
+ghost use Rattle.protox_lex.specs.Tokens.{shape_of};
 ghost use Rattle.protox_lex.specs.Words.{IsWordOf};
+
+use crate::token::{EqFloat, Token};
 
 /// Each text has one cut into lexemes, and `cut` is it.
 #[tactic(auto, using(crate::proofs::Cut::cut_is_cut, crate::proofs::Cut::only_cut))]
@@ -77,3 +81,18 @@ pub fn printed_forms_lex_back()
 pub fn strings_lex_back()
     ensures { (s : List ℕ) → AreBytes s → (borrowed : Bool) × (spec.cut 0 (printed (Str s)) ≡ record { start = 0; stop = length (printed (Str s)); shape = Str s; borrowed = borrowed; faults = [] } ∷ []) }
 {}
+
+/// Tokens are equal exactly where their kinds and values are: places do not count, nor whether a
+/// text is borrowed.
+pub fn tokens_are_equal_by_shape(a: &Token<'_>, b: &Token<'_>) -> bool
+    ensures { IsTrue result ↔ (shape_of a.now ≡ shape_of b.now) }
+{
+    a == b
+}
+
+/// Floats are equal exactly where their texts are.
+pub fn floats_are_equal_by_text(a: &EqFloat<'_>, b: &EqFloat<'_>) -> bool
+    ensures { IsTrue result ↔ (cow_str_bytes a.now.0 ≡ cow_str_bytes b.now.0) }
+{
+    a == b
+}

@@ -10,6 +10,7 @@ mod comment_text;
 pub mod comments;
 pub mod error;
 mod fault_list;
+mod fault_notes;
 mod found;
 mod groups;
 pub mod laws;
@@ -19,6 +20,8 @@ mod number;
 mod piece;
 mod scan;
 mod string;
+#[cfg(test)]
+mod surface_tests;
 #[cfg(test)]
 mod tests;
 mod token;

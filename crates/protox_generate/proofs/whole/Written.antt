@@ -1,0 +1,200 @@
+-- Syntax trees written shortly, and locations as lists of numbers, for examples.
+use Prim.Native.String.{String}
+use Rattle.std.specs.Prelude.{ℕ, ◌+◌, Bool, true, false, List, [], ◌∷◌, length, map, Option, Some, None, codes, nat_abs}
+use Rattle.std.specs.List.{flat_map}
+use Rattle.protox_lex.specs.Faults.{Span}
+use Rattle.protox_ast.specs.declared.ast.Comments.{Comments}
+use Rattle.protox_ast.specs.declared.ast.Enum.{Enum}
+use Rattle.protox_ast.specs.declared.ast.EnumValue.{EnumValue}
+use Rattle.protox_ast.specs.declared.ast.Extend.{Extend, roll-Extend}
+use Rattle.protox_ast.specs.declared.ast.Extensions.{Extensions}
+use Rattle.protox_ast.specs.declared.ast.Field.{Field, roll-Field}
+use Rattle.protox_ast.specs.declared.ast.FieldKind.{FieldKind}
+use Rattle.protox_ast.specs.declared.ast.FieldKind.TheVariants as kind
+use Rattle.protox_ast.specs.declared.ast.FieldLabel.{FieldLabel}
+use Rattle.protox_ast.specs.declared.ast.FieldLabel.TheVariants as label
+use Rattle.protox_ast.specs.declared.ast.File.{File}
+use Rattle.protox_ast.specs.declared.ast.FileItem.{FileItem}
+use Rattle.protox_ast.specs.declared.ast.FileItem.TheVariants as file_item
+use Rattle.protox_ast.specs.declared.ast.Ident.{Ident}
+use Rattle.protox_ast.specs.declared.ast.Int.{Int}
+use Rattle.protox_ast.specs.declared.ast.Message.{Message, roll-Message}
+use Rattle.protox_ast.specs.declared.ast.MessageBody.{MessageBody, roll-MessageBody}
+use Rattle.protox_ast.specs.declared.ast.MessageItem.{MessageItem}
+use Rattle.protox_ast.specs.declared.ast.Oneof.{Oneof, roll-Oneof}
+use Rattle.protox_ast.specs.declared.ast.OptionBody.{OptionBody}
+use Rattle.protox_ast.specs.declared.ast.OptionList.{OptionList}
+use Rattle.protox_ast.specs.declared.ast.OptionNamePart.TheVariants as part
+use Rattle.protox_ast.specs.declared.ast.OptionValue.{OptionValue}
+use Rattle.protox_ast.specs.declared.ast.OptionValue.TheVariants as value
+use Rattle.protox_ast.specs.declared.ast.Reserved.{Reserved}
+use Rattle.protox_ast.specs.declared.ast.ReservedKind.TheVariants as reserved_kind
+use Rattle.protox_ast.specs.declared.ast.ReservedRange.{ReservedRange}
+use Rattle.protox_ast.specs.declared.ast.ReservedRangeEnd.{ReservedRangeEnd}
+use Rattle.protox_ast.specs.declared.ast.Syntax.TheVariants.{Proto2, Proto3}
+use Rattle.protox_ast.specs.declared.ast.TypeName.{TypeName}
+use Rattle.protox_descriptor.specs.declared.descriptor.DescriptorProto.{DescriptorProto, roll-DescriptorProto}
+use Rattle.protox_descriptor.specs.declared.descriptor.FieldDescriptorProto.{FieldDescriptorProto}
+use Rattle.protox_descriptor.specs.declared.descriptor.OneofDescriptorProto.{OneofDescriptorProto}
+use Rattle.protox_descriptor.specs.declared.descriptor.options.MessageOptions.{MessageOptions}
+use Rattle.protox_descriptor.specs.declared.descriptor.options.UninterpretedOption.{UninterpretedOption}
+use Rattle.protox_descriptor.specs.declared.descriptor.source_code_info.Location.{Location}
+use Rattle.protox_generate.specs.Lines.{span_numbers}
+use Rattle.protox_generate.specs.Sorting.{sorted, path_before}
+use Rattle.protox_generate.specs.whole.File.{file_proto}
+use Rattle.protox_generate.specs.whole.Locations.{file_locations}
+use Rattle.protox_generate.specs.whole.Options.{Statement}
+
+-- ---- leaves
+
+abbrev pub at : ℕ → ℕ → Span
+at start end = record { start = start; end = end }
+
+abbrev pub quiet : Comments
+quiet = record { leading_detached_comments = []; leading_comment = None; trailing_comment = None }
+
+-- a word that begins at an offset
+abbrev pub word : String → ℕ → Ident
+word text start = record { value = codes text; span = at start (start + length (codes text)) }
+
+abbrev pub int : ℕ → Span → Int
+int number span = record { negative = false; value = number; span = span }
+
+abbrev pub minus : ℕ → Span → Int
+minus number span = record { negative = true; value = number; span = span }
+
+-- a name of one part, and one with a leading dot
+abbrev pub name : Ident → TypeName
+name ident = record { leading_dot = None; name = ident ∷ [] }
+
+abbrev pub dotted : Span → List Ident → TypeName
+dotted dot parts = record { leading_dot = Some dot; name = parts }
+
+-- ---- options
+
+abbrev pub body_of : Ident → OptionValue → OptionBody
+body_of ident v = record { name = part.Ident ident ∷ []; value = v }
+
+abbrev pub string : String → Span → OptionValue
+string text span = value.String (record { value = codes text; span = span })
+
+abbrev pub float : String → Span → OptionValue
+float text span = value.Float (record { value = codes text; span = span })
+
+abbrev pub identifier : Ident → OptionValue
+identifier ident = value.Ident false ident ident.span
+
+abbrev pub list : List OptionBody → Span → Option OptionList
+list bodies span = Some (record { options = bodies; span = span })
+
+abbrev pub statement : OptionBody → Span → Statement
+statement option span = record { body = option; comments = quiet; span = span }
+
+-- ---- fields and messages
+
+abbrev pub optional : Span → Option (FieldLabel × Span)
+optional span = Some (label.Optional, span)
+
+abbrev pub required : Span → Option (FieldLabel × Span)
+required span = Some (label.Required, span)
+
+abbrev pub repeated : Span → Option (FieldLabel × Span)
+repeated span = Some (label.Repeated, span)
+
+abbrev pub field : Option (FieldLabel × Span) → FieldKind → Ident → Int → Option OptionList → Span → Field
+field word_before what ident number options span =
+    roll-Field (record { label = word_before; name = ident; kind = what; number = number; options = options; comments = quiet; span = span })
+
+abbrev pub body : List MessageItem → MessageBody
+body items = roll-MessageBody (record { items = items; extensions = []; options = []; reserved = [] })
+
+abbrev pub message : Ident → MessageBody → Span → Message
+message ident inside span = roll-Message (record { name = ident; body = inside; comments = quiet; span = span })
+
+abbrev pub oneof : Ident → List Field → Span → Oneof
+oneof ident fields span = roll-Oneof (record { name = ident; options = []; fields = fields; comments = quiet; span = span })
+
+abbrev pub extend : TypeName → List Field → Span → Extend
+extend extendee fields span = roll-Extend (record { extendee = extendee; fields = fields; comments = quiet; span = span })
+
+-- ---- ranges, enums
+
+abbrev pub range : Int → ReservedRangeEnd → ReservedRange
+range start end = record { start = start; end = end }
+
+abbrev pub ranges : List ReservedRange → Span → Reserved
+ranges all span = record { kind = reserved_kind.Ranges all; comments = quiet; span = span }
+
+abbrev pub names : List Ident → Span → Reserved
+names all span = record { kind = reserved_kind.Names all; comments = quiet; span = span }
+
+abbrev pub extensions : List ReservedRange → Option OptionList → Span → Extensions
+extensions all options span = record { ranges = all; options = options; comments = quiet; span = span }
+
+abbrev pub enum_value : Ident → Int → Option OptionList → Span → EnumValue
+enum_value ident number options span = record { name = ident; number = number; options = options; comments = quiet; span = span }
+
+abbrev pub enum : Ident → List EnumValue → List Reserved → Span → Enum
+enum ident values reserved span = record { name = ident; options = []; values = values; reserved = reserved; comments = quiet; span = span }
+
+-- ---- files
+
+-- a file without a syntax statement
+abbrev pub file : List FileItem → Span → File
+file items span = record { span = span; syntax = Proto2; syntax_span = None; «package» = None; imports = []; options = []; items = items }
+
+abbrev pub file3 : Span → List FileItem → Span → File
+file3 syntax_at items span = record { span = span; syntax = Proto3; syntax_span = Some (syntax_at, quiet); «package» = None; imports = []; options = []; items = items }
+
+-- a file of one message of these items
+abbrev pub of_message : Message → Span → File
+of_message one span = file (file_item.Message one ∷ []) span
+
+-- ---- what is shown of a file
+
+-- a location's path and its span
+abbrev pub shown : Location → List ℕ × List ℕ
+shown location = (map nat_abs location.path, map nat_abs location.span)
+
+abbrev pub located : String → File → List Location
+located source tree = sorted path_before (file_locations (span_numbers (codes source)) tree)
+
+-- all locations of a file of that source, in their order
+abbrev pub table : String → File → List (List ℕ × List ℕ)
+table source tree = map shown (located source tree)
+
+-- ---- descriptors
+
+abbrev pub no_field : FieldDescriptorProto
+no_field = record {
+  name = None; number = None; label = None; field_type = None; type_name = None; extendee = None; default_value = None;
+  oneof_index = None; json_name = None; options = None; proto3_optional = None;
+}
+
+abbrev pub made_oneof : String → OneofDescriptorProto
+made_oneof text = record { name = Some (codes text); options = None }
+
+-- a message of these fields, messages and oneofs
+abbrev pub made_message : String → List FieldDescriptorProto → List DescriptorProto → List OneofDescriptorProto → DescriptorProto
+made_message text fields nested oneofs = roll-DescriptorProto (record {
+  name = Some (codes text); field = fields; extension = []; nested_type = nested; enum_type = []; extension_range = [];
+  oneof_decl = oneofs; options = None; reserved_range = []; reserved_name = [];
+})
+
+-- an option of one name that isn't interpreted, without a value
+abbrev pub no_option : String → UninterpretedOption
+no_option text = record {
+  name = record { name_part = codes text; is_extension = false } ∷ [];
+  identifier_value = None; positive_int_value = None; negative_int_value = None; double_value = None; string_value = None; aggregate_value = None;
+}
+
+-- the messages of a file
+abbrev pub messages : File → List DescriptorProto
+messages tree = (file_proto (codes "a.proto") tree).message_type
+
+-- the options of a message, each `message_set_wire_format` with a word
+abbrev pub set_options : List (List ℕ) → Option MessageOptions
+set_options words = Some (record { map_entry = None; uninterpreted_option = map (λ text. record (no_option "message_set_wire_format") { identifier_value = Some text }) words })
+
+abbrev pub number : Int → OptionValue
+number one = value.Int one

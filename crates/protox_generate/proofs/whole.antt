@@ -1,8 +1,5 @@
 pub mod Written
-pub mod ExamplesFields
-pub mod ExamplesRanges
-pub mod ExamplesOptions
-pub mod ExamplesItems
-pub mod ExamplesFaults
+pub mod Trees
+pub mod Files
 pub mod Membership
 pub mod FaultLaw

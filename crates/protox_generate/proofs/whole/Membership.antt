@@ -22,7 +22,7 @@ somewhere-from P xs h = somewhere-at P xs h.0 h.1 h.2 h.3 h.4
 
 pub any-from : {A : Type 0} (P : A → Type 0) (xs : List A) → Somewhere P xs → Any P xs
 any-from P [] h = absurd h
-any-from P (y ∷ ys) (inl p) = (zero, y, zero-lt-suc, refl, p)
+any-from P (y ∷ ys) (inl p) = (zero, y, zero-lt-suc (length ys), refl, p)
 any-from P (y ∷ ys) (inr h) = let r : Any P ys = any-from P ys h in (suc r.0, r.1, suc-le-suc r.2, r.3, r.4)
 
 pub among-at : {A : Type 0} (xs : List A) (k : ℕ) (x : A) → k < length xs → slice_index_or xs k x ≡ x → Among xs x
@@ -35,7 +35,7 @@ among-from xs x h = among-at xs h.0 x h.1 h.2
 
 pub contains-from : {A : Type 0} (xs : List A) (x : A) → Among xs x → Contains xs x
 contains-from [] x h = absurd h
-contains-from (y ∷ ys) x (inl e) = (zero, zero-lt-suc, e)
+contains-from (y ∷ ys) x (inl e) = (zero, zero-lt-suc (length ys), e)
 contains-from (y ∷ ys) x (inr h) = let r : Contains ys x = contains-from ys x h in (suc r.0, suc-le-suc r.1, r.2)
 
 -- ---- lists joined

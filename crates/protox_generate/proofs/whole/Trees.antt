@@ -153,3 +153,12 @@ module _ {K I E F M B O : Type 0} (s : Steps K I E F M B O) where
   given (extend extendee fields span) =
       fold-roll-Extend K I E F M B O s.kind s.item s.extend s.field s.message s.body s.oneof (record { extendee = extendee; fields = make fields; comments = quiet; span = span })
       ∙ ap (λ l. s.extend (record { extendee = extendee; fields = l; comments = quiet; span = span })) (given fields)
+
+-- ---- shorter words
+
+-- items in braces
+abbrev pub inside : Tree ItemsSort → Tree BodySort
+inside items = body items [] [] []
+
+abbrev pub only : Tree FieldSort → Tree FieldsSort
+only f = more_fields f no_field

@@ -1,27 +1,16 @@
 -- Syntax trees written shortly, and locations as lists of numbers, for examples.
 use Prim.Native.String.{String}
 use Rattle.std.specs.Prelude.{ℕ, ◌+◌, Bool, true, false, List, [], ◌∷◌, length, map, Option, Some, None, codes, nat_abs}
-use Rattle.std.specs.List.{flat_map}
 use Rattle.protox_lex.specs.Faults.{Span}
 use Rattle.protox_ast.specs.declared.ast.Comments.{Comments}
 use Rattle.protox_ast.specs.declared.ast.Enum.{Enum}
 use Rattle.protox_ast.specs.declared.ast.EnumValue.{EnumValue}
-use Rattle.protox_ast.specs.declared.ast.Extend.{Extend, roll-Extend}
 use Rattle.protox_ast.specs.declared.ast.Extensions.{Extensions}
-use Rattle.protox_ast.specs.declared.ast.Field.{Field, roll-Field}
-use Rattle.protox_ast.specs.declared.ast.FieldKind.{FieldKind}
-use Rattle.protox_ast.specs.declared.ast.FieldKind.TheVariants as kind
 use Rattle.protox_ast.specs.declared.ast.FieldLabel.{FieldLabel}
 use Rattle.protox_ast.specs.declared.ast.FieldLabel.TheVariants as label
 use Rattle.protox_ast.specs.declared.ast.File.{File}
-use Rattle.protox_ast.specs.declared.ast.FileItem.{FileItem}
-use Rattle.protox_ast.specs.declared.ast.FileItem.TheVariants as file_item
 use Rattle.protox_ast.specs.declared.ast.Ident.{Ident}
 use Rattle.protox_ast.specs.declared.ast.Int.{Int}
-use Rattle.protox_ast.specs.declared.ast.Message.{Message, roll-Message}
-use Rattle.protox_ast.specs.declared.ast.MessageBody.{MessageBody, roll-MessageBody}
-use Rattle.protox_ast.specs.declared.ast.MessageItem.{MessageItem}
-use Rattle.protox_ast.specs.declared.ast.Oneof.{Oneof, roll-Oneof}
 use Rattle.protox_ast.specs.declared.ast.OptionBody.{OptionBody}
 use Rattle.protox_ast.specs.declared.ast.OptionList.{OptionList}
 use Rattle.protox_ast.specs.declared.ast.OptionNamePart.TheVariants as part
@@ -39,10 +28,6 @@ use Rattle.protox_descriptor.specs.declared.descriptor.OneofDescriptorProto.{One
 use Rattle.protox_descriptor.specs.declared.descriptor.options.MessageOptions.{MessageOptions}
 use Rattle.protox_descriptor.specs.declared.descriptor.options.UninterpretedOption.{UninterpretedOption}
 use Rattle.protox_descriptor.specs.declared.descriptor.source_code_info.Location.{Location}
-use Rattle.protox_generate.specs.Lines.{span_numbers}
-use Rattle.protox_generate.specs.Sorting.{sorted, path_before}
-use Rattle.protox_generate.specs.whole.File.{file_proto}
-use Rattle.protox_generate.specs.whole.Locations.{file_locations}
 use Rattle.protox_generate.specs.whole.Options.{Statement}
 
 -- ---- leaves
@@ -101,22 +86,6 @@ required span = Some (label.Required, span)
 abbrev pub repeated : Span → Option (FieldLabel × Span)
 repeated span = Some (label.Repeated, span)
 
-abbrev pub field : Option (FieldLabel × Span) → FieldKind → Ident → Int → Option OptionList → Span → Field
-field word_before what ident number options span =
-    roll-Field (record { label = word_before; name = ident; kind = what; number = number; options = options; comments = quiet; span = span })
-
-abbrev pub body : List MessageItem → MessageBody
-body items = roll-MessageBody (record { items = items; extensions = []; options = []; reserved = [] })
-
-abbrev pub message : Ident → MessageBody → Span → Message
-message ident inside span = roll-Message (record { name = ident; body = inside; comments = quiet; span = span })
-
-abbrev pub oneof : Ident → List Field → Span → Oneof
-oneof ident fields span = roll-Oneof (record { name = ident; options = []; fields = fields; comments = quiet; span = span })
-
-abbrev pub extend : TypeName → List Field → Span → Extend
-extend extendee fields span = roll-Extend (record { extendee = extendee; fields = fields; comments = quiet; span = span })
-
 -- ---- ranges, enums
 
 abbrev pub range : Int → ReservedRangeEnd → ReservedRange
@@ -139,29 +108,19 @@ enum ident values reserved span = record { name = ident; options = []; values = 
 
 -- ---- files
 
--- a file without a syntax statement
-abbrev pub file : List FileItem → Span → File
-file items span = record { span = span; syntax = Proto2; syntax_span = None; «package» = None; imports = []; options = []; items = items }
+-- a file without items, of proto2
+abbrev pub file : Span → File
+file span = record { span = span; syntax = Proto2; syntax_span = None; «package» = None; imports = []; options = []; items = [] }
 
-abbrev pub file3 : Span → List FileItem → Span → File
-file3 syntax_at items span = record { span = span; syntax = Proto3; syntax_span = Some (syntax_at, quiet); «package» = None; imports = []; options = []; items = items }
-
--- a file of one message of these items
-abbrev pub of_message : Message → Span → File
-of_message one span = file (file_item.Message one ∷ []) span
+-- and of proto3, with the place of its syntax statement
+abbrev pub file3 : Span → Span → File
+file3 syntax_at span = record { span = span; syntax = Proto3; syntax_span = Some (syntax_at, quiet); «package» = None; imports = []; options = []; items = [] }
 
 -- ---- what is shown of a file
 
 -- a location's path and its span
 abbrev pub shown : Location → List ℕ × List ℕ
 shown location = (map nat_abs location.path, map nat_abs location.span)
-
-abbrev pub located : String → File → List Location
-located source tree = sorted path_before (file_locations (span_numbers (codes source)) tree)
-
--- all locations of a file of that source, in their order
-abbrev pub table : String → File → List (List ℕ × List ℕ)
-table source tree = map shown (located source tree)
 
 -- ---- descriptors
 
@@ -187,10 +146,6 @@ no_option text = record {
   name = record { name_part = codes text; is_extension = false } ∷ [];
   identifier_value = None; positive_int_value = None; negative_int_value = None; double_value = None; string_value = None; aggregate_value = None;
 }
-
--- the messages of a file
-abbrev pub messages : File → List DescriptorProto
-messages tree = (file_proto (codes "a.proto") tree).message_type
 
 -- the options of a message, each `message_set_wire_format` with a word
 abbrev pub set_options : List (List ℕ) → Option MessageOptions

@@ -1,26 +1,19 @@
 -- Examples of faults: each file is wrong in these ways and in no other.
 use Prim.Native.String.{String}
-use Rattle.std.proofs.Common.{◌≡◌, ℕ, List, [], ◌∷◌, ◌++◌, map, Option, Some, None, ℤ, pos, negsuc, true, false, codes, refl}
+use Rattle.std.proofs.Common.{◌≡◌, List, [], ◌∷◌, Option, None, true, codes, refl}
 use Rattle.std.specs.Fmt.{digits}
 use Rattle.protox_lex.specs.Faults.{Span}
 use Rattle.protox_lex.specs.declared.error.ParseErrorKind.{ParseErrorKind}
 use Rattle.protox_lex.specs.declared.error.ParseErrorKind.TheVariants as fault
-use Rattle.protox_ast.specs.declared.ast.Comments.{Comments}
 use Rattle.protox_ast.specs.declared.ast.FieldLabel.{FieldLabel}
-use Rattle.protox_ast.specs.declared.ast.File.{File}
-use Rattle.protox_ast.specs.declared.ast.FileItem.{FileItem}
 use Rattle.protox_ast.specs.declared.ast.FileItem.TheVariants as file_item
 use Rattle.protox_ast.specs.declared.ast.OptionList.{OptionList}
-use Rattle.protox_ast.specs.declared.ast.OptionNamePart.TheVariants as part
 use Rattle.protox_ast.specs.declared.ast.OptionValue.{OptionValue}
 use Rattle.protox_ast.specs.declared.ast.OptionValue.TheVariants as value
-use Rattle.protox_ast.specs.declared.ast.ReservedRangeEnd.TheVariants as range_end
 use Rattle.protox_ast.specs.declared.ast.Ty.{Ty}
 use Rattle.protox_ast.specs.declared.ast.Ty.TheVariants as ty
-use Rattle.protox_descriptor.specs.declared.descriptor.DescriptorProto.{DescriptorProto, roll-DescriptorProto}
-use Rattle.protox_descriptor.specs.declared.descriptor.source_code_info.Location.{Location}
 use Rattle.protox_generate.specs.whole.Checks.{file_faults, placed}
-use Rattle.protox_generate.proofs.whole.Files.{FileTree, AMessage, AnExtend, Another, filled, table, table-of, messages, messages-of, extensions, extensions-of, faults-of}
+use Rattle.protox_generate.proofs.whole.Files.{FileTree, AMessage, AnExtend, Another, filled, faults-of}
 use Rattle.protox_generate.proofs.whole.Trees as t
 use Rattle.protox_generate.proofs.whole.Trees.{◌&◌}
 use Rattle.protox_generate.proofs.whole.Written as w

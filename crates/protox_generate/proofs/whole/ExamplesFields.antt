@@ -1,29 +1,15 @@
 -- Examples of fields: groups, maps, oneofs that stand in no source, defaults and JSON names.
 use Prim.Native.String.{String}
-use Rattle.std.proofs.Common.{◌≡◌, ℕ, List, [], ◌∷◌, ◌++◌, map, Option, Some, None, ℤ, pos, negsuc, true, false, codes, refl}
+use Rattle.std.proofs.Common.{◌≡◌, List, [], ◌∷◌, Some, None, pos, true, codes}
 use Rattle.std.specs.Char.{encode_utf8}
 use Rattle.std.specs.Fmt.{digits}
 use Rattle.std.specs.Str.{is_utf8, chars}
 use Rattle.std.specs.Str.Lossy.{utf8_valid_len}
-use Rattle.protox_lex.specs.Faults.{Span}
-use Rattle.protox_lex.specs.declared.error.ParseErrorKind.{ParseErrorKind}
-use Rattle.protox_lex.specs.declared.error.ParseErrorKind.TheVariants as fault
-use Rattle.protox_ast.specs.declared.ast.Comments.{Comments}
-use Rattle.protox_ast.specs.declared.ast.FieldLabel.{FieldLabel}
 use Rattle.protox_ast.specs.declared.ast.File.{File}
-use Rattle.protox_ast.specs.declared.ast.FileItem.{FileItem}
-use Rattle.protox_ast.specs.declared.ast.FileItem.TheVariants as file_item
-use Rattle.protox_ast.specs.declared.ast.OptionList.{OptionList}
-use Rattle.protox_ast.specs.declared.ast.OptionNamePart.TheVariants as part
-use Rattle.protox_ast.specs.declared.ast.OptionValue.{OptionValue}
 use Rattle.protox_ast.specs.declared.ast.OptionValue.TheVariants as value
-use Rattle.protox_ast.specs.declared.ast.ReservedRangeEnd.TheVariants as range_end
-use Rattle.protox_ast.specs.declared.ast.Ty.{Ty}
 use Rattle.protox_ast.specs.declared.ast.Ty.TheVariants as ty
-use Rattle.protox_descriptor.specs.declared.descriptor.DescriptorProto.{DescriptorProto, roll-DescriptorProto}
-use Rattle.protox_descriptor.specs.declared.descriptor.source_code_info.Location.{Location}
-
-use Rattle.protox_generate.proofs.whole.Files.{FileTree, AMessage, AnExtend, Another, filled, table, table-of, messages, messages-of, extensions, extensions-of, faults-of}
+use Rattle.protox_descriptor.specs.declared.descriptor.DescriptorProto.{roll-DescriptorProto}
+use Rattle.protox_generate.proofs.whole.Files.{FileTree, AMessage, filled, table, table-of, messages, messages-of}
 use Rattle.protox_generate.proofs.whole.Trees as t
 use Rattle.protox_generate.proofs.whole.Trees.{◌&◌}
 use Rattle.protox_generate.proofs.whole.Written as w
@@ -57,8 +43,8 @@ group-places = table-of group_source group_file group_tree
 
 group-messages : messages (filled group_file group_tree) ≡
     made_message "M"
-        (record no_field { name = Some (codes "ab"); number = Some (pos 1); label = Some (pos 1); field_type = Some (pos 10); type_name = Some (codes "Ab") } ∷ [])
-        (made_message "Ab" [] [] [] ∷ []) []
+    (record no_field { name = Some (codes "ab"); number = Some (pos 1); label = Some (pos 1); field_type = Some (pos 10); type_name = Some (codes "Ab") } ∷ [])
+    (made_message "Ab" [] [] [] ∷ []) []
     ∷ []
 group-messages = messages-of group_file group_tree
 
@@ -86,17 +72,22 @@ map-places = table-of map_source map_file map_tree
 
 map-messages : messages (filled map_file map_tree) ≡
     made_message "M"
-        (record no_field { name = Some (codes "my_map"); number = Some (pos 1); label = Some (pos 3); field_type = Some (pos 11); type_name = Some (codes "MyMapEntry") } ∷ [])
-        (roll-DescriptorProto (record {
-          name = Some (codes "MyMapEntry");
-          field =
-              record no_field { name = Some (codes "key"); number = Some (pos 1); label = Some (pos 1); field_type = Some (pos 9); json_name = Some (codes "key") }
-              ∷ record no_field { name = Some (codes "value"); number = Some (pos 2); label = Some (pos 1); type_name = Some (codes "Foo"); json_name = Some (codes "value") }
-              ∷ [];
-          extension = []; nested_type = []; enum_type = []; extension_range = []; oneof_decl = [];
-          options = Some (record { map_entry = Some true; uninterpreted_option = [] });
-          reserved_range = []; reserved_name = [];
-        }) ∷ []) []
+    (record no_field { name = Some (codes "my_map"); number = Some (pos 1); label = Some (pos 3); field_type = Some (pos 11); type_name = Some (codes "MyMapEntry") } ∷ [])
+    (roll-DescriptorProto (record {
+      name = Some (codes "MyMapEntry");
+      field =
+          record no_field { name = Some (codes "key"); number = Some (pos 1); label = Some (pos 1); field_type = Some (pos 9); json_name = Some (codes "key") }
+          ∷ record no_field { name = Some (codes "value"); number = Some (pos 2); label = Some (pos 1); type_name = Some (codes "Foo"); json_name = Some (codes "value") }
+          ∷ [];
+      extension = [];
+      nested_type = [];
+      enum_type = [];
+      extension_range = [];
+      oneof_decl = [];
+      options = Some (record { map_entry = Some true; uninterpreted_option = [] });
+      reserved_range = [];
+      reserved_name = [];
+    }) ∷ []) []
     ∷ []
 map-messages = messages-of map_file map_tree
 
@@ -152,10 +143,10 @@ synthetic_tree = AMessage (t.message (word "M" 25) (t.inside (
 
 synthetic-messages : messages (filled synthetic_file synthetic_tree) ≡
     made_message "M"
-        (record no_field { name = Some (codes "_a"); number = Some (pos 1); label = Some (pos 1); field_type = Some (pos 5); oneof_index = Some (pos 1); proto3_optional = Some true }
-        ∷ record no_field { name = Some (codes "b"); number = Some (pos 2); label = Some (pos 1); field_type = Some (pos 5); oneof_index = Some (pos 0) }
-        ∷ [])
-        [] (made_oneof "o" ∷ made_oneof "X_a" ∷ [])
+    (record no_field { name = Some (codes "_a"); number = Some (pos 1); label = Some (pos 1); field_type = Some (pos 5); oneof_index = Some (pos 1); proto3_optional = Some true }
+    ∷ record no_field { name = Some (codes "b"); number = Some (pos 2); label = Some (pos 1); field_type = Some (pos 5); oneof_index = Some (pos 0) }
+    ∷ [])
+    [] (made_oneof "o" ∷ made_oneof "X_a" ∷ [])
     ∷ []
 synthetic-messages = messages-of synthetic_file synthetic_tree
 
@@ -206,7 +197,7 @@ json-places = table-of json_source json_file json_tree
 
 json-messages : messages (filled json_file json_tree) ≡
     made_message "A"
-        (record no_field { name = Some (codes "a"); number = Some (pos 1); label = Some (pos 1); field_type = Some (pos 5); json_name = Some (codes "x") } ∷ []) [] []
+    (record no_field { name = Some (codes "a"); number = Some (pos 1); label = Some (pos 1); field_type = Some (pos 5); json_name = Some (codes "x") } ∷ []) [] []
     ∷ []
 unfolding utf8_valid_len is_utf8 chars encode_utf8
 json-messages = messages-of json_file json_tree
@@ -240,10 +231,14 @@ twice-places = table-of twice_source twice_file twice_tree
 
 twice-messages : messages (filled twice_file twice_tree) ≡
     made_message "A"
-        (record no_field {
-          name = Some (codes "a"); number = Some (pos 1); label = Some (pos 1); field_type = Some (pos 5); default_value = Some (codes "1");
-          options = Some (record { uninterpreted_option = record (no_option "default") { positive_int_value = Some 2 } ∷ [] });
-        } ∷ []) [] []
+    (record no_field {
+      name = Some (codes "a");
+      number = Some (pos 1);
+      label = Some (pos 1);
+      field_type = Some (pos 5);
+      default_value = Some (codes "1");
+      options = Some (record { uninterpreted_option = record (no_option "default") { positive_int_value = Some 2 } ∷ [] });
+    } ∷ []) [] []
     ∷ []
 unfolding digits
 twice-messages = messages-of twice_file twice_tree

@@ -1,25 +1,12 @@
 -- Examples of enums, services and extensions.
 use Prim.Native.String.{String}
-use Rattle.std.proofs.Common.{◌≡◌, ℕ, List, [], ◌∷◌, ◌++◌, map, Option, Some, None, ℤ, pos, negsuc, true, false, codes, refl}
-use Rattle.protox_lex.specs.Faults.{Span}
-use Rattle.protox_lex.specs.declared.error.ParseErrorKind.{ParseErrorKind}
-use Rattle.protox_lex.specs.declared.error.ParseErrorKind.TheVariants as fault
-use Rattle.protox_ast.specs.declared.ast.Comments.{Comments}
-use Rattle.protox_ast.specs.declared.ast.FieldLabel.{FieldLabel}
+use Rattle.std.proofs.Common.{◌≡◌, List, [], ◌∷◌, Some, None, pos, negsuc, true, codes, refl}
 use Rattle.protox_ast.specs.declared.ast.File.{File}
-use Rattle.protox_ast.specs.declared.ast.FileItem.{FileItem}
 use Rattle.protox_ast.specs.declared.ast.FileItem.TheVariants as file_item
-use Rattle.protox_ast.specs.declared.ast.OptionList.{OptionList}
-use Rattle.protox_ast.specs.declared.ast.OptionNamePart.TheVariants as part
-use Rattle.protox_ast.specs.declared.ast.OptionValue.{OptionValue}
-use Rattle.protox_ast.specs.declared.ast.OptionValue.TheVariants as value
-use Rattle.protox_ast.specs.declared.ast.ReservedRangeEnd.TheVariants as range_end
-use Rattle.protox_ast.specs.declared.ast.Ty.{Ty}
 use Rattle.protox_ast.specs.declared.ast.Ty.TheVariants as ty
-use Rattle.protox_descriptor.specs.declared.descriptor.DescriptorProto.{DescriptorProto, roll-DescriptorProto}
-use Rattle.protox_descriptor.specs.declared.descriptor.source_code_info.Location.{Location}
+use Rattle.protox_descriptor.specs.declared.descriptor.DescriptorProto.{roll-DescriptorProto}
 use Rattle.protox_generate.specs.whole.File.{file_proto}
-use Rattle.protox_generate.proofs.whole.Files.{FileTree, AMessage, AnExtend, Another, filled, table, table-of, messages, messages-of, extensions, extensions-of, faults-of}
+use Rattle.protox_generate.proofs.whole.Files.{FileTree, AMessage, AnExtend, Another, filled, table, table-of, messages, messages-of, extensions, extensions-of}
 use Rattle.protox_generate.proofs.whole.Trees as t
 use Rattle.protox_generate.proofs.whole.Trees.{◌&◌}
 use Rattle.protox_generate.proofs.whole.Written as w
@@ -60,10 +47,19 @@ service_file = w.file (at 0 42)
 
 abbrev service_tree : List FileTree
 service_tree = Another (file_item.Service (record {
-  name = (word "S" 8); options = []; comments = w.quiet; span = (at 0 42);
+  name = (word "S" 8);
+  options = [];
+  comments = w.quiet;
+  span = (at 0 42);
   methods = record {
-    name = (word "m" 16); input_ty = w.dotted (at 24 25) ((word "A" 25) ∷ []); output_ty = w.name (word "B" 37); options = [];
-    client_streaming = Some (at 18 24); server_streaming = None; comments = w.quiet; span = (at 12 40);
+    name = (word "m" 16);
+    input_ty = w.dotted (at 24 25) ((word "A" 25) ∷ []);
+    output_ty = w.name (word "B" 37);
+    options = [];
+    client_streaming = Some (at 18 24);
+    server_streaming = None;
+    comments = w.quiet;
+    span = (at 12 40);
   } ∷ [];
 })) ∷ []
 
@@ -82,8 +78,12 @@ service-places = table-of service_source service_file service_tree
 service-descriptor : (file_proto (codes "a.proto") (filled service_file service_tree)).service ≡ record {
   name = Some (codes "S");
   method = record {
-    name = Some (codes "m"); input_type = Some (codes ".A"); output_type = Some (codes "B"); options = None;
-    client_streaming = Some true; server_streaming = None;
+    name = Some (codes "m");
+    input_type = Some (codes ".A");
+    output_type = Some (codes "B");
+    options = None;
+    client_streaming = Some true;
+    server_streaming = None;
   } ∷ [];
   options = None;
 } ∷ []
@@ -141,9 +141,16 @@ extend3_tree = AMessage (t.message (word "M" 25) (t.inside (t.an_extend (t.exten
     t.only (t.field (w.optional (at 40 48)) (t.normal ty.Int32 (at 49 54)) (word "x" 55) (int 1 (at 59 60)) None (at 40 61))) (at 29 63)) & t.none)) (at 17 65)) ∷ []
 
 extend3-messages : messages (filled extend3_file extend3_tree) ≡ roll-DescriptorProto (record {
-  name = Some (codes "M"); field = [];
+  name = Some (codes "M");
+  field = [];
   extension = record no_field { name = Some (codes "x"); number = Some (pos 1); label = Some (pos 1); field_type = Some (pos 5); extendee = Some (codes "A"); proto3_optional = Some true } ∷ [];
-  nested_type = []; enum_type = []; extension_range = []; oneof_decl = []; options = None; reserved_range = []; reserved_name = [];
+  nested_type = [];
+  enum_type = [];
+  extension_range = [];
+  oneof_decl = [];
+  options = None;
+  reserved_range = [];
+  reserved_name = [];
 }) ∷ []
 extend3-messages = messages-of extend3_file extend3_tree
 

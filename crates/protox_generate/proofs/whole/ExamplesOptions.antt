@@ -1,22 +1,12 @@
 -- Examples of options: of a file, of an enum's value, and their values by kind.
 use Prim.Native.String.{String}
-use Rattle.std.proofs.Common.{◌≡◌, ℕ, List, [], ◌∷◌, ◌++◌, map, Option, Some, None, ℤ, pos, negsuc, true, false, codes, refl}
-use Rattle.protox_lex.specs.Faults.{Span}
-use Rattle.protox_lex.specs.declared.error.ParseErrorKind.{ParseErrorKind}
-use Rattle.protox_lex.specs.declared.error.ParseErrorKind.TheVariants as fault
+use Rattle.std.proofs.Common.{◌≡◌, List, [], ◌∷◌, map, Some, None, pos, negsuc, true, false, codes, refl}
 use Rattle.protox_ast.specs.declared.ast.Comments.{Comments}
-use Rattle.protox_ast.specs.declared.ast.FieldLabel.{FieldLabel}
 use Rattle.protox_ast.specs.declared.ast.File.{File}
-use Rattle.protox_ast.specs.declared.ast.FileItem.{FileItem}
 use Rattle.protox_ast.specs.declared.ast.FileItem.TheVariants as file_item
-use Rattle.protox_ast.specs.declared.ast.OptionList.{OptionList}
 use Rattle.protox_ast.specs.declared.ast.OptionNamePart.TheVariants as part
-use Rattle.protox_ast.specs.declared.ast.OptionValue.{OptionValue}
 use Rattle.protox_ast.specs.declared.ast.OptionValue.TheVariants as value
-use Rattle.protox_ast.specs.declared.ast.ReservedRangeEnd.TheVariants as range_end
-use Rattle.protox_ast.specs.declared.ast.Ty.{Ty}
 use Rattle.protox_ast.specs.declared.ast.Ty.TheVariants as ty
-use Rattle.protox_descriptor.specs.declared.descriptor.DescriptorProto.{DescriptorProto, roll-DescriptorProto}
 use Rattle.protox_descriptor.specs.declared.descriptor.source_code_info.Location.{Location}
 use Rattle.std.specs.Fmt.{digits}
 use Rattle.std.specs.Str.{is_utf8, chars}
@@ -26,12 +16,10 @@ use Rattle.protox_generate.specs.Lines.{span_numbers}
 use Rattle.protox_generate.specs.Sorting.{sorted, path_before}
 use Rattle.protox_generate.specs.whole.File.{file_proto}
 use Rattle.protox_generate.specs.whole.Locations.{file_locations}
-use Rattle.protox_generate.specs.whole.Options.{Statement, uninterpreted}
+use Rattle.protox_generate.specs.whole.Options.{uninterpreted}
 use Rattle.protox_generate.specs.whole.Spans.{body_span, parts_span}
 use Rattle.protox_generate.specs.whole.Values.{default_text, wanted}
-use Rattle.protox_generate.proofs.whole.Files.{FileTree, AMessage, AnExtend, Another, filled, table, table-of, messages, messages-of, extensions, extensions-of, faults-of}
-use Rattle.protox_generate.proofs.whole.Trees as t
-use Rattle.protox_generate.proofs.whole.Trees.{◌&◌}
+use Rattle.protox_generate.proofs.whole.Files.{FileTree, Another, filled, table}
 use Rattle.protox_generate.proofs.whole.Written as w
 use Rattle.protox_generate.proofs.whole.Written.{at, word, int, minus, made_message, made_oneof, no_field, no_option}
 
@@ -108,7 +96,9 @@ enum-places = refl
 enum-descriptor : (file_proto (codes "a.proto") (filled enum_file enum_tree)).enum_type ≡ record {
   name = Some (codes "E");
   value = record { name = Some (codes "A"); number = Some (pos 1); options = Some (record { uninterpreted_option = record (no_option "x") { positive_int_value = Some 1 } ∷ [] }) } ∷ [];
-  options = None; reserved_range = []; reserved_name = [];
+  options = None;
+  reserved_range = [];
+  reserved_name = [];
 } ∷ []
 enum-descriptor = refl
 

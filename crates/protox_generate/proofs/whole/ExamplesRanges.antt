@@ -1,26 +1,12 @@
 -- Examples of numbers and names that are set aside.
 use Prim.Native.String.{String}
-use Rattle.std.proofs.Common.{◌≡◌, ℕ, List, [], ◌∷◌, ◌++◌, map, Option, Some, None, ℤ, pos, negsuc, true, false, codes, refl}
-use Rattle.protox_lex.specs.Faults.{Span}
-use Rattle.protox_lex.specs.declared.error.ParseErrorKind.{ParseErrorKind}
-use Rattle.protox_lex.specs.declared.error.ParseErrorKind.TheVariants as fault
-use Rattle.protox_ast.specs.declared.ast.Comments.{Comments}
-use Rattle.protox_ast.specs.declared.ast.FieldLabel.{FieldLabel}
+use Rattle.std.proofs.Common.{◌≡◌, ℕ, List, [], ◌∷◌, Some, None, ℤ, pos, negsuc, codes, refl}
 use Rattle.protox_ast.specs.declared.ast.File.{File}
-use Rattle.protox_ast.specs.declared.ast.FileItem.{FileItem}
-use Rattle.protox_ast.specs.declared.ast.FileItem.TheVariants as file_item
-use Rattle.protox_ast.specs.declared.ast.OptionList.{OptionList}
-use Rattle.protox_ast.specs.declared.ast.OptionNamePart.TheVariants as part
-use Rattle.protox_ast.specs.declared.ast.OptionValue.{OptionValue}
-use Rattle.protox_ast.specs.declared.ast.OptionValue.TheVariants as value
 use Rattle.protox_ast.specs.declared.ast.ReservedRangeEnd.TheVariants as range_end
-use Rattle.protox_ast.specs.declared.ast.Ty.{Ty}
-use Rattle.protox_ast.specs.declared.ast.Ty.TheVariants as ty
 use Rattle.protox_descriptor.specs.declared.descriptor.DescriptorProto.{DescriptorProto, roll-DescriptorProto}
-use Rattle.protox_descriptor.specs.declared.descriptor.source_code_info.Location.{Location}
 use Rattle.protox_generate.specs.whole.Enums.{enum_proto}
 use Rattle.protox_generate.specs.whole.Options.{Statement}
-use Rattle.protox_generate.proofs.whole.Files.{FileTree, AMessage, AnExtend, Another, filled, table, table-of, messages, messages-of, extensions, extensions-of, faults-of}
+use Rattle.protox_generate.proofs.whole.Files.{FileTree, AMessage, filled, table, table-of, messages, messages-of}
 use Rattle.protox_generate.proofs.whole.Trees as t
 use Rattle.protox_generate.proofs.whole.Trees.{◌&◌}
 use Rattle.protox_generate.proofs.whole.Written as w
@@ -68,12 +54,18 @@ ranges-places = table-of ranges_source ranges_file ranges_tree
 -- the ends are the numbers after the last
 ranges-messages : messages (filled ranges_file ranges_tree) ≡
     roll-DescriptorProto (record {
-      name = Some (codes "M"); field = []; extension = []; nested_type = []; enum_type = [];
+      name = Some (codes "M");
+      field = [];
+      extension = [];
+      nested_type = [];
+      enum_type = [];
       extension_range = record {
-        start = Some (pos 10); end = Some (pos 536870912);
+        start = Some (pos 10);
+        end = Some (pos 536870912);
         options = Some (record { uninterpreted_option = record (no_option "x") { positive_int_value = Some 1 } ∷ [] });
       } ∷ [];
-      oneof_decl = []; options = None;
+      oneof_decl = [];
+      options = None;
       reserved_range = record { start = Some (pos 2); end = Some (pos 3) } ∷ record { start = Some (pos 4); end = Some (pos 6) } ∷ [];
       reserved_name = codes "a" ∷ codes "bc" ∷ [];
     })
@@ -96,9 +88,16 @@ set_of options = messages (filled (w.file (at 0 72)) (set_tree options))
 -- such a message, with the end of its range and its options
 abbrev a_set : ℤ → List (List ℕ) → DescriptorProto
 a_set end words = roll-DescriptorProto (record {
-  name = Some (codes "M"); field = []; extension = []; nested_type = []; enum_type = []; extension_range = []; oneof_decl = [];
+  name = Some (codes "M");
+  field = [];
+  extension = [];
+  nested_type = [];
+  enum_type = [];
+  extension_range = [];
+  oneof_decl = [];
   options = w.set_options words;
-  reserved_range = record { start = Some (pos 1); end = Some end } ∷ []; reserved_name = [];
+  reserved_range = record { start = Some (pos 1); end = Some end } ∷ [];
+  reserved_name = [];
 })
 
 set-true : set_of (wire_format "true" ∷ []) ≡ a_set (pos 2147483647) (codes "true" ∷ []) ∷ []

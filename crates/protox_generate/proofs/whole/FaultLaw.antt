@@ -1,5 +1,5 @@
 -- A fault is in the list of a file's faults exactly if it is wrong of the file.
-use Rattle.std.proofs.Common.{◌≡◌, ℕ, Bool, true, false, not, ◌⊎◌, inl, inr, List, [], ◌∷◌, ◌++◌, flat_map, Any, Contains, Option, Some, None, codes, refl, sym, ap, subst, ◌∙◌, true≢false, Bor, is_none}
+use Rattle.std.proofs.Common.{◌≡◌, ℕ, Bool, true, false, not, ◌⊎◌, inl, inr, List, [], ◌∷◌, ◌++◌, Contains, Option, Some, None, codes, refl, sym, ap, subst, ◌∙◌, true≢false, Bor, is_none}
 use Rattle.std.specs.Prelude.{◌&&◌}
 use Rattle.protox_lex.specs.Faults.{Span}
 use Rattle.protox_lex.specs.declared.error.ParseErrorKind.{ParseErrorKind}
@@ -14,7 +14,6 @@ use Rattle.protox_ast.specs.declared.ast.OptionValue.{OptionValue}
 use Rattle.protox_ast.specs.declared.ast.OptionValue.TheVariants as value
 use Rattle.protox_ast.specs.declared.ast.Syntax.{Syntax}
 use Rattle.protox_ast.specs.declared.ast.Syntax.TheVariants.{Proto2, Proto3}
-use Rattle.protox_ast.specs.declared.ast.Ty.{Ty}
 use Rattle.protox_generate.specs.Descriptor.{in_message_range}
 use Rattle.protox_generate.specs.whole.Checks.{placed, settled, only_if, integer_faults, value_faults, option_faults, label_faults, map_faults, key_faults, kind_faults, is_proto3, place_faults, group_faults, default_value_faults, at_default, field_faults, node_faults, file_faults}
 use Rattle.protox_generate.specs.whole.FieldFaults.{Scope, InMessage, InOneof, InExtend, FieldKind, Normal, Group, Map, FieldNode, OfKind, WrongLabel, WrongMap, WrongKey, WrongKind, WrongDefault, on_map, on_repeated, on_group, in_proto3, WrongDefaultValue, WrongField, of_label, of_kind, of_default, of_default_value, may_be_key, is_map, is_group, is_repeated}
@@ -23,7 +22,7 @@ use Rattle.protox_generate.specs.whole.Nodes.{Node, AMessageNumber, AnEnumNumber
 use Rattle.protox_generate.specs.whole.Spans.{body_span}
 use Rattle.protox_generate.specs.whole.ValueFaults.{invalid_type, out_of_range, WrongInteger, WrongValue, WrongUninterpreted}
 use Rattle.protox_generate.specs.whole.Values.{Interval, is_in, any_64, signed_32, Wanted, a_float, an_integer, a_bool, a_text, some_bytes, anything, wanted, as_bool, as_float_text}
-use Rattle.protox_generate.proofs.whole.Membership.{Among, Somewhere, somewhere-from, any-from, among-from, contains-from, among-left, among-right, among-cases, among-flat, somewhere-flat, not-true, not-false, both-true, and-true, none-true, none-test}
+use Rattle.protox_generate.proofs.whole.Membership.{Among, somewhere-from, any-from, among-from, contains-from, among-left, among-right, among-cases, among-flat, somewhere-flat, not-true, not-false, both-true, and-true, none-true, none-test}
 
 -- ---- the word of a kind
 

@@ -1,15 +1,13 @@
 -- Files that compute, for examples: their descriptors, locations and faults, each with the law that it is so.
 use Prim.Native.String.{String}
-use Rattle.std.proofs.Common.{◌≡◌, ℕ, List, [], ◌∷◌, ◌++◌, map, flat_map, codes, refl, ap, ap₂, ◌∙◌, ℤ}
+use Rattle.std.proofs.Common.{◌≡◌, ℕ, List, [], ◌∷◌, ◌++◌, map, flat_map, codes, refl, ap, ap₂, ℤ}
 use Rattle.protox_lex.specs.Faults.{Span}
-use Rattle.protox_lex.specs.declared.error.ParseErrorKind.{ParseErrorKind}
 use Rattle.protox_ast.specs.declared.ast.File.{File}
 use Rattle.protox_ast.specs.declared.ast.FileItem.{FileItem}
 use Rattle.protox_ast.specs.declared.ast.FileItem.TheVariants as file_item
 use Rattle.protox_ast.specs.declared.ast.Syntax.{Syntax}
 use Rattle.protox_descriptor.specs.declared.descriptor.DescriptorProto.{DescriptorProto}
 use Rattle.protox_descriptor.specs.declared.descriptor.FieldDescriptorProto.{FieldDescriptorProto}
-use Rattle.protox_descriptor.specs.declared.descriptor.FileDescriptorProto.{FileDescriptorProto}
 use Rattle.protox_descriptor.specs.declared.descriptor.source_code_info.Location.{Location}
 use Rattle.protox_descriptor.specs.declared.tag.file.TheConstants as file_tag
 use Rattle.protox_generate.specs.Descriptor.{each_after}
@@ -21,7 +19,7 @@ use Rattle.protox_generate.specs.whole.Descriptor.{descriptor_steps}
 use Rattle.protox_generate.specs.whole.File.{item_messages, item_extensions, file_proto}
 use Rattle.protox_generate.specs.whole.LocationWords.{part, nth, bare, option_statements}
 use Rattle.protox_generate.specs.whole.Locations.{OfItem, of_extend_at, item_at, location_steps, of_file_item, file_locations, nothing}
-use Rattle.protox_generate.specs.whole.Nodes.{Node, node_steps, item_nodes, option_nodes, file_nodes}
+use Rattle.protox_generate.specs.whole.Nodes.{Node, node_steps, item_nodes, option_nodes}
 use Rattle.protox_generate.specs.whole.Options.{bodies_of}
 use Rattle.protox_generate.proofs.whole.Trees.{Tree, MessageSort, ExtendSort, make, give, given}
 use Rattle.protox_generate.proofs.whole.Written.{shown}

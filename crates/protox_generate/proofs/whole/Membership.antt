@@ -1,5 +1,5 @@
 -- Elements of lists by recursion on the list.
-use Rattle.std.proofs.Common.{◌≡◌, ℕ, zero, suc, ◌<◌, Bool, true, false, not, ◌⊎◌, inl, inr, List, [], ◌∷◌, ◌++◌, length, flat_map, Any, Contains, slice_index_or, Option, Some, None, refl, sym, ap, subst, true≢false, arith, not-suc-le-zero, le_of_suc-le-suc, suc-le-suc, zero-lt-suc, is_none}
+use Rattle.std.proofs.Common.{◌≡◌, ℕ, zero, suc, ◌<◌, Bool, true, false, not, ◌⊎◌, inl, inr, List, [], ◌∷◌, ◌++◌, length, flat_map, Any, Contains, slice_index_or, Option, Some, None, refl, sym, ap, subst, true≢false, not-suc-le-zero, le_of_suc-le-suc, suc-le-suc, zero-lt-suc, is_none}
 use Rattle.std.specs.Prelude.{◌&&◌}
 
 abbrev pub Among : {A : Type 0} → List A → A → Type 0

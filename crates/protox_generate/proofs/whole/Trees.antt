@@ -1,5 +1,5 @@
 -- Syntax trees that compute: a tree as data, the syntax tree that it makes, and what the levels of that give.
-use Rattle.std.proofs.Common.{◌≡◌, List, [], ◌∷◌, ◌++◌, map, flat_map, Option, refl, ap, ap₂, sym, ◌∙◌}
+use Rattle.std.proofs.Common.{◌≡◌, List, [], ◌∷◌, map, Option, refl, ap, ap₂, ◌∙◌}
 use Rattle.protox_lex.specs.Faults.{Span}
 use Rattle.protox_ast.specs.Steps.{Steps, of_message, of_body, of_item, of_field, of_kind, of_oneof, of_extend, item-field, item-enum, item-message, item-extend, item-oneof, kind-normal, kind-group, kind-map}
 use Rattle.protox_ast.specs.declared.ast.Enum.{Enum}
@@ -8,7 +8,7 @@ use Rattle.protox_ast.specs.declared.ast.Extensions.{Extensions}
 use Rattle.protox_ast.specs.declared.ast.Field.{Field, roll-Field}
 use Rattle.protox_ast.specs.declared.ast.FieldKind.{FieldKind}
 use Rattle.protox_ast.specs.declared.ast.FieldKind.TheVariants as kind
-use Rattle.protox_ast.specs.declared.ast.FieldKind.TheOpen.{Message-F, MessageBody-F, MessageItem-F, Field-F, FieldKind-F, Oneof-F, Extend-F}
+use Rattle.protox_ast.specs.declared.ast.FieldKind.TheOpen.{MessageItem-F, FieldKind-F}
 use Rattle.protox_ast.specs.declared.ast.FieldKind.TheFolds.{fold-roll-Message, fold-roll-MessageBody, fold-roll-Field, fold-roll-Oneof, fold-roll-Extend}
 use Rattle.protox_ast.specs.declared.ast.FieldLabel.{FieldLabel}
 use Rattle.protox_ast.specs.declared.ast.Ident.{Ident}
@@ -29,7 +29,6 @@ pub data Sort : Type 0 where
   MessageSort BodySort ItemsSort ItemSort FieldSort FieldsSort KindSort OneofSort ExtendSort : Sort
 
 infixr 30 ◌&◌
-
 -- a tree, without comments
 pub data Tree : Sort → Type 0 where
   message : Ident → Tree BodySort → Span → Tree MessageSort

@@ -1,6 +1,6 @@
 -- Syntax trees written shortly, and locations as lists of numbers, for examples.
 use Prim.Native.String.{String}
-use Rattle.std.specs.Prelude.{ℕ, ◌+◌, Bool, true, false, List, [], ◌∷◌, length, map, Option, Some, None, codes, nat_abs}
+use Rattle.std.specs.Prelude.{ℕ, ◌+◌, true, false, List, [], ◌∷◌, length, map, Option, Some, None, codes, nat_abs}
 use Rattle.protox_lex.specs.Faults.{Span}
 use Rattle.protox_ast.specs.declared.ast.Comments.{Comments}
 use Rattle.protox_ast.specs.declared.ast.Enum.{Enum}
@@ -126,8 +126,17 @@ shown location = (map nat_abs location.path, map nat_abs location.span)
 
 abbrev pub no_field : FieldDescriptorProto
 no_field = record {
-  name = None; number = None; label = None; field_type = None; type_name = None; extendee = None; default_value = None;
-  oneof_index = None; json_name = None; options = None; proto3_optional = None;
+  name = None;
+  number = None;
+  label = None;
+  field_type = None;
+  type_name = None;
+  extendee = None;
+  default_value = None;
+  oneof_index = None;
+  json_name = None;
+  options = None;
+  proto3_optional = None;
 }
 
 abbrev pub made_oneof : String → OneofDescriptorProto
@@ -136,15 +145,28 @@ made_oneof text = record { name = Some (codes text); options = None }
 -- a message of these fields, messages and oneofs
 abbrev pub made_message : String → List FieldDescriptorProto → List DescriptorProto → List OneofDescriptorProto → DescriptorProto
 made_message text fields nested oneofs = roll-DescriptorProto (record {
-  name = Some (codes text); field = fields; extension = []; nested_type = nested; enum_type = []; extension_range = [];
-  oneof_decl = oneofs; options = None; reserved_range = []; reserved_name = [];
+  name = Some (codes text);
+  field = fields;
+  extension = [];
+  nested_type = nested;
+  enum_type = [];
+  extension_range = [];
+  oneof_decl = oneofs;
+  options = None;
+  reserved_range = [];
+  reserved_name = [];
 })
 
 -- an option of one name that isn't interpreted, without a value
 abbrev pub no_option : String → UninterpretedOption
 no_option text = record {
   name = record { name_part = codes text; is_extension = false } ∷ [];
-  identifier_value = None; positive_int_value = None; negative_int_value = None; double_value = None; string_value = None; aggregate_value = None;
+  identifier_value = None;
+  positive_int_value = None;
+  negative_int_value = None;
+  double_value = None;
+  string_value = None;
+  aggregate_value = None;
 }
 
 -- the options of a message, each `message_set_wire_format` with a word

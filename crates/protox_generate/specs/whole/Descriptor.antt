@@ -1,15 +1,15 @@
 -- The descriptor of a message: its fields in order of the items, those of a oneof where the oneof stands; the messages in
 -- it, groups' bodies and maps' entries among them, in order of the items too; and all else that stands in it.
-use Rattle.std.specs.Prelude.{ℕ, ◌+◌, Bool, true, false, ◌&&◌, if◌then◌else◌, List, [], ◌∷◌, ◌++◌, length, map, Option, Some, None, ℤ, pos}
+use Rattle.std.specs.Prelude.{ℕ, ◌+◌, Bool, true, false, if◌then◌else◌, List, [], ◌∷◌, ◌++◌, length, map, Option, Some, None, ℤ, pos}
 use Rattle.std.specs.List.{flat_map}
 use Rattle.protox_ast.specs.Names.{type_name_text}
 use Rattle.protox_ast.specs.Steps.{Steps}
 use Rattle.protox_ast.specs.declared.ast.Extensions.{Extensions}
-use Rattle.protox_ast.specs.declared.ast.FieldKind.TheOpen.{MessageBody-F, MessageItem-F, Field-F, FieldKind-F}
+use Rattle.protox_ast.specs.declared.ast.FieldKind.TheOpen.{MessageItem-F, Field-F, FieldKind-F}
 use Rattle.protox_ast.specs.declared.ast.Reserved.{Reserved}
 use Rattle.protox_ast.specs.declared.ast.Syntax.{Syntax}
 use Rattle.protox_ast.specs.declared.ast.TypeName.{TypeName}
-use Rattle.protox_descriptor.specs.declared.descriptor.DescriptorProto.{DescriptorProto, roll-DescriptorProto}
+use Rattle.protox_descriptor.specs.declared.descriptor.DescriptorProto.{DescriptorProto}
 use Rattle.protox_descriptor.specs.declared.descriptor.EnumDescriptorProto.{EnumDescriptorProto}
 use Rattle.protox_descriptor.specs.declared.descriptor.FieldDescriptorProto.{FieldDescriptorProto}
 use Rattle.protox_descriptor.specs.declared.descriptor.OneofDescriptorProto.{OneofDescriptorProto}

@@ -7,7 +7,7 @@ use Rattle.protox_ast.specs.declared.ast.FieldLabel.{FieldLabel}
 use Rattle.protox_ast.specs.declared.ast.FieldLabel.TheVariants as label
 use Rattle.protox_ast.specs.declared.ast.OptionBody.{OptionBody}
 use Rattle.protox_ast.specs.declared.ast.Syntax.{Syntax}
-use Rattle.protox_ast.specs.declared.ast.Syntax.TheVariants.{Proto2, Proto3}
+use Rattle.protox_ast.specs.declared.ast.Syntax.TheVariants.{Proto3}
 use Rattle.protox_ast.specs.declared.ast.Ty.{Ty}
 use Rattle.protox_descriptor.specs.Case.{pascal_case}
 use Rattle.protox_descriptor.specs.declared.descriptor.DescriptorProto.{DescriptorProto, roll-DescriptorProto}

@@ -2,7 +2,6 @@
 use Rattle.std.specs.Prelude.{◌+◌, List, [], ◌∷◌, ◌++◌, length, Option, Some, None, ℤ}
 use Rattle.protox_lex.specs.Faults.{Span}
 use Rattle.protox_ast.specs.declared.ast.Extensions.{Extensions}
-use Rattle.protox_ast.specs.declared.ast.Ident.{Ident}
 use Rattle.protox_ast.specs.declared.ast.OptionBody.{OptionBody}
 use Rattle.protox_ast.specs.declared.ast.OptionList.{OptionList}
 use Rattle.protox_ast.specs.declared.ast.Reserved.{Reserved}

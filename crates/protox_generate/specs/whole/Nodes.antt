@@ -1,19 +1,18 @@
 -- What of a file is looked at for faults, in the order of the file.
-use Rattle.std.specs.Prelude.{◌≡◌, List, [], ◌∷◌, ◌++◌, map, Option, Some, None}
+use Rattle.std.specs.Prelude.{List, [], ◌∷◌, ◌++◌, map, Option, Some, None}
 use Rattle.std.specs.List.{flat_map}
 use Rattle.protox_lex.specs.Faults.{Span}
 use Rattle.protox_ast.specs.Steps.{Steps, of_extend, of_message}
 use Rattle.protox_ast.specs.declared.ast.Enum.{Enum}
 use Rattle.protox_ast.specs.declared.ast.EnumValue.{EnumValue}
 use Rattle.protox_ast.specs.declared.ast.Extensions.{Extensions}
-use Rattle.protox_ast.specs.declared.ast.FieldKind.TheOpen.{Extend-F, Field-F, FieldKind-F, MessageBody-F, MessageItem-F, Oneof-F}
+use Rattle.protox_ast.specs.declared.ast.FieldKind.TheOpen.{Field-F, FieldKind-F, MessageItem-F}
 use Rattle.protox_ast.specs.declared.ast.File.{File}
 use Rattle.protox_ast.specs.declared.ast.FileItem.{FileItem}
 use Rattle.protox_ast.specs.declared.ast.FileItem.TheVariants as item
 use Rattle.protox_ast.specs.declared.ast.Int.{Int}
 use Rattle.protox_ast.specs.declared.ast.Method.{Method}
 use Rattle.protox_ast.specs.declared.ast.OptionBody.{OptionBody}
-use Rattle.protox_ast.specs.declared.ast.OptionList.{OptionList}
 use Rattle.protox_ast.specs.declared.ast.OptionValue.{OptionValue}
 use Rattle.protox_ast.specs.declared.ast.Reserved.{Reserved}
 use Rattle.protox_ast.specs.declared.ast.ReservedRange.{ReservedRange}
@@ -21,7 +20,7 @@ use Rattle.protox_ast.specs.declared.ast.ReservedRangeEnd.{ReservedRangeEnd}
 use Rattle.protox_ast.specs.declared.ast.ReservedRangeEnd.TheVariants as range_end
 use Rattle.protox_ast.specs.declared.ast.Service.{Service}
 use Rattle.protox_generate.specs.whole.FieldFaults.{Scope, InMessage, InOneof, InExtend, FieldKind, Normal, Group, Map, FieldNode}
-use Rattle.protox_generate.specs.whole.Options.{Statement, bodies_of, default_of, json_name_of, listed, options_left}
+use Rattle.protox_generate.specs.whole.Options.{bodies_of, default_of, json_name_of, listed, options_left}
 use Rattle.protox_generate.specs.whole.Ranges.{reserved_ranges}
 
 pub data Node : Type 0 where

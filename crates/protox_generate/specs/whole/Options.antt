@@ -1,5 +1,5 @@
 -- Options: those that a parser reads, `default` and `json_name` of a field, and all others, which it doesn't interpret.
-use Rattle.std.specs.Prelude.{ℕ, Bool, true, false, if◌then◌else◌, List, [], ◌∷◌, map, Option, Some, None, option_and_then, ℤ, pos, codes, bytes_eq, find}
+use Rattle.std.specs.Prelude.{ℕ, Bool, true, false, if◌then◌else◌, List, [], ◌∷◌, map, Option, Some, None, option_and_then, ℤ, codes, bytes_eq, find}
 use Rattle.protox_ast.specs.Names.{type_name_text}
 use Rattle.protox_ast.specs.declared.ast.Option as statements
 use Rattle.protox_ast.specs.declared.ast.OptionNamePart.{OptionNamePart}

@@ -1,5 +1,5 @@
 -- Numbers and names that a message or an enum sets aside. A start above the end is no fault.
-use Rattle.std.specs.Prelude.{ℕ, Bool, true, false, if◌then◌else◌, List, [], ◌∷◌, map, Option, Some, None, option_map, ℤ, pos, ◌+ℤ◌, codes, find}
+use Rattle.std.specs.Prelude.{ℕ, Bool, false, if◌then◌else◌, List, [], map, Option, Some, None, option_map, ℤ, pos, ◌+ℤ◌, codes, find}
 use Rattle.std.specs.List.{flat_map}
 use Rattle.protox_ast.specs.declared.ast.Ident.{Ident}
 use Rattle.protox_ast.specs.declared.ast.Int.{Int}

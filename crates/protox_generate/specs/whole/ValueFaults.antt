@@ -1,5 +1,5 @@
 -- What may be wrong with a value: of an option that isn't interpreted, of a `default`, or of a `json_name`.
-use Rattle.std.specs.Prelude.{◌≡◌, ℕ, Bool, true, false, List, Option, None, codes}
+use Rattle.std.specs.Prelude.{◌≡◌, ℕ, true, false, List, None, codes}
 use Rattle.std.specs.Fmt.{signed_decimal}
 use Rattle.protox_lex.specs.declared.error.ParseErrorKind.{ParseErrorKind}
 use Rattle.protox_lex.specs.declared.error.ParseErrorKind.TheVariants as fault

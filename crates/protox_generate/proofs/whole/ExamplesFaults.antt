@@ -84,7 +84,7 @@ abbrev in_message : t.Tree t.FieldSort → FileTree
 in_message one = AMessage (t.message (word "M" 8) (t.inside (t.a_field one & t.none)) (at 0 44))
 
 abbrev in_oneof : t.Tree t.FieldSort → FileTree
-in_oneof one = AMessage (t.message (word "M" 8) (t.inside (t.a_oneof (t.oneof (word "o" 10) (t.only one) (at 9 43)) & t.none)) (at 0 44))
+in_oneof one = AMessage (t.message (word "M" 8) (t.inside (t.a_oneof (t.oneof (word "o" 10) [] (t.only one) (at 9 43)) & t.none)) (at 0 44))
 
 abbrev in_extend : t.Tree t.FieldSort → FileTree
 in_extend one = AnExtend (t.extend (w.name (word "M" 8)) (t.only one) (at 0 44))
@@ -185,7 +185,7 @@ group-proto3 : faults3 group_proto3_tree ≡ fault.Proto3GroupField (at 12 42) �
 group-proto3 = faults-of (w.file3 (at 0 0) (at 0 44)) (group_proto3_tree ∷ [])
 
 abbrev empty_oneof_tree : FileTree
-empty_oneof_tree = AMessage (t.message (word "M" 8) (t.inside (t.a_oneof (t.oneof (word "o" 10) t.no_field (at 9 43)) & t.none)) (at 0 44))
+empty_oneof_tree = AMessage (t.message (word "M" 8) (t.inside (t.a_oneof (t.oneof (word "o" 10) [] t.no_field (at 9 43)) & t.none)) (at 0 44))
 
 empty-oneof : faults2 empty_oneof_tree ≡ fault.EmptyOneof (at 9 43) ∷ []
 empty-oneof = faults-of (w.file (at 0 44)) (empty_oneof_tree ∷ [])

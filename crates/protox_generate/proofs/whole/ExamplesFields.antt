@@ -138,7 +138,7 @@ synthetic_file = w.file3 (at 0 16) (at 0 78)
 abbrev synthetic_tree : List FileTree
 synthetic_tree = AMessage (t.message (word "M" 25) (t.inside (
     t.a_field (t.field (w.optional (at 29 37)) (t.normal ty.Int32 (at 38 43)) (word "_a" 44) (int 1 (at 49 50)) None (at 29 51))
-    & t.a_oneof (t.oneof (word "o" 58) (t.only (t.field None (t.normal ty.Int32 (at 62 67)) (word "b" 68) (int 2 (at 72 73)) None (at 62 74))) (at 52 76))
+    & t.a_oneof (t.oneof (word "o" 58) [] (t.only (t.field None (t.normal ty.Int32 (at 62 67)) (word "b" 68) (int 2 (at 72 73)) None (at 62 74))) (at 52 76))
     & t.none)) (at 17 78)) ∷ []
 
 synthetic-messages : messages (filled synthetic_file synthetic_tree) ≡

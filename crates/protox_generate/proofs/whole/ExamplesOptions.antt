@@ -34,7 +34,7 @@ led = record { leading_detached_comments = []; leading_comment = Some (codes " x
 abbrev two_file : File
 two_file = record (w.file (at 0 35)) {
   options =
-      w.statement (w.body_of (word "a" 7) (value.Int (int 1 (at 11 12)))) (at 0 13)
+      record { body = w.body_of (word "a" 7) (value.Int (int 1 (at 11 12))); comments = w.quiet; span = at 0 13 }
       ∷ record { body = w.body_of (word "b" 29) (value.Int (int 2 (at 33 34))); comments = led; span = (at 22 35) }
       ∷ [];
 }

@@ -22,7 +22,7 @@ use Rattle.protox_generate.specs.whole.Locations.{OfItem, of_extend_at, item_at,
 use Rattle.protox_generate.specs.whole.Nodes.{Node, node_steps, item_nodes, option_nodes}
 use Rattle.protox_generate.specs.whole.Options.{bodies_of}
 use Rattle.protox_generate.proofs.whole.Trees.{Tree, MessageSort, ExtendSort, make, give, given}
-use Rattle.protox_generate.proofs.whole.Written.{shown}
+use Rattle.protox_generate.proofs.whole.Written.{shown, shown_whole}
 
 pub data FileTree : Type 0 where
   AMessage : Tree MessageSort → FileTree
@@ -111,11 +111,23 @@ module _ (numbers : Span → List ℤ) where
 abbrev pub table : String → File → List (List ℕ × List ℕ)
 table source file = map shown (sorted path_before (file_locations (span_numbers (codes source)) file))
 
+-- the same with the comment that leads it
+abbrev pub whole_table : String → File → List (List ℕ × List ℕ × List ℕ)
+whole_table source file = map shown_whole (sorted path_before (file_locations (span_numbers (codes source)) file))
+
+located-of : (source : String) (file : File) (trees : List FileTree)
+    → sorted path_before (file_locations (span_numbers (codes source)) (filled file trees)) ≡ sorted path_before (with_items (span_numbers (codes source)) file (map (given_item (span_numbers (codes source))) trees))
+located-of source file trees =
+    ap (λ items. sorted path_before (with_items (span_numbers (codes source)) file items))
+    (map-given (of_file_item (span_numbers (codes source))) (given_item (span_numbers (codes source))) (same-item (span_numbers (codes source))) trees)
+
 pub table-of : (source : String) (file : File) (trees : List FileTree)
     → table source (filled file trees) ≡ map shown (sorted path_before (with_items (span_numbers (codes source)) file (map (given_item (span_numbers (codes source))) trees)))
-table-of source file trees =
-    ap (λ items. map shown (sorted path_before (with_items (span_numbers (codes source)) file items)))
-    (map-given (of_file_item (span_numbers (codes source))) (given_item (span_numbers (codes source))) (same-item (span_numbers (codes source))) trees)
+table-of source file trees = ap (map shown) (located-of source file trees)
+
+pub whole_table-of : (source : String) (file : File) (trees : List FileTree)
+    → whole_table source (filled file trees) ≡ map shown_whole (sorted path_before (with_items (span_numbers (codes source)) file (map (given_item (span_numbers (codes source))) trees)))
+whole_table-of source file trees = ap (map shown_whole) (located-of source file trees)
 
 -- ---- faults
 

@@ -23,13 +23,13 @@ use Rattle.protox_ast.specs.declared.ast.Reserved.{Reserved}
 use Rattle.protox_ast.specs.declared.ast.Ty.{Ty}
 use Rattle.protox_ast.specs.declared.ast.TypeName.{TypeName}
 use Rattle.protox_generate.specs.whole.Options.{Statement}
-use Rattle.protox_generate.proofs.whole.Written.{quiet}
+use Rattle.protox_generate.proofs.whole.Written.{noted}
 
 pub data Sort : Type 0 where
   MessageSort BodySort ItemsSort ItemSort FieldSort FieldsSort KindSort OneofSort ExtendSort : Sort
 
 infixr 30 ◌&◌
--- a tree, without comments
+-- a tree, in which each declaration is led by the comment that its span makes
 pub data Tree : Sort → Type 0 where
   message : Ident → Tree BodySort → Span → Tree MessageSort
   body : Tree ItemsSort → List Extensions → List Statement → List Reserved → Tree BodySort
@@ -46,7 +46,7 @@ pub data Tree : Sort → Type 0 where
   a_map : Span → Ty → Span → Ty → Span → Tree KindSort
   no_field : Tree FieldsSort
   more_fields : Tree FieldSort → Tree FieldsSort → Tree FieldsSort
-  oneof : Ident → Tree FieldsSort → Span → Tree OneofSort
+  oneof : Ident → List Statement → Tree FieldsSort → Span → Tree OneofSort
   extend : TypeName → Tree FieldsSort → Span → Tree ExtendSort
 
 abbrev pub Node : Sort → Type 0
@@ -62,7 +62,7 @@ Node ExtendSort = Extend
 
 -- the syntax tree
 abbrev pub make : {k : Sort} → Tree k → Node k
-make (message ident inside span) = roll-Message (record { name = ident; body = make inside; comments = quiet; span = span })
+make (message ident inside span) = roll-Message (record { name = ident; body = make inside; comments = noted span; span = span })
 make (body items extensions options reserved) = roll-MessageBody (record { items = make items; extensions = extensions; options = options; reserved = reserved })
 make none = []
 make (first & rest) = make first ∷ make rest
@@ -71,14 +71,14 @@ make (a_message m) = item.Message (make m)
 make (a_oneof o) = item.Oneof (make o)
 make (an_extend e) = item.Extend (make e)
 make (an_enum e) = item.Enum e
-make (field label what ident number options span) = roll-Field (record { label = label; name = ident; kind = make what; number = number; options = options; comments = quiet; span = span })
+make (field label what ident number options span) = roll-Field (record { label = label; name = ident; kind = make what; number = number; options = options; comments = noted span; span = span })
 make (normal type span) = kind.Normal type span
 make (group span inside) = kind.Group span (make inside)
 make (a_map span key key_span type type_span) = kind.Map span key key_span type type_span
 make no_field = []
 make (more_fields first rest) = make first ∷ make rest
-make (oneof ident fields span) = roll-Oneof (record { name = ident; options = []; fields = make fields; comments = quiet; span = span })
-make (extend extendee fields span) = roll-Extend (record { extendee = extendee; fields = make fields; comments = quiet; span = span })
+make (oneof ident options fields span) = roll-Oneof (record { name = ident; options = options; fields = make fields; comments = noted span; span = span })
+make (extend extendee fields span) = roll-Extend (record { extendee = extendee; fields = make fields; comments = noted span; span = span })
 
 module _ {K I E F M B O : Type 0} (s : Steps K I E F M B O) where
   abbrev pub Given : Sort → Type 0
@@ -94,7 +94,7 @@ module _ {K I E F M B O : Type 0} (s : Steps K I E F M B O) where
 
   -- what the steps give of a tree
   abbrev pub give : {k : Sort} → Tree k → Given k
-  give (message ident inside span) = s.message (record { name = ident; body = give inside; comments = quiet; span = span })
+  give (message ident inside span) = s.message (record { name = ident; body = give inside; comments = noted span; span = span })
   give (body items extensions options reserved) = s.body (record { items = give items; extensions = extensions; options = options; reserved = reserved })
   give none = []
   give (first & rest) = give first ∷ give rest
@@ -103,14 +103,14 @@ module _ {K I E F M B O : Type 0} (s : Steps K I E F M B O) where
   give (a_oneof o) = s.item (MessageItem-F.Oneof (give o))
   give (an_extend e) = s.item (MessageItem-F.Extend (give e))
   give (an_enum e) = s.item (MessageItem-F.Enum e)
-  give (field label what ident number options span) = s.field (record { label = label; name = ident; kind = give what; number = number; options = options; comments = quiet; span = span })
+  give (field label what ident number options span) = s.field (record { label = label; name = ident; kind = give what; number = number; options = options; comments = noted span; span = span })
   give (normal type span) = s.kind (FieldKind-F.Normal type span)
   give (group span inside) = s.kind (FieldKind-F.Group span (give inside))
   give (a_map span key key_span type type_span) = s.kind (FieldKind-F.Map span key key_span type type_span)
   give no_field = []
   give (more_fields first rest) = give first ∷ give rest
-  give (oneof ident fields span) = s.oneof (record { name = ident; options = []; fields = give fields; comments = quiet; span = span })
-  give (extend extendee fields span) = s.extend (record { extendee = extendee; fields = give fields; comments = quiet; span = span })
+  give (oneof ident options fields span) = s.oneof (record { name = ident; options = options; fields = give fields; comments = noted span; span = span })
+  give (extend extendee fields span) = s.extend (record { extendee = extendee; fields = give fields; comments = noted span; span = span })
 
   -- and of the syntax tree that it makes
   abbrev pub of : (k : Sort) → Node k → Given k
@@ -126,8 +126,8 @@ module _ {K I E F M B O : Type 0} (s : Steps K I E F M B O) where
 
   pub given : {k : Sort} (t : Tree k) → of k (make t) ≡ give t
   given (message ident inside span) =
-      fold-roll-Message K I E F M B O s.kind s.item s.extend s.field s.message s.body s.oneof (record { name = ident; body = make inside; comments = quiet; span = span })
-      ∙ ap (λ b. s.message (record { name = ident; body = b; comments = quiet; span = span })) (given inside)
+      fold-roll-Message K I E F M B O s.kind s.item s.extend s.field s.message s.body s.oneof (record { name = ident; body = make inside; comments = noted span; span = span })
+      ∙ ap (λ b. s.message (record { name = ident; body = b; comments = noted span; span = span })) (given inside)
   given (body items extensions options reserved) =
       fold-roll-MessageBody K I E F M B O s.kind s.item s.extend s.field s.message s.body s.oneof (record { items = make items; extensions = extensions; options = options; reserved = reserved })
       ∙ ap (λ l. s.body (record { items = l; extensions = extensions; options = options; reserved = reserved })) (given items)
@@ -139,19 +139,19 @@ module _ {K I E F M B O : Type 0} (s : Steps K I E F M B O) where
   given (an_extend e) = item-extend s (make e) ∙ ap (λ x. s.item (MessageItem-F.Extend x)) (given e)
   given (an_enum e) = item-enum s e
   given (field label what ident number options span) =
-      fold-roll-Field K I E F M B O s.kind s.item s.extend s.field s.message s.body s.oneof (record { label = label; name = ident; kind = make what; number = number; options = options; comments = quiet; span = span })
-      ∙ ap (λ x. s.field (record { label = label; name = ident; kind = x; number = number; options = options; comments = quiet; span = span })) (given what)
+      fold-roll-Field K I E F M B O s.kind s.item s.extend s.field s.message s.body s.oneof (record { label = label; name = ident; kind = make what; number = number; options = options; comments = noted span; span = span })
+      ∙ ap (λ x. s.field (record { label = label; name = ident; kind = x; number = number; options = options; comments = noted span; span = span })) (given what)
   given (normal type span) = kind-normal s type span
   given (group span inside) = kind-group s span (make inside) ∙ ap (λ b. s.kind (FieldKind-F.Group span b)) (given inside)
   given (a_map span key key_span type type_span) = kind-map s span key key_span type type_span
   given no_field = refl
   given (more_fields first rest) = ap₂ (λ x xs. x ∷ xs) (given first) (given rest)
-  given (oneof ident fields span) =
-      fold-roll-Oneof K I E F M B O s.kind s.item s.extend s.field s.message s.body s.oneof (record { name = ident; options = []; fields = make fields; comments = quiet; span = span })
-      ∙ ap (λ l. s.oneof (record { name = ident; options = []; fields = l; comments = quiet; span = span })) (given fields)
+  given (oneof ident options fields span) =
+      fold-roll-Oneof K I E F M B O s.kind s.item s.extend s.field s.message s.body s.oneof (record { name = ident; options = options; fields = make fields; comments = noted span; span = span })
+      ∙ ap (λ l. s.oneof (record { name = ident; options = options; fields = l; comments = noted span; span = span })) (given fields)
   given (extend extendee fields span) =
-      fold-roll-Extend K I E F M B O s.kind s.item s.extend s.field s.message s.body s.oneof (record { extendee = extendee; fields = make fields; comments = quiet; span = span })
-      ∙ ap (λ l. s.extend (record { extendee = extendee; fields = l; comments = quiet; span = span })) (given fields)
+      fold-roll-Extend K I E F M B O s.kind s.item s.extend s.field s.message s.body s.oneof (record { extendee = extendee; fields = make fields; comments = noted span; span = span })
+      ∙ ap (λ l. s.extend (record { extendee = extendee; fields = l; comments = noted span; span = span })) (given fields)
 
 -- ---- shorter words
 

@@ -1,6 +1,6 @@
 -- Syntax trees written shortly, and locations as lists of numbers, for examples.
 use Prim.Native.String.{String}
-use Rattle.std.specs.Prelude.{ℕ, ◌+◌, true, false, List, [], ◌∷◌, length, map, Option, Some, None, codes, nat_abs}
+use Rattle.std.specs.Prelude.{ℕ, ◌+◌, true, false, List, [], ◌∷◌, length, map, Option, Some, None, codes, nat_abs, unwrap_or}
 use Rattle.protox_lex.specs.Faults.{Span}
 use Rattle.protox_ast.specs.declared.ast.Comments.{Comments}
 use Rattle.protox_ast.specs.declared.ast.Enum.{Enum}
@@ -38,6 +38,10 @@ at start end = record { start = start; end = end }
 abbrev pub quiet : Comments
 quiet = record { leading_detached_comments = []; leading_comment = None; trailing_comment = None }
 
+-- what stands at a span is led by a comment that holds the span's start
+abbrev pub noted : Span → Comments
+noted span = record { leading_detached_comments = []; leading_comment = Some (span.start ∷ []); trailing_comment = None }
+
 -- a word that begins at an offset
 abbrev pub word : String → ℕ → Ident
 word text start = record { value = codes text; span = at start (start + length (codes text)) }
@@ -73,7 +77,7 @@ abbrev pub list : List OptionBody → Span → Option OptionList
 list bodies span = Some (record { options = bodies; span = span })
 
 abbrev pub statement : OptionBody → Span → Statement
-statement option span = record { body = option; comments = quiet; span = span }
+statement option span = record { body = option; comments = noted span; span = span }
 
 -- ---- fields and messages
 
@@ -92,19 +96,19 @@ abbrev pub range : Int → ReservedRangeEnd → ReservedRange
 range start end = record { start = start; end = end }
 
 abbrev pub ranges : List ReservedRange → Span → Reserved
-ranges all span = record { kind = reserved_kind.Ranges all; comments = quiet; span = span }
+ranges all span = record { kind = reserved_kind.Ranges all; comments = noted span; span = span }
 
 abbrev pub names : List Ident → Span → Reserved
-names all span = record { kind = reserved_kind.Names all; comments = quiet; span = span }
+names all span = record { kind = reserved_kind.Names all; comments = noted span; span = span }
 
 abbrev pub extensions : List ReservedRange → Option OptionList → Span → Extensions
-extensions all options span = record { ranges = all; options = options; comments = quiet; span = span }
+extensions all options span = record { ranges = all; options = options; comments = noted span; span = span }
 
 abbrev pub enum_value : Ident → Int → Option OptionList → Span → EnumValue
-enum_value ident number options span = record { name = ident; number = number; options = options; comments = quiet; span = span }
+enum_value ident number options span = record { name = ident; number = number; options = options; comments = noted span; span = span }
 
 abbrev pub enum : Ident → List EnumValue → List Reserved → Span → Enum
-enum ident values reserved span = record { name = ident; options = []; values = values; reserved = reserved; comments = quiet; span = span }
+enum ident values reserved span = record { name = ident; options = []; values = values; reserved = reserved; comments = noted span; span = span }
 
 -- ---- files
 
@@ -121,6 +125,10 @@ file3 syntax_at span = record { span = span; syntax = Proto3; syntax_span = Some
 -- a location's path and its span
 abbrev pub shown : Location → List ℕ × List ℕ
 shown location = (map nat_abs location.path, map nat_abs location.span)
+
+-- and the comment that leads it
+abbrev pub shown_whole : Location → List ℕ × List ℕ × List ℕ
+shown_whole location = (map nat_abs location.path, map nat_abs location.span, unwrap_or location.leading_comments [])
 
 -- ---- descriptors
 

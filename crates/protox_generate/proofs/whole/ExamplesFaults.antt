@@ -1,8 +1,19 @@
 -- Examples of faults: each file is wrong in these ways and in no other.
 use Prim.Native.String.{String}
-use Rattle.std.proofs.Common.{◌≡◌, List, [], ◌∷◌, Option, None, true, codes, refl}
+use Rattle.std.proofs.Common.{ℕ, ◌+◌, ◌++◌, ◌≡◌, List, [], ◌∷◌, Option, None, true, codes, refl}
 use Rattle.std.specs.Fmt.{digits}
+use Rattle.std.specs.Char.{encode_utf8}
+use Rattle.std.specs.Str.{is_utf8, chars}
+use Rattle.std.specs.Str.Lossy.{utf8_valid_len}
 use Rattle.protox_lex.specs.Faults.{Span}
+use Rattle.protox_ast.specs.declared.ast.Enum.{Enum}
+use Rattle.protox_ast.specs.declared.ast.File.{File}
+use Rattle.protox_ast.specs.declared.ast.Int.{Int}
+use Rattle.protox_ast.specs.declared.ast.OptionBody.{OptionBody}
+use Rattle.protox_ast.specs.declared.ast.ReservedRangeEnd.TheVariants as range_end
+use Rattle.protox_ast.specs.declared.ast.Service.{Service}
+use Rattle.protox_generate.specs.whole.Options.{Statement}
+use Rattle.protox_generate.specs.whole.Values.{wanted}
 use Rattle.protox_lex.specs.declared.error.ParseErrorKind.{ParseErrorKind}
 use Rattle.protox_lex.specs.declared.error.ParseErrorKind.TheVariants as fault
 use Rattle.protox_ast.specs.declared.ast.FieldLabel.{FieldLabel}
@@ -12,7 +23,7 @@ use Rattle.protox_ast.specs.declared.ast.OptionValue.{OptionValue}
 use Rattle.protox_ast.specs.declared.ast.OptionValue.TheVariants as value
 use Rattle.protox_ast.specs.declared.ast.Ty.{Ty}
 use Rattle.protox_ast.specs.declared.ast.Ty.TheVariants as ty
-use Rattle.protox_generate.specs.whole.Checks.{file_faults, placed}
+use Rattle.protox_generate.specs.whole.Checks.{file_faults, placed, value_faults}
 use Rattle.protox_generate.proofs.whole.Files.{FileTree, AMessage, AnExtend, Another, filled, faults-of}
 use Rattle.protox_generate.proofs.whole.Trees as t
 use Rattle.protox_generate.proofs.whole.Trees.{◌&◌}
@@ -260,3 +271,154 @@ json_name_tree = in_message (t.field (w.optional (at 20 28)) (t.normal ty.Int32 
 
 json-name : faults2 json_name_tree ≡ fault.ValueInvalidType (at 53 54) (codes "a string") (codes "x") ∷ []
 json-name = faults-of (w.file (at 0 44)) (json_name_tree ∷ [])
+
+-- ---- each kind of node, in the order in which its faults are found
+
+-- an option `x` with the value `-a` at n
+abbrev negated_at : ℕ → OptionBody
+negated_at n = w.body_of (word "x" 0) (value.Ident true (word "a" (n + 1)) (at n (n + 2)))
+
+abbrev negated_list : ℕ → Option OptionList
+negated_list n = w.list (negated_at n ∷ []) (at n (n + 2))
+
+abbrev negated_statement : ℕ → Statement
+negated_statement n = w.statement (negated_at n) (at n (n + 2))
+
+abbrev negative : ℕ → ParseErrorKind
+negative n = fault.NegativeIdentOutsideDefault (at n (n + 2))
+
+-- a number that is none of a field or of an enum's value
+abbrev bad : ℕ → Int
+bad n = int 4294967296 (at n (n + 10))
+
+abbrev bad_field : ℕ → ParseErrorKind
+bad_field n = fault.InvalidMessageNumber (at n (n + 10))
+
+abbrev bad_value : ℕ → ParseErrorKind
+bad_value n = fault.InvalidEnumNumber (at n (n + 10))
+
+abbrev wrong_field : ℕ → t.Tree t.FieldSort
+wrong_field n = t.field (w.optional (at 0 8)) (t.normal ty.Int32 (at 0 0)) (word "f" 0) (bad n) (negated_list (n + 20)) (at n (n + 30))
+
+abbrev wrong_enum : ℕ → Enum
+wrong_enum n = record (w.enum (word "E" 0)
+    (w.enum_value (word "V" 0) (bad n) (negated_list (n + 10)) (at 0 0) ∷ [])
+    (w.ranges (w.range (bad (n + 20)) (range_end.Int (bad (n + 30))) ∷ []) (at 0 0) ∷ []) (at 0 0)) {
+  options = negated_statement (n + 40) ∷ [];
+}
+
+abbrev enum_faults : ℕ → List ParseErrorKind
+enum_faults n = bad_value n ∷ negative (n + 10) ∷ bad_value (n + 20) ∷ bad_value (n + 30) ∷ negative (n + 40) ∷ []
+
+abbrev wrong_body : ℕ → t.Tree t.ItemsSort → t.Tree t.BodySort
+wrong_body n items = t.body items
+    (w.extensions (w.range (bad n) range_end.None ∷ w.range (int 5 (at 0 0)) (range_end.Int (bad (n + 10))) ∷ []) (negated_list (n + 20)) (at 0 0) ∷ [])
+    (negated_statement (n + 30) ∷ [])
+    (w.ranges (w.range (bad (n + 40)) (range_end.Max (at 0 0)) ∷ w.range (int 5 (at 0 0)) (range_end.Int (bad (n + 50))) ∷ []) (at 0 0) ∷ [])
+
+-- the items' faults, those of ranges, and those of options; the options of extensions at each range
+abbrev body_faults : ℕ → List ParseErrorKind
+body_faults n = bad_field (n + 40) ∷ bad_field (n + 50) ∷ negative (n + 20) ∷ bad_field n ∷ negative (n + 20) ∷ bad_field (n + 10) ∷ negative (n + 30) ∷ []
+
+abbrev wrong_message : FileTree
+wrong_message = AMessage (t.message (word "M" 0) (wrong_body 1000 (
+    t.a_field (wrong_field 2000)
+    & t.a_oneof (t.oneof (word "o" 0) (negated_statement 2100 ∷ []) t.no_field (at 2110 2120))
+    & t.an_enum (wrong_enum 2200)
+    & t.an_extend (t.extend (w.name (word "A" 0)) (t.only (wrong_field 2300)) (at 0 0))
+    & t.a_message (t.message (word "N" 0) (wrong_body 2400 t.none) (at 0 0))
+    & t.a_field (t.field (w.optional (at 0 8)) (t.group (at 0 0) (wrong_body 2500 t.none)) (word "G" 0) (bad 2600) (negated_list 2610) (at 0 0))
+    & t.none)) (at 0 0))
+
+message-faults : faults2 wrong_message ≡
+    bad_field 2000 ∷ negative 2020
+    ∷ negative 2100 ∷ fault.EmptyOneof (at 2110 2120)
+    ∷ (enum_faults 2200
+    ++ (bad_field 2300 ∷ negative 2320
+    ∷ (body_faults 2400
+    ++ (bad_field 2600
+    ∷ (body_faults 2500
+    ++ (negative 2610
+    ∷ body_faults 1000))))))
+message-faults = faults-of (w.file (at 0 44)) (wrong_message ∷ [])
+
+abbrev wrong_service : Service
+wrong_service = record {
+  name = word "S" 0;
+  options = negated_statement 3000 ∷ [];
+  methods = record {
+    name = word "m" 0;
+    input_ty = w.name (word "I" 0);
+    output_ty = w.name (word "O" 0);
+    options = negated_statement 3010 ∷ [];
+    client_streaming = None;
+    server_streaming = None;
+    comments = w.quiet;
+    span = at 0 0;
+  } ∷ [];
+  comments = w.quiet;
+  span = at 0 0;
+}
+
+abbrev wrong_file : File
+wrong_file = record (w.file (at 0 0)) { options = negated_statement 4000 ∷ [] }
+
+abbrev wrong_items : List FileTree
+wrong_items = Another (file_item.Service wrong_service) ∷ Another (file_item.Enum (wrong_enum 3100)) ∷ AnExtend (t.extend (w.name (word "A" 0)) (t.only (wrong_field 3200)) (at 0 0)) ∷ []
+
+file-faults : file_faults (filled wrong_file wrong_items) ≡ negative 3010 ∷ negative 3000 ∷ (enum_faults 3100 ++ (bad_field 3200 ∷ negative 3220 ∷ negative 4000 ∷ []))
+file-faults = faults-of wrong_file wrong_items
+
+-- ---- what values a type takes
+
+abbrev a_string : OptionValue
+a_string = w.string "x" (at 53 56)
+
+abbrev a_word : OptionValue
+a_word = w.identifier (word "x" 53)
+
+abbrev of_default : Ty → OptionValue → List ParseErrorKind
+of_default type v = value_faults (wanted type) v
+
+wants-float : of_default ty.Double a_word ≡ fault.ValueInvalidType (at 53 54) (codes "a floating-point number") (codes "x") ∷ []
+wants-float = refl
+
+wants-integer : of_default ty.Fixed64 a_string ≡ fault.ValueInvalidType (at 53 56) (codes "an integer") (codes "x") ∷ []
+wants-integer = refl
+
+wants-string : of_default ty.String a_word ≡ fault.ValueInvalidType (at 53 54) (codes "a string") (codes "x") ∷ []
+wants-string = refl
+
+wants-bytes : of_default ty.Bytes a_word ≡ fault.ValueInvalidType (at 53 54) (codes "a string") (codes "x") ∷ []
+wants-bytes = refl
+
+wants-anything : of_default (ty.Named (w.name (word "E" 0))) a_word ≡ []
+wants-anything = refl
+
+takes-bytes : of_default ty.Bytes (value.String (record { value = 255 ∷ []; span = at 53 59 })) ≡ []
+takes-bytes = refl
+
+wants-text : of_default ty.String (value.String (record { value = 255 ∷ []; span = at 53 59 })) ≡ fault.InvalidUtf8String (at 53 59) ∷ []
+unfolding utf8_valid_len is_utf8 chars encode_utf8
+wants-text = refl
+
+-- the bounds of each type of integers
+low-32 : of_default ty.Sint32 (value.Int (minus 2147483649 (at 53 64))) ≡ fault.IntegerValueOutOfRange (at 53 64) (codes "a signed 32-bit integer") (codes "-2147483649") (codes "-2147483648") (codes "2147483647") ∷ []
+unfolding digits
+low-32 = refl
+
+high-32 : of_default ty.Sfixed32 (value.Int (int 2147483647 (at 53 63))) ≡ []
+high-32 = refl
+
+high-64 : of_default ty.Int64 (value.Int (int 9223372036854775808 (at 53 64)))
+    ≡ fault.IntegerValueOutOfRange (at 53 64) (codes "a signed 64-bit integer") (codes "9223372036854775808") (codes "-9223372036854775808") (codes "9223372036854775807") ∷ []
+unfolding digits
+high-64 = refl
+
+unsigned-64 : of_default ty.Uint64 (value.Int (minus 1 (at 53 55)))
+    ≡ fault.IntegerValueOutOfRange (at 53 55) (codes "an unsigned 64-bit integer") (codes "-1") (codes "0") (codes "18446744073709551615") ∷ []
+unfolding digits
+unsigned-64 = refl
+
+high-unsigned : of_default ty.Fixed32 (value.Int (int 4294967295 (at 53 63))) ≡ []
+high-unsigned = refl

@@ -1,5 +1,5 @@
 -- A file in which each kind of place stands: what has a location, which of them have comments, and in which order.
-use Rattle.std.proofs.Common.{◌≡◌, List, [], ◌∷◌, Some, None}
+use Rattle.std.proofs.Common.{◌≡◌, List, [], ◌∷◌, Some, None, true, pos, negsuc, codes, refl}
 use Rattle.protox_ast.specs.declared.ast.Enum.{Enum}
 use Rattle.protox_ast.specs.declared.ast.File.{File}
 use Rattle.protox_ast.specs.declared.ast.FileItem.TheVariants as file_item
@@ -7,12 +7,15 @@ use Rattle.protox_ast.specs.declared.ast.OptionValue.TheVariants as value
 use Rattle.protox_ast.specs.declared.ast.ReservedRangeEnd.TheVariants as range_end
 use Rattle.protox_ast.specs.declared.ast.Service.{Service}
 use Rattle.protox_ast.specs.declared.ast.Ty.TheVariants as ty
-use Rattle.protox_generate.specs.whole.Options.{Statement}
-use Rattle.protox_generate.proofs.whole.Files.{FileTree, AMessage, AnExtend, Another, filled, whole_table, whole_table-of}
+use Rattle.protox_descriptor.specs.declared.descriptor.DescriptorProto.{roll-DescriptorProto}
+use Rattle.protox_descriptor.specs.declared.descriptor.options.UninterpretedOption.{UninterpretedOption}
+use Rattle.protox_generate.specs.whole.Checks.{file_faults}
+use Rattle.protox_generate.specs.whole.File.{file_proto}
+use Rattle.protox_generate.proofs.whole.Files.{FileTree, AMessage, AnExtend, Another, filled, whole_table, whole_table-of, messages, messages-of, extensions, extensions-of, faults-of}
 use Rattle.protox_generate.proofs.whole.Trees as t
 use Rattle.protox_generate.proofs.whole.Trees.{◌&◌}
 use Rattle.protox_generate.proofs.whole.Written as w
-use Rattle.protox_generate.proofs.whole.Written.{at, word, int, minus}
+use Rattle.protox_generate.proofs.whole.Written.{at, word, int, minus, no_field, no_option, made_message}
 
 -- the source is empty, so that each offset is a column of line 0
 
@@ -77,7 +80,8 @@ whole_trees =
     ∷ Another (file_item.Service whole_service)
     ∷ []
 
--- each path with its span and the comment that leads it
+-- ---- its locations: each path with its span and the comment that leads it
+
 whole-places : whole_table "" (filled whole_file whole_trees) ≡
     ([], 0 ∷ 0 ∷ 900 ∷ [], [])
     ∷ (4 ∷ 0 ∷ [], 0 ∷ 100 ∷ 300 ∷ [], 100 ∷ [])
@@ -190,3 +194,78 @@ whole-places : whole_table "" (filled whole_file whole_trees) ≡
     ∷ (8 ∷ 999 ∷ 0 ∷ [], 0 ∷ 890 ∷ 899 ∷ [], 890 ∷ [])
     ∷ []
 whole-places = whole_table-of "" whole_file whole_trees
+
+-- ---- its descriptor
+
+abbrev x_option : List UninterpretedOption
+x_option = record (no_option "x") { positive_int_value = Some 1 } ∷ []
+
+whole-messages : messages (filled whole_file whole_trees) ≡
+    roll-DescriptorProto (record {
+      name = Some (codes "M");
+      field =
+          record no_field { name = Some (codes "f"); number = Some (pos 1); label = Some (pos 1); field_type = Some (pos 5); options = Some (record { uninterpreted_option = x_option }) }
+          ∷ record no_field { name = Some (codes "g"); number = Some (pos 2); label = Some (pos 1); type_name = Some (codes "B"); oneof_index = Some (pos 0) }
+          ∷ record no_field { name = Some (codes "m"); number = Some (pos 3); label = Some (pos 3); field_type = Some (pos 11); type_name = Some (codes "MEntry") }
+          ∷ record no_field { name = Some (codes "h"); number = Some (pos 4); label = Some (pos 1); field_type = Some (pos 10); type_name = Some (codes "H") }
+          ∷ [];
+      extension = record no_field { name = Some (codes "g"); number = Some (pos 100); label = Some (pos 1); field_type = Some (pos 10); type_name = Some (codes "G"); extendee = Some (codes "A") } ∷ [];
+      nested_type =
+          made_message "N" [] [] []
+          ∷ roll-DescriptorProto (record {
+            name = Some (codes "MEntry");
+            field =
+                record no_field { name = Some (codes "key"); number = Some (pos 1); label = Some (pos 1); field_type = Some (pos 5); json_name = Some (codes "key") }
+                ∷ record no_field { name = Some (codes "value"); number = Some (pos 2); label = Some (pos 1); field_type = Some (pos 5); json_name = Some (codes "value") }
+                ∷ [];
+            extension = []; nested_type = []; enum_type = []; extension_range = []; oneof_decl = [];
+            options = Some (record { map_entry = Some true; uninterpreted_option = [] });
+            reserved_range = []; reserved_name = [];
+          })
+          ∷ made_message "G" [] [] []
+          ∷ made_message "H" [] [] []
+          ∷ [];
+      enum_type = record { name = Some (codes "E"); value = record { name = Some (codes "V"); number = Some (pos 0); options = None } ∷ []; options = None; reserved_range = []; reserved_name = [] } ∷ [];
+      extension_range =
+          record { start = Some (pos 10); end = Some (pos 11); options = None }
+          ∷ record { start = Some (pos 20); end = Some (pos 31); options = Some (record { uninterpreted_option = x_option }) }
+          ∷ [];
+      oneof_decl = record { name = Some (codes "o"); options = Some (record { uninterpreted_option = x_option }) } ∷ [];
+      options = Some (record { map_entry = None; uninterpreted_option = record (no_option "y") { positive_int_value = Some 1 } ∷ [] });
+      reserved_range = record { start = Some (pos 5); end = Some (pos 6) } ∷ record { start = Some (pos 6); end = Some (pos 536870912) } ∷ [];
+      reserved_name = codes "a" ∷ codes "b" ∷ [];
+    })
+    ∷ made_message "K" [] [] []
+    ∷ made_message "P" [] [] []
+    ∷ []
+whole-messages = messages-of whole_file whole_trees
+
+whole-enums : (file_proto (codes "a.proto") (filled whole_file whole_trees)).enum_type ≡ record {
+  name = Some (codes "E");
+  value = record { name = Some (codes "V"); number = Some (pos 0); options = Some (record { uninterpreted_option = x_option }) } ∷ [];
+  options = Some (record { uninterpreted_option = x_option });
+  reserved_range = record { start = Some (negsuc 0); end = Some (negsuc 0) } ∷ [];
+  reserved_name = [];
+} ∷ []
+whole-enums = refl
+
+whole-services : (file_proto (codes "a.proto") (filled whole_file whole_trees)).service ≡ record {
+  name = Some (codes "S");
+  method = record {
+    name = Some (codes "m"); input_type = Some (codes "I"); output_type = Some (codes "O"); options = Some (record { uninterpreted_option = x_option });
+    client_streaming = None; server_streaming = Some true;
+  } ∷ [];
+  options = Some (record { uninterpreted_option = x_option });
+} ∷ []
+whole-services = refl
+
+whole-extensions : extensions (filled whole_file whole_trees) ≡
+    record no_field { name = Some (codes "k"); number = Some (pos 100); label = Some (pos 1); field_type = Some (pos 10); type_name = Some (codes "K"); extendee = Some (codes "B") } ∷ []
+whole-extensions = extensions-of whole_file whole_trees
+
+whole-options : (file_proto (codes "a.proto") (filled whole_file whole_trees)).options ≡ Some (record { uninterpreted_option = x_option })
+whole-options = refl
+
+-- nothing is wrong with it
+whole-faults : file_faults (filled whole_file whole_trees) ≡ []
+whole-faults = faults-of whole_file whole_trees

@@ -12,7 +12,7 @@ use Rattle.protox_ast.specs.declared.ast.Int.{Int}
 use Rattle.protox_ast.specs.declared.ast.OptionBody.{OptionBody}
 use Rattle.protox_ast.specs.declared.ast.ReservedRangeEnd.TheVariants as range_end
 use Rattle.protox_ast.specs.declared.ast.Service.{Service}
-use Rattle.protox_generate.specs.whole.Options.{Statement}
+use Rattle.protox_generate.specs.whole.Options.{OptionStatement}
 use Rattle.protox_generate.specs.whole.Values.{wanted}
 use Rattle.protox_lex.specs.declared.error.ParseErrorKind.{ParseErrorKind}
 use Rattle.protox_lex.specs.declared.error.ParseErrorKind.TheVariants as fault
@@ -217,23 +217,23 @@ group_default_tree = in_message (group_of (w.repeated (at 20 28)) (default_list 
 group-default : faults2 group_default_tree ≡ fault.InvalidDefault (at 43 54) (placed (codes "repeated")) ∷ fault.InvalidDefault (at 43 54) (placed (codes "group")) ∷ []
 group-default = faults-of (w.file (at 0 44)) (group_default_tree ∷ [])
 
-abbrev default_of : Option (FieldLabel × Span) → Ty → OptionValue → t.Tree t.FieldSort
-default_of label type v = t.field label (t.normal type (at 30 35)) (word "a" 36) (int 1 (at 40 41)) (default_list v) (at 12 57)
+abbrev with_default : Option (FieldLabel × Span) → Ty → OptionValue → t.Tree t.FieldSort
+with_default label type v = t.field label (t.normal type (at 30 35)) (word "a" 36) (int 1 (at 40 41)) (default_list v) (at 12 57)
 
 abbrev default_repeated_tree : FileTree
-default_repeated_tree = in_message (default_of (w.repeated (at 20 28)) ty.Int32 one)
+default_repeated_tree = in_message (with_default (w.repeated (at 20 28)) ty.Int32 one)
 
 default-repeated : faults3 default_repeated_tree ≡ fault.InvalidDefault (at 43 54) (placed (codes "repeated")) ∷ []
 default-repeated = faults-of (w.file3 (at 0 0) (at 0 44)) (default_repeated_tree ∷ [])
 
 abbrev default_proto3_tree : FileTree
-default_proto3_tree = in_message (default_of None ty.Int32 one)
+default_proto3_tree = in_message (with_default None ty.Int32 one)
 
 default-proto3 : faults3 default_proto3_tree ≡ fault.Proto3DefaultValue (at 43 54) ∷ []
 default-proto3 = faults-of (w.file3 (at 0 0) (at 0 44)) (default_proto3_tree ∷ [])
 
 abbrev default_type_tree : FileTree
-default_type_tree = in_message (default_of (w.optional (at 20 28)) ty.Bool one)
+default_type_tree = in_message (with_default (w.optional (at 20 28)) ty.Bool one)
 
 default-type : faults2 default_type_tree ≡ fault.ValueInvalidType (at 53 54) (codes "either 'true' or 'false'") (codes "1") ∷ []
 unfolding digits
@@ -281,7 +281,7 @@ negated_at n = w.body_of (word "x" 0) (value.Ident true (word "a" (n + 1)) (at n
 abbrev negated_list : ℕ → Option OptionList
 negated_list n = w.list (negated_at n ∷ []) (at n (n + 2))
 
-abbrev negated_statement : ℕ → Statement
+abbrev negated_statement : ℕ → OptionStatement
 negated_statement n = w.statement (negated_at n) (at n (n + 2))
 
 abbrev negative : ℕ → ParseErrorKind

@@ -5,7 +5,7 @@ use Rattle.protox_ast.specs.declared.ast.File.{File}
 use Rattle.protox_ast.specs.declared.ast.ReservedRangeEnd.TheVariants as range_end
 use Rattle.protox_descriptor.specs.declared.descriptor.DescriptorProto.{DescriptorProto, roll-DescriptorProto}
 use Rattle.protox_generate.specs.whole.Enums.{enum_proto}
-use Rattle.protox_generate.specs.whole.Options.{Statement}
+use Rattle.protox_generate.specs.whole.Options.{OptionStatement}
 use Rattle.protox_generate.proofs.whole.Files.{FileTree, AMessage, filled, table, table-of, messages, messages-of}
 use Rattle.protox_generate.proofs.whole.Trees as t
 use Rattle.protox_generate.proofs.whole.Trees.{◌&◌}
@@ -75,14 +75,14 @@ ranges-messages = messages-of ranges_file ranges_tree
 -- ---- message sets: `max` is more where the first option says so
 
 -- message M { reserved 1 to max; .. } with these options
-abbrev set_tree : List Statement → List FileTree
+abbrev set_tree : List OptionStatement → List FileTree
 set_tree options = AMessage (t.message (word "M" 8) (t.body t.none [] options (w.ranges (w.range (int 1 (at 21 22)) (range_end.Max (at 26 29)) ∷ []) (at 12 30) ∷ [])) (at 0 72)) ∷ []
 
 -- option message_set_wire_format = `text`;
-abbrev wire_format : String → Statement
+abbrev wire_format : String → OptionStatement
 wire_format text = w.statement (w.body_of (word "message_set_wire_format" 38) (w.identifier (word text 64))) (at 31 70)
 
-abbrev set_of : List Statement → List DescriptorProto
+abbrev set_of : List OptionStatement → List DescriptorProto
 set_of options = messages (filled (w.file (at 0 72)) (set_tree options))
 
 -- such a message, with the end of its range and its options

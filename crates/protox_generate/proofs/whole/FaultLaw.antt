@@ -16,7 +16,7 @@ use Rattle.protox_ast.specs.declared.ast.Syntax.{Syntax}
 use Rattle.protox_ast.specs.declared.ast.Syntax.TheVariants.{Proto2, Proto3}
 use Rattle.protox_generate.specs.Descriptor.{in_message_range}
 use Rattle.protox_generate.specs.whole.Checks.{placed, settled, only_if, integer_faults, value_faults, option_faults, label_faults, map_faults, key_faults, kind_faults, is_proto3, place_faults, group_faults, default_value_faults, at_default, field_faults, node_faults, file_faults}
-use Rattle.protox_generate.specs.whole.FieldFaults.{Scope, InMessage, InOneof, InExtend, FieldKind, Normal, Group, Map, FieldNode, OfKind, WrongLabel, WrongMap, WrongKey, WrongKind, WrongDefault, on_map, on_repeated, on_group, in_proto3, WrongDefaultValue, WrongField, of_label, of_kind, of_default, of_default_value, may_be_key, is_map, is_group, is_repeated}
+use Rattle.protox_generate.specs.whole.FieldFaults.{Scope, InMessage, InOneof, InExtend, KindNode, Normal, Group, Map, FieldNode, OfKind, WrongLabel, WrongMap, WrongKey, WrongKind, WrongDefault, on_map, on_repeated, on_group, in_proto3, WrongDefaultValue, WrongField, of_label, of_kind, of_default, of_default_value, may_be_key, is_map, is_group, is_repeated}
 use Rattle.protox_generate.specs.whole.Faults.{WrongNode, Wrong}
 use Rattle.protox_generate.specs.whole.Nodes.{Node, AMessageNumber, AnEnumNumber, AField, AJsonName, AnOption, AnEmptyOneof, file_nodes}
 use Rattle.protox_generate.specs.whole.Spans.{body_span}
@@ -166,7 +166,7 @@ option-from v wrong h = absurd h
 
 -- ---- labels and kinds
 
-label-to : (syntax : Syntax) (scope : Scope) (kind : FieldKind) (label : Option (FieldLabel × Span)) (span : Span) (wrong : ParseErrorKind) → WrongLabel syntax scope kind label span wrong → Among (label_faults syntax scope kind label span) (settled wrong)
+label-to : (syntax : Syntax) (scope : Scope) (kind : KindNode) (label : Option (FieldLabel × Span)) (span : Span) (wrong : ParseErrorKind) → WrongLabel syntax scope kind label span wrong → Among (label_faults syntax scope kind label span) (settled wrong)
 label-to syntax scope (Map key key_span) label span wrong h = absurd h
 label-to syntax InExtend kind (Some (label.Required, at)) span wrong h = plain-to (fault.RequiredExtendField at) wrong refl h
 label-to syntax InOneof kind (Some (label, at)) span wrong h = plain-to (fault.OneofFieldWithLabel at) wrong refl h
@@ -175,7 +175,7 @@ label-to Proto2 scope kind None span wrong h = plain-to (fault.Proto2FieldMissin
 label-to Proto3 scope kind (Some (label.Required, at)) span wrong h = plain-to (fault.Proto3RequiredField at) wrong refl h
 label-to syntax scope kind label span wrong h = absurd h
 
-label-from : (syntax : Syntax) (scope : Scope) (kind : FieldKind) (label : Option (FieldLabel × Span)) (span : Span) (wrong : ParseErrorKind) → Among (label_faults syntax scope kind label span) (settled wrong) → WrongLabel syntax scope kind label span wrong
+label-from : (syntax : Syntax) (scope : Scope) (kind : KindNode) (label : Option (FieldLabel × Span)) (span : Span) (wrong : ParseErrorKind) → Among (label_faults syntax scope kind label span) (settled wrong) → WrongLabel syntax scope kind label span wrong
 label-from syntax scope (Map key key_span) label span wrong h = absurd h
 label-from syntax InExtend kind (Some (label.Required, at)) span wrong h = plain-from (fault.RequiredExtendField at) wrong refl h
 label-from syntax InOneof kind (Some (label, at)) span wrong h = plain-from (fault.OneofFieldWithLabel at) wrong refl h
@@ -196,7 +196,7 @@ map-from InExtend label span wrong h = extend-word span (codes "map") wrong (one
 map-from InMessage (Some label) span wrong h = plain-from (fault.MapFieldWithLabel label.1) wrong refl h
 map-from InMessage None span wrong h = absurd h
 
-kind-to : (syntax : Syntax) (scope : Scope) (f : FieldNode) (kind : FieldKind) (wrong : ParseErrorKind) → WrongKind syntax scope f kind wrong → Among (kind_faults syntax scope f kind) (settled wrong)
+kind-to : (syntax : Syntax) (scope : Scope) (f : FieldNode) (kind : KindNode) (wrong : ParseErrorKind) → WrongKind syntax scope f kind wrong → Among (kind_faults syntax scope f kind) (settled wrong)
 kind-to syntax scope f (Normal type) wrong h = absurd h
 kind-to Proto2 scope f Group wrong h = absurd h
 kind-to Proto3 scope f Group wrong h = plain-to (fault.Proto3GroupField f.span) wrong refl h
@@ -205,7 +205,7 @@ kind-to syntax scope f (Map key key_span) wrong (inl h) =
 kind-to syntax scope f (Map key key_span) wrong (inr h) =
     among-right (map_faults scope f.label f.span) (key_faults key key_span) (settled wrong) (fails-to (may_be_key key) (fault.InvalidMapFieldKeyType key_span) wrong refl h)
 
-kind-from : (syntax : Syntax) (scope : Scope) (f : FieldNode) (kind : FieldKind) (wrong : ParseErrorKind) → Among (kind_faults syntax scope f kind) (settled wrong) → WrongKind syntax scope f kind wrong
+kind-from : (syntax : Syntax) (scope : Scope) (f : FieldNode) (kind : KindNode) (wrong : ParseErrorKind) → Among (kind_faults syntax scope f kind) (settled wrong) → WrongKind syntax scope f kind wrong
 kind-from syntax scope f (Normal type) wrong h = absurd h
 kind-from Proto2 scope f Group wrong h = absurd h
 kind-from Proto3 scope f Group wrong h = plain-from (fault.Proto3GroupField f.span) wrong refl h
@@ -274,11 +274,11 @@ module _ (syntax : Syntax) (f : FieldNode) (span : Span) where
   place-from : (wrong : ParseErrorKind) → Among (place_faults syntax f span) (settled wrong) → WrongDefault syntax f span wrong
   place-from wrong h = elim (among-cases on_maps (on_repeateds ++ in_proto3s) (settled wrong) h) as (λ _. WrongDefault syntax f span wrong) [ inl a ↦ map-default-from wrong a | inr b ↦ rest-from wrong b ]
 
-default-value-to : (kind : FieldKind) (body : OptionBody) (wrong : ParseErrorKind) → WrongDefaultValue kind body wrong → Among (default_value_faults kind body) (settled wrong)
+default-value-to : (kind : KindNode) (body : OptionBody) (wrong : ParseErrorKind) → WrongDefaultValue kind body wrong → Among (default_value_faults kind body) (settled wrong)
 default-value-to (Normal type) body wrong h = value-to (wanted type) body.value wrong h
 default-value-to kind body wrong h = absurd h
 
-default-value-from : (kind : FieldKind) (body : OptionBody) (wrong : ParseErrorKind) → Among (default_value_faults kind body) (settled wrong) → WrongDefaultValue kind body wrong
+default-value-from : (kind : KindNode) (body : OptionBody) (wrong : ParseErrorKind) → Among (default_value_faults kind body) (settled wrong) → WrongDefaultValue kind body wrong
 default-value-from (Normal type) body wrong h = value-from (wanted type) body.value wrong h
 default-value-from kind body wrong h = absurd h
 

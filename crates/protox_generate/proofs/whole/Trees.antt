@@ -22,7 +22,7 @@ use Rattle.protox_ast.specs.declared.ast.OptionList.{OptionList}
 use Rattle.protox_ast.specs.declared.ast.Reserved.{Reserved}
 use Rattle.protox_ast.specs.declared.ast.Ty.{Ty}
 use Rattle.protox_ast.specs.declared.ast.TypeName.{TypeName}
-use Rattle.protox_generate.specs.whole.Options.{Statement}
+use Rattle.protox_generate.specs.whole.Options.{OptionStatement}
 use Rattle.protox_generate.proofs.whole.Written.{noted}
 
 pub data Sort : Type 0 where
@@ -32,7 +32,7 @@ infixr 30 ◌&◌
 -- a tree, in which each declaration is led by the comment that its span makes
 pub data Tree : Sort → Type 0 where
   message : Ident → Tree BodySort → Span → Tree MessageSort
-  body : Tree ItemsSort → List Extensions → List Statement → List Reserved → Tree BodySort
+  body : Tree ItemsSort → List Extensions → List OptionStatement → List Reserved → Tree BodySort
   none : Tree ItemsSort
   ◌&◌ : Tree ItemSort → Tree ItemsSort → Tree ItemsSort
   a_field : Tree FieldSort → Tree ItemSort
@@ -46,22 +46,22 @@ pub data Tree : Sort → Type 0 where
   a_map : Span → Ty → Span → Ty → Span → Tree KindSort
   no_field : Tree FieldsSort
   more_fields : Tree FieldSort → Tree FieldsSort → Tree FieldsSort
-  oneof : Ident → List Statement → Tree FieldsSort → Span → Tree OneofSort
+  oneof : Ident → List OptionStatement → Tree FieldsSort → Span → Tree OneofSort
   extend : TypeName → Tree FieldsSort → Span → Tree ExtendSort
 
-abbrev pub Node : Sort → Type 0
-Node MessageSort = Message
-Node BodySort = MessageBody
-Node ItemsSort = List MessageItem
-Node ItemSort = MessageItem
-Node FieldSort = Field
-Node FieldsSort = List Field
-Node KindSort = FieldKind
-Node OneofSort = Oneof
-Node ExtendSort = Extend
+abbrev pub Made : Sort → Type 0
+Made MessageSort = Message
+Made BodySort = MessageBody
+Made ItemsSort = List MessageItem
+Made ItemSort = MessageItem
+Made FieldSort = Field
+Made FieldsSort = List Field
+Made KindSort = FieldKind
+Made OneofSort = Oneof
+Made ExtendSort = Extend
 
 -- the syntax tree
-abbrev pub make : {k : Sort} → Tree k → Node k
+abbrev pub make : {k : Sort} → Tree k → Made k
 make (message ident inside span) = roll-Message (record { name = ident; body = make inside; comments = noted span; span = span })
 make (body items extensions options reserved) = roll-MessageBody (record { items = make items; extensions = extensions; options = options; reserved = reserved })
 make none = []
@@ -113,7 +113,7 @@ module _ {K I E F M B O : Type 0} (s : Steps K I E F M B O) where
   give (extend extendee fields span) = s.extend (record { extendee = extendee; fields = give fields; comments = noted span; span = span })
 
   -- and of the syntax tree that it makes
-  abbrev pub of : (k : Sort) → Node k → Given k
+  abbrev pub of : (k : Sort) → Made k → Given k
   of MessageSort = of_message s
   of BodySort = of_body s
   of ItemsSort = map (of_item s)

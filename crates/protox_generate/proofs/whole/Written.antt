@@ -28,7 +28,7 @@ use Rattle.protox_descriptor.specs.declared.descriptor.OneofDescriptorProto.{One
 use Rattle.protox_descriptor.specs.declared.descriptor.options.MessageOptions.{MessageOptions}
 use Rattle.protox_descriptor.specs.declared.descriptor.options.UninterpretedOption.{UninterpretedOption}
 use Rattle.protox_descriptor.specs.declared.descriptor.source_code_info.Location.{Location}
-use Rattle.protox_generate.specs.whole.Options.{Statement}
+use Rattle.protox_generate.specs.whole.Options.{OptionStatement}
 
 -- ---- leaves
 
@@ -76,7 +76,7 @@ identifier ident = value.Ident false ident ident.span
 abbrev pub list : List OptionBody → Span → Option OptionList
 list bodies span = Some (record { options = bodies; span = span })
 
-abbrev pub statement : OptionBody → Span → Statement
+abbrev pub statement : OptionBody → Span → OptionStatement
 statement option span = record { body = option; comments = noted span; span = span }
 
 -- ---- fields and messages

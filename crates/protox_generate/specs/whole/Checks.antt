@@ -18,7 +18,7 @@ use Rattle.protox_ast.specs.declared.ast.Syntax.{Syntax}
 use Rattle.protox_ast.specs.declared.ast.Syntax.TheVariants.{Proto2, Proto3}
 use Rattle.protox_ast.specs.declared.ast.Ty.{Ty}
 use Rattle.protox_generate.specs.Descriptor.{in_message_range}
-use Rattle.protox_generate.specs.whole.FieldFaults.{Scope, InMessage, InOneof, InExtend, FieldKind, Normal, Group, Map, FieldNode, may_be_key, is_map, is_group, is_repeated}
+use Rattle.protox_generate.specs.whole.FieldFaults.{Scope, InMessage, InOneof, InExtend, KindNode, Normal, Group, Map, FieldNode, may_be_key, is_map, is_group, is_repeated}
 use Rattle.protox_generate.specs.whole.Nodes.{Node, AMessageNumber, AnEnumNumber, AField, AJsonName, AnOption, AnEmptyOneof, file_nodes}
 use Rattle.protox_generate.specs.whole.Spans.{body_span}
 use Rattle.protox_generate.specs.whole.ValueFaults.{invalid_type, out_of_range}
@@ -64,7 +64,7 @@ option_faults v = []
 
 -- ---- fields
 
-abbrev pub label_faults : Syntax → Scope → FieldKind → Option (FieldLabel × Span) → Span → List ParseErrorKind
+abbrev pub label_faults : Syntax → Scope → KindNode → Option (FieldLabel × Span) → Span → List ParseErrorKind
 label_faults syntax scope (Map key key_span) label span = []
 label_faults syntax InExtend kind (Some (label.Required, at)) span = fault.RequiredExtendField at ∷ []
 label_faults syntax InOneof kind (Some (label, at)) span = fault.OneofFieldWithLabel at ∷ []
@@ -82,7 +82,7 @@ map_faults InMessage None span = []
 abbrev pub key_faults : Ty → Span → List ParseErrorKind
 key_faults key span = only_if (not (may_be_key key)) (fault.InvalidMapFieldKeyType span)
 
-abbrev pub kind_faults : Syntax → Scope → FieldNode → FieldKind → List ParseErrorKind
+abbrev pub kind_faults : Syntax → Scope → FieldNode → KindNode → List ParseErrorKind
 kind_faults syntax scope f (Normal type) = []
 kind_faults Proto2 scope f Group = []
 kind_faults Proto3 scope f Group = fault.Proto3GroupField f.span ∷ []
@@ -103,7 +103,7 @@ place_faults syntax f span =
 abbrev pub group_faults : FieldNode → Span → List ParseErrorKind
 group_faults f span = only_if (is_group f.kind) (fault.InvalidDefault span (placed (codes "group")))
 
-abbrev pub default_value_faults : FieldKind → OptionBody → List ParseErrorKind
+abbrev pub default_value_faults : KindNode → OptionBody → List ParseErrorKind
 default_value_faults (Normal type) body = value_faults (wanted type) body.value
 default_value_faults kind body = []
 

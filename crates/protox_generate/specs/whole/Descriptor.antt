@@ -16,7 +16,7 @@ use Rattle.protox_descriptor.specs.declared.descriptor.OneofDescriptorProto.{One
 use Rattle.protox_generate.specs.Descriptor.{each_after, count, number_of}
 use Rattle.protox_generate.specs.whole.Enums.{enum_proto}
 use Rattle.protox_generate.specs.whole.Fields.{Kind, Normal, Group, Map, Parts, message_proto, label_of, field_type_of, field_name, type_name_of, default_value, messages_of, is_proto3_optional, optional_flag, synthetic_oneof}
-use Rattle.protox_generate.specs.whole.Options.{Statement, bodies_of, default_of, json_name, json_name_of, options_left, options_message}
+use Rattle.protox_generate.specs.whole.Options.{OptionStatement, bodies_of, default_of, json_name, json_name_of, options_left, options_message}
 use Rattle.protox_generate.specs.whole.Ranges.{extension_protos, greatest_number, reserved_range, reserved_ranges, reserved_texts}
 
 -- ---- what the levels of a message give
@@ -81,7 +81,7 @@ abbrev pub enums_of : Item → List EnumDescriptorProto
 enums_of (OfEnum enum) = enum ∷ []
 enums_of _ = []
 
-abbrev pub parts : List Item → List Extensions → List Statement → List Reserved → Parts
+abbrev pub parts : List Item → List Extensions → List OptionStatement → List Reserved → Parts
 parts items extensions options reserved = record {
   field = each_after (fields_of (count is_oneof items)) [] items;
   extension = flat_map extensions_of items;

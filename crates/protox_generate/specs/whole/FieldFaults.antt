@@ -22,15 +22,15 @@ pub data Scope : Type 0 where
   InExtend : Scope
 
 -- what a field is: of a type, a group, or a map with keys of a type that stands there
-pub data FieldKind : Type 0 where
-  Normal : Ty → FieldKind
-  Group : FieldKind
-  Map : Ty → Span → FieldKind
+pub data KindNode : Type 0 where
+  Normal : Ty → KindNode
+  Group : KindNode
+  Map : Ty → Span → KindNode
 
 -- a field, apart from its name, its number and what is in it
 pub record FieldNode : Type 0 where
   pub label : Option (FieldLabel × Span)
-  pub kind : FieldKind
+  pub kind : KindNode
   pub default : Option OptionBody
   pub span : Span
 
@@ -41,7 +41,7 @@ OfKind word named wrong = (kind : Bor (List ℕ)) × (kind.now ≡ word) × (wro
 -- ---- labels
 
 -- Of the faults of a label only the first that holds, in this order. A map has none of them.
-abbrev pub WrongLabel : Syntax → Scope → FieldKind → Option (FieldLabel × Span) → Span → ParseErrorKind → Type 0
+abbrev pub WrongLabel : Syntax → Scope → KindNode → Option (FieldLabel × Span) → Span → ParseErrorKind → Type 0
 WrongLabel syntax scope (Map key key_span) label span wrong = ⊥
 WrongLabel syntax InExtend kind (Some (label.Required, at)) span wrong = wrong ≡ fault.RequiredExtendField at
 WrongLabel syntax InOneof kind (Some (label, at)) span wrong = wrong ≡ fault.OneofFieldWithLabel at
@@ -70,7 +70,7 @@ may_be_key _ = true
 abbrev pub WrongKey : Ty → Span → ParseErrorKind → Type 0
 WrongKey key span wrong = (may_be_key key ≡ false) × (wrong ≡ fault.InvalidMapFieldKeyType span)
 
-abbrev pub WrongKind : Syntax → Scope → FieldNode → FieldKind → ParseErrorKind → Type 0
+abbrev pub WrongKind : Syntax → Scope → FieldNode → KindNode → ParseErrorKind → Type 0
 WrongKind syntax scope f (Normal type) wrong = ⊥
 WrongKind Proto2 scope f Group wrong = ⊥
 WrongKind Proto3 scope f Group wrong = wrong ≡ fault.Proto3GroupField f.span
@@ -78,11 +78,11 @@ WrongKind syntax scope f (Map key key_span) wrong = WrongMap scope f.label f.spa
 
 -- ---- defaults
 
-abbrev pub is_map : FieldKind → Bool
+abbrev pub is_map : KindNode → Bool
 is_map (Map key span) = true
 is_map _ = false
 
-abbrev pub is_group : FieldKind → Bool
+abbrev pub is_group : KindNode → Bool
 is_group Group = true
 is_group _ = false
 
@@ -98,7 +98,7 @@ pub data WrongDefault (syntax : Syntax) (f : FieldNode) (span : Span) (wrong : P
   in_proto3 : syntax ≡ Proto3 → is_map f.kind ≡ false → is_repeated f.label ≡ false → wrong ≡ fault.Proto3DefaultValue span → WrongDefault syntax f span wrong
 
 -- A default's value is not one that the field's type takes.
-abbrev pub WrongDefaultValue : FieldKind → OptionBody → ParseErrorKind → Type 0
+abbrev pub WrongDefaultValue : KindNode → OptionBody → ParseErrorKind → Type 0
 WrongDefaultValue (Normal type) body wrong = WrongValue (wanted type) body.value wrong
 WrongDefaultValue kind body wrong = ⊥
 

@@ -14,7 +14,7 @@ use Rattle.protox_descriptor.specs.declared.tag.message.TheConstants as message_
 use Rattle.protox_descriptor.specs.declared.tag.message.extension_range.TheConstants as extension_range_tag
 use Rattle.protox_descriptor.specs.declared.tag.message.reserved_range.TheConstants as reserved_range_tag
 use Rattle.protox_generate.specs.Descriptor.{each_after}
-use Rattle.protox_generate.specs.whole.Options.{Statement, listed}
+use Rattle.protox_generate.specs.whole.Options.{OptionStatement, listed}
 use Rattle.protox_generate.specs.whole.Ranges.{extension_ranges, reserved_names, reserved_ranges}
 use Rattle.protox_generate.specs.whole.Spans.{body_span, end_span, range_span, start_span}
 pub use Rattle.protox_generate.specs.Locations.{Path, part, nth, commented, bare}
@@ -23,13 +23,13 @@ module _ (numbers : Span → List ℤ) where
   -- ---- options
 
   -- The options' path stands once for each statement. Each statement is one option.
-  abbrev pub statement_locations : Path → List Statement → Statement → List Location
+  abbrev pub statement_locations : Path → List OptionStatement → OptionStatement → List Location
   statement_locations path before statement =
       bare numbers path statement.span
       ∷ commented numbers (nth path UNINTERPRETED_OPTION (length before)) statement.span statement.comments
       ∷ []
 
-  abbrev pub option_statements : Path → List Statement → List Location
+  abbrev pub option_statements : Path → List OptionStatement → List Location
   option_statements path statements = each_after (statement_locations path) [] statements
 
   abbrev pub body_locations : Path → List OptionBody → OptionBody → List Location

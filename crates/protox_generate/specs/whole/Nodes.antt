@@ -19,7 +19,7 @@ use Rattle.protox_ast.specs.declared.ast.ReservedRange.{ReservedRange}
 use Rattle.protox_ast.specs.declared.ast.ReservedRangeEnd.{ReservedRangeEnd}
 use Rattle.protox_ast.specs.declared.ast.ReservedRangeEnd.TheVariants as range_end
 use Rattle.protox_ast.specs.declared.ast.Service.{Service}
-use Rattle.protox_generate.specs.whole.FieldFaults.{Scope, InMessage, InOneof, InExtend, FieldKind, Normal, Group, Map, FieldNode}
+use Rattle.protox_generate.specs.whole.FieldFaults.{Scope, InMessage, InOneof, InExtend, KindNode, Normal, Group, Map, FieldNode}
 use Rattle.protox_generate.specs.whole.Options.{bodies_of, default_of, json_name_of, listed, options_left}
 use Rattle.protox_generate.specs.whole.Ranges.{reserved_ranges}
 
@@ -78,10 +78,10 @@ service_nodes service = flat_map method_nodes service.methods ++ option_nodes (b
 -- ---- messages
 
 abbrev Layer : (Type 0 → Type 0 → Type 0 → Type 0 → Type 0 → Type 0 → Type 0 → Type 0) → Type 0
-Layer F = F (FieldKind × List Node) (List Node) (List Node) (Scope → List Node) (List Node) (List Node) (List Node)
+Layer F = F (KindNode × List Node) (List Node) (List Node) (Scope → List Node) (List Node) (List Node) (List Node)
 
 -- a field's kind, with what is in it
-abbrev pub kind_step : Layer FieldKind-F → FieldKind × List Node
+abbrev pub kind_step : Layer FieldKind-F → KindNode × List Node
 kind_step (FieldKind-F.Normal type span) = (Normal type, [])
 kind_step (FieldKind-F.Group span body) = (Group, body)
 kind_step (FieldKind-F.Map span key key_span value value_span) = (Map key key_span, [])
@@ -108,7 +108,7 @@ empty_nodes [] span = AnEmptyOneof span ∷ []
 empty_nodes (x ∷ xs) span = []
 
 -- `of_message node_steps message` is all that is looked at in a message
-abbrev pub node_steps : Steps (FieldKind × List Node) (List Node) (List Node) (Scope → List Node) (List Node) (List Node) (List Node)
+abbrev pub node_steps : Steps (KindNode × List Node) (List Node) (List Node) (Scope → List Node) (List Node) (List Node) (List Node)
 node_steps = record {
   kind = kind_step;
   item = item_step;

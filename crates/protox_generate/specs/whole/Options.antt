@@ -12,8 +12,8 @@ use Rattle.protox_descriptor.specs.declared.descriptor.options.UninterpretedOpti
 use Rattle.protox_descriptor.specs.declared.descriptor.uninterpreted_option.NamePart.{NamePart}
 use Rattle.protox_generate.specs.whole.Values.{any_64, number_in, default_text, a_text}
 
-abbrev pub Statement : Type 0
-Statement = statements.Option
+abbrev pub OptionStatement : Type 0
+OptionStatement = statements.Option
 
 -- ---- an option that isn't interpreted
 
@@ -67,7 +67,7 @@ abbrev pub options_message : {A : Type 0} → (List UninterpretedOption → A) �
 options_message message [] = None
 options_message message (body ∷ bodies) = Some (message (map uninterpreted (body ∷ bodies)))
 
-abbrev pub bodies_of : List Statement → List OptionBody
+abbrev pub bodies_of : List OptionStatement → List OptionBody
 bodies_of statements = map (λ statement. statement.body) statements
 
 -- what stands between the brackets, if there are any

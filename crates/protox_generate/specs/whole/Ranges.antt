@@ -14,7 +14,7 @@ use Rattle.protox_descriptor.specs.declared.descriptor.descriptor_proto.Extensio
 use Rattle.protox_descriptor.specs.declared.descriptor.descriptor_proto.ReservedRange as message_range
 use Rattle.protox_descriptor.specs.declared.descriptor.enum_descriptor_proto.EnumReservedRange.{EnumReservedRange}
 use Rattle.protox_generate.specs.Descriptor.{number_of}
-use Rattle.protox_generate.specs.whole.Options.{Statement, has_name, listed, options_message}
+use Rattle.protox_generate.specs.whole.Options.{OptionStatement, has_name, listed, options_message}
 use Rattle.protox_generate.specs.whole.Values.{as_bool, number_in, signed_32}
 
 -- ---- what the statements set aside, in order
@@ -48,14 +48,14 @@ last_number number greatest start (range_end.Int int) = number int
 last_number number greatest start (range_end.Max span) = Some greatest
 
 -- A message set has more numbers. A message is one where its first option `message_set_wire_format` is `true`.
-abbrev pub says_true : Option Statement → Bool
+abbrev pub says_true : Option OptionStatement → Bool
 says_true None = false
 says_true (Some statement) = elim (as_bool statement.body.value) as (λ _. Bool) [ None ↦ false | Some truth ↦ truth ]
 
-abbrev pub is_message_set : List Statement → Bool
+abbrev pub is_message_set : List OptionStatement → Bool
 is_message_set statements = says_true (find (λ statement. has_name (codes "message_set_wire_format") statement.body) statements)
 
-abbrev pub greatest_number : List Statement → ℤ
+abbrev pub greatest_number : List OptionStatement → ℤ
 greatest_number statements = if is_message_set statements then pos 2147483646 else pos 536870911
 
 -- ---- messages: the end is the number after the last

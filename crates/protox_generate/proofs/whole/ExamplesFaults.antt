@@ -392,6 +392,9 @@ wants-string = refl
 wants-bytes : of_default ty.Bytes a_word ≡ fault.ValueInvalidType (at 53 54) (codes "a string") (codes "x") ∷ []
 wants-bytes = refl
 
+wants-bool : of_default ty.Bool (value.Ident true (word "true" 54) (at 53 58)) ≡ fault.ValueInvalidType (at 53 58) (codes "either 'true' or 'false'") (codes "-true") ∷ []
+wants-bool = refl
+
 wants-anything : of_default (ty.Named (w.name (word "E" 0))) a_word ≡ []
 wants-anything = refl
 

@@ -1,9 +1,10 @@
 -- Examples of options: of a file, of an enum's value, and their values by kind.
 use Prim.Native.String.{String}
-use Rattle.std.proofs.Common.{◌≡◌, List, [], ◌∷◌, map, Some, None, pos, negsuc, true, false, codes, refl}
+use Rattle.std.proofs.Common.{◌≡◌, List, [], ◌∷◌, map, Option, Some, None, pos, negsuc, true, false, codes, refl}
 use Rattle.protox_ast.specs.declared.ast.Comments.{Comments}
 use Rattle.protox_ast.specs.declared.ast.File.{File}
 use Rattle.protox_ast.specs.declared.ast.FileItem.TheVariants as file_item
+use Rattle.protox_ast.specs.declared.ast.OptionList.{OptionList}
 use Rattle.protox_ast.specs.declared.ast.OptionNamePart.TheVariants as part
 use Rattle.protox_ast.specs.declared.ast.OptionValue.TheVariants as value
 use Rattle.protox_ast.specs.declared.ast.Ty.TheVariants as ty
@@ -16,7 +17,7 @@ use Rattle.protox_generate.specs.Lines.{span_numbers}
 use Rattle.protox_generate.specs.Sorting.{sorted, path_before}
 use Rattle.protox_generate.specs.whole.File.{file_proto}
 use Rattle.protox_generate.specs.whole.Locations.{file_locations}
-use Rattle.protox_generate.specs.whole.Options.{uninterpreted}
+use Rattle.protox_generate.specs.whole.Options.{uninterpreted, default_of, json_name_of, options_left}
 use Rattle.protox_generate.specs.whole.Spans.{body_span, parts_span}
 use Rattle.protox_generate.specs.whole.Values.{default_text, wanted}
 use Rattle.protox_generate.proofs.whole.Files.{FileTree, Another, filled, table}
@@ -126,6 +127,10 @@ some-bytes = refl
 a-word : uninterpreted (w.body_of (word "opt" 7) (w.identifier (word "SPEED" 13))) ≡ record (no_option "opt") { identifier_value = Some (codes "SPEED") }
 a-word = refl
 
+-- an identifier with a sign has no value: it is refused
+negated-word : uninterpreted (w.body_of (word "opt" 7) (value.Ident true (word "x" 14) (at 13 15))) ≡ no_option "opt"
+negated-word = refl
+
 -- option (.foo.bar).baz = 1;
 two-parts : (uninterpreted (record { name = part.Extension (w.dotted (at 8 9) (word "foo" 9 ∷ word "bar" 13 ∷ [])) (at 7 17) ∷ part.Ident (word "baz" 18) ∷ []; value = value.Int (int 1 (at 24 25)) })).name
     ≡ record { name_part = codes ".foo.bar"; is_extension = true } ∷ record { name_part = codes "baz"; is_extension = false } ∷ []
@@ -137,6 +142,24 @@ name-span = refl
 
 whole-span : body_span (record { name = part.Extension (w.dotted (at 1 2) (word "ext" 2 ∷ [])) (at 0 6) ∷ part.Ident (word "ident" 7) ∷ []; value = value.Int (minus 5 (at 14 16)) }) ≡ at 0 16
 whole-span = refl
+
+-- [default.x = 1, json_name = 'a', default = 2, json_name = 'b']: `default.x` is no default
+abbrev named_list : Option OptionList
+named_list = w.list (
+    record { name = part.Ident (word "default" 1) ∷ part.Ident (word "x" 9) ∷ []; value = value.Int (int 1 (at 13 14)) }
+    ∷ w.body_of (word "json_name" 16) (w.string "a" (at 28 31))
+    ∷ w.body_of (word "default" 33) (value.Int (int 2 (at 43 44)))
+    ∷ w.body_of (word "json_name" 46) (w.string "b" (at 58 61))
+    ∷ []) (at 0 62)
+
+named-default : default_of named_list ≡ Some (w.body_of (word "default" 33) (value.Int (int 2 (at 43 44))))
+named-default = refl
+
+named-json : json_name_of named_list ≡ Some (w.body_of (word "json_name" 16) (w.string "a" (at 28 31)))
+named-json = refl
+
+named-left : map body_span (options_left named_list) ≡ at 1 14 ∷ at 46 61 ∷ []
+named-left = refl
 
 -- ---- default values by type
 

@@ -6,6 +6,7 @@ use Rattle.protox_ast.specs.declared.ast.ReservedRangeEnd.TheVariants as range_e
 use Rattle.protox_descriptor.specs.declared.descriptor.DescriptorProto.{DescriptorProto, roll-DescriptorProto}
 use Rattle.protox_generate.specs.whole.Enums.{enum_proto}
 use Rattle.protox_generate.specs.whole.Options.{OptionStatement}
+use Rattle.protox_generate.specs.whole.Ranges.{reserved_range}
 use Rattle.protox_generate.proofs.whole.Files.{FileTree, AMessage, filled, table, table-of, messages, messages-of}
 use Rattle.protox_generate.proofs.whole.Trees as t
 use Rattle.protox_generate.proofs.whole.Trees.{◌&◌}
@@ -71,6 +72,10 @@ ranges-messages : messages (filled ranges_file ranges_tree) ≡
     })
     ∷ []
 ranges-messages = messages-of ranges_file ranges_tree
+
+-- message M { reserved 5 to 2; }
+start-after-end : reserved_range (pos 536870911) (w.range (int 5 (at 21 22)) (range_end.Int (int 2 (at 26 27)))) ≡ record { start = Some (pos 5); end = Some (pos 3) }
+start-after-end = refl
 
 -- ---- message sets: `max` is more where the first option says so
 

@@ -5,3 +5,4 @@ pub mod LineFacts
 pub mod Places
 pub mod Siblings
 pub mod SortedOnce
+pub mod whole

@@ -6,3 +6,4 @@ pub mod Sorting
 pub mod Bounds
 pub mod File
 pub mod Pass
+pub mod whole

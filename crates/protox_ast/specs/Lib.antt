@@ -10,7 +10,6 @@ pub mod Depth
 pub mod Spells
 pub mod ReadYet
 pub mod Places
-pub mod Nodes
 pub mod Ast
 pub mod Checks
 pub mod Accepted

@@ -3,3 +3,4 @@ pub mod Spelled
 pub mod Barred
 pub mod Read
 pub mod Nodes
+pub mod Checked

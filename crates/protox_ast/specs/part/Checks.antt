@@ -1,8 +1,8 @@
--- MACHINERY. What is asked of the nodes of what the parser reads today.
+-- MACHINERY. What is asked of the nodes of a file, of what the parser reads today.
 use Rattle.protox_ast.specs.Places.{Place}
+use Rattle.protox_ast.specs.Checks.{HasKnownSyntax, ImportsFile}
 use Rattle.protox_ast.specs.part.Tree as t
-pub use Rattle.protox_ast.specs.Checks.{is_known_syntax, is_text, components, is_plain_component, is_import_path, HasKnownSyntax, ImportsFile}
-use Rattle.protox_ast.specs.Keywords.{Given, Each}
+use Rattle.protox_ast.specs.part.Keywords.{Given, Each}
 
 abbrev pub StatementIsFine : t.Statement Place → Type 0
 StatementIsFine (t.an_empty place) = Unit {0}

@@ -77,7 +77,7 @@ declarations-same (part.an_empty m ∷ xs) = declarations-same xs
 declarations-same (part.an_import x ∷ xs) = declarations-same xs
 declarations-same (part.a_message x ∷ xs) = λ i. file_item.Message (message-same x i) ∷ declarations-same xs i
 
-pub no-packages : (xs : List (part.Statement Place)) → filter_map ast.packaged (map w.statement xs) ≡ []
+no-packages : (xs : List (part.Statement Place)) → filter_map ast.packaged (map w.statement xs) ≡ []
 no-packages [] = refl
 no-packages (part.an_empty m ∷ xs) = no-packages xs
 no-packages (part.an_import x ∷ xs) = no-packages xs

@@ -215,11 +215,11 @@ fn comments_between(
 fn comments_behind(alloc: Global, last: &RowAt<'_, '_>) -> Result<Comments, AllocError>
     ensures { IfOk result (λ c. c ≡ declared [] last.now.at) }
 {
-    let after = last.after(alloc)?;
+    let behind = last.after(alloc)?;
     Ok(Comments {
         leading_detached_comments: Items::new(alloc),
         leading_comment: None,
-        trailing_comment: after.trailing,
+        trailing_comment: behind.trailing,
     })
 }
 

@@ -1,5 +1,5 @@
 -- What a front that fits says of the bytes.
-use Rattle.std.proofs.Common.{◌≡◌, ℕ, suc, ◌+◌, ◌-◌, ◌≤◌, Bool, true, false, ltb, inl, inr, List, [], ◌∷◌, length, drop, get_or, refl, sym, ◌∙◌, subst, length-drop, le_trans, arith}
+use Rattle.std.proofs.Common.{◌≡◌, ℕ, zero, suc, ◌+◌, ◌-◌, ◌≤◌, Bool, true, false, ltb, inl, inr, List, [], ◌∷◌, length, drop, get_or, refl, sym, ◌∙◌, subst, length-drop, le_trans, arith}
 use Rattle.std.proofs.lemmas.Bool.{cases_Bool, true≢false, false≢true, ltb-true, ltb-false}
 use Rattle.std.proofs.lemmas.List.Sums.{prefix_len_passes, prefix_len-le-length}
 use Rattle.std.specs.List.{prefix_len}
@@ -78,3 +78,46 @@ fits_within (a ∣ b) text n (inl f) = fits_within a text n f
 fits_within (a ∣ b) text n (inr f) = fits_within b text n f
 fits_within (maybe a) text n (inl none) = omega arith
 fits_within (maybe a) text n (inr f) = fits_within a text n f
+
+-- ---- bytes of one kind
+
+-- what passes p passes q, and what passes any test of a pattern
+abbrev pub In : (ℕ → Bool) → (ℕ → Bool) → Type 0
+In q p = (b : ℕ) → p b ≡ true → q b ≡ true
+
+abbrev pub OnlyIn : (ℕ → Bool) → Pattern → Type 0
+OnlyIn q (one p) = In q p
+OnlyIn q (many p) = In q p
+OnlyIn q (a ⋅ b) = OnlyIn q a × OnlyIn q b
+OnlyIn q (a ∣ b) = OnlyIn q a × OnlyIn q b
+OnlyIn q (maybe a) = OnlyIn q a
+
+run_within : (p q : ℕ → Bool) (text : List ℕ) → In q p → prefix_len p text ≤ prefix_len q text
+run_within p q [] f = omega arith
+run_within p q (b ∷ text) f = elim (cases_Bool (p b)) [
+  | inl e ↦ let more = run_within p q text f in rw (e, f b e) (omega arith)
+  | inr e ↦ rw e (omega arith)
+]
+
+run_on : (q : ℕ → Bool) (i : ℕ) (text : List ℕ) → i ≤ prefix_len q text → i + prefix_len q (drop i text) ≤ prefix_len q text
+run_on q zero text h = omega arith
+run_on q (suc i) [] h = absurd (omega arith)
+run_on q (suc i) (b ∷ text) h =
+    let passes : q b ≡ true = first_passes q (b ∷ text) (omega arith) in
+    let within : suc i ≤ 1 + prefix_len q text = rw passes at h in
+    let more = run_on q i text (omega arith) in
+    rw passes (omega arith)
+
+-- a front that fits is a run
+pub only_bound : (q : ℕ → Bool) (p : Pattern) (text : List ℕ) (n : ℕ) → OnlyIn q p → Fits p text n → n ≤ prefix_len q text
+only_bound q (one p) text n only (is_one, starts) = let within = run_within p q text only in omega arith
+only_bound q (many p) text n only run = le_trans run (run_within p q text only)
+only_bound q (a ⋅ b) text n only (i, j, size, f, g) =
+    let front = only_bound q a text i only.0 f in
+    let back = only_bound q b (drop i text) j only.1 g in
+    let all = run_on q i text front in
+    omega arith
+only_bound q (a ∣ b) text n only (inl f) = only_bound q a text n only.0 f
+only_bound q (a ∣ b) text n only (inr f) = only_bound q b text n only.1 f
+only_bound q (maybe a) text n only (inl none) = omega arith
+only_bound q (maybe a) text n only (inr f) = only_bound q a text n only f

@@ -20,7 +20,7 @@ head_passes p x xs h =
       | inr e ↦ let none : 0 ≡ length (x ∷ xs) = rw e at h in absurd (omega arith)
     ]
 
-rest_passes : (p : ℕ → Bool) (xs ys : List ℕ) → AllPass p (xs ++ ys) → AllPass p ys
+pub rest_passes : (p : ℕ → Bool) (xs ys : List ℕ) → AllPass p (xs ++ ys) → AllPass p ys
 rest_passes p [] ys h = h
 rest_passes p (x ∷ xs) ys h = rest_passes p xs ys (head_passes p x (xs ++ ys) h).1
 

@@ -14,13 +14,13 @@ use Rattle.protox_lex.specs.declared.error.ParseErrorKind.{ParseErrorKind}
 use Rattle.protox_lex.specs.declared.scan.Kind.{Kind}
 use Rattle.protox_lex.specs.declared.scan.Kind.TheVariants as kind
 use Rattle.protox_lex.specs.Lexemes.{lexeme, first_lexeme, prefix_of, radix_of, integer_value, value_fits, space_faults, range_faults, has_suffix, is_whole, body_of, float_text, suffix_faults}
-use Rattle.protox_lex.specs.Lexicon.{pattern, is_letter, is_octal, is_nonzero, is_e, is_sign, is_f, is_x, is_blank}
+use Rattle.protox_lex.specs.Lexicon.{pattern, is_letter, is_octal, is_nonzero, is_e, is_sign, is_f, is_x, is_blank, digits}
 use Rattle.protox_lex.specs.Pattern.{Pattern, one, many, ◌⋅◌, ◌∣◌, maybe, Fits, IsLongest}
 use Rattle.protox_lex.specs.Scanning.{first, digits_len, exponent_len, zero_number, number, fraction_len, scan}
 use Rattle.protox_lex.specs.Shapes.{Int, Float}
 use Rattle.protox_lex.specs.Words.{IsWordOf}
 use Rattle.protox_lex.proofs.Cut.{fits_some}
-use Rattle.protox_lex.proofs.Fitting.{first_passes, no_run, passes_first}
+use Rattle.protox_lex.proofs.Fitting.{first_passes, no_run, passes_first, In, OnlyIn, only_bound}
 use Rattle.protox_lex.proofs.LexesBack.{AtEnd, LexesAs, ends_run, run_to, front_is, rest_is, at_rest, by_scan}
 use Rattle.protox_lex.proofs.Margins.{AllPass, head_passes}
 use Rattle.protox_lex.proofs.NumberMatch as numbers
@@ -133,82 +133,43 @@ int_lexes at n rest h end =
 abbrev is_numeric : ℕ → Bool
 is_numeric b = is_ascii_hexdigit b || (b == 46 || (is_sign b || is_x b))
 
-abbrev Numeric : (ℕ → Bool) → Type 0
-Numeric p = (b : ℕ) → p b ≡ true → is_numeric b ≡ true
-
-abbrev NumericOnly : Pattern → Type 0
-NumericOnly (one p) = Numeric p
-NumericOnly (many p) = Numeric p
-NumericOnly (a ⋅ b) = NumericOnly a × NumericOnly b
-NumericOnly (a ∣ b) = NumericOnly a × NumericOnly b
-NumericOnly (maybe a) = NumericOnly a
-
-run_within : (p q : ℕ → Bool) (text : List ℕ) → ((b : ℕ) → p b ≡ true → q b ≡ true) → prefix_len p text ≤ prefix_len q text
-run_within p q [] f = omega arith
-run_within p q (b ∷ text) f = elim (cases_Bool (p b)) [
-  | inl e ↦ let more = run_within p q text f in rw (e, f b e) (omega arith)
-  | inr e ↦ rw e (omega arith)
-]
-
-run_on : (q : ℕ → Bool) (i : ℕ) (text : List ℕ) → i ≤ prefix_len q text → i + prefix_len q (drop i text) ≤ prefix_len q text
-run_on q zero text h = omega arith
-run_on q (suc i) [] h = absurd (omega arith)
-run_on q (suc i) (b ∷ text) h =
-    let passes : q b ≡ true = first_passes q (b ∷ text) (omega arith) in
-    let within : suc i ≤ 1 + prefix_len q text = rw passes at h in
-    let more = run_on q i text (omega arith) in
-    rw passes (omega arith)
-
-numeric_bound : (p : Pattern) (text : List ℕ) (n : ℕ) → NumericOnly p → Fits p text n → n ≤ prefix_len is_numeric text
-numeric_bound (one p) text n only (is_one, starts) = let within = run_within p is_numeric text only in omega arith
-numeric_bound (many p) text n only run = le_trans run (run_within p is_numeric text only)
-numeric_bound (a ⋅ b) text n only (i, j, size, f, g) =
-    let front = numeric_bound a text i only.0 f in
-    let back = numeric_bound b (drop i text) j only.1 g in
-    let all = run_on is_numeric i text front in
-    omega arith
-numeric_bound (a ∣ b) text n only (inl f) = numeric_bound a text n only.0 f
-numeric_bound (a ∣ b) text n only (inr f) = numeric_bound b text n only.1 f
-numeric_bound (maybe a) text n only (inl none) = omega arith
-numeric_bound (maybe a) text n only (inr f) = numeric_bound a text n only f
-
-digit_numeric : Numeric is_ascii_digit
+digit_numeric : In is_numeric is_ascii_digit
 digit_numeric b h = grind (arith, nat_tests)
 
-octal_numeric : Numeric is_octal
+octal_numeric : In is_numeric is_octal
 octal_numeric b h = grind (arith, nat_tests)
 
-nonzero_numeric : Numeric is_nonzero
+nonzero_numeric : In is_numeric is_nonzero
 nonzero_numeric b h = grind (arith, nat_tests)
 
-hex_numeric : Numeric is_ascii_hexdigit
+hex_numeric : In is_numeric is_ascii_hexdigit
 hex_numeric b h = rw h refl
 
-e_numeric : Numeric is_e
+e_numeric : In is_numeric is_e
 e_numeric b h = grind (arith, nat_tests)
 
-sign_numeric : Numeric is_sign
+sign_numeric : In is_numeric is_sign
 sign_numeric b h = grind (arith, nat_tests)
 
-f_numeric : Numeric is_f
+f_numeric : In is_numeric is_f
 f_numeric b h = grind (arith, nat_tests)
 
-x_numeric : Numeric is_x
+x_numeric : In is_numeric is_x
 x_numeric b h = grind (arith, nat_tests)
 
-zero_numeric : Numeric (λ b. b == 48)
+zero_numeric : In is_numeric (λ b. b == 48)
 zero_numeric b h = ap is_numeric (eqb-true b 48 h)
 
-point_numeric : Numeric (λ b. b == 46)
+point_numeric : In is_numeric (λ b. b == 46)
 point_numeric b h = ap is_numeric (eqb-true b 46 h)
 
-abbrev ending_numeric : NumericOnly (maybe (one is_e ⋅ maybe (one is_sign) ⋅ (one is_ascii_digit ⋅ many is_ascii_digit)) ⋅ maybe (one is_f))
+abbrev ending_numeric : OnlyIn is_numeric (maybe (one is_e ⋅ maybe (one is_sign) ⋅ (one is_ascii_digit ⋅ many is_ascii_digit)) ⋅ maybe (one is_f))
 ending_numeric = ((e_numeric, (sign_numeric, (digit_numeric, digit_numeric))), f_numeric)
 
-integer_numeric : NumericOnly (pattern kind.Integer)
+integer_numeric : OnlyIn is_numeric (pattern kind.Integer)
 integer_numeric = (zero_numeric, ((zero_numeric, (octal_numeric, octal_numeric)), ((nonzero_numeric, digit_numeric), (zero_numeric, (x_numeric, (hex_numeric, hex_numeric))))))
 
-float_numeric : NumericOnly (pattern kind.Float)
+float_numeric : OnlyIn is_numeric (pattern kind.Float)
 float_numeric = (
   (zero_numeric, f_numeric),
   (
@@ -225,8 +186,8 @@ abbrev IsNumber : Kind → Type 0
 IsNumber k = (k ≡ kind.Integer) ⊎ (k ≡ kind.Float)
 
 number_bound : (k : Kind) (text : List ℕ) (n : ℕ) → IsNumber k → Fits (pattern k) text n → n ≤ prefix_len is_numeric text
-number_bound k text n (inl e) f = let P : Kind → Type 0 = λ l. Fits (pattern l) text n in numeric_bound (pattern kind.Integer) text n integer_numeric (subst P e f)
-number_bound k text n (inr e) f = let P : Kind → Type 0 = λ l. Fits (pattern l) text n in numeric_bound (pattern kind.Float) text n float_numeric (subst P e f)
+number_bound k text n (inl e) f = let P : Kind → Type 0 = λ l. Fits (pattern l) text n in only_bound is_numeric (pattern kind.Integer) text n integer_numeric (subst P e f)
+number_bound k text n (inr e) f = let P : Kind → Type 0 = λ l. Fits (pattern l) text n in only_bound is_numeric (pattern kind.Float) text n float_numeric (subst P e f)
 
 zero_kind : (text : List ℕ) → IsNumber (zero_number text).0
 unfolding zero_number
@@ -263,7 +224,7 @@ float_found s rest word end =
     let fits = word_fits (pattern kind.Float) s rest word in
     let alone : Fits (pattern kind.Float) (s ++ []) (length s) = word_fits (pattern kind.Float) s [] word in
     let P : List ℕ → Type 0 = λ t. Fits (pattern kind.Float) t (length s) in
-    let inside = numeric_bound (pattern kind.Float) s (length s) float_numeric (subst P (append-nil s) alone) in
+    let inside = only_bound is_numeric (pattern kind.Float) s (length s) float_numeric (subst P (append-nil s) alone) in
     let within = prefix_len-le-length is_numeric s in
     let all : AllPass is_numeric s = omega arith in
     let size = run_to is_numeric s rest all refl (ends_run is_numeric rest refl refl end) in
@@ -286,7 +247,7 @@ float_lexes at s rest word suffix whole end =
     let same = front_is s rest in
     let text_is : float_text s ≡ s = rw whole (rw suffix refl) in
     let fits = word_fits (pattern kind.Float) s rest word in
-    let ink = numeric_bound (pattern kind.Float) text m float_numeric fits in
+    let ink = only_bound is_numeric (pattern kind.Float) text m float_numeric fits in
     let some = fits_some kind.Float text m fits in
     record {
       stop = ap (λ l. l.stop) is;
@@ -295,3 +256,16 @@ float_lexes at s rest word suffix whole end =
       some = omega (arith, length-append s rest);
       ink = numeric_not_blank (get_or text 0 0) (first_passes is_numeric text (omega arith));
     }
+
+-- ---- words
+
+-- a word of bytes of one kind
+pub word_passes : (q : ℕ → Bool) (p : Pattern) (word : List ℕ) → OnlyIn q p → IsWordOf p word → AllPass q word
+word_passes q p word only w =
+    let P : List ℕ → Type 0 = λ t. Fits p t (length word) in
+    let inside = only_bound q p word (length word) only (subst P (append-nil word) (word_fits p word [] w)) in
+    let within = prefix_len-le-length q word in
+    omega arith
+
+pub digits_word : (u : List ℕ) → IsWordOf digits u → AllPass is_ascii_digit u
+digits_word u w = word_passes is_ascii_digit digits u (λ b h. h, λ b h. h) w

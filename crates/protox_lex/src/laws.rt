@@ -1,17 +1,17 @@
 //! Laws of the definitions that the contracts cite. Each is a function that does nothing, or nothing
 //! but compare: its contract is the law.
-ghost use Rattle.std.specs.Prelude.{◌≡◌, ◌↔◌, IsTrue, ◌+◌, ◌++◌, ◌∷◌, [], ℕ, Bool, true, false, if◌then◌else◌, List, None, length, take, map, flat_map};
+ghost use Rattle.std.specs.Prelude.{◌≡◌, ◌⊎◌, ◌↔◌, IsTrue, ◌+◌, ◌++◌, ◌∷◌, [], ℕ, Bool, true, false, if◌then◌else◌, List, None, length, take, map, flat_map};
 ghost use Rattle.std.specs.Cow.{cow_str_bytes};
 ghost use Rattle.std.specs.List.{All};
 ghost use Rattle.std.specs.Str.{IsUtf8};
 ghost use Rattle.protox_lex.specs.declared.error.ParseErrorKind.TheVariants.{InvalidStringCharacters, InvalidStringEscape};
 ghost use Rattle.protox_lex.specs.Faults.{LiesIn, span_from};
 ghost use Rattle.protox_lex.specs.Lexemes as spec;
-ghost use Rattle.protox_lex.specs.LexesBack.{AreBytes, ArePrintable, spaced};
+ghost use Rattle.protox_lex.specs.LexesBack.{AreBytes, IsPrintable, ArePrintable, spaced};
 ghost use Rattle.protox_lex.specs.Lexicon.{is_quote};
 ghost use Rattle.protox_lex.specs.Pattern.{Pattern, Fits};
 ghost use Rattle.protox_lex.specs.Printed.{printed};
-ghost use Rattle.protox_lex.specs.Shapes.{Shape, Str};
+ghost use Rattle.protox_lex.specs.Shapes.{Shape, Str, Invalid};
 ghost use Rattle.protox_lex.specs.StringPieces.{IsPieces, all_wrong, begins_wrong};
 ghost use Rattle.protox_lex.specs.Strings.{Piece, wrong, len_of, pieces, faults_of as string_faults};
 ghost use Rattle.protox_lex.specs.Table.{rows_of, gaps_of, faults_of, StandBetween};
@@ -74,6 +74,12 @@ pub fn invalid_pieces_adjoin()
 #[tactic(auto, using(crate::proofs::ShapesBack::gives))]
 pub fn printed_forms_lex_back()
     ensures { (xs : List Shape) → ArePrintable xs → (map (λ x. x.shape) (spec.cut 0 (spaced xs)) ≡ xs) × (flat_map (λ x. x.faults) (spec.cut 0 (spaced xs)) ≡ []) }
+{}
+
+/// The rows of a source's cut are such shapes, but for invalid characters.
+#[tactic(auto, using(crate::proofs::Printable::printable_rows))]
+pub fn rows_are_printable()
+    ensures { (source : List ℕ) → AreBytes source → All (λ row. (row.shape ≡ Invalid) ⊎ IsPrintable row.shape) (rows_of (spec.cut 0 source)) }
 {}
 
 /// A string that is printed in double quotes is one lexeme of its bytes, without a fault.

@@ -10,3 +10,4 @@ pub mod ExamplesItems
 pub mod ExamplesFaults
 pub mod Membership
 pub mod FaultLaw
+pub mod DefaultLaw

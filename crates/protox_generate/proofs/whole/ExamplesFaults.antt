@@ -1,6 +1,6 @@
 -- Examples of faults: each file is wrong in these ways and in no other.
 use Prim.Native.String.{String}
-use Rattle.std.proofs.Common.{ℕ, ◌+◌, ◌++◌, ◌≡◌, List, [], ◌∷◌, Option, None, true, codes, refl}
+use Rattle.std.proofs.Common.{ℕ, ◌+◌, ◌++◌, ◌≡◌, List, [], ◌∷◌, Option, None, map, true, false, codes, refl}
 use Rattle.std.specs.Fmt.{digits}
 use Rattle.std.specs.Char.{encode_utf8}
 use Rattle.std.specs.Str.{is_utf8, chars}
@@ -13,7 +13,8 @@ use Rattle.protox_ast.specs.declared.ast.OptionBody.{OptionBody}
 use Rattle.protox_ast.specs.declared.ast.ReservedRangeEnd.TheVariants as range_end
 use Rattle.protox_ast.specs.declared.ast.Service.{Service}
 use Rattle.protox_generate.specs.whole.Options.{OptionStatement}
-use Rattle.protox_generate.specs.whole.Values.{wanted}
+use Rattle.protox_generate.specs.whole.FieldFaults.{may_be_key}
+use Rattle.protox_generate.specs.whole.Values.{wanted, a_float, an_integer, a_bool, a_text, some_bytes, anything, signed_32, signed_64, unsigned_32, unsigned_64}
 use Rattle.protox_lex.specs.declared.error.ParseErrorKind.{ParseErrorKind}
 use Rattle.protox_lex.specs.declared.error.ParseErrorKind.TheVariants as fault
 use Rattle.protox_ast.specs.declared.ast.FieldLabel.{FieldLabel}
@@ -404,6 +405,28 @@ takes-bytes = refl
 wants-text : of_default ty.String (value.String (record { value = 255 ∷ []; span = at 53 59 })) ≡ fault.InvalidUtf8String (at 53 59) ∷ []
 unfolding utf8_valid_len is_utf8 chars encode_utf8
 wants-text = refl
+
+-- ---- each type
+
+abbrev every_type : List Ty
+every_type =
+    ty.Double ∷ ty.Float
+    ∷ ty.Int32 ∷ ty.Int64 ∷ ty.Uint32 ∷ ty.Uint64 ∷ ty.Sint32 ∷ ty.Sint64 ∷ ty.Fixed32 ∷ ty.Fixed64 ∷ ty.Sfixed32 ∷ ty.Sfixed64
+    ∷ ty.Bool ∷ ty.String ∷ ty.Bytes ∷ ty.Named (w.name (word "E" 0)) ∷ []
+
+-- the ten types of integers, bool and string
+keys : map may_be_key every_type ≡
+    false ∷ false
+    ∷ true ∷ true ∷ true ∷ true ∷ true ∷ true ∷ true ∷ true ∷ true ∷ true
+    ∷ true ∷ true ∷ false ∷ false ∷ []
+keys = refl
+
+wants : map wanted every_type ≡
+    a_float ∷ a_float
+    ∷ an_integer signed_32 ∷ an_integer signed_64 ∷ an_integer unsigned_32 ∷ an_integer unsigned_64 ∷ an_integer signed_32 ∷ an_integer signed_64
+    ∷ an_integer unsigned_32 ∷ an_integer unsigned_64 ∷ an_integer signed_32 ∷ an_integer signed_64
+    ∷ a_bool ∷ a_text ∷ some_bytes ∷ anything ∷ []
+wants = refl
 
 -- the bounds of each type of integers
 low-32 : of_default ty.Sint32 (value.Int (minus 2147483649 (at 53 64))) ≡ fault.IntegerValueOutOfRange (at 53 64) (codes "a signed 32-bit integer") (codes "-2147483649") (codes "-2147483648") (codes "2147483647") ∷ []

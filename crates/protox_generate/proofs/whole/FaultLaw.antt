@@ -16,7 +16,7 @@ use Rattle.protox_ast.specs.declared.ast.Syntax.{Syntax}
 use Rattle.protox_ast.specs.declared.ast.Syntax.TheVariants.{Proto2, Proto3}
 use Rattle.protox_generate.specs.Descriptor.{in_message_range}
 use Rattle.protox_generate.specs.whole.Checks.{placed, settled, only_if, integer_faults, value_faults, option_faults, label_faults, map_faults, key_faults, kind_faults, is_proto3, place_faults, group_faults, default_value_faults, at_default, field_faults, node_faults, file_faults}
-use Rattle.protox_generate.specs.whole.FieldFaults.{Scope, InMessage, InOneof, InExtend, KindNode, Normal, Group, Map, FieldNode, OfKind, WrongLabel, WrongMap, WrongKey, WrongKind, WrongDefault, on_map, on_repeated, on_group, in_proto3, WrongDefaultValue, WrongField, of_label, of_kind, of_default, of_default_value, may_be_key, is_map, is_group, is_repeated}
+use Rattle.protox_generate.specs.whole.FieldFaults.{Scope, InMessage, InOneof, InExtend, KindNode, Normal, Group, Map, FieldNode, WithKind, WrongLabel, WrongMap, WrongKey, WrongKind, WrongDefault, on_map, on_repeated, on_group, in_proto3, WrongDefaultValue, WrongField, of_label, of_kind, of_default, of_default_value, may_be_key, is_map, is_group, is_repeated}
 use Rattle.protox_generate.specs.whole.Faults.{WrongNode, Wrong}
 use Rattle.protox_generate.specs.whole.Nodes.{Node, AMessageNumber, AnEnumNumber, AField, AJsonName, AnOption, AnEmptyOneof, file_nodes}
 use Rattle.protox_generate.specs.whole.Spans.{body_span}
@@ -65,26 +65,26 @@ word_of (fault.InvalidExtendFieldKind span kind) = kind.now
 word_of (fault.InvalidOneofFieldKind span kind) = kind.now
 word_of wrong = []
 
-default-word : (span : Span) (word : List ℕ) (wrong : ParseErrorKind) → fault.InvalidDefault span (placed word) ≡ settled wrong → OfKind word (fault.InvalidDefault span) wrong
+default-word : (span : Span) (word : List ℕ) (wrong : ParseErrorKind) → fault.InvalidDefault span (placed word) ≡ settled wrong → WithKind word (fault.InvalidDefault span) wrong
 default-word span word (fault.InvalidDefault s k) e = (k, ap word_of (sym e), ap (λ t. fault.InvalidDefault t k) (ap place_of (sym e)))
 default-word span word (fault.InvalidExtendFieldKind s k) e = absurd (true≢false (ap is_default e))
 default-word span word (fault.InvalidOneofFieldKind s k) e = absurd (true≢false (ap is_default e))
 default-word span word wrong e = (placed word, refl, sym e)
 
-extend-word : (span : Span) (word : List ℕ) (wrong : ParseErrorKind) → fault.InvalidExtendFieldKind span (placed word) ≡ settled wrong → OfKind word (fault.InvalidExtendFieldKind span) wrong
+extend-word : (span : Span) (word : List ℕ) (wrong : ParseErrorKind) → fault.InvalidExtendFieldKind span (placed word) ≡ settled wrong → WithKind word (fault.InvalidExtendFieldKind span) wrong
 extend-word span word (fault.InvalidDefault s k) e = absurd (true≢false (ap is_extend e))
 extend-word span word (fault.InvalidExtendFieldKind s k) e = (k, ap word_of (sym e), ap (λ t. fault.InvalidExtendFieldKind t k) (ap place_of (sym e)))
 extend-word span word (fault.InvalidOneofFieldKind s k) e = absurd (true≢false (ap is_extend e))
 extend-word span word wrong e = (placed word, refl, sym e)
 
-oneof-word : (span : Span) (word : List ℕ) (wrong : ParseErrorKind) → fault.InvalidOneofFieldKind span (placed word) ≡ settled wrong → OfKind word (fault.InvalidOneofFieldKind span) wrong
+oneof-word : (span : Span) (word : List ℕ) (wrong : ParseErrorKind) → fault.InvalidOneofFieldKind span (placed word) ≡ settled wrong → WithKind word (fault.InvalidOneofFieldKind span) wrong
 oneof-word span word (fault.InvalidDefault s k) e = absurd (true≢false (ap is_oneof e))
 oneof-word span word (fault.InvalidExtendFieldKind s k) e = absurd (true≢false (ap is_oneof e))
 oneof-word span word (fault.InvalidOneofFieldKind s k) e = (k, ap word_of (sym e), ap (λ t. fault.InvalidOneofFieldKind t k) (ap place_of (sym e)))
 oneof-word span word wrong e = (placed word, refl, sym e)
 
 -- a fault with the word, settled
-settle-kind : (word : List ℕ) (named : Bor (List ℕ) → ParseErrorKind) (wrong : ParseErrorKind) → ((kind : Bor (List ℕ)) → settled (named kind) ≡ named (placed kind.now)) → OfKind word named wrong → named (placed word) ≡ settled wrong
+settle-kind : (word : List ℕ) (named : Bor (List ℕ) → ParseErrorKind) (wrong : ParseErrorKind) → ((kind : Bor (List ℕ)) → settled (named kind) ≡ named (placed kind.now)) → WithKind word named wrong → named (placed word) ≡ settled wrong
 settle-kind word named wrong settles h = sym (ap settled h.2 ∙ (settles h.0 ∙ ap (λ w. named (placed w)) h.1))
 
 -- ---- a fault under a test
@@ -231,7 +231,7 @@ module _ (syntax : Syntax) (f : FieldNode) (span : Span) where
   abbrev in_proto3s : List ParseErrorKind
   in_proto3s = only_if (is_proto3 syntax && (not (is_map f.kind) && not (is_repeated f.label))) (fault.Proto3DefaultValue span)
 
-  word-to : (b : Bool) (word : List ℕ) (wrong : ParseErrorKind) → b ≡ true → OfKind word (fault.InvalidDefault span) wrong → Among (only_if b (fault.InvalidDefault span (placed word))) (settled wrong)
+  word-to : (b : Bool) (word : List ℕ) (wrong : ParseErrorKind) → b ≡ true → WithKind word (fault.InvalidDefault span) wrong → Among (only_if b (fault.InvalidDefault span (placed word))) (settled wrong)
   word-to b word wrong t o = test-to b (fault.InvalidDefault span (placed word)) wrong t (settle-kind word (fault.InvalidDefault span) wrong (λ kind. refl) o)
 
   default-to : (wrong : ParseErrorKind) → WrongDefault syntax f span wrong → Among (place_faults syntax f span) (settled wrong) ⊎ Among (group_faults f span) (settled wrong)

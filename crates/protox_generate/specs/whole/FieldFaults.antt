@@ -35,8 +35,8 @@ pub record FieldNode : Type 0 where
   pub span : Span
 
 -- The fault is this one with that word as its kind.
-abbrev pub OfKind : List ℕ → (Bor (List ℕ) → ParseErrorKind) → ParseErrorKind → Type 0
-OfKind word named wrong = (kind : Bor (List ℕ)) × (kind.now ≡ word) × (wrong ≡ named kind)
+abbrev pub WithKind : List ℕ → (Bor (List ℕ) → ParseErrorKind) → ParseErrorKind → Type 0
+WithKind word named wrong = (kind : Bor (List ℕ)) × (kind.now ≡ word) × (wrong ≡ named kind)
 
 -- ---- labels
 
@@ -54,8 +54,8 @@ WrongLabel syntax scope kind label span wrong = ⊥
 
 -- A map stands where none may, or with a label.
 abbrev pub WrongMap : Scope → Option (FieldLabel × Span) → Span → ParseErrorKind → Type 0
-WrongMap InOneof label span wrong = OfKind (codes "map") (fault.InvalidOneofFieldKind span) wrong
-WrongMap InExtend label span wrong = OfKind (codes "map") (fault.InvalidExtendFieldKind span) wrong
+WrongMap InOneof label span wrong = WithKind (codes "map") (fault.InvalidOneofFieldKind span) wrong
+WrongMap InExtend label span wrong = WithKind (codes "map") (fault.InvalidExtendFieldKind span) wrong
 WrongMap InMessage (Some label) span wrong = wrong ≡ fault.MapFieldWithLabel label.1
 WrongMap InMessage None span wrong = ⊥
 
@@ -92,9 +92,9 @@ is_repeated _ = false
 
 -- A `default` stands where none may. At a repeated group it is wrong twice.
 pub data WrongDefault (syntax : Syntax) (f : FieldNode) (span : Span) (wrong : ParseErrorKind) : Type 0 where
-  on_map : is_map f.kind ≡ true → OfKind (codes "map") (fault.InvalidDefault span) wrong → WrongDefault syntax f span wrong
-  on_repeated : is_map f.kind ≡ false → is_repeated f.label ≡ true → OfKind (codes "repeated") (fault.InvalidDefault span) wrong → WrongDefault syntax f span wrong
-  on_group : is_group f.kind ≡ true → OfKind (codes "group") (fault.InvalidDefault span) wrong → WrongDefault syntax f span wrong
+  on_map : is_map f.kind ≡ true → WithKind (codes "map") (fault.InvalidDefault span) wrong → WrongDefault syntax f span wrong
+  on_repeated : is_map f.kind ≡ false → is_repeated f.label ≡ true → WithKind (codes "repeated") (fault.InvalidDefault span) wrong → WrongDefault syntax f span wrong
+  on_group : is_group f.kind ≡ true → WithKind (codes "group") (fault.InvalidDefault span) wrong → WrongDefault syntax f span wrong
   in_proto3 : syntax ≡ Proto3 → is_map f.kind ≡ false → is_repeated f.label ≡ false → wrong ≡ fault.Proto3DefaultValue span → WrongDefault syntax f span wrong
 
 -- A default's value is not one that the field's type takes.

@@ -1,5 +1,5 @@
 -- The comments of a gap, one at a time.
-use Rattle.std.proofs.Common.{◌≡◌, ℕ, zero, suc, ◌+◌, ◌<◌, length, get_or, drop, map, arith, Bool, true, false, inl, inr, List, [], ◌∷◌, ◌++◌, refl, sym, ap, ◌∙◌, subst, append_assoc, append-nil, Option, Some, None}
+use Rattle.std.proofs.Common.{◌≡◌, ℕ, zero, suc, ◌+◌, ◌<◌, length, get_or, drop, map, arith, Bool, true, false, inl, inr, List, [], ◌∷◌, ◌++◌, refl, sym, ap, ◌∙◌, subst, append_assoc, Option, Some, None}
 use Rattle.std.specs.declared.alloc.Global.{Global}
 use Rattle.std.specs.declared.borrow.CowStr.{CowStr}
 use Rattle.std.proofs.lemmas.Bool.{cases_Bool, and_parts}
@@ -7,15 +7,15 @@ use Rattle.std.proofs.lemmas.List.{at_drop_more}
 use Rattle.std.specs.List.{list_all}
 use Rattle.std.specs.Option.{option_or}
 use Rattle.std.specs.Prelude.{if◌then◌else◌}
-use Rattle.protox_lex.specs.Attributing.{begins_newline, behind, pending, outcome_of, outcome, ended}
+use Rattle.protox_lex.specs.Attributing.{begins_newline, behind, pending, outcome_of, outcome}
 use Rattle.protox_lex.specs.CommentState.{CommentState, placed, flushed, with_block, with_line, empty}
 use Rattle.protox_lex.specs.declared.comments.Block.{Block}
-use Rattle.protox_lex.specs.Gaps.{Item, block, blank, begins_line, joined, items, blocks, first_block, last_block, all_but_last, Attribution, nothing, may_lead, led_by, unless_leading, trailed_by, unless_trailing, among, attribution, IsGap}
+use Rattle.protox_lex.specs.Gaps.{Item, block, blank, begins_line, joined, items, nothing, may_lead, led_by, unless_leading, among, attribution, IsGap}
 use Rattle.protox_lex.specs.Table.{is_gap}
 use Rattle.protox_lex.specs.Tokens.{shape_of}
 use Rattle.protox_lex.specs.declared.token.Token.{Token}
 use Rattle.protox_lex.specs.declared.token.Token.TheVariants as token
-use Rattle.protox_lex.specs.Shapes.{Shape, Ident, Int, Float, Str, Mark, LineComment, BlockComment, Newline, Invalid}
+use Rattle.protox_lex.specs.Shapes.{Shape, LineComment, BlockComment, Newline}
 
 -- ---- one item in front
 

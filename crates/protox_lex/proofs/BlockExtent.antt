@@ -1,5 +1,5 @@
 -- Where a block comment ends.
-use Rattle.std.proofs.Common.{◌≡◌, ℕ, zero, suc, ◌+◌, ◌-◌, ◌<◌, ◌≤◌, ◌==◌, ◌&&◌, Bool, true, false, eqb, ltb, inl, inr, List, [], ◌∷◌, ◌++◌, length, take, drop, get_or, refl, sym, ap, ◌∙◌, subst, length-drop, drop-drop, le_refl, arith, Option, Some, None, IfSome}
+use Rattle.std.proofs.Common.{◌≡◌, ℕ, zero, suc, ◌+◌, ◌-◌, ◌<◌, ◌≤◌, ◌==◌, ◌&&◌, Bool, false, eqb, ltb, inl, inr, List, [], ◌∷◌, length, take, drop, get_or, refl, sym, ap, ◌∙◌, subst, length-drop, drop-drop, le_refl, arith, Option, Some, None, IfSome}
 use Rattle.std.proofs.lemmas.Bool.{cases_Bool, eqb-true, ltb-true, ltb-false, and_parts}
 use Rattle.std.proofs.lemmas.Bool.Decides.{nat_tests}
 use Rattle.std.proofs.lemmas.List.Sums.{prefix_len-le-length}
@@ -9,7 +9,7 @@ use Rattle.std.specs.List.{prefix_len}
 use Rattle.std.specs.Option.{option_map, option_or}
 use Rattle.std.specs.Str.{IsUtf8, IsCharBoundary}
 use Rattle.protox_lex.specs.declared.error.ParseErrorKind.{ParseErrorKind}
-use Rattle.protox_lex.specs.BlockComments.{Mark, opens, closes, marks, marks_of, Ending, behind, closed, last_closed, ending, len_to, faults_to, nested_faults, content_to, comment_text, is_one_line}
+use Rattle.protox_lex.specs.BlockComments.{Mark, opens, closes, marks, marks_of, Ending, behind, closed, last_closed, ending, len_to, faults_to, content_to, comment_text, is_one_line}
 use Rattle.protox_lex.specs.Lexemes.{Lexeme, block_comment}
 use Rattle.protox_lex.specs.Lexicon.{is_blank}
 use Rattle.protox_lex.specs.Shapes.{BlockComment}

@@ -1,19 +1,18 @@
 -- The faults of a lexeme lie in the source.
-use Rattle.std.proofs.Common.{◌≡◌, ℕ, zero, suc, ◌+◌, ◌-◌, ◌<◌, ◌≤◌, Bool, true, false, not, ◌&&◌, ◌==◌, eqb, inl, inr, List, [], ◌∷◌, ◌++◌, length, take, drop, get_or, refl, sym, ap, ◌∙◌, subst, cond, length-drop, length-take-le, arith, le_refl, le_trans, Option, Some, None}
+use Rattle.std.proofs.Common.{◌≡◌, ℕ, zero, suc, ◌+◌, ◌<◌, ◌≤◌, Bool, true, false, not, ◌&&◌, ◌==◌, eqb, inl, inr, List, [], ◌∷◌, length, take, drop, get_or, refl, sym, ◌∙◌, subst, length-drop, length-take-le, arith, le_refl, Option, Some, None}
 use Rattle.std.proofs.lemmas.Bool.{cases_Bool, false≢true, and_parts}
 use Rattle.std.proofs.lemmas.Bool.Decides.{nat_tests}
 use Rattle.std.proofs.lemmas.List.Sums.{prefix_len-le-length}
-use Rattle.std.specs.List.{prefix_len, All}
 use Rattle.std.specs.Prelude.{if◌then◌else◌}
 use Rattle.std.specs.Char.{is_ascii_alphabetic}
 use Rattle.protox_lex.specs.declared.error.ParseErrorKind.{ParseErrorKind}
-use Rattle.protox_lex.specs.declared.error.ParseErrorKind.TheVariants.{IntegerOutOfRange, NoSpaceBetweenIntAndIdent, FloatSuffixOutsideTextFormat, HashCommentOutsideTextFormat}
+use Rattle.protox_lex.specs.declared.error.ParseErrorKind.TheVariants.{IntegerOutOfRange}
 use Rattle.protox_lex.specs.declared.scan.Kind.{Kind}
 use Rattle.protox_lex.specs.declared.scan.Kind.TheVariants.{Identifier, Integer, Float, String, Mark, LineComment, BlockComment, Newline}
-use Rattle.protox_lex.specs.Faults.{LiesIn, SpanLiesIn, span_from}
+use Rattle.protox_lex.specs.Faults.{LiesIn, span_from}
 use Rattle.protox_lex.specs.Lexemes.{Lexeme, IsLexeme, lexeme, prefix_of, value_fits, has_suffix, space_faults, range_faults, suffix_faults, hash_faults}
 use Rattle.protox_lex.specs.Lexicon.{pattern, is_letter, is_x}
-use Rattle.protox_lex.specs.Pattern.{Fits, IsLongest}
+use Rattle.protox_lex.specs.Pattern.{Fits}
 use Rattle.protox_lex.specs.BlockComments.{Mark as CommentMark, opens, closes, Ending, ending, marks_of, nested_faults, faults_to}
 use Rattle.protox_lex.specs.Strings as spec
 use Rattle.protox_lex.proofs.BlockExtent.{Lies, EndLies, ending_lies, marks_lie}

@@ -1,24 +1,16 @@
 -- What shapes print is cut into the same shapes.
-use Rattle.std.proofs.Common.{◌≡◌, ℕ, zero, suc, ◌+◌, ◌-◌, ◌*◌, ◌/◌, ◌%◌, ◌^◌, ◌<◌, ◌≤◌, Bool, true, false, not, ◌&&◌, ◌||◌, ◌==◌, eqb, ltb, leb, ◌⊎◌, inl, inr, List, [], ◌∷◌, ◌++◌, length, take, drop, map, flat_map, get_or, refl, sym, ap, ◌∙◌, subst, append_assoc, append-nil, length-append, length-drop, drop-drop, add_assoc, add-zero, eq-eqb, lt-ltb, arith, le_refl, le_trans, Option, Some, None}
-use Rattle.std.proofs.lemmas.Bool.{cases_Bool, true≢false, false≢true, eqb-true, ltb-true, ltb-false, and_parts}
+use Rattle.std.proofs.Common.{◌≡◌, ℕ, ◌+◌, ◌<◌, Bool, true, false, ◌⊎◌, inl, inr, List, [], ◌∷◌, ◌++◌, length, take, drop, get_or, refl, sym, ap, ◌∙◌, subst, eq-eqb, arith, Some}
+use Rattle.std.proofs.lemmas.Bool.{true≢false, false≢true, and_parts}
 use Rattle.std.proofs.lemmas.Bool.Decides.{nat_tests}
-use Rattle.std.proofs.lemmas.List.Sums.{prefix_len-le-length}
-use Rattle.std.specs.Prelude.{if◌then◌else◌}
 use Rattle.std.specs.List.{prefix_len, list_all}
 use Rattle.std.specs.Char.{is_ascii_digit}
-use Rattle.std.specs.Option.{MatchOption}
-use Rattle.protox_lex.specs.declared.error.ParseErrorKind.{ParseErrorKind}
 use Rattle.protox_lex.specs.declared.scan.Kind.{Kind}
 use Rattle.protox_lex.specs.declared.scan.Kind.TheVariants as kind
-use Rattle.protox_lex.specs.LexesBack.{AreBytes, IsPrintable, ArePrintable, spaced}
-use Rattle.protox_lex.specs.Lexemes.{Lexeme, lexeme, first_lexeme, blanks, cut}
+use Rattle.protox_lex.specs.Lexemes.{lexeme, first_lexeme}
 use Rattle.protox_lex.specs.Lexicon.{pattern, is_letter, is_word, is_mark, is_blank}
-use Rattle.protox_lex.specs.Pattern.{Pattern, one, many, ◌⋅◌, ◌∣◌, maybe, some, Fits, IsLongest}
-use Rattle.protox_lex.specs.Printed.{printed}
 use Rattle.protox_lex.specs.Scanning.{scan}
-use Rattle.protox_lex.specs.Shapes.{Shape, Ident, Int, Float, Str, Mark}
+use Rattle.protox_lex.specs.Shapes.{Shape, Ident, Mark}
 use Rattle.protox_lex.specs.Words.{IsWordOf}
-use Rattle.protox_lex.proofs.Cut.{cut_none, cut_some, first_moves}
 use Rattle.protox_lex.proofs.Margins.{AllPass, head_passes}
 use Rattle.protox_lex.proofs.OneKind.{mark_apart}
 use Rattle.protox_lex.proofs.ScanMatch as scanned

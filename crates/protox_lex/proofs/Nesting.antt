@@ -1,5 +1,5 @@
 -- The marks of a block comment.
-use Rattle.std.proofs.Common.{◌≡◌, ℕ, zero, suc, ◌+◌, ◌-◌, ◌<◌, ◌≤◌, ◌==◌, ◌&&◌, Bool, true, false, eqb, ltb, ◌⊎◌, inl, inr, List, [], ◌∷◌, ◌++◌, length, take, drop, get_or, refl, sym, ap, ◌∙◌, subst, append_assoc, append-nil, add-one, drop-cons, arith, Option, Some, None}
+use Rattle.std.proofs.Common.{◌≡◌, ℕ, zero, suc, ◌+◌, ◌-◌, ◌<◌, ◌≤◌, ◌==◌, ◌&&◌, ◌⊎◌, inl, inr, List, [], ◌∷◌, ◌++◌, length, drop, get_or, refl, sym, ap, ◌∙◌, append_assoc, append-nil, add-one, drop-cons, arith, Option, Some, None}
 use Rattle.std.specs.Prelude.{codes, if◌then◌else◌}
 use Rattle.std.specs.Option.{option_map, option_or}
 use Rattle.protox_lex.specs.declared.error.ParseErrorKind.{ParseErrorKind}
@@ -7,7 +7,7 @@ use Rattle.protox_lex.specs.declared.error.ParseErrorKind.TheVariants.{Unexpecte
 use Rattle.protox_lex.specs.BlockComments.{Mark, opens, closes, Ending, marks, behind, closed, last_closed, ending, nested_fault, nested_faults, faults_to}
 use Rattle.protox_lex.specs.declared.block_comment.Mark as code
 use Rattle.protox_lex.specs.declared.block_comment.Mark.TheVariants as variant
-use Rattle.protox_lex.specs.Nesting.{in_front, run, run_out}
+use Rattle.protox_lex.specs.Nesting.{in_front, run}
 
 pub run_opens : (start at : ℕ) (ms : List Mark) (inner : ℕ) (last : Option ℕ) (settled since : List ParseErrorKind)
     → run start (opens at ∷ ms) inner last settled since ≡ run start ms (inner + 1) last settled (since ++ nested_fault start at ∷ [])

@@ -1,6 +1,6 @@
 -- What integers and floats print is cut into the same.
-use Rattle.std.proofs.Common.{◌≡◌, ℕ, zero, suc, ◌+◌, ◌-◌, ◌/◌, ◌%◌, ◌^◌, ◌<◌, ◌≤◌, Bool, true, false, not, ◌&&◌, ◌||◌, ◌==◌, eqb, ltb, ◌⊎◌, inl, inr, List, [], ◌∷◌, ◌++◌, length, take, drop, get_or, refl, sym, ap, ◌∙◌, subst, append-nil, length-append, length-drop, lt-ltb, arith, le_refl, le_trans, Option, Some, None}
-use Rattle.std.proofs.lemmas.Bool.{cases_Bool, true≢false, false≢true, eqb-true}
+use Rattle.std.proofs.Common.{◌≡◌, ℕ, zero, suc, ◌+◌, ◌%◌, ◌^◌, ◌<◌, ◌≤◌, Bool, true, false, not, ◌&&◌, ◌||◌, ◌==◌, eqb, ltb, ◌⊎◌, inl, inr, List, [], ◌∷◌, ◌++◌, length, take, drop, get_or, refl, sym, ap, ◌∙◌, subst, append-nil, length-append, lt-ltb, arith, Option, Some}
+use Rattle.std.proofs.lemmas.Bool.{cases_Bool, eqb-true}
 use Rattle.std.proofs.lemmas.Bool.Decides.{nat_tests}
 use Rattle.std.proofs.lemmas.Fmt.{decimal_by_steps, decimal_is_IsNumeral, decimal_nonempty, decimal_digit, first_decimal}
 use Rattle.std.proofs.lemmas.List.Sums.{prefix_len-le-length}
@@ -9,18 +9,16 @@ use Rattle.std.specs.Fmt.{decimal}
 use Rattle.std.specs.List.{prefix_len}
 use Rattle.std.specs.Char.{is_ascii_digit, is_ascii_hexdigit}
 use Rattle.std.specs.Option.{MatchOption}
-use Rattle.std.specs.Str.Parse.{digits_value}
-use Rattle.protox_lex.specs.declared.error.ParseErrorKind.{ParseErrorKind}
 use Rattle.protox_lex.specs.declared.scan.Kind.{Kind}
 use Rattle.protox_lex.specs.declared.scan.Kind.TheVariants as kind
-use Rattle.protox_lex.specs.Lexemes.{lexeme, first_lexeme, prefix_of, radix_of, integer_value, value_fits, space_faults, range_faults, has_suffix, is_whole, body_of, float_text, suffix_faults}
+use Rattle.protox_lex.specs.Lexemes.{lexeme, prefix_of, integer_value, value_fits, space_faults, range_faults, has_suffix, is_whole, float_text, suffix_faults}
 use Rattle.protox_lex.specs.Lexicon.{pattern, is_letter, is_octal, is_nonzero, is_e, is_sign, is_f, is_x, is_blank, digits}
-use Rattle.protox_lex.specs.Pattern.{Pattern, one, many, ◌⋅◌, ◌∣◌, maybe, Fits, IsLongest}
+use Rattle.protox_lex.specs.Pattern.{Pattern, one, many, ◌⋅◌, maybe, Fits, IsLongest}
 use Rattle.protox_lex.specs.Scanning.{first, digits_len, exponent_len, zero_number, number, fraction_len, scan}
 use Rattle.protox_lex.specs.Shapes.{Int, Float}
 use Rattle.protox_lex.specs.Words.{IsWordOf}
 use Rattle.protox_lex.proofs.Cut.{fits_some}
-use Rattle.protox_lex.proofs.Fitting.{first_passes, no_run, passes_first, In, OnlyIn, only_bound}
+use Rattle.protox_lex.proofs.Fitting.{first_passes, no_run, In, OnlyIn, only_bound}
 use Rattle.protox_lex.proofs.LexesBack.{AtEnd, LexesAs, ends_run, run_to, front_is, rest_is, at_rest, by_scan}
 use Rattle.protox_lex.proofs.Margins.{AllPass, head_passes}
 use Rattle.protox_lex.proofs.NumberMatch as numbers

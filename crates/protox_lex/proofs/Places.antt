@@ -1,17 +1,13 @@
 -- Where rows stand, and where their faults lie.
-use Rattle.std.proofs.Common.{◌≡◌, ℕ, zero, suc, ◌+◌, ◌-◌, ◌<◌, ◌≤◌, Bool, true, false, ◌&&◌, eqb, inl, inr, List, [], ◌∷◌, ◌++◌, length, take, drop, get_or, refl, sym, ap, ◌∙◌, subst, cond, length-drop, length-take-le, drop-drop, arith, le_refl, le_trans, Some, None}
-use Rattle.std.proofs.lemmas.Bool.{cases_Bool, false≢true, and_parts}
-use Rattle.std.proofs.lemmas.Bool.Decides.{nat_tests}
-use Rattle.std.proofs.lemmas.List.Sums.{prefix_len-le-length}
-use Rattle.std.specs.List.{prefix_len, All}
-use Rattle.std.specs.Char.{is_ascii_alphabetic}
+use Rattle.std.proofs.Common.{◌≡◌, ℕ, ◌+◌, ◌-◌, ◌<◌, ◌≤◌, inl, inr, List, [], ◌∷◌, length, drop, refl, ap, ◌∙◌, subst, length-drop, drop-drop, arith, le_refl}
+use Rattle.std.proofs.lemmas.Bool.{cases_Bool}
+use Rattle.std.specs.List.{All}
 use Rattle.std.specs.Str.{IsUtf8}
 use Rattle.protox_lex.specs.declared.error.ParseErrorKind.{ParseErrorKind}
 use Rattle.protox_lex.specs.Faults.{LiesIn, SpanLiesIn, Span, span_from}
 use Rattle.protox_lex.specs.Shapes.{Shape, Invalid}
 use Rattle.protox_lex.specs.Lexemes.{Lexeme, IsCut, cut, blanks}
-use Rattle.protox_lex.specs.Lexicon.{is_blank}
-use Rattle.protox_lex.specs.Table.{is_gap, in_front, rows_of, gaps_of, faults_of, invalid_faults, StandBetween}
+use Rattle.protox_lex.specs.Table.{is_gap, in_front, rows_of, faults_of, invalid_faults, StandBetween}
 use Rattle.protox_lex.proofs.Boundaries.{blanks_boundary}
 use Rattle.protox_lex.proofs.Cut.{cut_is_cut}
 use Rattle.protox_lex.proofs.Extents.{Stands, lexeme_stands}

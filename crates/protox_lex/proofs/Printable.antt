@@ -1,8 +1,8 @@
 -- The tokens of a source are cut again from what they print.
-use Rattle.std.proofs.Common.{◌≡◌, ℕ, zero, suc, ◌+◌, ◌-◌, ◌/◌, ◌%◌, ◌^◌, ◌<◌, ◌≤◌, Bool, true, false, not, ◌&&◌, ◌||◌, ◌==◌, eqb, ltb, leb, ◌⊎◌, inl, inr, List, [], ◌∷◌, ◌++◌, length, take, drop, flat_map, get_or, refl, sym, ap, ◌∙◌, subst, append_assoc, append-nil, length-append, lt-ltb, eq-eqb, arith, Option, Some, None}
-use Rattle.std.proofs.lemmas.Bool.{cases_Bool, true≢false, false≢true, eqb-true, ltb-true, ltb-false, leb-true, and_parts}
+use Rattle.std.proofs.Common.{◌≡◌, ℕ, zero, suc, ◌+◌, ◌-◌, ◌/◌, ◌%◌, ◌^◌, ◌<◌, Bool, true, false, ◌||◌, ◌==◌, eqb, ltb, leb, ◌⊎◌, inl, inr, List, [], ◌∷◌, ◌++◌, length, take, drop, get_or, refl, sym, ap, ◌∙◌, subst, append_assoc, append-nil, length-append, lt-ltb, eq-eqb, arith, Option, Some, None}
+use Rattle.std.proofs.lemmas.Bool.{cases_Bool, true≢false, eqb-true, ltb-true, leb-true, and_parts}
 use Rattle.std.proofs.lemmas.Bool.Decides.{nat_tests}
-use Rattle.std.proofs.lemmas.List.Sums.{prefix_len_passes, prefix_len-le-length}
+use Rattle.std.proofs.lemmas.List.Sums.{prefix_len_passes}
 use Rattle.std.proofs.Math.Utf8.{encode}
 use Rattle.std.specs.Prelude.{if◌then◌else◌, nat_lt, min}
 use Rattle.std.specs.Str.Parse.{digits_value}
@@ -14,8 +14,8 @@ use Rattle.protox_lex.specs.Faults.{Span}
 use Rattle.protox_lex.specs.LexesBack.{AreBytes, IsPrintable}
 use Rattle.protox_lex.specs.Lexemes.{Lexeme, IsLexeme, IsCut, lexeme, blanks, cut, integer_value, value_fits, has_suffix, body_of, is_whole, float_text}
 use Rattle.protox_lex.specs.Lexicon.{pattern, is_octal, is_nonzero, is_e, is_sign, is_f, is_x, is_quote, is_mark, byte, digits, any_digits, exponent, suffix}
-use Rattle.protox_lex.specs.Pattern.{Pattern, ◌⋅◌, maybe, Fits, IsLongest}
-use Rattle.protox_lex.specs.Shapes.{Shape, Int, Float, Invalid, Row, Rows}
+use Rattle.protox_lex.specs.Pattern.{◌⋅◌, maybe, Fits}
+use Rattle.protox_lex.specs.Shapes.{Shape, Float, Invalid, Row}
 use Rattle.protox_lex.specs.Strings as spec
 use Rattle.protox_lex.specs.Table.{is_gap, rows_of}
 use Rattle.protox_lex.specs.Words.{IsWordOf}

@@ -1,7 +1,6 @@
 -- What a list of shapes prints is cut into the same shapes.
-use Rattle.std.proofs.Common.{◌≡◌, ℕ, zero, suc, ◌+◌, ◌-◌, ◌<◌, ◌≤◌, Bool, true, false, ltb, inl, inr, List, [], ◌∷◌, ◌++◌, length, drop, map, flat_map, get_or, refl, sym, ap, ◌∙◌, subst, append-nil, length-append, length-drop, add_assoc, add-zero, arith}
+use Rattle.std.proofs.Common.{◌≡◌, ℕ, suc, ◌+◌, ◌-◌, Bool, ltb, inl, inr, List, [], ◌∷◌, ◌++◌, length, drop, map, flat_map, refl, sym, ap, ◌∙◌, subst, append-nil, add-zero, arith}
 use Rattle.std.proofs.lemmas.Bool.{cases_Bool, ltb-true, ltb-false}
-use Rattle.protox_lex.specs.declared.error.ParseErrorKind.{ParseErrorKind}
 use Rattle.protox_lex.specs.LexesBack.{AreBytes, IsPrintable, ArePrintable, spaced}
 use Rattle.protox_lex.specs.Lexemes.{Lexeme, first_lexeme, blanks, cut}
 use Rattle.protox_lex.specs.Lexicon.{is_blank}

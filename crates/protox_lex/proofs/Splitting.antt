@@ -1,10 +1,10 @@
 -- Lists one behind another.
-use Rattle.std.proofs.Common.{◌≡◌, ℕ, zero, suc, ◌+◌, ◌-◌, ◌<◌, ◌≤◌, List, [], ◌∷◌, ◌++◌, length, take, drop, get_or, refl, sym, ap, ◌∙◌, subst, length-append, length-drop, length-take-le, arith, le_refl, le_trans, Some, None}
+use Rattle.std.proofs.Common.{◌≡◌, ℕ, zero, suc, ◌+◌, ◌-◌, ◌<◌, ◌≤◌, List, [], ◌∷◌, ◌++◌, length, take, drop, get_or, refl, sym, ap, ◌∙◌, length-append, length-drop, arith, le_refl, le_trans, Some, None}
 use Rattle.std.proofs.lemmas.List.{take-append-le, drop-append-le}
 use Rattle.std.proofs.Math.Seq.{take-length, drop-length}
 use Rattle.std.proofs.lemmas.Option.{slice_get_past}
 use Rattle.std.specs.Prelude.{slice_get, slice_range}
-use Rattle.protox_lex.specs.Grouping.{Grouped, split, last_end, EndWithin, grouped}
+use Rattle.protox_lex.specs.Grouping.{split, last_end, EndWithin, grouped}
 
 -- the last end lies behind the first beginning, within the items
 pub last_within : (from size : ℕ) (ends : List ℕ) → EndWithin from size ends → (from ≤ last_end from ends) × (last_end from ends ≤ size)

@@ -1,5 +1,5 @@
 -- Each piece of a string literal is the longest match of the piece table.
-use Rattle.std.proofs.Common.{◌≡◌, ℕ, zero, suc, ◌+◌, ◌-◌, ◌<◌, ◌≤◌, Bool, true, false, not, ◌&&◌, ◌==◌, eqb, ltb, leb, inl, inr, List, [], ◌∷◌, ◌++◌, length, take, drop, get_or, refl, sym, ap, ◌∙◌, subst, drop-drop, eq-eqb, lt-ltb, ◌⊎◌, append-nil, add_assoc, add-zero, length-drop, arith, le_refl, le_trans, Option, Some, None}
+use Rattle.std.proofs.Common.{◌≡◌, ℕ, zero, suc, ◌+◌, ◌<◌, ◌≤◌, Bool, true, false, not, ◌&&◌, ◌==◌, eqb, ltb, leb, inl, inr, List, [], ◌∷◌, ◌++◌, length, drop, get_or, refl, sym, ap, ◌∙◌, subst, drop-drop, eq-eqb, lt-ltb, ◌⊎◌, append-nil, add_assoc, add-zero, length-drop, arith, le_refl, Option, Some, None}
 use Rattle.std.proofs.lemmas.Bool.{cases_Bool, true≢false, false≢true, eqb-true, le-leb, leb-true, ltb-true, and_parts}
 use Rattle.std.proofs.lemmas.Bool.Decides.{nat_tests}
 use Rattle.std.proofs.lemmas.List.{drop-take}
@@ -8,8 +8,8 @@ use Rattle.std.specs.Prelude.{if◌then◌else◌, min}
 use Rattle.std.specs.List.{prefix_len}
 use Rattle.std.specs.Char.{is_ascii_hexdigit}
 use Rattle.protox_lex.specs.Lexicon.{is_octal, is_x, is_quote, byte}
-use Rattle.protox_lex.specs.Pattern.{Pattern, one, many, ◌⋅◌, maybe, some, times, up_to, Fits, IsLongest}
-use Rattle.protox_lex.specs.StringPieces.{PieceKind, Run, Close, OtherQuote, Hex, Octal, Simple, ShortChar, LongChar, is_simple, hex_digit, octal_digit, piece_pattern, piece_as, unmatched, IsPiece, IsPieces, is_wrong, begins_wrong, all_wrong}
+use Rattle.protox_lex.specs.Pattern.{Pattern, one, ◌⋅◌, some, times, up_to, Fits, IsLongest}
+use Rattle.protox_lex.specs.StringPieces.{PieceKind, Run, Close, OtherQuote, Hex, Octal, Simple, ShortChar, LongChar, is_simple, hex_digit, octal_digit, piece_pattern, piece_as, unmatched, IsPiece, IsPieces, begins_wrong, all_wrong}
 use Rattle.protox_lex.specs.Strings as spec
 use Rattle.std.specs.Option.{is_some}
 use Rattle.protox_lex.specs.Faults.{span_from}

@@ -1,25 +1,21 @@
 -- What a string prints is cut into the same string.
-use Rattle.std.proofs.Common.{◌≡◌, ℕ, zero, suc, ◌+◌, ◌-◌, ◌*◌, ◌/◌, ◌%◌, ◌<◌, ◌≤◌, Bool, true, false, not, ◌||◌, ◌==◌, eqb, ltb, leb, ◌⊎◌, inl, inr, List, [], ◌∷◌, ◌++◌, length, take, drop, flat_map, get_or, refl, sym, ap, ◌∙◌, subst, append_assoc, length-append, add_assoc, lt-ltb, arith, le_refl, Option, Some, None}
+use Rattle.std.proofs.Common.{◌≡◌, ℕ, suc, ◌+◌, ◌*◌, ◌/◌, ◌%◌, ◌<◌, true, false, eqb, ltb, leb, ◌⊎◌, inl, inr, List, [], ◌∷◌, ◌++◌, length, take, drop, flat_map, get_or, refl, sym, ap, ◌∙◌, subst, append_assoc, length-append, lt-ltb, arith, Some, None}
 use Rattle.std.proofs.lemmas.Bool.{cases_Bool, true≢false, eqb-true, ltb-true, le-leb, and_parts}
 use Rattle.std.proofs.lemmas.Bool.Decides.{nat_tests}
 use Rattle.std.proofs.lemmas.List.Folds.{length-prefix_len}
 use Rattle.std.proofs.lemmas.Str.{digit_value-digit_char}
-use Rattle.std.specs.Prelude.{if◌then◌else◌, min, nat_lt}
+use Rattle.std.specs.Prelude.{min, nat_lt}
 use Rattle.std.specs.List.{prefix_len, list_all}
 use Rattle.std.specs.Char.{is_ascii_hexdigit, digit_char, digit_value}
 use Rattle.std.specs.Int.{is_in_range}
-use Rattle.std.specs.Str.Parse.{digits_value}
-use Rattle.protox_lex.specs.declared.error.ParseErrorKind.{ParseErrorKind}
 use Rattle.protox_lex.specs.declared.scan.Kind.TheVariants as kind
 use Rattle.protox_lex.specs.LexesBack.{AreBytes}
-use Rattle.protox_lex.specs.Lexemes.{first_lexeme, lexeme, string}
-use Rattle.protox_lex.specs.Lexicon.{is_quote}
-use Rattle.protox_lex.specs.Printed.{hex_pair, printed_byte, printed}
+use Rattle.protox_lex.specs.Printed.{hex_pair, printed_byte}
 use Rattle.protox_lex.specs.Scanning.{scan}
 use Rattle.protox_lex.specs.Shapes.{Str}
 use Rattle.protox_lex.specs.Strings as spec
 use Rattle.protox_lex.proofs.Fitting.{no_run, run_more}
-use Rattle.protox_lex.proofs.LexesBack.{AtEnd, LexesAs, rest_is, by_scan}
+use Rattle.protox_lex.proofs.LexesBack.{LexesAs, rest_is, by_scan}
 use Rattle.protox_lex.proofs.Literal.{pieces_last, pieces_more}
 use Rattle.protox_lex.proofs.ScanMatch as scanned
 

@@ -1,5 +1,5 @@
 -- The comments of a gap, and the declarations that they belong to.
-use Rattle.std.specs.Prelude.{◌≡◌, ℕ, Bool, true, false, not, ◌&&◌, ◌||◌, ◌==◌, if◌then◌else◌, List, [], ◌∷◌, ◌++◌, drop, slice_get, Option, Some, None}
+use Rattle.std.specs.Prelude.{◌≡◌, ℕ, Bool, true, false, not, ◌||◌, ◌==◌, if◌then◌else◌, List, [], ◌∷◌, ◌++◌, drop, slice_get, Option, Some, None}
 use Rattle.std.specs.List.{list_all}
 use Rattle.protox_lex.specs.Table.{is_gap}
 use Rattle.protox_lex.specs.Shapes.{Shape, Mark, LineComment, BlockComment, Newline}

@@ -1,5 +1,5 @@
 -- Machinery: lists that stand one behind another in one list.
-use Rattle.std.specs.Prelude.{ℕ, ◌≤◌, List, [], ◌∷◌, length, drop, slice_range, refl}
+use Rattle.std.specs.Prelude.{ℕ, ◌≤◌, List, [], ◌∷◌, drop, slice_range, refl}
 use Rattle.std.specs.Coded.{Coded, code_by, coded×, coded_list}
 
 -- lists that have ended, and one that has begun

@@ -4,7 +4,7 @@ use Rattle.std.specs.Char.{is_ascii_alphabetic, is_ascii_alphanumeric, is_ascii_
 use Rattle.std.specs.Int.{is_in_range}
 use Rattle.protox_lex.specs.declared.scan.Kind.{Kind}
 use Rattle.protox_lex.specs.declared.scan.Kind.TheVariants.{Identifier, Integer, Float, String, Mark, LineComment, BlockComment, Newline}
-use Rattle.protox_lex.specs.Pattern.{Pattern, one, many, ◌⋅◌, ◌∣◌, maybe, some, Fits}
+use Rattle.protox_lex.specs.Pattern.{Pattern, one, many, ◌⋅◌, ◌∣◌, maybe, some}
 
 -- [A-Za-z_]; [A-Za-z0-9_]; [0-9]; [0-7]; [1-9]; [0-9A-Fa-f]; [eE]; [+-]; [fF]; [xX]; ['"]
 abbrev pub is_letter : ℕ → Bool

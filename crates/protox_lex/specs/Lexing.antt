@@ -1,5 +1,5 @@
 -- What a clause sees of a lexer.
-use Rattle.std.specs.Prelude.{drop, map}
+use Rattle.std.specs.Prelude.{drop}
 use Rattle.protox_lex.specs.declared.lexer.Lexer.TheInside.{Inside}
 use Rattle.protox_lex.specs.Lexemes.{cut}
 use Rattle.protox_lex.specs.State.{State}

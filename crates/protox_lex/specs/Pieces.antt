@@ -1,5 +1,5 @@
 -- What a clause sees of a piece.
-use Rattle.std.specs.Prelude.{ℕ, ◌+◌, ◌<◌, ◌≤◌, Bool, slice_index, ◌&&◌, nat_lt, length, map, ◌++◌, List, [], ◌∷◌, take, encode_utf8}
+use Rattle.std.specs.Prelude.{ℕ, ◌+◌, ◌<◌, ◌≤◌, Bool, slice_index, ◌&&◌, nat_lt, length, ◌++◌, List, [], ◌∷◌, take, encode_utf8}
 use Rattle.protox_lex.specs.declared.piece.Piece.{Piece}
 use Rattle.protox_lex.specs.declared.piece.Piece.TheVariants as code
 use Rattle.std.specs.Cow.{cow_slice_items}

@@ -4,7 +4,7 @@ use Rattle.protox_lex.specs.declared.error.ParseErrorKind.{ParseErrorKind}
 use Rattle.protox_lex.specs.declared.error.ParseErrorKind.TheVariants.{InvalidToken}
 use Rattle.protox_lex.specs.Faults.{Span, span_from}
 use Rattle.protox_lex.specs.Lexemes.{Lexeme}
-use Rattle.protox_lex.specs.Shapes.{Shape, LineComment, BlockComment, Newline, Invalid, Row, Rows}
+use Rattle.protox_lex.specs.Shapes.{Shape, LineComment, BlockComment, Newline, Invalid, Rows}
 
 -- comments and newlines stand in gaps
 abbrev pub is_gap : Shape → Bool

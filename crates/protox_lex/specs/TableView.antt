@@ -1,6 +1,6 @@
 -- What a clause sees of a table and of its rows.
 use Rattle.std.specs.Borrow.{Bor}
-use Rattle.std.specs.Prelude.{List, map, ◌++◌, Option, Result, Ok, Err}
+use Rattle.std.specs.Prelude.{List, map, ◌++◌, Result, Ok, Err}
 use Rattle.protox_lex.specs.declared.token.Token.{Token}
 use Rattle.protox_lex.specs.declared.token_table.Row.{Row as TableRow}
 use Rattle.protox_lex.specs.declared.token_table.TableDraft.{TableDraft}

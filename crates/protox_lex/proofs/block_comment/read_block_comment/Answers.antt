@@ -1,11 +1,9 @@
-use Rattle.std.proofs.Common.{◌≡◌, ℕ, [], take, ◌==◌, ◌+◌, ◌-◌, List, drop, length, ap, sym, ◌∙◌, subst, arith, Some}
+use Rattle.std.proofs.Common.{◌≡◌, ℕ, [], take, ◌==◌, ◌+◌, ◌-◌, drop, length, ap, sym, ◌∙◌, subst, arith}
 use Rattle.std.specs.Cow.{cow_str_bytes}
-use Rattle.std.specs.List.{prefix_len}
 use Rattle.std.specs.Option.{option_map}
 use Rattle.std.specs.Prelude.{if◌then◌else◌}
 use Rattle.std.specs.Str.{IsCharBoundary}
 use Rattle.protox_lex.specs.BlockComments.{marks_of, ending, len_to, faults_to}
-use Rattle.protox_lex.specs.Lexicon.{is_blank}
 use Rattle.protox_lex.specs.Tokens.{is_borrowed_str}
 use Rattle.protox_lex.proofs.BlockExtent.{found_some, len_boundary}
 use Rattle.protox_lex.proofs.block_comment.read_block_comment.Goals as goal

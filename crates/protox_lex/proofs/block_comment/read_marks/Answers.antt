@@ -1,7 +1,7 @@
-use Rattle.std.proofs.Common.{◌≡◌, ℕ, ◌+◌, ◌≤◌, inl, inr, List, [], ◌∷◌, length, drop, ap, sym, ◌∙◌, length-drop, arith, Option, Some, None}
+use Rattle.std.proofs.Common.{◌≡◌, ℕ, ◌+◌, ◌≤◌, inl, inr, List, [], length, drop, ap, sym, ◌∙◌, length-drop, arith, Option, Some, None}
 use Rattle.std.specs.Option.{option_map}
 use Rattle.protox_lex.specs.declared.error.ParseErrorKind.{ParseErrorKind}
-use Rattle.protox_lex.specs.BlockComments.{Mark, closes, marks, marks_of, ending, faults_to}
+use Rattle.protox_lex.specs.BlockComments.{marks, marks_of, ending, faults_to}
 use Rattle.protox_lex.specs.Nesting.{in_front, read_len, run, run_out}
 use Rattle.protox_lex.proofs.BlockExtent.{mark_within}
 use Rattle.protox_lex.proofs.Literal.{ok_map}

@@ -1,11 +1,11 @@
-use Rattle.std.proofs.Common.{◌≡◌, ℕ, ◌+◌, ◌<◌, ◌≤◌, Bool, List, ◌∷◌, length, drop, map, ap, sym, refl, ◌∙◌, arith, false, true, Option, None, Some}
+use Rattle.std.proofs.Common.{◌≡◌, ℕ, ◌<◌, Bool, ◌∷◌, length, drop, map, ap, sym, refl, ◌∙◌, arith, false, true}
 use Rattle.std.proofs.lemmas.Bool.{eqb-false}
 use Rattle.std.specs.Cow.{cow_str_bytes}
 use Rattle.std.specs.Prelude.{if◌then◌else◌}
 use Rattle.protox_lex.specs.Attributing.{outcome, begins_newline}
 use Rattle.protox_lex.specs.CommentState.{empty}
 use Rattle.protox_lex.specs.Gaps.{attribution}
-use Rattle.protox_lex.specs.Shapes.{Shape, BlockComment, Newline}
+use Rattle.protox_lex.specs.Shapes.{BlockComment}
 use Rattle.protox_lex.specs.Tokens.{shape_of}
 use Rattle.protox_lex.proofs.Attributing.{shapes_at, gap_at, is_newline, empty_outcome, attribution_alone, attribution_block}
 use Rattle.protox_lex.proofs.comments.begin.Goals as goal

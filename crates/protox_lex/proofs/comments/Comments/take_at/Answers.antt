@@ -1,8 +1,7 @@
-use Rattle.std.proofs.Common.{◌≡◌, ℕ, ◌+◌, List, ◌∷◌, drop, map, ap, sym, ◌∙◌, arith}
+use Rattle.std.proofs.Common.{◌+◌, ◌∷◌, drop, map, ap, sym, ◌∙◌}
 use Rattle.std.specs.Cow.{cow_str_bytes}
 use Rattle.protox_lex.specs.Attributing.{outcome}
 use Rattle.protox_lex.specs.CommentState.{with_line, with_block}
-use Rattle.protox_lex.specs.Shapes.{Shape, LineComment, BlockComment, Newline}
 use Rattle.protox_lex.specs.Tokens.{shape_of}
 use Rattle.protox_lex.proofs.Attributing.{shapes_at, line_turn, block_turn, flush_turn, no_other, gap_at}
 use Rattle.protox_lex.proofs.comments.Comments.take_at.Goals as goal

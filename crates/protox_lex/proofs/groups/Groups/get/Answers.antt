@@ -1,4 +1,4 @@
-use Rattle.std.proofs.Common.{◌≤◌, ◌∷◌, get_or, ap, arith, ◌∙◌}
+use Rattle.std.proofs.Common.{◌∷◌, get_or, ap, arith, ◌∙◌}
 use Rattle.protox_lex.proofs.Splitting.{group_starts}
 use Rattle.protox_lex.proofs.groups.Groups.get.Goals as goal
 

@@ -1,4 +1,4 @@
-use Rattle.std.proofs.Common.{◌≡◌, ◌+◌, ◌++◌, drop, length, map, ap, sym, ◌∙◌, refl, ◌<◌, arith}
+use Rattle.std.proofs.Common.{◌≡◌, ◌+◌, ◌++◌, drop, length, ap, sym, ◌∙◌, refl, ◌<◌, arith}
 use Rattle.protox_lex.specs.Lexemes as spec
 use Rattle.protox_lex.specs.Faults.{faults_in}
 use Rattle.std.proofs.lemmas.Bool.{eqb-true, eqb-false}

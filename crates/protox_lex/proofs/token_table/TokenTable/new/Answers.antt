@@ -1,4 +1,4 @@
-use Rattle.std.proofs.Common.{◌≡◌, ◌∷◌, ◌++◌, [], map, ap, sym, ◌∙◌, append-nil}
+use Rattle.std.proofs.Common.{map, ap, ◌∙◌}
 use Rattle.protox_lex.specs.Lexemes as spec
 use Rattle.protox_lex.specs.Tokens.{shape_of}
 use Rattle.protox_lex.proofs.Tables.{gaps_held, ended_gaps}

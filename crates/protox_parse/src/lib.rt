@@ -11,9 +11,9 @@ ghost use Rattle.protox_generate.specs.File.{file_descriptor};
 ghost use Rattle.protox_ast.specs.Places.{Place};
 ghost use Rattle.protox_parse.specs.Failures.{IsOutOfMemory, IsRefusalOf};
 
-mod failure;
 #[cfg(test)]
 mod comment_tests;
+mod failure;
 #[cfg(test)]
 mod tests;
 

@@ -38,7 +38,10 @@ pub(crate) fn ident<'t, 'a>(
 }
 
 #[tactic(auto, unfolding(crate::specs::Reads::more_part_at))]
-fn more_part<'t, 'a>(alloc: Global, rows: Unread<'t, 'a>) -> Result<(Ident, Unread<'t, 'a>), Refused>
+fn more_part<'t, 'a>(
+    alloc: Global,
+    rows: Unread<'t, 'a>,
+) -> Result<(Ident, Unread<'t, 'a>), Refused>
     ensures { Gives (λ x. (x.0, x.1)) result (more_part_at rows.entry) }
 {
     let (_, rest) = expect_mark(rows, b'.', Expected::Dot)?;

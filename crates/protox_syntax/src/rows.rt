@@ -28,7 +28,7 @@ pub(crate) struct RowAt<'t, 'a> {
 
 impl<'t, 'a> Model for RowAt<'t, 'a> {
     ghost use Rattle.protox_lex.specs.Shapes.{Row};
-ghost use Rattle.protox_lex.specs.declared.token_table.Row as source_row;
+    ghost use Rattle.protox_lex.specs.declared.token_table.Row as source_row;
     ghost use Rattle.protox_ast.specs.Places.{Place};
     ghost use Rattle.protox_syntax.specs.Rows.{the_row, IsRow};
 

@@ -89,7 +89,9 @@ fn is_import_word(word: &str) -> bool
 
 /// "weak" | "public"
 #[tactic(auto, unfolding(crate::specs::Reads::import_kind_at))]
-fn import_kind<'t, 'a>(rows: Unread<'t, 'a>) -> Result<((ImportKind, Span), Unread<'t, 'a>), Refused>
+fn import_kind<'t, 'a>(
+    rows: Unread<'t, 'a>,
+) -> Result<((ImportKind, Span), Unread<'t, 'a>), Refused>
     ensures { Gives (λ x. (x.0, x.1)) result (import_kind_at rows.entry) }
 {
     if sees_word(&rows, "weak") {

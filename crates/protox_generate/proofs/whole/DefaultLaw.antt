@@ -1,5 +1,5 @@
 -- A default value has no text exactly where something is wrong with it.
-use Rattle.std.proofs.Common.{◌≡◌, Bool, true, false, ◌↔◌, if◌then◌else◌, List, ℕ, ℤ, Option, Some, None, codes, refl, ap, sym, ◌∙◌, true≢false, is_none}
+use Rattle.std.proofs.Common.{◌≡◌, Bool, true, false, ◌↔◌, if◌then◌else◌, List, ℕ, ℤ, Option, Some, None, codes, refl, ap, sym, true≢false, is_none}
 use Rattle.protox_lex.specs.declared.error.ParseErrorKind.{ParseErrorKind}
 use Rattle.protox_lex.specs.declared.error.ParseErrorKind.TheVariants as fault
 use Rattle.protox_ast.specs.Checks.{is_text}
@@ -7,7 +7,7 @@ use Rattle.protox_ast.specs.Numbers.{signed_value}
 use Rattle.protox_ast.specs.declared.ast.OptionValue.{OptionValue}
 use Rattle.protox_ast.specs.declared.ast.OptionValue.TheVariants as value
 use Rattle.protox_generate.specs.whole.ValueFaults.{invalid_type, out_of_range, WrongValue}
-use Rattle.protox_generate.specs.whole.Values.{is_in, Wanted, a_float, an_integer, a_bool, a_text, some_bytes, anything, as_bool, as_float_text, number_text, truth_text, default_text}
+use Rattle.protox_generate.specs.whole.Values.{is_in, Wanted, a_float, an_integer, a_bool, a_text, some_bytes, anything, as_bool, number_text, truth_text, default_text}
 
 number-none : (b : Bool) (n : ℤ) → number_text (if b then Some n else None) ≡ None → b ≡ false
 number-none true n e = absurd (true≢false (sym (ap is_none e)))

@@ -305,8 +305,8 @@ abbrev wrong_enum : ℕ → Enum
 wrong_enum n = record (w.enum (word "E" 0)
     (w.enum_value (word "V" 0) (bad n) (negated_list (n + 10)) (at 0 0) ∷ [])
     (w.ranges (w.range (bad (n + 20)) (range_end.Int (bad (n + 30))) ∷ []) (at 0 0) ∷ []) (at 0 0)) {
-  options = negated_statement (n + 40) ∷ [];
-}
+      options = negated_statement (n + 40) ∷ [];
+    }
 
 abbrev enum_faults : ℕ → List ParseErrorKind
 enum_faults n = bad_value n ∷ negative (n + 10) ∷ bad_value (n + 20) ∷ bad_value (n + 30) ∷ negative (n + 40) ∷ []

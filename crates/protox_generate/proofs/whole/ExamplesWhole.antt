@@ -3,7 +3,6 @@ use Rattle.std.proofs.Common.{◌≡◌, List, [], ◌∷◌, Some, None, true, 
 use Rattle.protox_ast.specs.declared.ast.Enum.{Enum}
 use Rattle.protox_ast.specs.declared.ast.File.{File}
 use Rattle.protox_ast.specs.declared.ast.FileItem.TheVariants as file_item
-use Rattle.protox_ast.specs.declared.ast.OptionValue.TheVariants as value
 use Rattle.protox_ast.specs.declared.ast.ReservedRangeEnd.TheVariants as range_end
 use Rattle.protox_ast.specs.declared.ast.Service.{Service}
 use Rattle.protox_ast.specs.declared.ast.Ty.TheVariants as ty
@@ -23,7 +22,7 @@ abbrev items : t.Tree t.ItemsSort
 items =
     t.a_field (t.field (w.optional (at 110 111)) (t.normal ty.Int32 (at 112 113)) (word "f" 114) (int 1 (at 116 117)) (w.list (w.body_of (word "x" 120) (w.number (int 1 (at 122 123))) ∷ []) (at 119 124)) (at 109 125))
     & t.a_oneof (t.oneof (word "o" 131) (w.statement (w.body_of (word "x" 133) (w.number (int 1 (at 134 135)))) (at 132 136) ∷ [])
-        (t.only (t.field None (t.normal (ty.Named (w.name (word "B" 138))) (at 138 139)) (word "g" 140) (int 2 (at 142 143)) None (at 137 144))) (at 130 145))
+    (t.only (t.field None (t.normal (ty.Named (w.name (word "B" 138))) (at 138 139)) (word "g" 140) (int 2 (at 142 143)) None (at 137 144))) (at 130 145))
     & t.an_enum (w.enum (word "E" 151) (w.enum_value (word "V" 153) (int 0 (at 155 156)) None (at 152 157) ∷ []) [] (at 150 160))
     & t.a_message (t.message (word "N" 171) (t.inside t.none) (at 170 175))
     & t.a_field (t.field None (t.a_map (at 180 181) ty.Int32 (at 182 183) ty.Int32 (at 184 185)) (word "m" 186) (int 3 (at 188 189)) None (at 179 190))
@@ -47,8 +46,8 @@ abbrev whole_enum : Enum
 whole_enum = record (w.enum (word "E" 301)
     (w.enum_value (word "V" 303) (int 0 (at 305 306)) (w.list (w.body_of (word "x" 308) (w.number (int 1 (at 310 311))) ∷ []) (at 307 312)) (at 302 313) ∷ [])
     (w.ranges (w.range (minus 1 (at 315 316)) range_end.None ∷ []) (at 314 317) ∷ []) (at 300 320)) {
-  options = w.statement (w.body_of (word "x" 318) (w.number (int 1 (at 318 319)))) (at 318 319) ∷ [];
-}
+      options = w.statement (w.body_of (word "x" 318) (w.number (int 1 (at 318 319)))) (at 318 319) ∷ [];
+    }
 
 abbrev whole_service : Service
 whole_service = record {
@@ -218,9 +217,14 @@ whole-messages : messages (filled whole_file whole_trees) ≡
                 record no_field { name = Some (codes "key"); number = Some (pos 1); label = Some (pos 1); field_type = Some (pos 5); json_name = Some (codes "key") }
                 ∷ record no_field { name = Some (codes "value"); number = Some (pos 2); label = Some (pos 1); field_type = Some (pos 5); json_name = Some (codes "value") }
                 ∷ [];
-            extension = []; nested_type = []; enum_type = []; extension_range = []; oneof_decl = [];
+            extension = [];
+            nested_type = [];
+            enum_type = [];
+            extension_range = [];
+            oneof_decl = [];
             options = Some (record { map_entry = Some true; uninterpreted_option = [] });
-            reserved_range = []; reserved_name = [];
+            reserved_range = [];
+            reserved_name = [];
           })
           ∷ made_message "G" [] [] []
           ∷ made_message "H" [] [] []
@@ -252,8 +256,12 @@ whole-enums = refl
 whole-services : (file_proto (codes "a.proto") (filled whole_file whole_trees)).service ≡ record {
   name = Some (codes "S");
   method = record {
-    name = Some (codes "m"); input_type = Some (codes "I"); output_type = Some (codes "O"); options = Some (record { uninterpreted_option = x_option });
-    client_streaming = None; server_streaming = Some true;
+    name = Some (codes "m");
+    input_type = Some (codes "I");
+    output_type = Some (codes "O");
+    options = Some (record { uninterpreted_option = x_option });
+    client_streaming = None;
+    server_streaming = Some true;
   } ∷ [];
   options = Some (record { uninterpreted_option = x_option });
 } ∷ []

@@ -1,21 +1,17 @@
 -- When a source is accepted, said of the trees of what the parser reads today.
-use Rattle.std.proofs.Common.{◌≡◌, ℕ, ◌≤◌, List, [], ◌∷◌, ◌++◌, map, length, Option, Some, None, refl, sym, ap, subst, ◌∙◌, arith}
-use Rattle.std.specs.List.{filter_map, flat_map}
+use Rattle.std.proofs.Common.{◌≡◌, ℕ, ◌≤◌, List, length, sym, ap, subst, ◌∙◌, arith}
 use Rattle.protox_lex.specs.Lexemes.{cut}
 use Rattle.protox_lex.specs.Table.{table_of}
 use Rattle.protox_ast.specs.declared.ast.File.{File}
 use Rattle.protox_ast.specs.Accepted as whole
 use Rattle.protox_ast.specs.Accepted.{Fits, IsClean}
 use Rattle.protox_ast.specs.Ast as ast
-use Rattle.protox_ast.specs.Depth.{depth}
 use Rattle.protox_ast.specs.Keywords.{Each}
 use Rattle.protox_ast.specs.Places.{Place, placed}
-use Rattle.protox_ast.specs.Spells as spells
 use Rattle.protox_ast.specs.Tree as t
 use Rattle.protox_ast.specs.part.Ast as part_ast
 use Rattle.protox_ast.specs.part.Checks as part_checks
 use Rattle.protox_ast.specs.part.Depth as part_depth
-use Rattle.protox_ast.specs.part.Embedding as w
 use Rattle.protox_ast.specs.part.Embedding.{whole_of}
 use Rattle.protox_ast.specs.part.Spells as part_spells
 use Rattle.protox_ast.specs.part.Tree as part

@@ -10,6 +10,7 @@ pub mod Depth
 pub mod Spells
 pub mod ReadYet
 pub mod Places
+pub mod AstParts
 pub mod Ast
 pub mod Checks
 pub mod Accepted

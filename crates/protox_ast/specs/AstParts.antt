@@ -1,0 +1,227 @@
+-- What the parts of a declaration give in the syntax tree: names, numbers, strings, options, types and ranges, and their spans.
+-- The declarations are in `Ast`.
+use Rattle.std.specs.Prelude.{ℕ, if◌then◌else◌, List, [], ◌∷◌, ◌++◌, map, Option, Some, None, option_map, is_some, codes, encode_utf8_all}
+use Rattle.std.specs.Str.{bytes_eq}
+use Rattle.bstr.specs.Utf8.{lossy_chars}
+use Rattle.protox_lex.specs.Faults.{Span}
+use Rattle.protox_lex.specs.Shapes.{Row, Rows}
+use Rattle.protox_lex.specs.Printed.{printed}
+use Rattle.protox_ast.specs.declared.ast.Ident.{Ident}
+use Rattle.protox_ast.specs.declared.ast.TypeName.{TypeName}
+use Rattle.protox_ast.specs.declared.ast.Int.{Int}
+use Rattle.protox_ast.specs.declared.ast.Syntax.{Syntax}
+use Rattle.protox_ast.specs.declared.ast.Syntax.TheVariants.{Proto2, Proto3}
+use Rattle.protox_ast.specs.declared.ast.OptionNamePart.{OptionNamePart}
+use Rattle.protox_ast.specs.declared.ast.OptionNamePart.TheVariants as name_part
+use Rattle.protox_ast.specs.declared.ast.OptionValue.{OptionValue}
+use Rattle.protox_ast.specs.declared.ast.OptionValue.TheVariants as option_value
+use Rattle.protox_ast.specs.declared.ast.OptionBody.{OptionBody}
+use Rattle.protox_ast.specs.declared.ast.OptionList as list_type
+use Rattle.protox_ast.specs.declared.ast.ImportKind as import_kinds
+use Rattle.protox_ast.specs.declared.ast.ImportKind.TheVariants.{Weak, Public}
+use Rattle.protox_ast.specs.declared.ast.Ty.{Ty}
+use Rattle.protox_ast.specs.declared.ast.Ty.TheVariants as ty
+use Rattle.protox_ast.specs.declared.ast.FieldLabel.{FieldLabel}
+use Rattle.protox_ast.specs.declared.ast.FieldLabel.TheVariants as field_label
+use Rattle.protox_ast.specs.declared.ast.ReservedRange.{ReservedRange}
+use Rattle.protox_ast.specs.declared.ast.ReservedRangeEnd.{ReservedRangeEnd}
+use Rattle.protox_ast.specs.declared.ast.ReservedRangeEnd.TheVariants as range_ends
+use Rattle.protox_ast.specs.declared.ast.ReservedKind.{ReservedKind}
+use Rattle.protox_ast.specs.declared.ast.ReservedKind.TheVariants as reserved_kinds
+use Rattle.protox_ast.specs.Tree as t
+use Rattle.protox_ast.specs.Places.{Place}
+
+-- ---- spans and texts
+
+-- from the start of the one to the end of the other
+abbrev pub join : Span → Span → Span
+join a b = record { start = a.start; end = b.end }
+
+-- the place of the last of these
+abbrev pub last_place : {A : Type 0} → (A → Span) → Span → List A → Span
+last_place place span [] = span
+last_place place span (x ∷ xs) = last_place place (place x) xs
+
+-- the text of bytes: themselves where they are UTF-8, else each maximal ill-formed piece (Unicode, Table 3-7) is one U+FFFD
+abbrev pub text_of : List ℕ → List ℕ
+text_of bytes = encode_utf8_all (lossy_chars bytes)
+
+-- ---- names and numbers
+
+abbrev pub ident : t.Word Place → Ident
+ident x = record { value = x.0; span = x.1.span }
+
+abbrev pub fullident : t.FullIdent Place → List Ident
+fullident x = ident x.first ∷ map (λ y. ident y.1) x.others
+
+abbrev pub last_part : t.FullIdent Place → Span
+last_part x = last_place (λ (y : Place × t.Word Place). y.1.1.span) x.first.1.span x.others
+
+abbrev pub span_if_any : Option Place → Option Span
+span_if_any place = option_map (λ (p : Place). p.span) place
+
+abbrev pub typename : t.TypeName Place → TypeName
+typename x = record { leading_dot = span_if_any x.leading_dot; name = fullident x.name }
+
+-- from the leading dot if there is one
+abbrev pub dotted_start : Option Span → Span → Span
+dotted_start None span = span
+dotted_start (Some dot) span = dot
+
+abbrev pub typename_span : t.TypeName Place → Span
+typename_span x = join (dotted_start (span_if_any x.leading_dot) x.name.first.1.span) (last_part x.name)
+
+-- from the sign if there is one
+abbrev pub signed_span : Option Span → Span → Span
+signed_span None span = span
+signed_span (Some minus) span = join minus span
+
+abbrev pub int : t.Int Place → Int
+int x = record { negative = is_some x.sign; value = x.number.0; span = signed_span (span_if_any x.sign) x.number.1.span }
+
+-- ---- strings, syntax, imports
+
+-- the values of a run of strings, one after another
+abbrev pub values : List (t.Text Place) → List ℕ
+values [] = []
+values (x ∷ xs) = x.0 ++ values xs
+
+abbrev pub strings_value : t.Strings Place → List ℕ
+strings_value x = x.first.0 ++ values x.others
+
+abbrev pub strings_span : t.Strings Place → Span
+strings_span x = join x.first.1.span (last_place (λ (y : t.Text Place). y.1.span) x.first.1.span x.others)
+
+-- proto2 unless it is said otherwise
+abbrev pub syntax_of : List ℕ → Syntax
+syntax_of value = if bytes_eq value (codes "proto3") then Proto3 else Proto2
+
+abbrev pub file_syntax : Option (t.Syntax Place) → Syntax
+file_syntax None = Proto2
+file_syntax (Some x) = syntax_of (strings_value x.value)
+
+abbrev pub import_kind : t.ImportKind Place → import_kinds.ImportKind × Span
+import_kind (t.weak place) = (Weak, place.span)
+import_kind (t.«public» place) = (Public, place.span)
+
+-- ---- options
+
+-- the text of a literal with its sign
+abbrev pub signed_text : Option Place → List ℕ → List ℕ
+signed_text None text = text
+signed_text (Some minus) text = 45 ∷ text
+
+-- as tokens print, with a space before each
+abbrev pub spaced : Rows Place → List ℕ
+spaced [] = []
+spaced (r ∷ rs) = 32 ∷ (printed r.shape ++ spaced rs)
+
+-- as tokens print, with a space between each two
+abbrev pub aggregate_text : Rows Place → List ℕ
+aggregate_text [] = []
+aggregate_text (r ∷ rs) = printed r.shape ++ spaced rs
+
+abbrev pub value : t.Value Place → OptionValue
+value (t.constant sign (t.ident x)) = option_value.Ident (is_some sign) (ident x) (signed_span (span_if_any sign) x.1.span)
+value (t.constant sign (t.integer x)) = option_value.Int (record { negative = is_some sign; value = x.0; span = signed_span (span_if_any sign) x.1.span })
+value (t.constant sign (t.float x)) = option_value.Float (record { value = signed_text sign x.0; span = signed_span (span_if_any sign) x.1.span })
+value (t.strings x) = option_value.String (record { value = strings_value x; span = strings_span x })
+value (t.aggregate open_at inside close_at) = option_value.Aggregate (aggregate_text inside) (join open_at.span close_at.span)
+
+abbrev pub part : t.Part Place → OptionNamePart
+part (t.plain_part x) = name_part.Ident (ident x)
+part (t.extension_part open_at x close_at) = name_part.Extension (typename x) (join open_at.span close_at.span)
+
+abbrev pub body : t.Body Place → OptionBody
+body x = record { name = part x.first ∷ map (λ y. part y.1) x.others; value = value x.value }
+
+abbrev pub list : t.OptionList Place → list_type.OptionList
+list x = record { options = body x.first ∷ map (λ y. body y.1) x.others; span = join x.open_at.span x.close_at.span }
+
+-- ---- types, labels and ranges
+
+abbrev pub scalar : t.Scalar → Ty
+scalar t.double = ty.Double
+scalar t.float_type = ty.Float
+scalar t.int32 = ty.Int32
+scalar t.int64 = ty.Int64
+scalar t.uint32 = ty.Uint32
+scalar t.uint64 = ty.Uint64
+scalar t.sint32 = ty.Sint32
+scalar t.sint64 = ty.Sint64
+scalar t.fixed32 = ty.Fixed32
+scalar t.fixed64 = ty.Fixed64
+scalar t.sfixed32 = ty.Sfixed32
+scalar t.sfixed64 = ty.Sfixed64
+scalar t.bool = ty.Bool
+scalar t.string = ty.String
+scalar t.bytes = ty.Bytes
+
+abbrev pub type : t.FieldType Place → Ty
+type (t.scalar x place) = scalar x
+type (t.named x) = ty.Named (typename x)
+
+abbrev pub type_span : t.FieldType Place → Span
+type_span (t.scalar x place) = place.span
+type_span (t.named x) = typename_span x
+
+-- the first token of a type
+abbrev pub dotted_first : Option Place → Place → Place
+dotted_first None place = place
+dotted_first (Some dot) place = dot
+
+abbrev pub type_first : t.FieldType Place → Place
+type_first (t.scalar x place) = place
+type_first (t.named x) = dotted_first x.leading_dot x.name.first.1
+
+abbrev pub label : t.Label Place → FieldLabel × Span
+label (t.optional place) = (field_label.Optional, place.span)
+label (t.required place) = (field_label.Required, place.span)
+label (t.repeated place) = (field_label.Repeated, place.span)
+
+abbrev pub label_place : t.Label Place → Place
+label_place (t.optional place) = place
+label_place (t.required place) = place
+label_place (t.repeated place) = place
+
+-- the first token of a field: its label if there is one
+abbrev pub field_first : Option (t.Label Place) → Place → Place
+field_first None place = place
+field_first (Some l) place = label_place l
+
+-- the braces of a body
+abbrev pub body_open : t.Mbody Place → Place
+body_open (t.mbody_of open_at es close_at) = open_at
+
+abbrev pub body_close : t.Mbody Place → Place
+body_close (t.mbody_of open_at es close_at) = close_at
+
+-- ---- ranges and reserved names
+
+abbrev pub range_end : Option (t.RangeEnd Place) → ReservedRangeEnd
+range_end None = range_ends.None
+range_end (Some (t.up_to to_at x)) = range_ends.Int (int x)
+range_end (Some (t.up_to_max to_at max_at)) = range_ends.Max max_at.span
+
+abbrev pub range : t.Range Place → ReservedRange
+range x = record { start = int x.start; end = range_end x.stop }
+
+abbrev pub ranges : t.Ranges Place → List ReservedRange
+ranges x = range x.first ∷ map (λ y. range y.1) x.others
+
+abbrev pub reserved_name : t.Strings Place → Ident
+reserved_name x = record { value = text_of (strings_value x); span = strings_span x }
+
+abbrev pub reserved_kind : t.ReservedKind Place → ReservedKind
+reserved_kind (t.ranges x) = reserved_kinds.Ranges (ranges x)
+reserved_kind (t.names x) = reserved_kinds.Names (reserved_name x.first ∷ map (λ y. reserved_name y.1) x.others)
+
+-- the first of these, if there is any
+abbrev pub first_of : {A : Type 0} → List A → Option A
+first_of [] = None
+first_of (x ∷ xs) = Some x
+
+-- from the first token to the last; without any token from the end of the source to its start
+abbrev pub rows_span : ℕ → Rows Place → Span
+rows_span size [] = record { start = size; end = 0 }
+rows_span size (r ∷ rs) = join r.at.span (last_place (λ (x : Row Place). x.at.span) r.at.span rs)

@@ -1,2 +1,4 @@
+pub mod Membership
 pub mod NamePlaces
+pub mod NameTests
 pub mod Standing

@@ -32,7 +32,7 @@ use Rattle.protox_ast.specs.declared.ast.File as file_type
 use Rattle.protox_ast.specs.Tree as t
 use Rattle.protox_ast.specs.Spelling.{spell}
 use Rattle.protox_ast.specs.Places.{Place}
-pub use Rattle.protox_ast.specs.AstParts.{join, last_place, text_of, ident, fullident, last_part, span_if_any, typename, dotted_start, typename_span, signed_span, int, values, strings_value, strings_span, syntax_of, file_syntax, import_kind, signed_text, spaced, aggregate_text, value, part, body, list, scalar, type, type_span, dotted_first, type_first, label, label_place, field_first, body_open, body_close, range_end, range, ranges, reserved_name, reserved_kind, first_of, rows_span}
+pub use Rattle.protox_ast.specs.AstParts.{join, last_place, text_of, ident, fullident, last_part, span_if_any, typename, dotted_start, typename_span, signed_span, int, values, strings_value, run_span, strings_span, syntax_of, file_syntax, import_kind, signed_text, spaced, aggregate_text, value, part, body, list, scalar, type, type_span, dotted_first, type_first, label, label_place, field_first, body_open, body_close, range_end, range, ranges, reserved_name, reserved_kind, first_of, rows_span}
 
 -- ---- declarations
 

@@ -82,15 +82,19 @@ int x = record { negative = is_some x.sign; value = x.number.0; span = signed_sp
 -- ---- strings, syntax, imports
 
 -- the values of a run of strings, one after another
-abbrev pub values : List (t.Text Place) → List ℕ
+abbrev pub values : {M : Type 0} → List (t.Text M) → List ℕ
 values [] = []
 values (x ∷ xs) = x.0 ++ values xs
 
-abbrev pub strings_value : t.Strings Place → List ℕ
+abbrev pub strings_value : {M : Type 0} → t.Strings M → List ℕ
 strings_value x = x.first.0 ++ values x.others
 
+-- from the first string of a run to the last, where a mark tells a token's span
+abbrev pub run_span : {M : Type 0} → (M → Span) → t.Strings M → Span
+run_span {M} span x = join (span x.first.1) (last_place (λ (y : t.Text M). span y.1) (span x.first.1) x.others)
+
 abbrev pub strings_span : t.Strings Place → Span
-strings_span x = join x.first.1.span (last_place (λ (y : t.Text Place). y.1.span) x.first.1.span x.others)
+strings_span = run_span (λ place. place.span)
 
 -- proto2 unless it is said otherwise
 abbrev pub syntax_of : List ℕ → Syntax

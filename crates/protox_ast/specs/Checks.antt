@@ -1,13 +1,18 @@
--- What is asked of the nodes of a file while it is read.
-use Rattle.std.specs.Prelude.{◌≡◌, ◌≤◌, ℕ, suc, Bool, true, not, ◌&&◌, ◌||◌, ◌==◌, List, [], ◌∷◌, codes, length}
+-- What is wrong with a file that is checked while it is read: a relation, without order. What the generator checks stands elsewhere.
+use Rattle.std.specs.Prelude.{◌≡◌, ◌⊎◌, ℕ, Bool, true, false, not, ◌&&◌, ◌||◌, ◌==◌, List, codes, length, Any}
 use Rattle.std.specs.List.{list_all, list_any, slice_split}
 use Rattle.std.specs.Str.{bytes_eq}
 use Rattle.std.specs.Str.Lossy.{utf8_valid_len}
 pub use Rattle.protox_descriptor.specs.Case.{IsIdent, IsGroupName}
+use Rattle.protox_lex.specs.Faults.{Span}
+use Rattle.protox_lex.specs.declared.error.ParseErrorKind.{ParseErrorKind}
+use Rattle.protox_lex.specs.declared.error.ParseErrorKind.TheVariants as fault
+use Rattle.protox_ast.specs.AstParts.{join, run_span, strings_value, text_of}
+use Rattle.protox_ast.specs.CheckedNodes.{Node, ASyntax, AnImport, AReservedName, AGroupName, APackageAgain, ATooDeep, file_nodes}
 use Rattle.protox_ast.specs.Places.{Place}
 use Rattle.protox_ast.specs.Tree as t
-use Rattle.protox_ast.specs.Ast.{strings_value, text_of}
-use Rattle.protox_ast.specs.Keywords.{Given, Each}
+
+-- ---- what is asked
 
 -- the syntaxes that there are
 abbrev pub is_known_syntax : List ℕ → Bool
@@ -28,99 +33,41 @@ is_plain_component c = not (length c == 0) && (not (bytes_eq c (codes ".")) && (
 abbrev pub is_import_path : List ℕ → Bool
 is_import_path path = list_all is_plain_component (components path)
 
--- the syntax statement names a syntax that there is
-abbrev pub HasKnownSyntax : t.Syntax Place → Type 0
-HasKnownSyntax x = is_known_syntax (strings_value x.value) ≡ true
+-- ---- what is wrong
 
--- an import's string is text, and a path of plain components
-abbrev pub ImportsFile : t.Import Place → Type 0
-ImportsFile x = (is_text (strings_value x.value) ≡ true) × (is_import_path (text_of (strings_value x.value)) ≡ true)
+-- a string isn't text
+abbrev pub WrongText : Span → List ℕ → ParseErrorKind → Type 0
+WrongText span bytes wrong = (is_text bytes ≡ false) × (wrong ≡ fault.InvalidUtf8String span)
 
--- a reserved name's string is text, and an identifier
-abbrev pub IsReservedName : t.Strings Place → Type 0
-IsReservedName x = (is_text (strings_value x) ≡ true) × IsIdent (text_of (strings_value x))
+-- The syntaxes are `proto2` and `proto3`.
+abbrev pub WrongSyntax : Span → List ℕ → ParseErrorKind → Type 0
+WrongSyntax span value wrong = (is_known_syntax value ≡ false) × (wrong ≡ fault.UnknownSyntax span (text_of value))
 
-abbrev pub ReservedIsFine : t.ReservedKind Place → Type 0
-ReservedIsFine (t.ranges x) = Unit {0}
-ReservedIsFine (t.names x) = IsReservedName x.first × Each (λ y. IsReservedName y.1) x.others
+-- An import is text, and a path of plain components. What isn't text is asked for its path, too, with U+FFFD in it.
+abbrev pub WrongImport : Span → List ℕ → ParseErrorKind → Type 0
+WrongImport span value wrong = WrongText span value wrong ⊎ ((is_import_path (text_of value) ≡ false) × (wrong ≡ fault.InvalidImport span))
 
-abbrev pub EnumElementIsFine : t.EnumElement Place → Type 0
-EnumElementIsFine (t.enum_reserved x) = ReservedIsFine x.kind
-EnumElementIsFine _ = Unit {0}
+-- A reserved name is text, and an identifier.
+abbrev pub WrongReservedName : Span → List ℕ → ParseErrorKind → Type 0
+WrongReservedName span value wrong = WrongText span value wrong ⊎ ((IsIdent (text_of value) → ⊥) × (wrong ≡ fault.InvalidIdentifier span))
 
-abbrev pub EnumIsFine : t.Enum Place → Type 0
-EnumIsFine x = Each EnumElementIsFine x.elements
+-- from the word of a package statement to its `;`
+abbrev pub package_span : {M : Type 0} → (M → Span) → t.Package M → Span
+package_span span x = join (span x.keyword) (span x.end)
 
-abbrev mutual
-  pub MessageIsFine : t.Message Place → Type 0
-  MessageIsFine (t.message_of k n b) = MbodyIsFine b
+-- The fault is that of the node, where a mark tells a token's span.
+abbrev pub WrongNode : {M : Type 0} → (M → Span) → Node M → ParseErrorKind → Type 0
+WrongNode span (ASyntax x) wrong = WrongSyntax (run_span span x) (strings_value x) wrong
+WrongNode span (AnImport x) wrong = WrongImport (run_span span x) (strings_value x) wrong
+WrongNode span (AReservedName x) wrong = WrongReservedName (run_span span x) (strings_value x) wrong
+WrongNode span (AGroupName x) wrong = (IsGroupName x.0 → ⊥) × (wrong ≡ fault.InvalidGroupName (span x.1))
+WrongNode span (APackageAgain first again) wrong = wrong ≡ fault.DuplicatePackage (package_span span first) (package_span span again)
+WrongNode span (ATooDeep keyword open_at) wrong = wrong ≡ fault.MessageNestingTooDeep (span keyword)
 
-  pub MbodyIsFine : t.Mbody Place → Type 0
-  MbodyIsFine (t.mbody_of o es c) = ElementsAreFine es
+-- The fault is that of some node of the file.
+abbrev pub WrongTree : t.File Place → ParseErrorKind → Type 0
+WrongTree f wrong = Any (λ node. WrongNode (λ place. place.span) node wrong) (file_nodes f)
 
-  pub ElementsAreFine : t.Elements Place → Type 0
-  ElementsAreFine t.no_elements = Unit {0}
-  ElementsAreFine (t.elements e es) = ElementIsFine e × ElementsAreFine es
-
-  pub ElementIsFine : t.Element Place → Type 0
-  ElementIsFine (t.empty m) = Unit {0}
-  ElementIsFine (t.field x) = FieldIsFine x
-  ElementIsFine (t.oneof x) = OneofIsFine x
-  ElementIsFine (t.enum x) = EnumIsFine x
-  ElementIsFine (t.message x) = MessageIsFine x
-  ElementIsFine (t.extend x) = ExtendIsFine x
-  ElementIsFine (t.option x) = Unit {0}
-  ElementIsFine (t.reserved x) = ReservedIsFine x.kind
-  ElementIsFine (t.extensions x) = Unit {0}
-
-  pub FieldIsFine : t.Field Place → Type 0
-  FieldIsFine (t.field_of l (t.normal x)) = Unit {0}
-  FieldIsFine (t.field_of l (t.map x)) = Unit {0}
-  FieldIsFine (t.field_of l (t.group x)) = GroupIsFine x
-
-  -- a group's name begins with a capital
-  pub GroupIsFine : t.Group Place → Type 0
-  GroupIsFine (t.group_of k n e i l b) = IsGroupName n.0 × MbodyIsFine b
-
-  pub OneofIsFine : t.Oneof Place → Type 0
-  OneofIsFine (t.oneof_of k n o es c) = OneofElementsAreFine es
-
-  pub OneofElementsAreFine : t.OneofElements Place → Type 0
-  OneofElementsAreFine t.no_oneof_elements = Unit {0}
-  OneofElementsAreFine (t.oneof_elements e es) = OneofElementIsFine e × OneofElementsAreFine es
-
-  pub OneofElementIsFine : t.OneofElement Place → Type 0
-  OneofElementIsFine (t.oneof_empty m) = Unit {0}
-  OneofElementIsFine (t.oneof_option x) = Unit {0}
-  OneofElementIsFine (t.oneof_field x) = FieldIsFine x
-
-  pub ExtendIsFine : t.Extend Place → Type 0
-  ExtendIsFine (t.extend_of k n o es c) = ExtendElementsAreFine es
-
-  pub ExtendElementsAreFine : t.ExtendElements Place → Type 0
-  ExtendElementsAreFine t.no_extend_elements = Unit {0}
-  ExtendElementsAreFine (t.extend_elements e es) = ExtendElementIsFine e × ExtendElementsAreFine es
-
-  pub ExtendElementIsFine : t.ExtendElement Place → Type 0
-  ExtendElementIsFine (t.extend_empty m) = Unit {0}
-  ExtendElementIsFine (t.extend_field x) = FieldIsFine x
-
-abbrev pub StatementIsFine : t.Statement Place → Type 0
-StatementIsFine (t.an_empty m) = Unit {0}
-StatementIsFine (t.an_import x) = ImportsFile x
-StatementIsFine (t.a_package x) = Unit {0}
-StatementIsFine (t.an_option x) = Unit {0}
-StatementIsFine (t.an_extend x) = ExtendIsFine x
-StatementIsFine (t.a_message x) = MessageIsFine x
-StatementIsFine (t.an_enum x) = EnumIsFine x
-StatementIsFine (t.a_service x) = Unit {0}
-
--- how many package statements there are
-abbrev pub packages : List (t.Statement Place) → ℕ
-packages [] = 0
-packages (t.a_package x ∷ xs) = suc (packages xs)
-packages (_ ∷ xs) = packages xs
-
--- no fault of the parser is at a node of the tree: the syntax is known, imports and names are as they should be, and there is one package at most
-abbrev pub IsFine : t.File Place → Type 0
-IsFine f = Given HasKnownSyntax f.syntax × Each StatementIsFine f.statements × (packages f.statements ≤ 1)
+-- Nothing is wrong with the file that is checked while it is read.
+abbrev pub NothingWrong : t.File Place → Type 0
+NothingWrong f = (wrong : ParseErrorKind) → WrongTree f wrong → ⊥

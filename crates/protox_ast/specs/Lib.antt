@@ -12,6 +12,11 @@ pub mod ReadYet
 pub mod Places
 pub mod AstParts
 pub mod Ast
+pub mod CheckedNodes
 pub mod Checks
+pub mod Fine
+pub mod Aggregates
+pub mod Fronts
+pub mod Truth
 pub mod Accepted
 pub mod part

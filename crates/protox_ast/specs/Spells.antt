@@ -12,3 +12,8 @@ Spells rows f = (rows ≡ spell f) × KeepsKeywords f
 -- some file begins with these rows
 abbrev pub BeginsFile : {M : Type 0} → Rows M → Type 0
 BeginsFile {M} front = (f : File M) × (more : Rows M) × Spells (front ++ more) f
+
+-- the rows begin a file and are none
+pub record IsEnded {M : Type 0} (rows : Rows M) : Type 0 where
+  pub begins : BeginsFile rows
+  pub no_file : (f : File M) → Spells rows f → ⊥

@@ -1,3 +1,4 @@
+pub mod Nothing
 pub mod Takes
 pub mod Words
 pub mod Sets

@@ -9,7 +9,8 @@ use Rattle.protox_ast.specs.part.Ast as ast
 use Rattle.protox_ast.specs.Places.{Place}
 use Rattle.protox_ast.specs.declared.ast.Comments.{Comments}
 use Rattle.protox_ast.specs.Keywords.{Given, Each}
-use Rattle.protox_ast.specs.Checks.{is_known_syntax, is_text, is_import_path, HasKnownSyntax, ImportsFile}
+use Rattle.protox_ast.specs.Checks.{is_known_syntax, is_text, is_import_path}
+use Rattle.protox_ast.specs.Fine.{HasKnownSyntax, ImportsFile}
 use Rattle.protox_ast.specs.part.Checks.{StatementIsFine, IsFine}
 use Rattle.protox_ast.specs.part.Spells.{Spells}
 use Rattle.protox_ast.specs.declared.ast.Syntax.{Syntax}

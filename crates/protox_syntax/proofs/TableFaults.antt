@@ -9,7 +9,7 @@ use Rattle.protox_lex.specs.Table.{is_gap, rows_of, faults_of, in_front, row_fau
 use Rattle.protox_lex.specs.declared.error.ParseErrorKind.{ParseErrorKind}
 use Rattle.protox_lex.proofs.Tables.{faults_of_length}
 use Rattle.protox_ast.specs.Keywords.{Each}
-use Rattle.protox_ast.specs.Accepted.{IsClean}
+use Rattle.protox_grammar.proofs.part.Accepted.{IsClean}
 use Rattle.protox_syntax.specs.Weave.{released}
 use Rattle.protox_syntax.proofs.Weaving.{append-empty, released-none}
 

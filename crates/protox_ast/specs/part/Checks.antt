@@ -1,6 +1,6 @@
 -- MACHINERY. What is asked of the nodes of a file, of what the parser reads today.
 use Rattle.protox_ast.specs.Places.{Place}
-use Rattle.protox_ast.specs.Checks.{HasKnownSyntax, ImportsFile}
+use Rattle.protox_ast.specs.Fine.{HasKnownSyntax, ImportsFile}
 use Rattle.protox_ast.specs.part.Tree as t
 use Rattle.protox_ast.specs.part.Keywords.{Given, Each}
 

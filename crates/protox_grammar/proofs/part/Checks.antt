@@ -2,7 +2,7 @@
 use Rattle.std.proofs.Common.{◌≡◌, ◌↔◌, List, [], ◌∷◌, map, refl, arith}
 use Rattle.protox_ast.specs.Places.{Place}
 use Rattle.protox_ast.specs.Keywords.{Each}
-use Rattle.protox_ast.specs.Checks as check
+use Rattle.protox_ast.specs.Fine as check
 use Rattle.protox_ast.specs.part.Tree as part
 use Rattle.protox_ast.specs.part.Checks as part_check
 use Rattle.protox_ast.specs.part.Embedding as w

@@ -4,7 +4,8 @@ use Rattle.std.proofs.lemmas.List.Elements.{All-nil}
 use Rattle.protox_ast.specs.Places.{Place}
 use Rattle.protox_ast.specs.Tree as t
 use Rattle.protox_ast.specs.Ast.{text_of}
-use Rattle.protox_ast.specs.Checks.{is_text, IsIdent, IsFine}
+use Rattle.protox_ast.specs.Checks.{is_text, IsIdent}
+use Rattle.protox_ast.specs.Fine.{IsFine}
 
 abbrev at : Place
 at = record { span = record { start = 0; end = 0 }; detached = []; leading = None; trailing = None }

@@ -1,0 +1,140 @@
+-- The nodes of a file that are checked while it is read.
+use Rattle.std.specs.Prelude.{ℕ, suc, ◌==◌, if◌then◌else◌, List, [], ◌∷◌, ◌++◌, map, Option, Some, None}
+use Rattle.std.specs.List.{flat_map}
+use Rattle.protox_ast.specs.Tree as t
+
+pub data Node (M : Type 0) : Type 0 where
+  -- the string of the syntax statement
+  ASyntax : t.Strings M → Node M
+  -- the string of an import
+  AnImport : t.Strings M → Node M
+  -- a reserved name, as a string
+  AReservedName : t.Strings M → Node M
+  -- the name of a group
+  AGroupName : t.Word M → Node M
+  -- a package statement that isn't the first, and the first
+  APackageAgain : (first again : t.Package M) → Node M
+  -- a message or a group of level 32: its word and its `{`
+  ATooDeep : (keyword open_at : M) → Node M
+
+-- the level that is one too many
+abbrev pub too_deep : ℕ
+too_deep = 32
+
+abbrev pub deep_nodes : {M : Type 0} → ℕ → M → M → List (Node M)
+deep_nodes level keyword open_at = if level == too_deep then ATooDeep keyword open_at ∷ [] else []
+
+abbrev pub reserved_nodes : {M : Type 0} → t.ReservedKind M → List (Node M)
+reserved_nodes (t.ranges x) = []
+reserved_nodes (t.names x) = AReservedName x.first ∷ map (λ y. AReservedName y.1) x.others
+
+abbrev pub enum_element_nodes : {M : Type 0} → t.EnumElement M → List (Node M)
+enum_element_nodes (t.enum_reserved x) = reserved_nodes x.kind
+enum_element_nodes _ = []
+
+abbrev pub enum_nodes : {M : Type 0} → t.Enum M → List (Node M)
+enum_nodes x = flat_map enum_element_nodes x.elements
+
+-- The nodes of what stands at a level: a message or a group that stands in no other is of level 1.
+abbrev mutual
+  pub message_nodes : {M : Type 0} → ℕ → t.Message M → List (Node M)
+  message_nodes level (t.message_of keyword name b) = body_nodes level keyword b
+
+  pub body_nodes : {M : Type 0} → ℕ → M → t.Mbody M → List (Node M)
+  body_nodes level keyword (t.mbody_of open_at es close_at) = deep_nodes level keyword open_at ++ elements_nodes (suc level) es
+
+  pub elements_nodes : {M : Type 0} → ℕ → t.Elements M → List (Node M)
+  elements_nodes level t.no_elements = []
+  elements_nodes level (t.elements e es) = element_nodes level e ++ elements_nodes level es
+
+  pub element_nodes : {M : Type 0} → ℕ → t.Element M → List (Node M)
+  element_nodes level (t.empty place) = []
+  element_nodes level (t.field x) = field_nodes level x
+  element_nodes level (t.oneof x) = oneof_nodes level x
+  element_nodes level (t.enum x) = enum_nodes x
+  element_nodes level (t.message x) = message_nodes level x
+  element_nodes level (t.extend x) = extend_nodes level x
+  element_nodes level (t.option x) = []
+  element_nodes level (t.reserved x) = reserved_nodes x.kind
+  element_nodes level (t.extensions x) = []
+
+  pub field_nodes : {M : Type 0} → ℕ → t.Field M → List (Node M)
+  field_nodes level (t.field_of l kind) = kind_nodes level kind
+
+  pub kind_nodes : {M : Type 0} → ℕ → t.FieldKind M → List (Node M)
+  kind_nodes level (t.normal x) = []
+  kind_nodes level (t.map x) = []
+  kind_nodes level (t.group x) = group_nodes level x
+
+  pub group_nodes : {M : Type 0} → ℕ → t.Group M → List (Node M)
+  group_nodes level (t.group_of keyword name equals_sign number options b) = AGroupName name ∷ body_nodes level keyword b
+
+  pub oneof_nodes : {M : Type 0} → ℕ → t.Oneof M → List (Node M)
+  oneof_nodes level (t.oneof_of keyword name open_at es close_at) = oneof_elements_nodes level es
+
+  pub oneof_elements_nodes : {M : Type 0} → ℕ → t.OneofElements M → List (Node M)
+  oneof_elements_nodes level t.no_oneof_elements = []
+  oneof_elements_nodes level (t.oneof_elements e es) = oneof_element_nodes level e ++ oneof_elements_nodes level es
+
+  pub oneof_element_nodes : {M : Type 0} → ℕ → t.OneofElement M → List (Node M)
+  oneof_element_nodes level (t.oneof_empty place) = []
+  oneof_element_nodes level (t.oneof_option x) = []
+  oneof_element_nodes level (t.oneof_field x) = field_nodes level x
+
+  pub extend_nodes : {M : Type 0} → ℕ → t.Extend M → List (Node M)
+  extend_nodes level (t.extend_of keyword extendee open_at es close_at) = extend_elements_nodes level es
+
+  pub extend_elements_nodes : {M : Type 0} → ℕ → t.ExtendElements M → List (Node M)
+  extend_elements_nodes level t.no_extend_elements = []
+  extend_elements_nodes level (t.extend_elements e es) = extend_element_nodes level e ++ extend_elements_nodes level es
+
+  pub extend_element_nodes : {M : Type 0} → ℕ → t.ExtendElement M → List (Node M)
+  extend_element_nodes level (t.extend_empty place) = []
+  extend_element_nodes level (t.extend_field x) = field_nodes level x
+
+abbrev pub statement_nodes : {M : Type 0} → t.Statement M → List (Node M)
+statement_nodes (t.an_empty place) = []
+statement_nodes (t.an_import x) = AnImport x.value ∷ []
+statement_nodes (t.a_package x) = []
+statement_nodes (t.an_option x) = []
+statement_nodes (t.an_extend x) = extend_nodes 1 x
+statement_nodes (t.a_message x) = message_nodes 1 x
+statement_nodes (t.an_enum x) = enum_nodes x
+statement_nodes (t.a_service x) = []
+
+abbrev pub syntax_nodes : {M : Type 0} → Option (t.Syntax M) → List (Node M)
+syntax_nodes None = []
+syntax_nodes (Some x) = ASyntax x.value ∷ []
+
+-- the package statements
+abbrev pub packages_in : {M : Type 0} → List (t.Statement M) → List (t.Package M)
+packages_in [] = []
+packages_in (t.a_package x ∷ xs) = x ∷ packages_in xs
+packages_in (_ ∷ xs) = packages_in xs
+
+-- each package statement behind the first
+abbrev pub package_nodes : {M : Type 0} → List (t.Package M) → List (Node M)
+package_nodes [] = []
+package_nodes (first ∷ others) = map (λ again. APackageAgain first again) others
+
+abbrev pub file_nodes : {M : Type 0} → t.File M → List (Node M)
+file_nodes f = syntax_nodes f.syntax ++ (flat_map statement_nodes f.statements ++ package_nodes (packages_in f.statements))
+
+-- ---- where a node ends
+
+-- the last string of a run
+abbrev pub last_string : {M : Type 0} → M → List (t.Text M) → M
+last_string place [] = place
+last_string place (x ∷ xs) = last_string x.1 xs
+
+abbrev pub run_end : {M : Type 0} → t.Strings M → M
+run_end x = last_string x.first.1 x.others
+
+-- the last token of a node
+abbrev pub node_end : {M : Type 0} → Node M → M
+node_end (ASyntax x) = run_end x
+node_end (AnImport x) = run_end x
+node_end (AReservedName x) = run_end x
+node_end (AGroupName x) = x.1
+node_end (APackageAgain first again) = again.end
+node_end (ATooDeep keyword open_at) = open_at

@@ -1,0 +1,121 @@
+-- When a fault is true of a source, by its kind: the faults of lexemes, of tokens that no file has there, and of what is checked while a
+-- file is read. Those of the generator stand elsewhere.
+use Rattle.std.specs.Prelude.{◌≡◌, ℕ, zero, suc, Bool, true, false, ◌||◌, ◌⊎◌, List, [], ◌∷◌, ◌++◌, length, Option, Some, Any, codes}
+use Rattle.std.specs.Str.{bytes_eq}
+use Rattle.protox_lex.specs.Faults.{Span, span_from}
+use Rattle.protox_lex.specs.Lexemes.{Lexeme}
+use Rattle.protox_lex.specs.Printed.{printed}
+use Rattle.protox_lex.specs.Shapes.{Shape, Str, Invalid, Row, Rows}
+use Rattle.protox_lex.specs.Table.{rows_of}
+use Rattle.protox_lex.specs.declared.error.ParseErrorKind.{ParseErrorKind}
+use Rattle.protox_lex.specs.declared.error.ParseErrorKind.TheVariants as fault
+use Rattle.protox_ast.specs.AstParts.{first_of}
+use Rattle.protox_ast.specs.CheckedNodes.{Node, ASyntax, AnImport, AReservedName, node_end, file_nodes}
+use Rattle.protox_ast.specs.Checks.{WrongNode}
+use Rattle.protox_ast.specs.Fronts.{GoesOn, Inside}
+use Rattle.protox_ast.specs.Keywords.{is_significant}
+use Rattle.protox_ast.specs.Spells.{BeginsFile, IsEnded}
+use Rattle.protox_ast.specs.Tree as t
+
+-- ---- lexemes
+
+-- an invalid character stands there
+abbrev pub IsInvalidThere : List Lexeme → Span → Type 0
+IsInvalidThere lexemes span = Any (λ x. (x.shape ≡ Invalid) × (span ≡ span_from x.start x.stop)) lexemes
+
+-- it is the first fault of a lexeme
+abbrev pub IsFirstOfLexeme : List Lexeme → ParseErrorKind → Type 0
+IsFirstOfLexeme lexemes wrong = Any (λ x. first_of x.faults ≡ Some wrong) lexemes
+
+-- It is the first fault of a lexeme, and no file goes on there inside an aggregate.
+pub record IsFirstOutside (lexemes : List Lexeme) (wrong : ParseErrorKind) : Type 0 where
+  pub before : List Lexeme
+  pub here : Lexeme
+  pub behind : List Lexeme
+  pub parts : lexemes ≡ before ++ (here ∷ behind)
+  pub is_first : first_of here.faults ≡ Some wrong
+  pub outside : Inside lexemes (length (rows_of before)) → ⊥
+
+-- ---- tokens
+
+-- A token of this place and this text: the tokens before it begin a file, and with it they begin none.
+pub record IsUnexpectedThere (lexemes : List Lexeme) (span : Span) (text : List ℕ) : Type 0 where
+  pub before : Rows Span
+  pub here : Row Span
+  pub behind : Rows Span
+  pub parts : rows_of lexemes ≡ before ++ (here ∷ behind)
+  pub place : span ≡ here.at
+  pub prints : text ≡ printed here.shape
+  pub is_token : is_significant here.shape ≡ true
+  pub begins : BeginsFile before
+  pub with_it : BeginsFile (before ++ (here ∷ [])) → ⊥
+
+-- what a string or a comment lacks that doesn't end
+abbrev pub is_terminator : List ℕ → Bool
+is_terminator expected = bytes_eq expected (codes "string terminator") || bytes_eq expected (codes "comment terminator")
+
+-- A string or a comment lacks its end; or the tokens begin a file and are none.
+abbrev pub IsEndThere : List Lexeme → List ℕ → Type 0
+IsEndThere lexemes expected =
+    ((is_terminator expected ≡ true) × IsFirstOfLexeme lexemes (fault.UnexpectedEof expected))
+    ⊎ ((is_terminator expected ≡ false) × IsEnded (rows_of lexemes))
+
+-- ---- nodes that are checked
+
+-- the span of token n
+abbrev pub token_span : Rows Span → ℕ → Span
+token_span [] n = span_from 0 0
+token_span (row ∷ rows) zero = row.at
+token_span (row ∷ rows) (suc n) = token_span rows n
+
+abbrev pub is_string : Shape → Bool
+is_string (Str value) = true
+is_string _ = false
+
+-- token n is a string
+abbrev pub is_string_at : Rows Span → ℕ → Bool
+is_string_at [] n = false
+is_string_at (row ∷ rows) zero = is_string row.shape
+is_string_at (row ∷ rows) (suc n) = is_string_at rows n
+
+abbrev pub is_run : {M : Type 0} → Node M → Bool
+is_run (ASyntax x) = true
+is_run (AnImport x) = true
+is_run (AReservedName x) = true
+is_run _ = false
+
+-- The node ends with token n - 1, and the fault is its. A run of strings is taken whole: no string follows it.
+abbrev pub IsWrongBefore : List Lexeme → ℕ → ParseErrorKind → Node ℕ → Type 0
+IsWrongBefore lexemes n wrong node =
+    (suc (node_end node) ≡ n) × (is_run node ≡ true → is_string_at (rows_of lexemes) n ≡ false) × WrongNode (token_span (rows_of lexemes)) node wrong
+
+-- Some file that goes on behind the first n tokens has a node that ends with the last of them, and the fault is that node's.
+abbrev pub IsWrongBehind : List Lexeme → ℕ → ParseErrorKind → Type 0
+IsWrongBehind lexemes n wrong = (f : t.File ℕ) × GoesOn lexemes n f × Any (IsWrongBefore lexemes n wrong) (file_nodes f)
+
+abbrev pub IsOfNode : List Lexeme → ParseErrorKind → Type 0
+IsOfNode lexemes wrong = (n : ℕ) × IsWrongBehind lexemes n wrong
+
+-- ---- by kinds
+
+-- The fault is true of the source with these lexemes.
+abbrev pub IsTrueOf : List Lexeme → ParseErrorKind → Type 0
+IsTrueOf lexemes (fault.InvalidToken span) = IsInvalidThere lexemes span
+IsTrueOf lexemes (fault.IntegerOutOfRange span) = IsFirstOfLexeme lexemes (fault.IntegerOutOfRange span)
+IsTrueOf lexemes (fault.InvalidStringCharacters span) = IsFirstOfLexeme lexemes (fault.InvalidStringCharacters span)
+IsTrueOf lexemes (fault.UnterminatedString span) = IsFirstOfLexeme lexemes (fault.UnterminatedString span)
+IsTrueOf lexemes (fault.InvalidStringEscape span) = IsFirstOfLexeme lexemes (fault.InvalidStringEscape span)
+IsTrueOf lexemes (fault.NestedBlockComment span) = IsFirstOfLexeme lexemes (fault.NestedBlockComment span)
+IsTrueOf lexemes (fault.NoSpaceBetweenIntAndIdent span) = IsFirstOfLexeme lexemes (fault.NoSpaceBetweenIntAndIdent span)
+IsTrueOf lexemes (fault.HashCommentOutsideTextFormat span) = IsFirstOutside lexemes (fault.HashCommentOutsideTextFormat span)
+IsTrueOf lexemes (fault.FloatSuffixOutsideTextFormat span) = IsFirstOutside lexemes (fault.FloatSuffixOutsideTextFormat span)
+IsTrueOf lexemes (fault.UnexpectedToken span expected found) = IsUnexpectedThere lexemes span found
+IsTrueOf lexemes (fault.UnexpectedEof expected) = IsEndThere lexemes expected
+IsTrueOf lexemes (fault.UnknownSyntax span value) = IsOfNode lexemes (fault.UnknownSyntax span value)
+IsTrueOf lexemes (fault.InvalidUtf8String span) = IsOfNode lexemes (fault.InvalidUtf8String span)
+IsTrueOf lexemes (fault.InvalidImport span) = IsOfNode lexemes (fault.InvalidImport span)
+IsTrueOf lexemes (fault.InvalidIdentifier span) = IsOfNode lexemes (fault.InvalidIdentifier span)
+IsTrueOf lexemes (fault.InvalidGroupName span) = IsOfNode lexemes (fault.InvalidGroupName span)
+IsTrueOf lexemes (fault.DuplicatePackage first second) = IsOfNode lexemes (fault.DuplicatePackage first second)
+IsTrueOf lexemes (fault.MessageNestingTooDeep span) = IsOfNode lexemes (fault.MessageNestingTooDeep span)
+IsTrueOf lexemes _ = ⊥

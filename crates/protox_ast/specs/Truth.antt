@@ -14,7 +14,7 @@ use Rattle.protox_ast.specs.CheckedNodes.{Node, ASyntax, AnImport, AReservedName
 use Rattle.protox_ast.specs.Checks.{WrongNode}
 use Rattle.protox_ast.specs.Fronts.{GoesOn, Inside}
 use Rattle.protox_ast.specs.Keywords.{is_significant}
-use Rattle.protox_ast.specs.Spells.{BeginsFile, IsEnded}
+use Rattle.protox_ast.specs.Spells.{IsUnexpected, IsEnded}
 use Rattle.protox_ast.specs.Tree as t
 
 -- ---- lexemes
@@ -38,17 +38,10 @@ pub record IsFirstOutside (lexemes : List Lexeme) (wrong : ParseErrorKind) : Typ
 
 -- ---- tokens
 
--- A token of this place and this text: the tokens before it begin a file, and with it they begin none.
-pub record IsUnexpectedThere (lexemes : List Lexeme) (span : Span) (text : List ℕ) : Type 0 where
-  pub before : Rows Span
-  pub here : Row Span
-  pub behind : Rows Span
-  pub parts : rows_of lexemes ≡ before ++ (here ∷ behind)
-  pub place : span ≡ here.at
-  pub prints : text ≡ printed here.shape
-  pub is_token : is_significant here.shape ≡ true
-  pub begins : BeginsFile before
-  pub with_it : BeginsFile (before ++ (here ∷ [])) → ⊥
+-- A token of this place and this text is unexpected. An invalid character is no token.
+abbrev pub IsUnexpectedThere : List Lexeme → Span → List ℕ → Type 0
+IsUnexpectedThere lexemes span text =
+    (left : ℕ) × (u : IsUnexpected (rows_of lexemes) left) × (span ≡ u.here.at) × (text ≡ printed u.here.shape) × (is_significant u.here.shape ≡ true)
 
 -- what a string or a comment lacks that doesn't end
 abbrev pub is_terminator : List ℕ → Bool

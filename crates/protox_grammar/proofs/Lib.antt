@@ -22,6 +22,7 @@ pub mod Messages
 pub mod Levels
 pub mod Depths
 pub mod Main
+pub mod Truths
 pub mod samples
 pub mod part
 pub mod Loops

@@ -3,19 +3,9 @@ use Rattle.std.specs.Prelude.{◌≡◌, ◌↔◌, ◌<◌, ◌≤◌, ℕ, suc
 use Rattle.protox_lex.specs.Shapes.{Row, Rows}
 use Rattle.protox_ast.specs.Tree.{File}
 use Rattle.protox_ast.specs.Depth.{depth}
-use Rattle.protox_ast.specs.Spells.{Spells, BeginsFile}
+pub use Rattle.protox_ast.specs.Spells.{Spells, BeginsFile, IsUnexpected, IsEnded}
 use Rattle.protox_grammar.specs.Reader.{Unexpected, Deep}
 use Rattle.protox_grammar.specs.Reads.{read}
-
--- at this row, no file goes on
-pub record IsUnexpected {M : Type 0} (rows : Rows M) (left : ℕ) : Type 0 where
-  pub front : Rows M
-  pub here : Row M
-  pub rest : Rows M
-  pub parts : rows ≡ front ++ (here ∷ rest)
-  pub left_is : left ≡ suc (length rest)
-  pub before : BeginsFile front
-  pub with_it : BeginsFile (front ++ (here ∷ [])) → ⊥
 
 -- at this row something opens that is too deep: files go on, and all that do have more than n levels
 pub record IsTooDeep {M : Type 0} (n : ℕ) (rows : Rows M) (left : ℕ) : Type 0 where
@@ -26,11 +16,6 @@ pub record IsTooDeep {M : Type 0} (n : ℕ) (rows : Rows M) (left : ℕ) : Type 
   pub left_is : left ≡ suc (length rest)
   pub begins : BeginsFile (front ++ (here ∷ []))
   pub deeper : (f : File M) (more : Rows M) → Spells (front ++ (here ∷ more)) f → n < depth f
-
--- the rows begin a file and are none
-pub record IsEnded {M : Type 0} (rows : Rows M) : Type 0 where
-  pub begins : BeginsFile rows
-  pub no_file : (f : File M) → Spells rows f → ⊥
 
 -- ---- the laws
 

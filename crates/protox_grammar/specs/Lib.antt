@@ -5,4 +5,5 @@ pub mod Rules
 pub mod Bodies
 pub mod Reads
 pub mod Grammar
+pub mod TruthLaws
 pub mod part

@@ -3,6 +3,7 @@
 #![tactic(auto)]
 
 ghost use Rattle.protox_grammar.specs.Grammar as grammar;
+ghost use Rattle.protox_grammar.specs.TruthLaws as truth;
 
 /// No rows are the spelling of two trees that keep the keyword rules.
 pub fn one_tree<M>(_mark: &M)
@@ -27,6 +28,18 @@ pub fn too_deep<M>(_mark: &M)
 /// Rows that ended too soon begin a file and are none.
 pub fn ended<M>(_mark: &M)
     ensures { grammar.TightEnd M }
+{}
+
+/// Where reading the tokens of a source stops, the fault there is true of the source.
+pub fn stops_are_true()
+    ensures token { truth.StopIsTrue }
+    ensures end { truth.EndIsTrue }
+{}
+
+/// Of tokens that spell a file none is unexpected, and they don't end too soon.
+pub fn spelled_is_expected()
+    ensures token { truth.NoneIsUnexpected }
+    ensures end { truth.NoneIsEnded }
 {}
 
 #[cfg(test)]

@@ -2,3 +2,4 @@ pub mod Membership
 pub mod NamePlaces
 pub mod NameTests
 pub mod Standing
+pub mod Texts

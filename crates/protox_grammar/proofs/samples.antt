@@ -4,3 +4,5 @@ pub mod Barred
 pub mod Read
 pub mod Nodes
 pub mod Checked
+pub mod Sources
+pub mod True

@@ -1,6 +1,10 @@
 -- Files that the parser's checks refuse, and neighbours that they don't.
-use Rattle.std.proofs.Common.{◌≡◌, true, ℕ, List, [], ◌∷◌, None, codes, arith}
+use Rattle.std.proofs.Common.{◌≡◌, Bool, true, false, ℕ, List, [], ◌∷◌, None, codes, length, refl, ap, arith}
 use Rattle.std.proofs.lemmas.List.Elements.{All-nil}
+use Rattle.protox_lex.specs.Lexemes.{Lexeme}
+use Rattle.protox_lex.specs.Shapes.{Shape, Newline, Invalid}
+use Rattle.protox_lex.specs.declared.error.ParseErrorKind.TheVariants.{HashCommentOutsideTextFormat}
+use Rattle.protox_ast.specs.Accepted.{is_in_aggregate, IsClean}
 use Rattle.protox_ast.specs.Places.{Place}
 use Rattle.protox_ast.specs.Tree as t
 use Rattle.protox_ast.specs.Ast.{text_of}
@@ -55,3 +59,38 @@ reserved-asked h = (h.1.0.0.0, h.1.0.0.1.0)
 
 reserved-asked-in-enum : IsFine (file (t.an_enum (record { keyword = at; name = (codes "E", at); open_at = at; elements = t.enum_reserved names ∷ []; close_at = at }) ∷ [])) → Asked
 reserved-asked-in-enum h = (h.1.0.0.0, h.1.0.0.1.0)
+
+-- ---- what stands in an aggregate
+
+abbrev from_to : ℕ → ℕ → Place
+from_to a b = record at { span = record { start = a; end = b } }
+
+abbrev lexeme : ℕ → ℕ → Lexeme
+lexeme a b = record { start = a; stop = b; shape = Newline; borrowed = true; faults = [] }
+
+-- option o = { .. }; with braces at 11..12 and 20..21
+abbrev braced : t.File Place
+braced = file (t.an_option (record { keyword = at; body = record { first = t.plain_part (codes "o", at); others = []; equals_sign = at; value = t.aggregate (from_to 11 12) [] (from_to 20 21) }; end = at }) ∷ [])
+
+record Stands : Type 0 where
+  behind_open : is_in_aggregate braced (lexeme 12 13) ≡ true
+  before_close : is_in_aggregate braced (lexeme 19 20) ≡ true
+  before_open : is_in_aggregate braced (lexeme 10 11) ≡ false
+  behind_close : is_in_aggregate braced (lexeme 21 22) ≡ false
+
+stands : Stands
+stands = record { behind_open = refl; before_close = refl; before_open = refl; behind_close = refl }
+
+abbrev is_invalid : Shape → ℕ
+is_invalid Invalid = 1
+is_invalid _ = 0
+
+abbrev commented : Lexeme
+commented = record (lexeme 13 16) { faults = HashCommentOutsideTextFormat (record { start = 13; end = 16 }) ∷ [] }
+
+-- a `#` comment is clean there, and isn't in a file without aggregates
+clean-there : IsClean braced commented
+clean-there = (refl, (λ e. let z : 0 ≡ 1 = ap is_invalid e in omega (arith, z)))
+
+clean-nowhere : IsClean (file []) commented → ⊥
+clean-nowhere h = let z : 1 ≡ 0 = ap length h.0 in omega (arith, z)

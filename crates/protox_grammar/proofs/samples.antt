@@ -6,3 +6,4 @@ pub mod Nodes
 pub mod Checked
 pub mod Sources
 pub mod True
+pub mod Everywhere

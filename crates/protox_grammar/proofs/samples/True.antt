@@ -3,7 +3,7 @@ use Rattle.std.proofs.Common.{◌≡◌, ◌≢◌, ◌<◌, ◌≤◌, ◌⊎�
 use Rattle.std.proofs.lemmas.List.{length-append}
 use Rattle.protox_lex.specs.Faults.{Span, span_from, faults_in}
 use Rattle.protox_lex.specs.Lexemes.{Lexeme}
-use Rattle.protox_lex.specs.Shapes.{Shape, Int, Mark, Invalid, Row, Rows}
+use Rattle.protox_lex.specs.Shapes.{Shape, Int, Mark, Newline, Invalid, Row, Rows}
 use Rattle.protox_lex.specs.Table.{rows_of}
 use Rattle.protox_lex.specs.declared.error.ParseErrorKind.{ParseErrorKind}
 use Rattle.protox_lex.specs.declared.error.ParseErrorKind.TheVariants as fault
@@ -17,7 +17,7 @@ use Rattle.protox_ast.specs.Keywords.{Each, is_significant}
 use Rattle.protox_ast.specs.Spelling as s
 use Rattle.protox_ast.specs.Spells.{BeginsFile, IsUnexpected}
 use Rattle.protox_ast.specs.Tree as t
-use Rattle.protox_ast.specs.Truth.{IsTrueOf, IsWrongBefore, IsWrongBehind}
+use Rattle.protox_ast.specs.Truth.{IsFirstOfLexeme, IsTrueOf, IsWrongBefore, IsWrongBehind}
 use Rattle.protox_ast.proofs.Membership.{Somewhere, somewhere-from, any-from}
 use Rattle.protox_ast.proofs.Texts.{text-same}
 use Rattle.protox_grammar.specs.Reader as reader
@@ -98,8 +98,6 @@ is_range _ = 0
 second-there : IsTrueOf two (fault.IntegerOutOfRange (span_from 0 21)) → ⊥
 second-there h = elim (somewhere-from (λ y. first_of y.faults ≡ Some (fault.IntegerOutOfRange (span_from 0 21))) two h) as (λ _. ⊥) [ inl e ↦ (let z : 0 ≡ 1 = ap is_range e in omega (arith, z)) | inr e ↦ e ]
 
--- ---- comments that begin with `#`
-
 -- nothing stands inside an aggregate before the first token
 inside-none : (lexemes : List Lexeme) → Inside lexemes 0 → ⊥
 inside-none lexemes h = none (aggregates h.0) h.2
@@ -107,15 +105,52 @@ inside-none lexemes h = none (aggregates h.0) h.2
     none : (all : List (ℕ × ℕ)) → Any (λ braces. (braces.0 < 0) × (0 ≤ braces.1)) all → ⊥
     none all k = omega (arith, k.4)
 
+-- each fault of a lexeme, where it is the first
+abbrev alone : ParseErrorKind → List Lexeme
+alone wrong = x.faulty (x.at (Int 0) 0 1) (wrong ∷ []) ∷ []
+
+abbrev here : Span
+here = span_from 0 1
+
+record AreFirst : Type 0 where
+  out_of_range : IsTrueOf (alone (fault.IntegerOutOfRange here)) (fault.IntegerOutOfRange here)
+  characters : IsTrueOf (alone (fault.InvalidStringCharacters here)) (fault.InvalidStringCharacters here)
+  unterminated : IsTrueOf (alone (fault.UnterminatedString here)) (fault.UnterminatedString here)
+  escape : IsTrueOf (alone (fault.InvalidStringEscape here)) (fault.InvalidStringEscape here)
+  nested : IsTrueOf (alone (fault.NestedBlockComment here)) (fault.NestedBlockComment here)
+  suffix : IsTrueOf (alone (fault.FloatSuffixOutsideTextFormat here)) (fault.FloatSuffixOutsideTextFormat here)
+  string_end : IsTrueOf (alone (fault.UnexpectedEof (codes "string terminator"))) (fault.UnexpectedEof (codes "string terminator"))
+  comment_end : IsTrueOf (alone (fault.UnexpectedEof (codes "comment terminator"))) (fault.UnexpectedEof (codes "comment terminator"))
+
+first-of : (wrong : ParseErrorKind) → IsFirstOfLexeme (alone wrong) wrong
+first-of wrong = any-from (λ y. first_of y.faults ≡ Some wrong) (alone wrong) (inl refl)
+
+are-first : AreFirst
+are-first = record {
+  out_of_range = first-of (fault.IntegerOutOfRange here);
+  characters = first-of (fault.InvalidStringCharacters here);
+  unterminated = first-of (fault.UnterminatedString here);
+  escape = first-of (fault.InvalidStringEscape here);
+  nested = first-of (fault.NestedBlockComment here);
+  suffix = record { before = []; here = x.faulty (x.at (Int 0) 0 1) (fault.FloatSuffixOutsideTextFormat here ∷ []); behind = []; parts = refl; is_first = refl; outside = inside-none (alone (fault.FloatSuffixOutsideTextFormat here)) };
+  string_end = inl (refl, first-of (fault.UnexpectedEof (codes "string terminator")));
+  comment_end = inl (refl, first-of (fault.UnexpectedEof (codes "comment terminator")));
+}
+
+-- ---- comments that begin with `#`
+
 hash-there : IsTrueOf (x.hash ∷ []) (fault.HashCommentOutsideTextFormat (span_from 0 3))
 hash-there = record { before = []; here = x.hash; behind = []; parts = refl; is_first = refl; outside = inside-none (x.hash ∷ []) }
 
 hash-not-clean : CleanFront (x.hash ∷ []) 1 → ⊥
 hash-not-clean h = inside-none (x.hash ∷ []) (h.0.2 (λ e. let z : 1 ≡ 0 = ap length e in omega (arith, z)))
 
--- option o = { # c
+-- a newline, which is no token, and option o = { # c
+abbrev front : List Lexeme
+front = x.at Newline 0 0 ∷ x.option_front
+
 abbrev commented : List Lexeme
-commented = x.option_front ++ (x.inner_hash ∷ [])
+commented = front ++ (x.inner_hash ∷ [])
 
 inside-there : Inside commented 4
 inside-there = (
@@ -132,14 +167,17 @@ abbrev is_invalid : Shape → ℕ
 is_invalid Invalid = 1
 is_invalid _ = 0
 
-clean-inside : CleanFront commented 5
+clean-inside : CleanFront commented 6
 clean-inside = (
-  neat (x.at (x.word "option") 0 6) 0 refl refl,
+  ((λ e. let z : 0 ≡ 1 = ap is_invalid e in omega (arith, z)), refl, (λ some. absurd (some refl))),
   (
-    neat (x.at (x.word "o") 7 8) 1 refl refl,
+    neat (x.at (x.word "option") 0 6) 0 refl refl,
     (
-      neat (x.at (Mark s.equals) 9 10) 2 refl refl,
-      (neat (x.at (Mark s.open_brace) 11 12) 3 refl refl, (((λ e. let z : 0 ≡ 1 = ap is_invalid e in omega (arith, z)), refl, (λ _. inside-there)), tt)),
+      neat (x.at (x.word "o") 7 8) 1 refl refl,
+      (
+        neat (x.at (Mark s.equals) 9 10) 2 refl refl,
+        (neat (x.at (Mark s.open_brace) 11 12) 3 refl refl, (((λ e. let z : 0 ≡ 1 = ap is_invalid e in omega (arith, z)), refl, (λ _. inside-there)), tt)),
+      ),
     ),
   ),
 )
@@ -160,7 +198,7 @@ only-last (v ∷ xs) y (b ∷ before) behind here wrong c e f =
 
 hash-inside : IsTrueOf commented (fault.HashCommentOutsideTextFormat (span_from 13 16)) → ⊥
 hash-inside h =
-    let before = only-last x.option_front x.inner_hash h.before h.behind h.here (fault.HashCommentOutsideTextFormat (span_from 13 16)) (refl, (refl, (refl, (refl, tt)))) h.parts h.is_first in
+    let before = only-last front x.inner_hash h.before h.behind h.here (fault.HashCommentOutsideTextFormat (span_from 13 16)) (refl, (refl, (refl, (refl, (refl, tt))))) h.parts h.is_first in
     h.outside (subst (λ l. Inside commented (length (rows_of l))) (sym before) inside-there)
 
 -- ---- tokens

@@ -87,6 +87,11 @@ impl ParseError {
 }
 
 impl fmt::Display for ParseError {
+    ghost use Rattle.std.specs.Prelude.{option_map};
+    ghost use Rattle.protox_lex.specs.FaultTexts.{text_of};
+
+    ghost output = { λ refusal. option_map text_of (first_of refusal.errors) };
+
     fn fmt<W: fmt::Write>(&self, f: &mut fmt::Formatter<W>) -> fmt::Result {
         let kind = self.kind();
         write!(f, "{kind}")

@@ -77,7 +77,7 @@ last-one (y ∷ ys) x = omega (arith, last-one ys x)
 pub weight-take_more : {A : Type 0} (f : A → ℕ) (xs : List A) (i : ℕ) (x : A) → i < length xs → x ≡ get_or xs i x → total (map f (take (i + 1) xs)) ≡ total (map f (take i xs)) + f x
 weight-take_more f xs i x h e = ap total (map-take_more f xs i x h e) ∙ last-one (map f (take i xs)) (f x)
 
-count-snoc : {A : Type 0} (p : A → Bool) (xs : List A) (x : A) → count p (xs ++ x ∷ []) ≡ count p xs + (if p x then 1 else 0)
+pub count-snoc : {A : Type 0} (p : A → Bool) (xs : List A) (x : A) → count p (xs ++ x ∷ []) ≡ count p xs + (if p x then 1 else 0)
 count-snoc p [] x = omega arith
 count-snoc p (y ∷ ys) x = omega (arith, count-snoc p ys x)
 

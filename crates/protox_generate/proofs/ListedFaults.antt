@@ -1,5 +1,5 @@
 -- Each fault that is listed has its word at the one place. So it is wrong of the file, and each that is wrong is listed.
-use Rattle.std.proofs.Common.{◌≡◌, Bool, true, false, not, inl, inr, List, [], ◌∷◌, ◌++◌, Any, Contains, flat_map, Option, Some, None, codes, refl, sym, ap, subst, ◌∙◌, is_none}
+use Rattle.std.proofs.Common.{◌≡◌, Bool, true, false, not, List, [], Any, Contains, Option, Some, None, codes, refl, sym, ap, subst, ◌∙◌, is_none}
 use Rattle.std.specs.Prelude.{◌&&◌}
 use Rattle.protox_lex.specs.Faults.{Span}
 use Rattle.protox_lex.specs.declared.error.ParseErrorKind.{ParseErrorKind}
@@ -23,31 +23,7 @@ use Rattle.protox_generate.specs.Spans.{body_span}
 use Rattle.protox_generate.specs.ValueFaults.{invalid_type, out_of_range}
 use Rattle.protox_generate.specs.Values.{is_in, any_64, signed_32, Wanted, a_float, an_integer, a_bool, a_text, some_bytes, anything, wanted, as_bool, as_float_text}
 use Rattle.protox_generate.proofs.FaultLaw.{listed-if-wrong, wrong-if-listed}
-use Rattle.protox_generate.proofs.Membership.{Among, Somewhere, among-from, any-from, contains-from}
-
--- ---- lists
-
-each-both : {A : Type 0} (P : A → Type 0) (xs ys : List A) → Each P xs → Each P ys → Each P (xs ++ ys)
-each-both P [] ys h k = k
-each-both P (x ∷ xs) ys h k = (h.0, each-both P xs ys h.1 k)
-
-each-flat : {A B : Type 0} (P : B → Type 0) (f : A → List B) → ((a : A) → Each P (f a)) → (xs : List A) → Each P (flat_map f xs)
-each-flat P f h [] = tt
-each-flat P f h (x ∷ xs) = each-both P (f x) (flat_map f xs) (h x) (each-flat P f h xs)
-
-each-among : {A : Type 0} (P : A → Type 0) (xs : List A) → Each P xs → (x : A) → Among xs x → P x
-each-among P [] h x a = absurd a
-each-among P (y ∷ ys) h x (inl e) = subst P e h.0
-each-among P (y ∷ ys) h x (inr a) = each-among P ys h.1 x a
-
-among-each : {A : Type 0} (P : A → Type 0) (xs : List A) → ((x : A) → Among xs x → P x) → Each P xs
-among-each P [] h = tt
-among-each P (x ∷ xs) h = (h x (inl refl), among-each P xs (λ y a. h y (inr a)))
-
-somewhere-among : {A : Type 0} (P : A → Type 0) (x : A) → ((y : A) → y ≡ x → P y) → (xs : List A) → Among xs x → Somewhere P xs
-somewhere-among P x h [] a = absurd a
-somewhere-among P x h (y ∷ ys) (inl e) = inl (h y e)
-somewhere-among P x h (y ∷ ys) (inr a) = inr (somewhere-among P x h ys a)
+use Rattle.protox_generate.proofs.Membership.{Among, among-each, among-from, any-from, contains-from, each-among, each-both, each-flat, somewhere-among}
 
 -- ---- what is listed is settled
 

@@ -1,6 +1,7 @@
 -- Elements of lists by recursion on the list.
 use Rattle.std.proofs.Common.{◌≡◌, ℕ, zero, suc, ◌<◌, Bool, true, false, not, ◌⊎◌, inl, inr, List, [], ◌∷◌, ◌++◌, length, flat_map, Any, Contains, slice_index_or, Option, Some, None, refl, sym, ap, subst, true≢false, not-suc-le-zero, le_of_suc-le-suc, suc-le-suc, zero-lt-suc, is_none}
 use Rattle.std.specs.Prelude.{◌&&◌}
+use Rattle.protox_ast.specs.Keywords.{Each}
 
 abbrev pub Among : {A : Type 0} → List A → A → Type 0
 Among [] x = ⊥
@@ -64,6 +65,30 @@ pub somewhere-flat : {A B : Type 0} (P : A → Type 0) (f : A → List B) (x : B
 somewhere-flat P f x each [] h = absurd h
 somewhere-flat P f x each (a ∷ rest) h =
     elim (among-cases (f a) (flat_map f rest) x h) as (λ _. Somewhere P (a ∷ rest)) [ inl p ↦ inl (each a p) | inr q ↦ inr (somewhere-flat P f x each rest q) ]
+
+-- ---- each element
+
+pub each-both : {A : Type 0} (P : A → Type 0) (xs ys : List A) → Each P xs → Each P ys → Each P (xs ++ ys)
+each-both P [] ys h k = k
+each-both P (x ∷ xs) ys h k = (h.0, each-both P xs ys h.1 k)
+
+pub each-flat : {A B : Type 0} (P : B → Type 0) (f : A → List B) → ((a : A) → Each P (f a)) → (xs : List A) → Each P (flat_map f xs)
+each-flat P f h [] = tt
+each-flat P f h (x ∷ xs) = each-both P (f x) (flat_map f xs) (h x) (each-flat P f h xs)
+
+pub each-among : {A : Type 0} (P : A → Type 0) (xs : List A) → Each P xs → (x : A) → Among xs x → P x
+each-among P [] h x a = absurd a
+each-among P (y ∷ ys) h x (inl e) = subst P e h.0
+each-among P (y ∷ ys) h x (inr a) = each-among P ys h.1 x a
+
+pub among-each : {A : Type 0} (P : A → Type 0) (xs : List A) → ((x : A) → Among xs x → P x) → Each P xs
+among-each P [] h = tt
+among-each P (x ∷ xs) h = (h x (inl refl), among-each P xs (λ y a. h y (inr a)))
+
+pub somewhere-among : {A : Type 0} (P : A → Type 0) (x : A) → ((y : A) → y ≡ x → P y) → (xs : List A) → Among xs x → Somewhere P xs
+somewhere-among P x h [] a = absurd a
+somewhere-among P x h (y ∷ ys) (inl e) = inl (h y e)
+somewhere-among P x h (y ∷ ys) (inr a) = inr (somewhere-among P x h ys a)
 
 -- ---- tests
 

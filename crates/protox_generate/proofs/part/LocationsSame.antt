@@ -17,27 +17,16 @@ use Rattle.protox_generate.specs.LocationWords as words
 use Rattle.protox_generate.specs.Locations as whole
 use Rattle.protox_generate.specs.Siblings.{count, each_after, total}
 use Rattle.protox_generate.specs.part.Locations as part
+use Rattle.protox_generate.proofs.Emission.{count-snoc, total-snoc}
 use Rattle.protox_generate.proofs.part.Levels.{normals, file_message, item_given, message-level}
 
 -- ---- how much stands before
 
-whole-fields-more : (before : List whole.OfItem) (x : whole.OfItem)
-    → total (map (λ (c : whole.Counts). c.fields) (map (λ (i : whole.OfItem). i.brings) (before ++ x ∷ []))) ≡ total (map (λ (c : whole.Counts). c.fields) (map (λ (i : whole.OfItem). i.brings) before)) + x.brings.fields
-whole-fields-more [] x = omega arith
-whole-fields-more (y ∷ ys) x = omega (arith, whole-fields-more ys x)
-
-whole-messages-more : (before : List whole.OfItem) (x : whole.OfItem)
-    → total (map (λ (c : whole.Counts). c.messages) (map (λ (i : whole.OfItem). i.brings) (before ++ x ∷ []))) ≡ total (map (λ (c : whole.Counts). c.messages) (map (λ (i : whole.OfItem). i.brings) before)) + x.brings.messages
-whole-messages-more [] x = omega arith
-whole-messages-more (y ∷ ys) x = omega (arith, whole-messages-more ys x)
-
-part-fields-more : (before : List part.OfItem) (x : part.OfItem) → total (map (λ (i : part.OfItem). i.fields) (before ++ x ∷ [])) ≡ total (map (λ (i : part.OfItem). i.fields) before) + x.fields
-part-fields-more [] x = omega arith
-part-fields-more (y ∷ ys) x = omega (arith, part-fields-more ys x)
-
-part-messages-more : (before : List FileItem) (x : tree.Message Place) → count part.is_message (before ++ file_message x ∷ []) ≡ count part.is_message before + 1
-part-messages-more [] x = omega arith
-part-messages-more (y ∷ ys) x = omega (arith, part-messages-more ys x)
+-- what items bring of a kind, with one more item
+brought-more : (kind : whole.Counts → ℕ) (before : List whole.OfItem) (x : whole.OfItem)
+    → total (map kind (map (λ (i : whole.OfItem). i.brings) (before ++ x ∷ []))) ≡ total (map kind (map (λ (i : whole.OfItem). i.brings) before)) + kind x.brings
+brought-more kind [] x = omega arith
+brought-more kind (y ∷ ys) x = omega (arith, brought-more kind ys x)
 
 one-more : (a b k : ℕ) → a ≡ b + 1 → b ≡ k → a ≡ k + 1
 one-more a b k e f = omega arith
@@ -76,7 +65,7 @@ module _ (numbers : Span → List ℤ) where
       → (xs : List (tree.Normal Place)) → each_after (whole.item_at path) before (map whole_item xs) ≡ fields_own path k xs
   whole-fields path before k e [] = refl
   whole-fields path before k e (x ∷ xs) =
-      let more = one-more _ _ k (whole-fields-more before (whole_item x)) e in
+      let more = one-more _ _ k (brought-more (λ c. c.fields) before (whole_item x)) e in
       λ i. field_own x (nth path message_tag.FIELD (e i)) ++ whole-fields path (before ++ whole_item x ∷ []) (k + 1) more xs i
 
   whole-message : (x : tree.Message Place) (path : Path) → of_message (whole.location_steps numbers) (ast.message x) path ≡ message_own x path
@@ -92,7 +81,7 @@ module _ (numbers : Span → List ℤ) where
       → (xs : List (tree.Message Place)) → each_after (whole.item_at []) before (map (whole.of_file_item numbers) (map file_message xs)) ≡ messages_own k xs
   whole-messages before k e [] = refl
   whole-messages before k e (x ∷ xs) =
-      let more = one-more _ _ k (whole-messages-more before (whole_file_item x)) e in
+      let more = one-more _ _ k (brought-more (λ c. c.messages) before (whole_file_item x)) e in
       let here = ap (λ n. of_message (whole.location_steps numbers) (ast.message x) (nth [] file_tag.MESSAGE_TYPE n)) e ∙ whole-message x (nth [] file_tag.MESSAGE_TYPE k) in
       λ i. here i ++ whole-messages (before ++ whole_file_item x ∷ []) (k + 1) more xs i
 
@@ -105,7 +94,7 @@ module _ (numbers : Span → List ℤ) where
       → (xs : List (tree.Normal Place)) → each_after (part.item_at numbers path) before (map part_item xs) ≡ fields_own path k xs
   part-fields path before k e [] = refl
   part-fields path before k e (x ∷ xs) =
-      let more = one-more _ _ k (part-fields-more before (part_item x)) e in
+      let more = one-more _ _ k (total-snoc (λ (i : part.OfItem). i.fields) before (part_item x)) e in
       λ i. field_own x (nth path message_tag.FIELD (e i)) ++ part-fields path (before ++ part_item x ∷ []) (k + 1) more xs i
 
   part-message : (x : tree.Message Place) (path : Path) → of_message (part.location_steps numbers) (ast.message x) path ≡ message_own x path
@@ -118,7 +107,7 @@ module _ (numbers : Span → List ℤ) where
       → (xs : List (tree.Message Place)) → each_after (λ before. part.item_locations numbers [] (count part.is_message before)) before (map file_message xs) ≡ messages_own k xs
   part-messages before k e [] = refl
   part-messages before k e (x ∷ xs) =
-      let more = one-more _ _ k (part-messages-more before x) e in
+      let more = one-more _ _ k (count-snoc part.is_message before (file_message x)) e in
       let here = ap (λ n. of_message (part.location_steps numbers) (ast.message x) (nth [] file_tag.MESSAGE_TYPE n)) e ∙ part-message x (nth [] file_tag.MESSAGE_TYPE k) in
       λ i. here i ++ part-messages (before ++ file_message x ∷ []) (k + 1) more xs i
 

@@ -22,15 +22,14 @@ use Rattle.protox_ast.specs.declared.ast.File.{File}
 use Rattle.protox_ast.specs.declared.ast.Syntax.{Syntax}
 use Rattle.protox_ast.specs.declared.ast.Syntax.TheVariants.{Proto2, Proto3}
 use Rattle.protox_generate.specs.declared.checks.Scope.TheVariants as scope
-use Rattle.protox_generate.specs.Bounds.{total, greatest, reach, place_reach, syntax_reach, weights, reaches, file_item_weight, file_item_reach, import_reach, file_weight, file_reach}
-use Rattle.protox_generate.specs.Checks.{joined, number_faults, label_faults, kind_faults, fault_steps, item_faults, file_faults, IsFailure}
-use Rattle.protox_generate.specs.Descriptor.{in_message_range}
+use Rattle.protox_generate.specs.Siblings.{total}
+use Rattle.protox_generate.specs.Bounds.{greatest, reach, place_reach, syntax_reach, weights, reaches, file_item_weight, file_item_reach, import_reach, file_weight, file_reach}
+use Rattle.protox_generate.specs.part.Checks.{joined, number_faults, label_faults, kind_faults, fault_steps, item_faults, file_faults}
+use Rattle.protox_generate.specs.Checks.{IsFailure}
+use Rattle.protox_generate.specs.Numbers.{in_message_range}
+use Rattle.protox_generate.proofs.Membership.{each-both}
 
 -- ---- each of two lists
-
-each-both : {A : Type 0} (P : A → Type 0) (xs ys : List A) → Each P xs → Each P ys → Each P (xs ++ ys)
-each-both P [] ys h k = k
-each-both P (x ∷ xs) ys h k = (h.0, each-both P xs ys h.1 k)
 
 each-front : {A : Type 0} (P : A → Type 0) (xs ys : List A) → Each P (xs ++ ys) → Each P xs
 each-front P [] ys h = tt

@@ -7,9 +7,12 @@ use Rattle.protox_descriptor.specs.declared.descriptor.source_code_info.Location
 use Rattle.protox_generate.specs.declared.context.Context.{Context}
 use Rattle.protox_ast.specs.declared.ast.Import.{Import}
 use Rattle.protox_descriptor.specs.declared.tag.file.TheConstants as file_tag
-use Rattle.protox_generate.specs.Descriptor.{each_after, count, is_public, is_weak}
-use Rattle.protox_generate.specs.Bounds.{total, greatest}
-use Rattle.protox_generate.specs.Locations.{import_locations, kind_locations, commented, nth, OfItem, OfField, item_at, field_from, fields_from}
+use Rattle.protox_generate.specs.Siblings.{each_after, count, total}
+use Rattle.protox_generate.specs.Head.{is_public, is_weak}
+use Rattle.protox_generate.specs.Bounds.{greatest}
+use Rattle.protox_generate.specs.Locations.{import_locations, kind_locations}
+use Rattle.protox_generate.specs.LocationWords.{commented, nth}
+use Rattle.protox_generate.specs.part.Locations.{OfItem, OfField, item_at, field_from, fields_from}
 use Rattle.protox_generate.specs.Pass.{Emits}
 use Rattle.protox_generate.proofs.Siblings.{each_after-snoc, flat_map-snoc, take_one_more, map-take_more, drop_more}
 
@@ -74,7 +77,7 @@ last-one (y ∷ ys) x = omega (arith, last-one ys x)
 pub weight-take_more : {A : Type 0} (f : A → ℕ) (xs : List A) (i : ℕ) (x : A) → i < length xs → x ≡ get_or xs i x → total (map f (take (i + 1) xs)) ≡ total (map f (take i xs)) + f x
 weight-take_more f xs i x h e = ap total (map-take_more f xs i x h e) ∙ last-one (map f (take i xs)) (f x)
 
-count-snoc : {A : Type 0} (p : A → Bool) (xs : List A) (x : A) → count p (xs ++ x ∷ []) ≡ count p xs + (if p x then 1 else 0)
+pub count-snoc : {A : Type 0} (p : A → Bool) (xs : List A) (x : A) → count p (xs ++ x ∷ []) ≡ count p xs + (if p x then 1 else 0)
 count-snoc p [] x = omega arith
 count-snoc p (y ∷ ys) x = omega (arith, count-snoc p ys x)
 

@@ -3,7 +3,7 @@ use Rattle.std.proofs.Common.{◌≡◌, ℕ, ◌+◌, ◌<◌, List, [], ◌∷
 use Rattle.protox_lex.specs.declared.error.ParseErrorKind.{ParseErrorKind}
 use Rattle.protox_generate.specs.declared.checks.Scope.{Scope}
 use Rattle.protox_generate.specs.declared.checks.Scope.TheVariants as scope
-use Rattle.protox_generate.specs.Checks.{joined, fields_faults}
+use Rattle.protox_generate.specs.part.Checks.{joined, fields_faults}
 use Rattle.protox_generate.proofs.Siblings.{map-take_more}
 
 joined-snoc : {A : Type 0} (xss : List (List A)) (xs : List A) → joined (xss ++ xs ∷ []) ≡ joined xss ++ xs

@@ -5,7 +5,7 @@
 use Rattle.std.proofs.Common.{◌≡◌, ℕ, ◌+◌, ◌<◌, ◌≤◌, List, [], ◌∷◌, ◌++◌, length, map, take, get_or, refl, ap, sym, ◌∙◌, arith, Bool, true, false}
 use Rattle.std.proofs.Math.ListN.{length-map}
 use Rattle.std.specs.Prelude.{ℤ, pos, if◌then◌else◌}
-use Rattle.protox_generate.specs.Descriptor.{places, count}
+use Rattle.protox_generate.specs.Siblings.{places, count}
 use Rattle.protox_generate.proofs.Siblings.{take_one_more}
 
 places-snoc : {A : Type 0} (test : A → Bool) (i : ℕ) (xs : List A) (y : A) → places test i (xs ++ y ∷ []) ≡ places test i xs ++ (if test y then pos (i + length xs) ∷ [] else [])

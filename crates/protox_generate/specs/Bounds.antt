@@ -1,4 +1,4 @@
--- How many nodes a tree has, and how far its spans reach. The indices of a path are below the one, and the lines
+-- Machinery: how many nodes a tree has, and how far its spans reach. The indices of a path are below the one, and the lines
 -- and columns of a location not above the other.
 use Rattle.std.specs.Prelude.{ℕ, ◌+◌, max, List, [], ◌∷◌, length, map, Option, Some, None}
 use Rattle.protox_lex.specs.Faults.{Span}
@@ -10,11 +10,7 @@ use Rattle.protox_ast.specs.declared.ast.Package.{Package}
 use Rattle.protox_ast.specs.declared.ast.File.{File}
 use Rattle.protox_ast.specs.declared.ast.FileItem.{FileItem}
 use Rattle.protox_ast.specs.declared.ast.FileItem.TheVariants as item
-
--- the sum
-abbrev pub total : List ℕ → ℕ
-total [] = 0
-total (x ∷ xs) = x + total xs
+use Rattle.protox_generate.specs.Siblings.{total}
 
 -- the largest
 abbrev pub greatest : List ℕ → ℕ

@@ -1,173 +1,129 @@
 -- Where in the source each part of a descriptor stands, by paths of field numbers and places among like siblings.
-use Rattle.std.specs.Prelude.{ℕ, ◌+◌, Bool, true, false, List, [], ◌∷◌, ◌++◌, length, map, Option, Some, None, ℤ, pos}
+use Rattle.std.specs.Prelude.{ℕ, List, [], ◌∷◌, ◌++◌, length, map, Option, Some, None, ℤ}
 use Rattle.protox_lex.specs.Faults.{Span}
-use Rattle.protox_ast.specs.Steps.{Steps, of_message}
-use Rattle.protox_ast.specs.declared.ast.FieldKind.TheOpen.{MessageItem-F, Field-F, FieldKind-F}
-use Rattle.protox_ast.specs.declared.ast.Ty.{Ty}
-use Rattle.protox_ast.specs.declared.ast.Ty.TheVariants as ty
-use Rattle.protox_ast.specs.declared.ast.Ident.{Ident}
+use Rattle.protox_ast.specs.Steps.{Steps, of_extend, of_message}
 use Rattle.protox_ast.specs.declared.ast.Comments.{Comments}
-use Rattle.protox_ast.specs.declared.ast.FieldLabel.{FieldLabel}
+use Rattle.protox_ast.specs.declared.ast.FieldKind.TheOpen.{Extend-F, MessageItem-F, Oneof-F}
+use Rattle.protox_ast.specs.declared.ast.File.{File}
+use Rattle.protox_ast.specs.declared.ast.FileItem.{FileItem}
+use Rattle.protox_ast.specs.declared.ast.FileItem.TheVariants as item
 use Rattle.protox_ast.specs.declared.ast.Import.{Import}
 use Rattle.protox_ast.specs.declared.ast.ImportKind.{ImportKind}
 use Rattle.protox_ast.specs.declared.ast.ImportKind.TheVariants as import_kind
 use Rattle.protox_ast.specs.declared.ast.Package.{Package}
-use Rattle.protox_ast.specs.declared.ast.File.{File}
-use Rattle.protox_ast.specs.declared.ast.FileItem.{FileItem}
-use Rattle.protox_ast.specs.declared.ast.FileItem.TheVariants as item
 use Rattle.protox_descriptor.specs.declared.descriptor.source_code_info.Location.{Location}
 use Rattle.protox_descriptor.specs.declared.tag.file.TheConstants as file_tag
 use Rattle.protox_descriptor.specs.declared.tag.message.TheConstants as message_tag
-use Rattle.protox_descriptor.specs.declared.tag.field.TheConstants as field_tag
 use Rattle.protox_descriptor.specs.declared.tag.oneof.TheConstants as oneof_tag
-use Rattle.protox_generate.specs.Bounds.{total}
-use Rattle.protox_generate.specs.Descriptor.{each_after, count, is_public, is_weak}
+use Rattle.protox_generate.specs.Siblings.{count, each_after, total}
+use Rattle.protox_generate.specs.Head.{is_public, is_weak}
+use Rattle.protox_generate.specs.EnumLocations.{enum_locations}
+use Rattle.protox_generate.specs.FieldLocations.{OfField, OfKind, kind_step, field_step, field_from, fields_from, extended}
+use Rattle.protox_generate.specs.LocationWords.{Path, part, nth, commented, bare, extensions_statements, option_statements, reserved_statements}
+use Rattle.protox_generate.specs.ServiceLocations.{service_locations}
 
-abbrev pub Path : Type 0
-Path = List ℤ
+-- ---- what stands before an item, and what it brings
 
--- the path of a part, and that of the nth of like siblings
-abbrev pub part : Path → ℤ → Path
-part path tag = path ++ tag ∷ []
+-- how many there are of each kind
+pub record Counts : Type 0 where
+  pub fields : ℕ
+  pub extensions : ℕ
+  pub messages : ℕ
+  pub enums : ℕ
+  pub oneofs : ℕ
+  pub services : ℕ
 
-abbrev pub nth : Path → ℤ → ℕ → Path
-nth path tag n = path ++ tag ∷ pos n ∷ []
+abbrev pub nothing : Counts
+nothing = record { fields = 0; extensions = 0; messages = 0; enums = 0; oneofs = 0; services = 0 }
 
--- a location with comments, and one without
-abbrev pub commented : (Span → List ℤ) → Path → Span → Comments → Location
-commented numbers path span comments = record {
-  path = path;
-  span = numbers span;
-  leading_comments = comments.leading_comment;
-  trailing_comments = comments.trailing_comment;
-  leading_detached_comments = comments.leading_detached_comments;
+abbrev pub together : List Counts → Counts
+together counts = record {
+  fields = total (map (λ c. c.fields) counts);
+  extensions = total (map (λ c. c.extensions) counts);
+  messages = total (map (λ c. c.messages) counts);
+  enums = total (map (λ c. c.enums) counts);
+  oneofs = total (map (λ c. c.oneofs) counts);
+  services = total (map (λ c. c.services) counts);
 }
 
-abbrev pub bare : (Span → List ℤ) → Path → Span → Location
-bare numbers path span = record { path = path; span = numbers span; leading_comments = None; trailing_comments = None; leading_detached_comments = [] }
-
--- ---- what the levels of a message say of locations
-
--- a field: the locations from its own path on, those of the message that stands for a group from that message's path on,
--- and how many such messages there are
-pub record OfField : Type 0 where
-  pub own : Path → List Location
-  pub nested : Path → List Location
-  pub messages : ℕ
-
--- an item: its locations from the path of its message on, where so many fields, messages and oneofs stand before it; and
--- how many of each it brings
+-- an item: its locations from the path of what it stands in on, where so much stands before it
 pub record OfItem : Type 0 where
-  pub at : Path → ℕ → ℕ → ℕ → List Location
-  pub fields : ℕ
-  pub messages : ℕ
-  pub oneofs : ℕ
+  pub at : Path → Counts → List Location
+  pub brings : Counts
 
-pub data OfKind : Type 0 where
-  Normal : Ty → Span → OfKind
-  Group : Span → (Path → List Location) → OfKind
-  Map : Span → OfKind
+abbrev pub item_at : Path → List OfItem → OfItem → List Location
+item_at path before next = next.at path (together (map (λ i. i.brings) before))
 
 pub record OfOneof : Type 0 where
   pub own : Path → List Location
   pub fields : List OfField
 
--- a scalar type, or the name of a type
-abbrev pub type_tag_of : Ty → ℤ
-type_tag_of (ty.Named name) = field_tag.TYPE_NAME
-type_tag_of _ = field_tag.TYPE
+-- an `extend`: its location at the path of all extensions of what it stands in
+pub record OfExtend : Type 0 where
+  pub own : Path → List Location
+  pub fields : List OfField
 
-abbrev pub is_message : FileItem → Bool
-is_message (item.Message message) = true
-is_message _ = false
+abbrev pub messages_brought : List OfField → ℕ
+messages_brought fields = total (map (λ f. f.messages) fields)
+
+abbrev pub of_extend_at : ℤ → ℤ → OfExtend → OfItem
+of_extend_at extensions_tag messages_tag e = record {
+  at = λ path before. e.own (part path extensions_tag) ++ fields_from extensions_tag messages_tag path before.extensions before.messages e.fields;
+  brings = record nothing { extensions = length e.fields; messages = messages_brought e.fields };
+}
 
 module _ (numbers : Span → List ℤ) where
   abbrev Layer : (Type 0 → Type 0 → Type 0 → Type 0 → Type 0 → Type 0 → Type 0 → Type 0) → Type 0
-  Layer F = F OfKind OfItem (Unit {0}) OfField (Path → List Location) (Path → List Location) OfOneof
+  Layer F = F OfKind OfItem OfExtend OfField (Path → List Location) (Path → List Location) OfOneof
 
-  abbrev pub kind_step : Layer FieldKind-F → OfKind
-  kind_step (FieldKind-F.Normal type span) = Normal type span
-  kind_step (FieldKind-F.Group span body) = Group span body
-  kind_step (FieldKind-F.Map span key key_span value value_span) = Map span
-
-  -- a field itself, without comments at a group
-  abbrev pub itself : Path → Span → Comments → OfKind → Location
-  itself path span comments (Group word body) = bare numbers path span
-  itself path span comments _ = commented numbers path span comments
-
-  -- the label, if there is one
-  abbrev pub labelled : Path → Option (FieldLabel × Span) → List Location
-  labelled path None = []
-  labelled path (Some label) = bare numbers (part path field_tag.LABEL) label.1 ∷ []
-
-  -- a type, the name of a type, or a group's word
-  abbrev pub typed : Path → OfKind → List Location
-  typed path (Normal type span) = bare numbers (part path (type_tag_of type)) span ∷ []
-  typed path (Group span body) = bare numbers (part path field_tag.TYPE) span ∷ []
-  typed path (Map span) = bare numbers (part path field_tag.TYPE_NAME) span ∷ []
-
-  -- the message that stands for a group
-  abbrev pub group_locations : Ident → Comments → Span → (Path → List Location) → Path → List Location
-  group_locations name comments span body path =
-      commented numbers path span comments ∷ bare numbers (part path message_tag.NAME) name.span ∷ body path
-
-  abbrev pub grouped : Ident → Comments → Span → OfKind → Path → List Location
-  grouped name comments span (Group word body) path = group_locations name comments span body path
-  grouped name comments span _ path = []
-
-  abbrev pub messages_in : OfKind → ℕ
-  messages_in (Group word body) = 1
-  messages_in _ = 0
-
-  abbrev pub field_step : Layer Field-F → OfField
-  field_step f = record {
-    own = λ path.
-        itself path f.span f.comments f.kind
-        ∷ bare numbers (part path field_tag.NAME) f.name.span
-        ∷ bare numbers (part path field_tag.NUMBER) f.number.span
-        ∷ (labelled path f.label ++ typed path f.kind);
-    nested = grouped f.name f.comments f.span f.kind;
-    messages = messages_in f.kind;
-  }
-
-  -- a field, from the path of its message on, after so many fields and messages
-  abbrev pub field_from : Path → ℕ → ℕ → OfField → List Location
-  field_from path fields messages f = f.own (nth path message_tag.FIELD fields) ++ f.nested (nth path message_tag.NESTED_TYPE messages)
-
-  -- fields that stand one after another
-  abbrev pub fields_from : Path → ℕ → ℕ → List OfField → List Location
-  fields_from path fields messages =
-      each_after (λ before. field_from path (fields + length before) (messages + total (map (λ g. g.messages) before))) []
+  -- ---- messages
 
   abbrev pub item_step : Layer MessageItem-F → OfItem
-  item_step (MessageItem-F.Field f) = record { at = λ path fields messages oneofs. field_from path fields messages f; fields = 1; messages = f.messages; oneofs = 0 }
-  item_step (MessageItem-F.Message m) = record { at = λ path fields messages oneofs. m (nth path message_tag.NESTED_TYPE messages); fields = 0; messages = 1; oneofs = 0 }
-  item_step (MessageItem-F.Oneof o) = record {
-    at = λ path fields messages oneofs. o.own (nth path message_tag.ONEOF_DECL oneofs) ++ fields_from path fields messages o.fields;
-    fields = length o.fields;
-    messages = total (map (λ g. g.messages) o.fields);
-    oneofs = 1;
+  item_step (MessageItem-F.Field f) = record {
+    at = λ path before. field_from message_tag.FIELD message_tag.NESTED_TYPE path before.fields before.messages f;
+    brings = record nothing { fields = 1; messages = f.messages };
   }
-  item_step (MessageItem-F.Enum e) = record { at = λ path fields messages oneofs. []; fields = 0; messages = 0; oneofs = 0 }
-  item_step (MessageItem-F.Extend e) = record { at = λ path fields messages oneofs. []; fields = 0; messages = 0; oneofs = 0 }
+  item_step (MessageItem-F.Enum e) = record {
+    at = λ path before. enum_locations numbers (nth path message_tag.ENUM_TYPE before.enums) e;
+    brings = record nothing { enums = 1 };
+  }
+  item_step (MessageItem-F.Message m) = record {
+    at = λ path before. m (nth path message_tag.NESTED_TYPE before.messages);
+    brings = record nothing { messages = 1 };
+  }
+  item_step (MessageItem-F.Extend e) = of_extend_at message_tag.EXTENSION message_tag.NESTED_TYPE e
+  item_step (MessageItem-F.Oneof o) = record {
+    at = λ path before.
+        o.own (nth path message_tag.ONEOF_DECL before.oneofs) ++ fields_from message_tag.FIELD message_tag.NESTED_TYPE path before.fields before.messages o.fields;
+    brings = record nothing { fields = length o.fields; messages = messages_brought o.fields; oneofs = 1 };
+  }
 
-  abbrev pub item_at : Path → List OfItem → OfItem → List Location
-  item_at path before next =
-      next.at path (total (map (λ i. i.fields) before)) (total (map (λ i. i.messages) before)) (total (map (λ i. i.oneofs) before))
+  abbrev pub extend_step : Layer Extend-F → OfExtend
+  extend_step e = record { own = λ path. commented numbers path e.span e.comments ∷ []; fields = map (extended numbers e.extendee) e.fields }
+
+  abbrev pub oneof_step : Layer Oneof-F → OfOneof
+  oneof_step o = record {
+    own = λ path.
+        commented numbers path o.span o.comments
+        ∷ bare numbers (part path oneof_tag.NAME) o.name.span
+        ∷ option_statements numbers (part path oneof_tag.OPTIONS) o.options;
+    fields = o.fields;
+  }
 
   -- `of_message location_steps message path` is the list of a message's locations, where that is the message's path
-  abbrev pub location_steps : Steps OfKind OfItem (Unit {0}) OfField (Path → List Location) (Path → List Location) OfOneof
+  abbrev pub location_steps : Steps OfKind OfItem OfExtend OfField (Path → List Location) (Path → List Location) OfOneof
   location_steps = record {
-    kind = kind_step;
+    kind = kind_step numbers;
     item = item_step;
-    extend = λ e. tt;
-    field = field_step;
+    extend = extend_step;
+    field = field_step numbers;
     message = λ m path. commented numbers path m.span m.comments ∷ bare numbers (part path message_tag.NAME) m.name.span ∷ m.body path;
-    body = λ b path. each_after (item_at path) [] b.items;
-    oneof = λ o. record {
-      own = λ path. commented numbers path o.span o.comments ∷ bare numbers (part path oneof_tag.NAME) o.name.span ∷ [];
-      fields = o.fields;
-    };
+    body = λ b path.
+        each_after (item_at path) [] b.items
+        ++ (reserved_statements numbers message_tag.RESERVED_RANGE message_tag.RESERVED_NAME path b.reserved
+        ++ (extensions_statements numbers path b.extensions
+        ++ option_statements numbers (part path message_tag.OPTIONS) b.options));
+    oneof = oneof_step;
   }
 
   -- ---- a file
@@ -191,10 +147,20 @@ module _ (numbers : Span → List ℤ) where
       commented numbers (nth path file_tag.DEPENDENCY (length before)) statement.span statement.comments
       ∷ kind_locations path (count is_public before) (count is_weak before) statement.kind
 
-  -- an item, with so many messages before it
-  abbrev pub item_locations : Path → ℕ → FileItem → List Location
-  item_locations path messages (item.Message message) = of_message location_steps message (nth path file_tag.MESSAGE_TYPE messages)
-  item_locations path messages _ = []
+  abbrev pub of_file_item : FileItem → OfItem
+  of_file_item (item.Enum e) = record {
+    at = λ path before. enum_locations numbers (nth path file_tag.ENUM_TYPE before.enums) e;
+    brings = record nothing { enums = 1 };
+  }
+  of_file_item (item.Message m) = record {
+    at = λ path before. of_message location_steps m (nth path file_tag.MESSAGE_TYPE before.messages);
+    brings = record nothing { messages = 1 };
+  }
+  of_file_item (item.Extend e) = of_extend_at file_tag.EXTENSION file_tag.MESSAGE_TYPE (of_extend location_steps e)
+  of_file_item (item.Service s) = record {
+    at = λ path before. service_locations numbers (nth path file_tag.SERVICE before.services) s;
+    brings = record nothing { services = 1 };
+  }
 
   -- all locations of a file, in the order of its parts
   abbrev pub file_locations : File → List Location
@@ -203,4 +169,5 @@ module _ (numbers : Span → List ℤ) where
       ∷ (syntax_locations [] file.syntax_span
       ++ (package_locations [] file.«package»
       ++ (each_after (import_locations []) [] file.imports
-      ++ each_after (λ before. item_locations [] (count is_message before)) [] file.items)))
+      ++ (each_after (item_at []) [] (map of_file_item file.items)
+      ++ option_statements numbers (part [] file_tag.OPTIONS) file.options))))

@@ -2,7 +2,7 @@
 use Rattle.std.specs.Prelude.{ℕ, ◌≡◌, ◌+◌, ◌≤◌, List, [], ◌∷◌, ◌++◌, length, map, ℤ, pos, Option, Some, None}
 use Rattle.std.specs.List.{flat_map}
 use Rattle.protox_descriptor.specs.declared.descriptor.source_code_info.Location.{Location}
-use Rattle.protox_generate.specs.Descriptor.{Parts, Gives, Item, OfField, OfMessage, OfOneof, Other, in_oneof}
+use Rattle.protox_generate.specs.part.Descriptor.{Parts, Gives, Item, OfField, OfMessage, OfOneof, Other, in_oneof}
 use Rattle.protox_generate.specs.declared.context.Context.{Context}
 use Rattle.protox_generate.specs.declared.parts.Parts as code
 

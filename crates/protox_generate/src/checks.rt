@@ -3,7 +3,7 @@
 ghost use Rattle.std.specs.Prelude.{◌≡◌, ◌++◌, IfOk, OnOk, map};
 ghost use Rattle.protox_ast.specs.Steps.{of_message, of_body, of_item, of_field, of_kind, of_oneof};
 ghost use Rattle.protox_ast.specs.declared.ast.Oneof.{out-Oneof};
-ghost use Rattle.protox_generate.specs.Checks.{fault_steps, number_faults, label_faults, group_faults, empty_faults, fields_faults, kind_faults, item_faults, file_faults};
+ghost use Rattle.protox_generate.specs.part.Checks.{fault_steps, number_faults, label_faults, group_faults, empty_faults, fields_faults, kind_faults, item_faults, file_faults};
 
 use crate::context::copied_span;
 use protox_ast::ast::{

@@ -3,7 +3,7 @@
 ghost use Rattle.std.specs.Prelude.{◌≡◌, ◌≤◌, ◌++◌, ◌∷◌, [], ℤ, pos, length, IfOk, OnOk, List};
 ghost use Rattle.protox_generate.specs.Bounds.{reach};
 ghost use Rattle.protox_generate.specs.Lines.{numbers_at};
-ghost use Rattle.protox_generate.specs.Locations.{bare, commented};
+ghost use Rattle.protox_generate.specs.LocationWords.{bare, commented};
 ghost use Rattle.protox_generate.specs.Pass.{Emits};
 
 use crate::lines::LineResolver;

@@ -6,10 +6,14 @@ ghost use Rattle.protox_ast.specs.Accepted.{FaultsLieIn, IsFileOf};
 ghost use Rattle.protox_ast.specs.declared.ast.Import as import_type;
 ghost use Rattle.protox_generate.specs.Bounds.{file_weight, file_reach};
 ghost use Rattle.protox_generate.specs.Checks.{file_faults, IsFailure};
-ghost use Rattle.protox_generate.specs.Descriptor.{is_public, is_weak, places};
-ghost use Rattle.protox_generate.specs.File.{item_messages, file_descriptor};
+ghost use Rattle.protox_generate.specs.Faults.{AreWrong, HaveAll, IsFaultless};
+ghost use Rattle.protox_generate.specs.File.{file_descriptor};
+ghost use Rattle.protox_generate.specs.Head.{is_public, is_weak};
 ghost use Rattle.protox_generate.specs.Lines.{numbers_at};
-ghost use Rattle.protox_generate.specs.Locations.{file_locations};
+ghost use Rattle.protox_generate.specs.Siblings.{places};
+ghost use Rattle.protox_generate.specs.part.Checks as part_checks;
+ghost use Rattle.protox_generate.specs.part.File as part_file;
+ghost use Rattle.protox_generate.specs.part.Locations.{file_locations};
 
 use crate::checks::check_file;
 use crate::context::Context;
@@ -39,7 +43,7 @@ fn walk(alloc: Global, lines: &LineResolver, ast: &File) -> Result<Made, AllocEr
     ensures all { IfOk result (λ made. made.dependencies.all ≡ map (λ (statement : import_type.Import). statement.value) ast.now.imports) }
     ensures publics { IfOk result (λ made. made.dependencies.publics ≡ places is_public 0 ast.now.imports) }
     ensures weaks { IfOk result (λ made. made.dependencies.weaks ≡ places is_weak 0 ast.now.imports) }
-    ensures messages { IfOk result (λ made. made.messages ≡ flat_map item_messages ast.now.items) }
+    ensures messages { IfOk result (λ made. made.messages ≡ flat_map part_file.item_messages ast.now.items) }
     ensures locations { IfOk result (λ made. made.locations ≡ file_locations (numbers_at lines.now) ast.now) }
 {
     let mut context = Context::new(alloc);
@@ -64,7 +68,7 @@ fn build(
     requires length { length source.now ≤ 2147483647 }
     requires room { file_weight ast.now ≤ 2147483647 }
     requires reach { file_reach ast.now ≤ 2147483647 }
-    ensures { IfOk result (λ file. file ≡ file_descriptor name.now source.now ast.now) }
+    ensures { IfOk result (λ file. file ≡ part_file.file_descriptor name.now source.now ast.now) }
 {
     let lines = LineResolver::new(alloc, source)?;
     let made = walk(alloc, &lines, ast)?;
@@ -90,9 +94,8 @@ fn build(
     })
 }
 
-/// The descriptor of a file with its locations, exactly where nothing is wrong with it; else all that
-/// is wrong, in the order in which it is found. Or that memory ran out. `name` is the file's name.
-pub(crate) fn generate_within(
+// The same, of a tree of which it is only known that its spans and its nodes fit an i32.
+fn generate_within(
     alloc: Global,
     ast: File,
     name: &str,
@@ -101,7 +104,7 @@ pub(crate) fn generate_within(
     requires length { length source.now ≤ 2147483647 }
     requires room { file_weight ast ≤ 2147483647 }
     requires reach { file_reach ast ≤ 2147483647 }
-    ensures { MatchResult result (λ file. (file_faults ast ≡ []) × (file ≡ file_descriptor name.now source.now ast)) (IsFailure (file_faults ast)) }
+    ensures { MatchResult result (λ file. (part_checks.file_faults ast ≡ []) × (file ≡ part_file.file_descriptor name.now source.now ast)) (IsFailure (part_checks.file_faults ast)) }
 {
     let faults = check_file(alloc, &ast)?;
     if faults.is_empty() {
@@ -121,7 +124,14 @@ pub fn generate_file(
     source: &str,
 ) -> Result<FileDescriptorProto, SyntaxFailure>
     requires { IsFileOf source.now ast }
-    ensures answers { MatchResult result (λ file. (file_faults ast ≡ []) × (file ≡ file_descriptor name.now source.now ast)) (IsFailure (file_faults ast)) }
+    // What is answered is the descriptor of the tree, with which nothing is wrong.
+    ensures found { IfOk result (λ file. file ≡ file_descriptor name.now source.now ast) }
+    ensures fine { IfOk result (λ file. IsFaultless ast) }
+    // A refusal has faults. Each is wrong of the tree, each that is wrong is there, and they are in order.
+    ensures wrong { IfErr result (AreWrong ast) }
+    ensures all { IfErr result (HaveAll ast) }
+    ensures in_order { IfErr result (IsFailure (file_faults ast)) }
+    // They lie in the source.
     ensures lie { IfErr result (FaultsLieIn source.now) }
 {
     generate_within(alloc, ast, name, source)

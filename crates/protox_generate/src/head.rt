@@ -2,7 +2,7 @@
 
 ghost use Rattle.std.specs.Prelude.{◌≡◌, ◌≤◌, IfOk, OnOk};
 ghost use Rattle.protox_generate.specs.Bounds.{syntax_reach, package_reach};
-ghost use Rattle.protox_generate.specs.Descriptor.{syntax_name as name_of_syntax, package_name as name_of_package};
+ghost use Rattle.protox_generate.specs.Head.{syntax_name as name_of_syntax, package_name as name_of_package};
 ghost use Rattle.protox_generate.specs.Lines.{numbers_at};
 ghost use Rattle.protox_generate.specs.Locations.{syntax_locations, package_locations};
 ghost use Rattle.protox_generate.specs.Pass.{Emits};

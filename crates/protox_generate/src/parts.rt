@@ -2,7 +2,8 @@
 
 ghost use Rattle.std.specs.Prelude.{◌≡◌, [], IfOk};
 ghost use Rattle.protox_ast.specs.Steps.{of_field, of_kind};
-ghost use Rattle.protox_generate.specs.Descriptor.{descriptor_steps, message_proto, label_number, type_number, scalar_number, type_name_of, field_type_of, number_of};
+ghost use Rattle.protox_generate.specs.part.Descriptor.{descriptor_steps, message_proto, type_name_of, field_type_of};
+ghost use Rattle.protox_generate.specs.Numbers.{label_number, type_number, scalar_number, number_of};
 ghost use Rattle.protox_generate.specs.Pass.{view};
 
 use protox_ast::ast::{Field, FieldKind, FieldLabel, Int};

@@ -4,7 +4,8 @@ ghost use Rattle.std.specs.Prelude.{◌≡◌, ◌≢◌, ◌∷◌, [], ℕ, Li
 ghost use Rattle.protox_ast.specs.Accepted as accepted;
 ghost use Rattle.protox_ast.specs.Accepted.{Fits, FaultsLieIn};
 ghost use Rattle.protox_ast.specs.Keywords.{Each};
-ghost use Rattle.protox_generate.specs.Checks.{IsFailure};
+ghost use Rattle.protox_ast.specs.declared.ast.File.{File};
+ghost use Rattle.protox_generate.specs.Faults.{AreWrong, IsFaultless};
 ghost use Rattle.protox_lex.specs.Faults.{LiesIn, span_of};
 ghost use Rattle.protox_parse.specs.Failures.{IsOutOfMemory, IsRefusalOf, first_of};
 
@@ -177,8 +178,8 @@ pub(crate) fn refused(
     requires { FaultsLieIn source.now failure }
     ensures of_source { IsRefusalOf name.now source.now result }
     ensures memory { accepted.IsOutOfMemory failure → IsOutOfMemory result }
-    // Where the generator finds nothing, only memory can have failed.
-    ensures none { (wrong : List ParseErrorKind) → IsFailure wrong failure → wrong ≡ [] → IsOutOfMemory result }
+    // Where nothing is wrong with a file, only memory can have failed.
+    ensures none { (file : File) → AreWrong file failure → IsFaultless file → IsOutOfMemory result }
 {
     match failure {
         SyntaxFailure::Faults(errors) => match refusal(alloc, name, source, errors) {

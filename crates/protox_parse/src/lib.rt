@@ -2,11 +2,11 @@
 //! or to what is wrong with it.
 #![tactic(auto)]
 
-ghost use Rattle.std.specs.Prelude.{◌≡◌, ◌≤◌, ◌↔◌, IsTrue, IfOk, IfErr, MatchResult, length, []};
+ghost use Rattle.std.specs.Prelude.{◌≡◌, ◌≤◌, ◌↔◌, IsTrue, IfOk, IfErr, MatchResult, length};
 ghost use Rattle.protox_ast.specs.Accepted.{Fits, IsAccepted, IsFileOf};
 ghost use Rattle.protox_ast.specs.Ast as ast_of;
 ghost use Rattle.protox_ast.specs.Tree as tree;
-ghost use Rattle.protox_generate.specs.Checks.{file_faults};
+ghost use Rattle.protox_generate.specs.Faults.{IsFaultless};
 ghost use Rattle.protox_generate.specs.File.{file_descriptor};
 ghost use Rattle.protox_ast.specs.Places.{Place};
 ghost use Rattle.protox_parse.specs.Failures.{IsOutOfMemory, IsRefusalOf};
@@ -46,8 +46,8 @@ fn translated(
     source: &str,
 ) -> Result<FileDescriptorProto, ParseFailure>
     requires { IsFileOf source.now file }
-    ensures found { IfOk result (λ d. (file_faults file ≡ []) × (d ≡ file_descriptor name.now source.now file)) }
-    ensures only { file_faults file ≡ [] → MatchResult result (λ d. d ≡ file_descriptor name.now source.now file) IsOutOfMemory }
+    ensures found { IfOk result (λ d. IsFaultless file × (d ≡ file_descriptor name.now source.now file)) }
+    ensures only { IsFaultless file → MatchResult result (λ d. d ≡ file_descriptor name.now source.now file) IsOutOfMemory }
     ensures refused { IfErr result (IsRefusalOf name.now source.now) }
 {
     match generate_file(alloc, file, name, source) {
@@ -59,12 +59,12 @@ fn translated(
 /// The descriptor of the file of this name and this source, with its locations; or what is wrong
 /// with the source, or that memory ran out.
 pub fn parse(alloc: Global, name: &str, source: &str) -> Result<FileDescriptorProto, ParseFailure>
-    // What is answered is the translation of a tree that the source's tokens spell.
+    // What is answered is the translation of a tree that the source's tokens spell, with which nothing is wrong.
     ensures found { IfOk result (λ d. (f : tree.File Place) × IsAccepted source.now f
-        × (file_faults (ast_of.file (length source.now) f) ≡ [])
+        × IsFaultless (ast_of.file (length source.now) f)
         × (d ≡ file_descriptor name.now source.now (ast_of.file (length source.now) f))) }
     // Such a source is answered so, unless memory ran out.
-    ensures only { (f : tree.File Place) → IsAccepted source.now f → file_faults (ast_of.file (length source.now) f) ≡ []
+    ensures only { (f : tree.File Place) → IsAccepted source.now f → IsFaultless (ast_of.file (length source.now) f)
         → MatchResult result (λ d. d ≡ file_descriptor name.now source.now (ast_of.file (length source.now) f)) IsOutOfMemory }
     // A refusal names its file and holds its source, and its faults lie in it.
     ensures refused { IfErr result (IsRefusalOf name.now source.now) }

@@ -1,5 +1,5 @@
 use Rattle.std.proofs.Common.{◌++◌, map, arith, ap, sym, ◌∙◌, take_all}
-use Rattle.protox_generate.specs.Checks.{fault_steps, joined}
+use Rattle.protox_generate.specs.part.Checks.{fault_steps, joined}
 use Rattle.protox_ast.specs.Steps.{of_item, of_field, body-gives}
 use Rattle.protox_generate.proofs.FaultLists.{joined-more, fields-more}
 use Rattle.protox_generate.proofs.checks.+checks.Goals as goal

@@ -1,5 +1,5 @@
 use Rattle.std.proofs.Common.{◌≡◌, ◌++◌, map, take}
-use Rattle.protox_generate.specs.Checks.{fault_steps, joined, fields_faults}
+use Rattle.protox_generate.specs.part.Checks.{fault_steps, joined, fields_faults}
 use Rattle.protox_ast.specs.Steps.{of_item, of_field}
 use Rattle.protox_generate.proofs.checks.+checks.Given as goal
 

@@ -1,6 +1,6 @@
 use Rattle.std.proofs.Common.{arith}
 use Rattle.std.specs.Prelude.{[]}
-use Rattle.protox_generate.specs.Checks.{item_faults}
+use Rattle.protox_generate.specs.part.Checks.{item_faults}
 use Rattle.protox_generate.proofs.FaultLists.{joined-more}
 use Rattle.protox_generate.proofs.checks.check_file.Goals as goal
 

@@ -1,6 +1,5 @@
 use Rattle.std.proofs.Common.{◌≡◌, map, take}
-use Rattle.protox_generate.specs.Checks.{item_faults}
-use Rattle.protox_generate.specs.Checks.{joined}
+use Rattle.protox_generate.specs.part.Checks.{item_faults, joined}
 use Rattle.protox_generate.proofs.checks.check_file.Given as goal
 
 abbrev pub invariant-loop-item : goal.invariant-loop-item

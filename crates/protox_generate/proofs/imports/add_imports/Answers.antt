@@ -2,7 +2,7 @@ use Rattle.std.proofs.Common.{◌<◌, ◌∷◌, ◌++◌, [], ℕ, List, lengt
 use Rattle.std.proofs.Math.ListN.{length-map}
 use Rattle.protox_ast.specs.declared.ast.Import.{Import}
 use Rattle.protox_generate.specs.Bounds.{import_reach}
-use Rattle.protox_generate.specs.Descriptor.{is_public, is_weak}
+use Rattle.protox_generate.specs.Head.{is_public, is_weak}
 use Rattle.protox_generate.specs.Lines.{numbers_at}
 use Rattle.protox_generate.proofs.Emission.{greatest-drop_more, imports-emit}
 use Rattle.protox_generate.proofs.Places.{length-places, places-within, places-pushed}

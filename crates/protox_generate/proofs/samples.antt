@@ -1,0 +1,10 @@
+pub mod Written
+pub mod Trees
+pub mod Files
+pub mod ExamplesWhole
+pub mod ExamplesSiblings
+pub mod ExamplesFields
+pub mod ExamplesRanges
+pub mod ExamplesOptions
+pub mod ExamplesItems
+pub mod ExamplesFaults

@@ -1,0 +1,4 @@
+pub mod Descriptor
+pub mod Locations
+pub mod Checks
+pub mod File

@@ -1,6 +1,7 @@
 //! The program's work.
 
-ghost use Rattle.std.specs.Prelude.{◌≡◌, ◌≢◌, ◌≤◌, length, None, IfOk};
+ghost use Rattle.std.specs.Prelude.{◌≡◌, ◌≢◌, ◌≤◌, length, None, IfOk, IfSome};
+ghost use Rattle.protox_parse.specs.Files.{IsFile};
 
 use protox_parse::descriptor::FileDescriptorProto;
 use protox_parse::{ParseFailure, parse};
@@ -49,7 +50,9 @@ fn scan<W: Write, E: Write>(
     out: &mut W,
     err: &mut E,
 ) -> io::Result<u8>
-    ensures { IfOk result (λ status. status ≤ 2) }
+    ensures status { IfOk result (λ status. status ≤ 2) }
+    ensures printed { IfOk result (λ status. status ≡ 0 → IsFile source.now) }
+    ensures refused { IfOk result (λ status. status ≡ 1 → IsFile source.now → ⊥) }
 {
     match parse(alloc, name, source) {
         Ok(file) => {
@@ -78,6 +81,8 @@ pub fn run<W: Write, E: Write>(
     ensures status { result ≤ 2 }
     ensures words { length words.now ≢ 1 → result ≡ 2 }
     ensures file { file.entry ≡ None → result ≡ 2 }
+    ensures printed { result ≡ 0 → IfSome file.entry (λ bytes. IsFile bytes.now) }
+    ensures refused { result ≡ 1 → IfSome file.entry (λ bytes. IsFile bytes.now → ⊥) }
 {
     let [name] = words else {
         return FAILED;

@@ -1,3 +1,4 @@
 pub mod Refusal
 pub mod Refusals
 pub mod Failures
+pub mod Files

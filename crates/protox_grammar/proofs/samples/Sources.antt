@@ -80,6 +80,10 @@ unknown = at (word "syntax") 0 6 ∷ at (Mark s.equals) 7 8 ∷ at (text "x") 9 
 abbrev pub pieces : List Lexeme
 pieces = at (word "syntax") 0 6 ∷ at (Mark s.equals) 7 8 ∷ at (text "pro") 9 14 ∷ at (text "to3") 15 20 ∷ []
 
+-- syntax = "pro" "to4"
+abbrev pub unknown_run : List Lexeme
+unknown_run = at (word "syntax") 0 6 ∷ at (Mark s.equals) 7 8 ∷ at (text "pro") 9 14 ∷ at (text "to4") 15 20 ∷ []
+
 -- import '..' message
 abbrev pub parent : List Lexeme
 parent = at (word "import") 0 6 ∷ at (text "..") 7 11 ∷ at (word "message") 12 19 ∷ []

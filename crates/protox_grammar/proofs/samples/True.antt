@@ -38,6 +38,9 @@ NodesAre ss nodes = IsMade ss × (file_nodes (made ss) ≡ nodes)
 abbrev run : List ℕ → ℕ → t.Strings ℕ
 run value n = record { first = (value, n); others = [] }
 
+abbrev two_strings : t.Strings ℕ
+two_strings = record { first = (codes "pro", 2); others = (codes "to4", 3) ∷ [] }
+
 abbrev package_at : List ℕ → ℕ → t.Package ℕ
 package_at name n = record { keyword = n; name = record { first = (name, suc n); others = [] }; end = suc (suc n) }
 
@@ -45,6 +48,7 @@ record AreMade : Type 0 where
   option_made : IsMade (joined x.option_front 4 (Mark s.close_brace ∷ Mark s.semicolon ∷ []))
   braces : aggregates (made (joined x.option_front 4 (Mark s.close_brace ∷ Mark s.semicolon ∷ []))) ≡ (3, 4) ∷ []
   syntax_made : NodesAre (joined x.unknown 3 (Mark s.semicolon ∷ [])) (node.ASyntax (run (codes "x") 2) ∷ [])
+  run_made : NodesAre (joined x.unknown_run 4 (Mark s.semicolon ∷ [])) (node.ASyntax two_strings ∷ [])
   import_made : NodesAre (joined x.parent 2 (Mark s.semicolon ∷ [])) (node.AnImport (run (codes "..") 1) ∷ [])
   packages_made : NodesAre (joined x.packages 6 []) (node.APackageAgain (package_at (codes "a") 0) (package_at (codes "b") 3) ∷ [])
   group_made : NodesAre (joined x.small_group 6 x.group_end) (node.AGroupName (codes "ab", 5) ∷ [])
@@ -59,6 +63,7 @@ are_made = record {
   option_made = refl;
   braces = refl;
   syntax_made = (refl, refl);
+  run_made = (refl, refl);
   import_made = (refl, refl);
   packages_made = (refl, refl);
   group_made = (refl, refl);
@@ -250,6 +255,12 @@ unknown-there = (
   by-node x.unknown 3 (Mark s.semicolon ∷ []) (fault.UnknownSyntax (span_from 9 12) (codes "x")) (node.ASyntax (run (codes "x") 2)) (omega arith) are_made.syntax_made
       (refl, (λ _. refl), (refl, ap (λ v. fault.UnknownSyntax (span_from 9 12) v) (sym (text-same (codes "x") refl)))),
 )
+
+-- of a run of strings the value and the span are those of all
+run-there : IsTrueOf x.unknown_run (fault.UnknownSyntax (span_from 9 20) (codes "proto4"))
+run-there =
+    (4, by-node x.unknown_run 4 (Mark s.semicolon ∷ []) (fault.UnknownSyntax (span_from 9 20) (codes "proto4")) (node.ASyntax two_strings) (omega arith) are_made.run_made
+      (refl, (λ _. refl), (refl, ap (λ v. fault.UnknownSyntax (span_from 9 20) v) (sym (text-same (codes "proto4") refl)))))
 
 -- import '..' is wrong, whatever stands behind it but a string
 parent-there : IsTrueOf x.parent (fault.InvalidImport (span_from 7 11))

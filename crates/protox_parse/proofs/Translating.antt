@@ -1,5 +1,5 @@
 -- What is said of the translation of a syntax tree is said of the tree that it is of.
-use Rattle.std.proofs.Common.{◌≡◌, ℕ, List, [], ◌∷◌, Result, Ok, Err, IfOk, MatchResult, refl, ap, sym, subst, ◌∙◌}
+use Rattle.std.proofs.Common.{◌≡◌, ℕ, List, [], ◌∷◌, Result, Ok, Err, IfOk, IfErr, MatchResult, refl, ap, sym, subst, ◌∙◌}
 use Rattle.std.specs.Prelude.{◌≢◌, length}
 use Rattle.protox_ast.specs.Accepted.{IsAccepted, IsFileOf}
 use Rattle.protox_ast.specs.Ast as ast_of
@@ -11,8 +11,9 @@ use Rattle.protox_descriptor.specs.declared.descriptor.FileDescriptorProto.{File
 use Rattle.protox_generate.specs.Faults.{IsFaultless, Wrong}
 use Rattle.protox_generate.specs.File.{file_descriptor}
 use Rattle.protox_lex.specs.declared.error.ParseErrorKind.{ParseErrorKind}
-use Rattle.protox_parse.specs.Failures.{IsOutOfMemory}
+use Rattle.protox_parse.specs.Failures.{AreWrongOf, IsOutOfMemory}
 use Rattle.protox_parse.specs.declared.failure.ParseFailure.{ParseFailure}
+use Rattle.protox_parse.specs.declared.failure.ParseFailure.TheVariants.{Refused, OutOfMemory}
 
 abbrev Translated : List ℕ → List ℕ → File → FileDescriptorProto → Type 0
 Translated name source file d = IsFaultless file × (d ≡ file_descriptor name source file)
@@ -37,3 +38,12 @@ only name source file same (Ok d) is none h = h (subst IsFaultless (sym is) none
 pub none-wrong : (file : File) (faults : List ParseErrorKind) → faults ≢ [] → Each (Wrong file) faults → IsFaultless file → ⊥
 none-wrong file [] some each none = some refl
 none-wrong file (wrong ∷ more) some each none = none wrong each.0
+
+-- What is wrong of a syntax tree is wrong of the same one.
+pub wrong-of : (file same : File) (r : Result FileDescriptorProto ParseFailure) → file ≡ same → IfErr r (AreWrongOf file) → IfErr r (AreWrongOf same)
+wrong-of file same r is h = subst (λ v. IfErr r (AreWrongOf v)) is h
+
+-- Where memory ran out there is no fault.
+pub out-of-memory : (file : File) (e : ParseFailure) → IsOutOfMemory e → AreWrongOf file e
+out-of-memory file OutOfMemory h = tt
+out-of-memory file (Refused e) h = absurd h

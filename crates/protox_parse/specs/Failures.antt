@@ -4,6 +4,8 @@ use Rattle.protox_lex.specs.Faults.{LiesIn}
 use Rattle.protox_lex.specs.declared.error.ParseErrorKind.TheVariants.{FileTooLarge}
 use Rattle.protox_ast.specs.Accepted.{Fits}
 use Rattle.protox_ast.specs.Keywords.{Each}
+use Rattle.protox_ast.specs.declared.ast.File.{File}
+use Rattle.protox_generate.specs.Faults.{Wrong}
 use Rattle.protox_parse.specs.Refusal.{Refusal}
 use Rattle.protox_parse.specs.declared.failure.ParseFailure.{ParseFailure}
 use Rattle.protox_parse.specs.declared.failure.ParseFailure.TheVariants.{Refused, OutOfMemory}
@@ -27,3 +29,8 @@ IsOfSource source e =
 abbrev pub IsRefusalOf : List ℕ → List ℕ → ParseFailure → Type 0
 IsRefusalOf name source OutOfMemory = Unit {0}
 IsRefusalOf name source (Refused e) = (e.file ≡ name) × IsOfSource source e
+
+-- Each fault of the refusal is wrong of the syntax tree; or memory ran out.
+abbrev pub AreWrongOf : File → ParseFailure → Type 0
+AreWrongOf file OutOfMemory = Unit {0}
+AreWrongOf file (Refused e) = Each (Wrong file) e.errors

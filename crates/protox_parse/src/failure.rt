@@ -7,7 +7,7 @@ ghost use Rattle.protox_ast.specs.Keywords.{Each};
 ghost use Rattle.protox_ast.specs.declared.ast.File.{File};
 ghost use Rattle.protox_generate.specs.Faults.{AreWrong, IsFaultless};
 ghost use Rattle.protox_lex.specs.Faults.{LiesIn, span_of};
-ghost use Rattle.protox_parse.specs.Failures.{IsOutOfMemory, IsRefusalOf, first_of};
+ghost use Rattle.protox_parse.specs.Failures.{AreWrongOf, IsOutOfMemory, IsRefusalOf, first_of};
 
 use protox_descriptor::values::Text;
 use protox_lex::error::{ParseErrorKind, Span, SyntaxFailure};
@@ -180,6 +180,7 @@ pub(crate) fn refused(
     ensures memory { accepted.IsOutOfMemory failure → IsOutOfMemory result }
     // Where nothing is wrong with a file, only memory can have failed.
     ensures none { (file : File) → AreWrong file failure → IsFaultless file → IsOutOfMemory result }
+    ensures wrong { (file : File) → AreWrong file failure → AreWrongOf file result }
 {
     match failure {
         SyntaxFailure::Faults(errors) => match refusal(alloc, name, source, errors) {

@@ -9,7 +9,7 @@ ghost use Rattle.protox_ast.specs.Tree as tree;
 ghost use Rattle.protox_generate.specs.Faults.{IsFaultless};
 ghost use Rattle.protox_generate.specs.File.{file_descriptor};
 ghost use Rattle.protox_ast.specs.Places.{Place};
-ghost use Rattle.protox_parse.specs.Failures.{IsOutOfMemory, IsRefusalOf};
+ghost use Rattle.protox_parse.specs.Failures.{AreWrongOf, IsOutOfMemory, IsRefusalOf};
 
 #[cfg(test)]
 mod comment_tests;
@@ -49,6 +49,7 @@ fn translated(
     ensures found { IfOk result (λ d. IsFaultless file × (d ≡ file_descriptor name.now source.now file)) }
     ensures only { IsFaultless file → MatchResult result (λ d. d ≡ file_descriptor name.now source.now file) IsOutOfMemory }
     ensures refused { IfErr result (IsRefusalOf name.now source.now) }
+    ensures wrong { IfErr result (AreWrongOf file) }
 {
     match generate_file(alloc, file, name, source) {
         Ok(descriptor) => Ok(descriptor),
@@ -68,6 +69,8 @@ pub fn parse(alloc: Global, name: &str, source: &str) -> Result<FileDescriptorPr
         → MatchResult result (λ d. d ≡ file_descriptor name.now source.now (ast_of.file (length source.now) f)) IsOutOfMemory }
     // A refusal names its file and holds its source, and its faults lie in it.
     ensures refused { IfErr result (IsRefusalOf name.now source.now) }
+    // Where the source's tokens spell a tree that is accepted, each fault is one of its syntax tree.
+    ensures wrong { (f : tree.File Place) → IsAccepted source.now f → IfErr result (AreWrongOf (ast_of.file (length source.now) f)) }
 {
     if !source_fits(source.len()) {
         return Err(too_large(alloc, name));

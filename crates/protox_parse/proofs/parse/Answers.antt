@@ -1,4 +1,6 @@
-use Rattle.protox_parse.proofs.Translating.{found, only}
+use Rattle.std.specs.Prelude.{length}
+use Rattle.protox_ast.specs.Ast as ast_of
+use Rattle.protox_parse.proofs.Translating.{found, only, wrong-of, out-of-memory}
 use Rattle.protox_parse.proofs.parse.Goals as goal
 
 pub returns-in-Ok-clause-found : goal.returns-in-Ok-clause-found
@@ -9,3 +11,9 @@ returns-in-Ok-clause-only c f accepted none = only c.args.name.now c.args.source
 
 pub returns-in-Err-clause-only : goal.returns-in-Err-clause-only
 returns-in-Err-clause-only c f accepted none = c.refused.ensures.memory (c.in-Err.ensures.only f accepted)
+
+pub returns-in-Ok-clause-wrong : goal.returns-in-Ok-clause-wrong
+returns-in-Ok-clause-wrong c f accepted = wrong-of c.in-Ok.file _ c.translated.result (c.in-Ok.ensures.only f accepted) c.translated.ensures.wrong
+
+pub returns-in-Err-clause-wrong : goal.returns-in-Err-clause-wrong
+returns-in-Err-clause-wrong c f accepted = out-of-memory (ast_of.file (length c.args.source.now) f) _ (c.refused.ensures.memory (c.in-Err.ensures.only f accepted))

@@ -13,6 +13,7 @@ mod fault_list;
 mod fault_notes;
 mod found;
 mod groups;
+mod late_groups;
 pub mod laws;
 pub mod lex;
 mod lexer;
@@ -22,6 +23,7 @@ mod scan;
 mod string;
 #[cfg(test)]
 mod surface_tests;
+mod table_draft;
 #[cfg(test)]
 mod tests;
 mod token;

@@ -52,6 +52,7 @@ fn first_char_len(text: &str) -> usize
 }
 
 /// An invalid character.
+#[inline(never)]
 pub(crate) fn invalid(alloc: Global, text: &str, start: usize) -> Found<'_>
     requires some { 0 < length text.now }
     requires fits { start + length text.now < 2 ^ 64 }
@@ -76,6 +77,7 @@ fn front(text: &str, len: usize) -> &str
 }
 
 /// The token of a lexeme whose value is its bytes: an identifier, a mark or a newline.
+#[inline(always)]
 pub(crate) fn plain_token(text: &str, kind: Kind, len: usize) -> Option<Token<'_>>
     requires within { len ≤ length text.now }
     requires boundary { IsCharBoundary text.now len }
@@ -91,6 +93,7 @@ pub(crate) fn plain_token(text: &str, kind: Kind, len: usize) -> Option<Token<'_
 }
 
 /// The lexeme of a kind, of which `len` bytes match.
+#[inline(never)]
 pub(crate) fn read_kind(
     alloc: Global,
     text: &str,

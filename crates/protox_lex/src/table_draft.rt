@@ -54,6 +54,7 @@ fn add_invalid(
 
 impl<'a> TableDraft<'a> {
     // A row. It ends the gap before it, and the faults of both.
+    #[inline(always)]
     fn end_row(&mut self, row: Row<'a>) -> Result<(), AllocError>
         ensures rows { OnOk result (self.new.rows.items ≡ self.old.rows.items ++ row.entry ∷ []) }
         ensures gaps { OnOk result (self.new.gaps ≡ record { ended = self.old.gaps.ended ++ self.old.gaps.begun ∷ []; begun = [] }) }
@@ -87,6 +88,7 @@ impl<'a> TableDraft<'a> {
     }
 
     // The lexeme that begins at `start`. Answers where it ends.
+    #[inline(never)]
     fn add(&mut self, start: usize, found: Found<'a>) -> Result<usize, AllocError>
         ensures value { OnOk result ((xs : List spec.Lexeme) → finished self.new xs ≡ finished self.old (lexeme_of start found.entry ∷ xs)) }
         ensures stop { IfOk result (λ n. n ≡ found.entry.stop) }
@@ -110,6 +112,7 @@ impl<'a> TableDraft<'a> {
     }
 
     // A lexeme whose value is its bytes, and which has no fault. Answers where it ends.
+    #[inline(always)]
     fn add_plain(&mut self, token: Token<'a>, start: usize, len: usize) -> Result<usize, AllocError>
         requires { start + len < 2 ^ 64 }
         ensures value { OnOk result ((xs : List spec.Lexeme) → finished self.new xs ≡ finished self.old (spec.plain (shape_of token.entry) start len ∷ xs)) }
@@ -128,6 +131,7 @@ impl<'a> TableDraft<'a> {
     }
 
     // The lexeme of a kind, of which `len` bytes match.
+    #[inline(always)]
     fn read_kind(
         &mut self,
         alloc: Global,
@@ -160,6 +164,7 @@ impl<'a> TableDraft<'a> {
     }
 
     // The lexeme at the front of a text that begins at `start`.
+    #[inline(always)]
     #[tactic(auto, using(crate::proofs::Boundaries::scan_boundary, crate::proofs::Boundaries::scan_mark, crate::proofs::Boundaries::scan_quote, crate::proofs::Boundaries::scan_line, crate::proofs::Boundaries::scan_block), unfolding(crate::specs::Lexemes::first_lexeme))]
     fn read(&mut self, alloc: Global, text: &'a str, start: usize) -> Result<usize, AllocError>
         requires some { 0 < length text.now }

@@ -12,7 +12,7 @@ ghost use Rattle.protox_lex.specs.Tokens.{shape_of, borrowed_of};
 use crate::block_comment::read_block_comment;
 use crate::comment::read_line_comment;
 use crate::error::ParseErrorKind;
-use crate::number::{read_float, read_integer};
+use crate::number::{faultless_value, read_float, read_integer};
 use crate::scan::{Kind, scan};
 use crate::string::read_string;
 use crate::token::{Token, mark_of};
@@ -76,7 +76,8 @@ fn front(text: &str, len: usize) -> &str
     &text[..len]
 }
 
-/// The token of a lexeme whose value is its bytes: an identifier, a mark or a newline.
+/// The token of a lexeme that has no fault and is read fast: an identifier, an integer, a mark or a
+/// newline.
 #[inline(always)]
 pub(crate) fn plain_token(text: &str, kind: Kind, len: usize) -> Option<Token<'_>>
     requires within { len ≤ length text.now }
@@ -88,12 +89,12 @@ pub(crate) fn plain_token(text: &str, kind: Kind, len: usize) -> Option<Token<'_
         Kind::Identifier => Some(Token::Ident(front(text, len))),
         Kind::Mark => mark_of(text.as_bytes()[0]),
         Kind::Newline => Some(Token::Newline),
+        Kind::Integer => Some(Token::IntLiteral(faultless_value(text.as_bytes(), len)?)),
         _ => None,
     }
 }
 
 /// The lexeme of a kind, of which `len` bytes match.
-#[inline(never)]
 pub(crate) fn read_kind(
     alloc: Global,
     text: &str,

@@ -88,7 +88,6 @@ impl<'a> TableDraft<'a> {
     }
 
     // The lexeme that begins at `start`. Answers where it ends.
-    #[inline(never)]
     fn add(&mut self, start: usize, found: Found<'a>) -> Result<usize, AllocError>
         ensures value { OnOk result ((xs : List spec.Lexeme) → finished self.new xs ≡ finished self.old (lexeme_of start found.entry ∷ xs)) }
         ensures stop { IfOk result (λ n. n ≡ found.entry.stop) }
@@ -131,7 +130,7 @@ impl<'a> TableDraft<'a> {
     }
 
     // The lexeme of a kind, of which `len` bytes match.
-    #[inline(always)]
+    #[inline(never)]
     fn read_kind(
         &mut self,
         alloc: Global,
@@ -154,13 +153,8 @@ impl<'a> TableDraft<'a> {
         ensures within { IfOk result (λ n. (start < n) × (n ≤ start + length text.now)) }
         ensures boundary { IfOk result (λ n. IsCharBoundary text.now (n - start)) }
     {
-        match plain_token(text, kind, len) {
-            Some(token) => self.add_plain(token, start, len),
-            None => {
-                let found = read_kind(alloc, text, kind, len, start, false)?;
-                self.add(start, found)
-            }
-        }
+        let found = read_kind(alloc, text, kind, len, start, false)?;
+        self.add(start, found)
     }
 
     // The lexeme at the front of a text that begins at `start`.
@@ -175,7 +169,10 @@ impl<'a> TableDraft<'a> {
         ensures boundary { IfOk result (λ n. IsCharBoundary text.now (n - start)) }
     {
         match scan(text.as_bytes()) {
-            Some((kind, len)) => self.read_kind(alloc, text, kind, len, start),
+            Some((kind, len)) => match plain_token(text, kind, len) {
+                Some(token) => self.add_plain(token, start, len),
+                None => self.read_kind(alloc, text, kind, len, start),
+            },
             None => self.add(start, invalid(alloc, text, start)),
         }
     }

@@ -1,4 +1,4 @@
-use Rattle.std.proofs.Common.{◌≡◌, not, eqb, get_or, refl, arith}
+use Rattle.std.proofs.Common.{not, eqb, get_or, refl, arith}
 use Rattle.protox_lex.specs.declared.bytes.TheConstants.{WORD_BYTES}
 use Rattle.protox_lex.specs.Lexicon.{is_word}
 use Rattle.protox_lex.proofs.ByteTable.{agree_below, agree_at}

@@ -17,6 +17,8 @@ mod late_groups;
 pub mod laws;
 pub mod lex;
 mod lexer;
+#[cfg(test)]
+mod memory_tests;
 mod number;
 mod piece;
 mod scan;

@@ -97,21 +97,50 @@ module _ (text : List ℕ) where
   scan_quote (inl q) = rw q refl
   scan_quote (inr q) = rw q refl
 
-  scan_hash : first text ≡ 35 → scan text ≡ Some (LineComment, 1 + line_len (drop 1 text))
+  pub scan_hash : first text ≡ 35 → scan text ≡ Some (LineComment, 1 + line_len (drop 1 text))
   unfolding scan
   scan_hash h = rw h refl
 
-  scan_line : first text ≡ 47 → get_or text 1 0 ≡ 47 → scan text ≡ Some (LineComment, 2 + line_len (drop 2 text))
+  pub scan_line : first text ≡ 47 → get_or text 1 0 ≡ 47 → scan text ≡ Some (LineComment, 2 + line_len (drop 2 text))
   unfolding scan
   scan_line h n = rw (h, n) refl
 
-  scan_block : first text ≡ 47 → get_or text 1 0 ≡ 42 → scan text ≡ Some (BlockComment, 2)
+  pub scan_block : first text ≡ 47 → get_or text 1 0 ≡ 42 → scan text ≡ Some (BlockComment, 2)
   unfolding scan
   scan_block h n = rw (h, n) refl
 
-  scan_newline : first text ≡ 10 → scan text ≡ Some (Newline, 1)
+  pub scan_newline : first text ≡ 10 → scan text ≡ Some (Newline, 1)
   unfolding scan
   scan_newline h = rw h refl
+
+-- marks, and what begins nothing
+neq-eqb : (a b : ℕ) → (a ≡ b → ⊥) → eqb a b ≡ false
+neq-eqb a b other = elim (cases_Bool (eqb a b)) [ inl e ↦ absurd (other (eqb-true a b e)) | inr e ↦ e ]
+
+pub scan_point : (text : List ℕ) → first text ≡ 46 → is_ascii_digit (get_or text 1 0) ≡ false → scan text ≡ Some (Mark, 1)
+unfolding scan
+scan_point text p d = rw (p, d) refl
+
+pub scan_slash : (text : List ℕ) → first text ≡ 47 → (get_or text 1 0 ≡ 47 → ⊥) → (get_or text 1 0 ≡ 42 → ⊥) → scan text ≡ Some (Mark, 1)
+unfolding scan
+scan_slash text s line block = rw (s, neq-eqb (get_or text 1 0) 47 line, neq-eqb (get_or text 1 0) 42 block) refl
+
+pub scan_mark : (text : List ℕ) → is_mark (first text) ≡ true → (first text ≡ 46 → ⊥) → (first text ≡ 47 → ⊥) → scan text ≡ Some (Mark, 1)
+unfolding scan
+scan_mark text m p s =
+    let l : is_letter (first text) ≡ false = grind (arith, nat_tests) in
+    let d : is_ascii_digit (first text) ≡ false = grind (arith, nat_tests) in
+    let q : is_quote (first text) ≡ false = grind (arith, nat_tests) in
+    let h : eqb (first text) 35 ≡ false = grind (arith, nat_tests) in
+    rw (l, d, neq-eqb (first text) 46 p, q, h, neq-eqb (first text) 47 s, m) refl
+
+pub scan_other : (text : List ℕ) → is_letter (first text) ≡ false → is_mark (first text) ≡ false → (first text ≡ 10 → ⊥) → is_ascii_digit (first text) ≡ false
+    → is_quote (first text) ≡ false → (first text ≡ 35 → ⊥) → scan text ≡ None
+unfolding scan
+scan_other text l m n d q h =
+    let p : eqb (first text) 46 ≡ false = grind (arith, nat_tests) in
+    let s : eqb (first text) 47 ≡ false = grind (arith, nat_tests) in
+    rw (l, d, p, q, neq-eqb (first text) 35 h, s, m, neq-eqb (first text) 10 n) refl
 
 quote_cases : (b : ℕ) → is_quote b ≡ true → (b ≡ 39) ⊎ (b ≡ 34)
 quote_cases b h = grind (arith, nat_tests)

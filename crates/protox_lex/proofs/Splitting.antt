@@ -4,7 +4,7 @@ use Rattle.std.proofs.lemmas.List.{take-append-le, drop-append-le}
 use Rattle.std.proofs.Math.Seq.{take-length, drop-length}
 use Rattle.std.proofs.lemmas.Option.{slice_get_past}
 use Rattle.std.specs.Prelude.{slice_get, slice_range}
-use Rattle.protox_lex.specs.Grouping.{split, last_end, EndWithin, grouped}
+use Rattle.protox_lex.specs.Grouping.{split, last_end, EndWithin, grouped, empty_and}
 
 -- the last end lies behind the first beginning, within the items
 pub last_within : (from size : ℕ) (ends : List ℕ) → EndWithin from size ends → (from ≤ last_end from ends) × (last_end from ends ≤ size)
@@ -80,3 +80,26 @@ pub grouped_append : {T : Type 0} (items more : List T) (ends : List ℕ) → En
 grouped_append items more ends h =
     let (a, b) = last_within 0 (length items) ends h in
     rw (split-append 0 items more ends h, drop-append-le (last_end 0 ends) items more b) refl
+
+-- ---- behind empty lists
+
+pub get_empty : {T : Type 0} (n : ℕ) (xss : List (List T)) (k : ℕ) → k < n → slice_get (empty_and n xss) k ≡ Some []
+get_empty zero xss k l = absurd (omega arith)
+get_empty (suc n) xss zero l = refl
+get_empty (suc n) xss (suc k) l = get_empty n xss k (omega arith)
+
+pub get_behind : {T : Type 0} (n : ℕ) (xss : List (List T)) (k : ℕ) → n ≤ k → slice_get (empty_and n xss) k ≡ slice_get xss (k - n)
+get_behind zero xss k l = let same : k ≡ k - 0 = omega arith in ap (λ i. slice_get xss i) same
+get_behind (suc n) xss zero l = absurd (omega arith)
+get_behind (suc n) xss (suc k) l = get_behind n xss k (omega arith) ∙ (let same : k - n ≡ suc k - suc n = omega arith in ap (λ i. slice_get xss i) same)
+
+next_empty : {T : Type 0} (n : ℕ) → empty_and {T = T} (suc n) [] ≡ empty_and {T = T} n [] ++ [] ∷ []
+next_empty zero = refl
+next_empty (suc n) = ap (λ xss. [] ∷ xss) (next_empty n)
+
+pub one_more_empty : {T : Type 0} (n : ℕ) → empty_and {T = T} (n + 1) [] ≡ empty_and {T = T} n [] ++ [] ∷ []
+one_more_empty n = let more : n + 1 ≡ suc n = omega arith in ap (λ k. empty_and k []) more ∙ next_empty n
+
+pub behind_push : {T : Type 0} (n : ℕ) (xss : List (List T)) (ys : List T) → empty_and n (xss ++ ys ∷ []) ≡ empty_and n xss ++ ys ∷ []
+behind_push zero xss ys = refl
+behind_push (suc n) xss ys = ap (λ t. [] ∷ t) (behind_push n xss ys)

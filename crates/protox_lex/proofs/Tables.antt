@@ -9,7 +9,7 @@ use Rattle.std.specs.Prelude.{slice_get, IfSome, map}
 use Rattle.protox_lex.specs.declared.token.Token.{Token}
 use Rattle.protox_lex.specs.Tokens.{shape_of}
 use Rattle.protox_lex.specs.declared.error.ParseErrorKind.{ParseErrorKind}
-use Rattle.protox_lex.specs.declared.token_table.TableDraft.{TableDraft}
+use Rattle.protox_lex.specs.declared.table_draft.TableDraft.{TableDraft}
 use Rattle.protox_lex.specs.Faults.{faults_in}
 use Rattle.protox_lex.specs.Gaps.{IsGap, HoldGaps}
 use Rattle.protox_lex.specs.Lexemes.{Lexeme}

@@ -1,5 +1,5 @@
 -- Machinery: lists that stand one behind another in one list.
-use Rattle.std.specs.Prelude.{ℕ, ◌≤◌, List, [], ◌∷◌, drop, slice_range, refl}
+use Rattle.std.specs.Prelude.{ℕ, zero, suc, ◌≤◌, List, [], ◌∷◌, drop, slice_range, refl}
 use Rattle.std.specs.Coded.{Coded, code_by, coded×, coded_list}
 
 -- lists that have ended, and one that has begun
@@ -30,3 +30,12 @@ EndWithin from size (end ∷ ends) = (from ≤ end) × EndWithin end size ends
 -- the items, in lists that end at these places
 abbrev pub grouped : {T : Type 0} → List T → List ℕ → Grouped T
 grouped items ends = record { ended = split 0 items ends; begun = drop (last_end 0 ends) items }
+
+-- these lists, behind so many empty ones
+abbrev pub empty_and : {T : Type 0} → ℕ → List (List T) → List (List T)
+empty_and zero xss = xss
+empty_and (suc n) xss = [] ∷ empty_and n xss
+
+-- the groups, behind so many empty lists
+abbrev pub behind_empty : {T : Type 0} → ℕ → Grouped T → Grouped T
+behind_empty n g = record g { ended = empty_and n g.ended }

@@ -31,3 +31,8 @@ NextTakesNone text_format (x ∷ xs) = (x.borrowed ≡ true) × (faults_in text_
 -- The next lexeme takes no memory: its value is borrowed, and it has no fault in the mode.
 abbrev pub TakesNone : State → Type 0
 TakesNone s = NextTakesNone s.text_format s.left
+
+-- None of the lexemes takes memory.
+abbrev pub TakeNone : Bool → List Lexeme → Type 0
+TakeNone text_format [] = Unit {0}
+TakeNone text_format (x ∷ xs) = NextTakesNone text_format (x ∷ xs) × TakeNone text_format xs

@@ -3,7 +3,7 @@ use Rattle.std.specs.Borrow.{Bor}
 use Rattle.std.specs.Prelude.{List, map, ◌++◌, Result, Ok, Err}
 use Rattle.protox_lex.specs.declared.token.Token.{Token}
 use Rattle.protox_lex.specs.declared.token_table.Row.{Row as TableRow}
-use Rattle.protox_lex.specs.declared.token_table.TableDraft.{TableDraft}
+use Rattle.protox_lex.specs.declared.table_draft.TableDraft.{TableDraft}
 use Rattle.protox_lex.specs.declared.token_table.TokenTable.TheInside.{Inside}
 use Rattle.protox_lex.specs.Faults.{Span}
 use Rattle.protox_lex.specs.Lexemes.{Lexeme}

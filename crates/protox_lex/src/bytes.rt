@@ -3,6 +3,7 @@ ghost use Rattle.std.specs.Prelude.{◌≡◌, ◌+◌, ◌<◌, ◌≤◌, ◌-
 ghost use Rattle.std.specs.List.{prefix_len};
 ghost use Rattle.std.specs.Str.{IsCharBoundary};
 ghost use Rattle.protox_lex.specs.Lexemes.{blanks};
+ghost use Rattle.protox_lex.specs.Lexicon.{is_word};
 ghost use Rattle.protox_lex.specs.Classes.{class_test};
 
 /// The byte at `index`, or 0 past the end.
@@ -32,6 +33,23 @@ pub(crate) enum Class {
     Plain,
 }
 
+// Each byte of a word at its own place, and a point at every other: one look for each byte.
+static WORD_BYTES: [u8; 256] = *b"\
+    ................................\
+    ................0123456789......\
+    .ABCDEFGHIJKLMNOPQRSTUVWXYZ...._\
+    .abcdefghijklmnopqrstuvwxyz.....\
+    ................................\
+    ................................\
+    ................................\
+    ................................";
+
+fn is_word(b: u8) -> bool
+    ensures { result ≡ is_word b }
+{
+    WORD_BYTES[b as usize] != b'.'
+}
+
 pub(crate) fn is_in(class: Class, b: u8) -> bool
     ensures { result ≡ class_test class b }
 {
@@ -39,7 +57,7 @@ pub(crate) fn is_in(class: Class, b: u8) -> bool
         Class::Blank => b == b' ' || b == b'\t' || (11 <= b && b <= 13),
         Class::Letter => b.is_ascii_alphabetic() || b == b'_',
         Class::Alphabetic => b.is_ascii_alphabetic(),
-        Class::Word => b.is_ascii_alphanumeric() || b == b'_',
+        Class::Word => is_word(b),
         Class::Digit => b.is_ascii_digit(),
         Class::Octal => b'0' <= b && b <= b'7',
         Class::Hex => b.is_ascii_hexdigit(),

@@ -12,7 +12,7 @@ ghost use Rattle.protox_lex.specs.Tokens.{shape_of, borrowed_of};
 use crate::block_comment::read_block_comment;
 use crate::comment::read_line_comment;
 use crate::error::ParseErrorKind;
-use crate::number::{read_float, read_integer};
+use crate::number::{faultless_value, read_float, read_integer};
 use crate::scan::{Kind, scan};
 use crate::string::read_string;
 use crate::token::{Token, mark_of};
@@ -51,7 +51,9 @@ fn first_char_len(text: &str) -> usize
     }
 }
 
-fn invalid(alloc: Global, text: &str, start: usize) -> Found<'_>
+/// An invalid character.
+#[inline(never)]
+pub(crate) fn invalid(alloc: Global, text: &str, start: usize) -> Found<'_>
     requires some { 0 < length text.now }
     requires fits { start + length text.now < 2 ^ 64 }
     ensures value { lexeme_of start result ≡ spec.invalid start text.now }
@@ -74,8 +76,26 @@ fn front(text: &str, len: usize) -> &str
     &text[..len]
 }
 
-// The lexeme of a kind, of which `len` bytes match.
-fn read_kind(
+/// The token of a lexeme that has no fault and is read fast: an identifier, an integer, a mark or a
+/// newline.
+#[inline(always)]
+pub(crate) fn plain_token(text: &str, kind: Kind, len: usize) -> Option<Token<'_>>
+    requires within { len ≤ length text.now }
+    requires boundary { IsCharBoundary text.now len }
+    requires mark { kind ≡ Kind.Mark → is_mark (slice_index text.now 0) ≡ true }
+    ensures value { IfSome result (λ t. (start : ℕ) → spec.lexeme kind start text.now len ≡ spec.plain (shape_of t) start len) }
+{
+    match kind {
+        Kind::Identifier => Some(Token::Ident(front(text, len))),
+        Kind::Mark => mark_of(text.as_bytes()[0]),
+        Kind::Newline => Some(Token::Newline),
+        Kind::Integer => Some(Token::IntLiteral(faultless_value(text.as_bytes(), len)?)),
+        _ => None,
+    }
+}
+
+/// The lexeme of a kind, of which `len` bytes match.
+pub(crate) fn read_kind(
     alloc: Global,
     text: &str,
     kind: Kind,

@@ -1,5 +1,5 @@
 //! Lists that stand one behind another in one vector.
-ghost use Rattle.std.specs.Prelude.{◌≡◌, ◌≤◌, ◌++◌, ◌∷◌, [], length, slice_get, slice_index, IfOk, OnOk};
+ghost use Rattle.std.specs.Prelude.{◌≡◌, ◌≤◌, ◌++◌, ◌∷◌, [], length, slice_get, slice_index, true, OnOk};
 ghost use Rattle.std.specs.Option.{option_copied};
 
 use std::alloc::{AllocError, Global};
@@ -43,6 +43,13 @@ impl<T> Groups<T> {
             items: Vec::new(alloc),
             ends: Vec::new(alloc),
         }
+    }
+
+    /// Whether nothing was ever added, not even an end.
+    pub(crate) fn is_new(&self) -> bool
+        ensures yes { result ≡ true → self.now ≡ record { ended = []; begun = [] } }
+    {
+        self.items.is_empty() && self.ends.is_empty()
     }
 
     #[tactic(auto, using(crate::proofs::Splitting::group_starts, crate::proofs::Splitting::group_ends, crate::proofs::Splitting::group_is, crate::proofs::Splitting::no_group))]

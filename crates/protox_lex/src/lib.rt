@@ -13,15 +13,19 @@ mod fault_list;
 mod fault_notes;
 mod found;
 mod groups;
+mod late_groups;
 pub mod laws;
 pub mod lex;
 mod lexer;
+#[cfg(test)]
+mod memory_tests;
 mod number;
 mod piece;
 mod scan;
 mod string;
 #[cfg(test)]
 mod surface_tests;
+mod table_draft;
 #[cfg(test)]
 mod tests;
 mod token;

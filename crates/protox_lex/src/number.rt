@@ -1,5 +1,5 @@
 //! The values of numbers.
-ghost use Rattle.std.specs.Prelude.{◌≡◌, not, ◌<◌, ◌≤◌, ◌+◌, ◌^◌, ◌==◌, [], nat_lt, if◌then◌else◌, length, take, drop, slice_index, true, false, Some, None, map, ◌++◌, OnOk, IfOk, IsOk, IfSome, IsSome};
+ghost use Rattle.std.specs.Prelude.{◌≡◌, ℕ, not, ◌<◌, ◌≤◌, ◌+◌, ◌^◌, ◌==◌, [], nat_lt, if◌then◌else◌, length, take, drop, slice_index, true, false, Some, None, map, ◌++◌, OnOk, IfOk, IsOk, IfSome, IsSome};
 ghost use Rattle.std.specs.Char.{digit_value};
 ghost use Rattle.std.specs.Cow.{cow_str_bytes};
 ghost use Rattle.protox_lex.specs.Tokens.{is_borrowed_str};
@@ -8,6 +8,7 @@ ghost use Rattle.std.specs.Str.{IsCharBoundary};
 ghost use Rattle.protox_lex.specs.Faults.{faults_in};
 ghost use Rattle.protox_lex.specs.Lexemes as spec;
 ghost use Rattle.protox_lex.specs.Found.{lexeme_of};
+ghost use Rattle.protox_lex.specs.Shapes as shape;
 
 use crate::bytes::{Class, byte_at, is_in, run_len};
 use crate::error::ParseErrorKind;
@@ -120,6 +121,18 @@ fn value_or_fault(
             Ok(0)
         }
     }
+}
+
+/// The value of the integer of `len` bytes at the front, if it has no fault.
+#[inline(never)]
+pub(crate) fn faultless_value(bytes: &[u8], len: usize) -> Option<u64>
+    requires { len ≤ length bytes.now }
+    ensures { IfSome result (λ v. (start : ℕ) → spec.integer start bytes.now len ≡ spec.plain (shape.Int v) start len) }
+{
+    if is_in(Class::Letter, byte_at(bytes, len)) {
+        return None;
+    }
+    integer_value(&bytes[..len])
 }
 
 /// The integer of `len` bytes at the front.

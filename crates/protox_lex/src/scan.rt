@@ -1,6 +1,7 @@
 //! Finds the longest match at the front of a text.
-ghost use Rattle.std.specs.Prelude.{◌≡◌, ◌<◌, ◌≤◌, length, slice_index, true, IfSome};
+ghost use Rattle.std.specs.Prelude.{◌≡◌, ◌<◌, ◌≤◌, length, slice_index, true, Some, IfSome};
 ghost use Rattle.std.specs.Char.{is_ascii_digit};
+ghost use Rattle.protox_lex.specs.Lexicon.{is_mark};
 ghost use Rattle.protox_lex.specs.Scanning as spec;
 
 use crate::bytes::{Class, byte_at, is_in, run_len};
@@ -98,6 +99,7 @@ fn zero_number(text: &[u8]) -> (Kind, usize)
     }
 }
 
+#[inline(never)]
 #[tactic(auto, unfolding(crate::specs::Scanning::number))]
 fn number(text: &[u8]) -> (Kind, usize)
     requires { is_ascii_digit (slice_index text.now 0) ≡ true }
@@ -131,31 +133,71 @@ fn line_len(text: &[u8]) -> usize
     }
 }
 
-#[tactic(auto, unfolding(crate::specs::Scanning::scan))]
+// What begins with a point: a float or a mark.
+#[inline(never)]
+#[tactic(auto, using(crate::proofs::ScanMatch::scan_point), unfolding(crate::specs::Scanning::scan))]
+fn point(text: &[u8]) -> (Kind, usize)
+    requires { slice_index text.now 0 ≡ 46 }
+    ensures value { spec.scan text.now ≡ Some result }
+    ensures within { (1 ≤ result.1) × (result.1 ≤ length text.now) }
+{
+    if is_in(Class::Digit, byte_at(text, 1)) {
+        (Kind::Float, 1 + fraction_len(&text[1..]))
+    } else {
+        (Kind::Mark, 1)
+    }
+}
+
+// What begins with a slash: a comment or a mark.
+#[inline(never)]
+#[tactic(auto, using(crate::proofs::ScanMatch::scan_slash), unfolding(crate::specs::Scanning::scan))]
+fn slash(text: &[u8]) -> (Kind, usize)
+    requires { slice_index text.now 0 ≡ 47 }
+    ensures value { spec.scan text.now ≡ Some result }
+    ensures within { (1 ≤ result.1) × (result.1 ≤ length text.now) }
+{
+    match byte_at(text, 1) {
+        b'/' => (Kind::LineComment, 2 + line_len(&text[2..])),
+        b'*' => (Kind::BlockComment, 2),
+        _ => (Kind::Mark, 1),
+    }
+}
+
+// What begins with a mark.
+#[inline(always)]
+#[tactic(auto, using(crate::proofs::ScanMatch::scan_mark))]
+fn marked(text: &[u8]) -> (Kind, usize)
+    requires { is_mark (slice_index text.now 0) ≡ true }
+    ensures value { spec.scan text.now ≡ Some result }
+    ensures within { (1 ≤ result.1) × (result.1 ≤ length text.now) }
+{
+    match byte_at(text, 0) {
+        b'.' => point(text),
+        b'/' => slash(text),
+        _ => (Kind::Mark, 1),
+    }
+}
+
+// The kind of what stands at the front, and how many bytes it has. What is frequent is tried first.
+#[inline(always)]
+#[tactic(auto, using(crate::proofs::ScanMatch::scan_letter, crate::proofs::ScanMatch::scan_newline, crate::proofs::ScanMatch::scan_digit, crate::proofs::ScanMatch::scan_quote, crate::proofs::ScanMatch::scan_hash, crate::proofs::ScanMatch::scan_other), unfolding(crate::specs::Scanning::scan))]
 pub fn scan(text: &[u8]) -> Option<(Kind, usize)>
     ensures value { result ≡ spec.scan text.now }
     ensures within { IfSome result (λ p. (1 ≤ p.1) × (p.1 ≤ length text.now)) }
 {
     let first = byte_at(text, 0);
-    let second = byte_at(text, 1);
     if is_in(Class::Letter, first) {
         Some((Kind::Identifier, run_len(text, Class::Word)))
+    } else if is_in(Class::Mark, first) {
+        Some(marked(text))
+    } else if first == b'\n' {
+        Some((Kind::Newline, 1))
     } else if is_in(Class::Digit, first) {
         Some(number(text))
-    } else if first == b'.' && is_in(Class::Digit, second) {
-        Some((Kind::Float, 1 + fraction_len(&text[1..])))
     } else if is_in(Class::Quote, first) {
         Some((Kind::String, 1))
     } else if first == b'#' {
         Some((Kind::LineComment, 1 + line_len(&text[1..])))
-    } else if first == b'/' && second == b'/' {
-        Some((Kind::LineComment, 2 + line_len(&text[2..])))
-    } else if first == b'/' && second == b'*' {
-        Some((Kind::BlockComment, 2))
-    } else if is_in(Class::Mark, first) {
-        Some((Kind::Mark, 1))
-    } else if first == b'\n' {
-        Some((Kind::Newline, 1))
     } else {
         None
     }

@@ -1,4 +1,4 @@
-//! Words, notes of faults, and lexemes that take no memory.
+//! Words, notes of faults, and a span.
 use crate::error::ParseErrorKind;
 use crate::lex::*;
 use protox_descriptor::values::Text;
@@ -99,25 +99,6 @@ fn labels_of_packages(rt: HostRuntime) -> Result<(), Fail> {
     };
     let found = notes(rt.alloc(), &fault)?;
     assert_eq!(rt; found.as_str(), "defined here…; 11..21 …and again here");
-    Ok(())
-}
-
-// How many lexemes there are, each of them valid.
-fn count(lexer: &mut Lexer<'_>) -> Result<usize, AllocError> {
-    for found in 0..usize::MAX {
-        match lexer.next()? {
-            Some(Ok(_)) => {}
-            _ => return Ok(found),
-        }
-    }
-    Ok(usize::MAX)
-}
-
-// It takes no memory.
-#[test]
-fn borrowed_lexemes(rt: HostRuntime) -> Result<(), Fail> {
-    let mut lexer = Token::lexer(rt.alloc(), "foo 'bar' 12 .5 // c\n");
-    assert_eq!(rt; count(&mut lexer)?, 5);
     Ok(())
 }
 

@@ -43,6 +43,7 @@ pub enum Token<'a> {
 }
 
 /// The mark that is this byte, or None.
+#[inline(always)]
 pub(crate) fn mark_of(byte: u8) -> Option<Token<'static>>
     ensures shape { IfSome result (λ t. shape_of t ≡ shape.Mark byte) }
     ensures borrowed { IfSome result (λ t. borrowed_of t ≡ true) }

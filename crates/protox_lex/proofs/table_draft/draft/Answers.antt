@@ -1,4 +1,4 @@
-use Rattle.std.proofs.Common.{◌≡◌, ◌<◌, ◌+◌, ◌∷◌, [], length, drop, ap, sym, refl, ◌∙◌, length-drop, arith}
+use Rattle.std.proofs.Common.{◌≡◌, ◌<◌, ◌+◌, [], length, drop, ap, sym, refl, ◌∙◌, length-drop, arith}
 use Rattle.std.proofs.lemmas.Bool.{eqb-true, eqb-false}
 use Rattle.std.proofs.lemmas.Str.{IsCharBoundary-start}
 use Rattle.protox_lex.specs.Lexemes as spec
@@ -6,8 +6,8 @@ use Rattle.protox_lex.specs.TableView.{finished}
 use Rattle.protox_lex.proofs.Cut.{cut_none}
 use Rattle.protox_lex.proofs.Step.{step_boundary, step_cut}
 use Rattle.protox_lex.proofs.Tables.{finished_start}
-use Rattle.protox_lex.proofs.token_table.draft.Goals as goal
-use Rattle.protox_lex.proofs.token_table.draft.Goals.{else-lexemes-test, then-lexemes-test+then-is_empty}
+use Rattle.protox_lex.proofs.table_draft.draft.Goals as goal
+use Rattle.protox_lex.proofs.table_draft.draft.Goals.{else-lexemes-test, then-lexemes-test+then-is_empty}
 
 pub lexemes-init : goal.lexemes-init
 lexemes-init c = record {
@@ -24,15 +24,15 @@ lexemes-preserved c =
     let at = c.lexemes.at in
     let source = c.args.source.now in
     let start = at + n in
-    let stop = c.in_ok-found.found.stop in
+    let stop = c.in_ok-at.at in
     let nonempty = eqb-false (length text) 0 (sym c.is_empty.ensures ∙ c.if-is_empty.false) in
     let some_text : 0 < length text = omega arith in
-    let v = c.in_ok-found.ensures.value in
-    let turn = step_cut source rest text at n start stop c.range_from.ensures.value s.len s.rest some_text refl (ap (λ x. x.stop) v) in
+    let read = c.in_ok-at.ensures in
+    let turn = step_cut source rest text at n start stop c.range_from.ensures.value s.len s.rest some_text refl read.stop in
     let next = spec.cut stop (drop stop source) in
     record {
-      boundary = step_boundary source rest text at n start stop c.lexemes.invariant.boundary.0 c.range_from.ensures.value (omega (arith, s.lens)) (s.rest ∙ ap (λ k. drop k rest) (sym s.len)) refl c.in_ok-found.ensures.within.0 c.in_ok-found.ensures.boundary;
-      whole = c.in_ok-add.ensures next ∙ ap (λ x. finished c.lexemes.draft (x ∷ next)) v ∙ ap (finished c.lexemes.draft) (sym turn) ∙ c.lexemes.invariant.whole;
+      boundary = step_boundary source rest text at n start stop c.lexemes.invariant.boundary.0 c.range_from.ensures.value (omega (arith, s.lens)) (s.rest ∙ ap (λ k. drop k rest) (sym s.len)) refl read.within.0 read.boundary;
+      whole = read.value next ∙ ap (finished c.lexemes.draft) (sym turn) ∙ c.lexemes.invariant.whole;
     }
 
 pub returns : goal.returns

@@ -3,7 +3,7 @@ use Rattle.std.specs.Str.{IsCharBoundary}
 use Rattle.protox_lex.specs.Lexemes.{cut}
 use Rattle.protox_lex.specs.Table.{table_of}
 use Rattle.protox_lex.specs.TableView.{finished}
-use Rattle.protox_lex.proofs.token_table.draft.Given as goal
+use Rattle.protox_lex.proofs.table_draft.draft.Given as goal
 
 abbrev pub invariant-lexemes : goal.invariant-lexemes
 invariant-lexemes l = record {

@@ -1,0 +1,82 @@
+//! Groups of which the first are mostly empty.
+ghost use Rattle.std.specs.Prelude.{◌≡◌, ◌++◌, ◌∷◌, [], slice_get, OnOk};
+ghost use Rattle.std.specs.Option.{option_copied};
+
+use crate::groups::Groups;
+use std::alloc::{AllocError, Global};
+use std::marker::Model;
+
+/// Groups. The empty lists in front of the first item are counted, and take no memory.
+#[derive(Drop)]
+pub(crate) struct LateGroups<T> {
+    empty: usize,
+    groups: Groups<T>,
+}
+
+impl<T> Model for LateGroups<T> {
+    ghost use Rattle.protox_lex.specs.Grouping.{Grouped, grouped_code, behind_empty};
+
+    ghost Value = { Grouped T };
+
+    ghost coded = { grouped_code T.code };
+
+    ghost view = { λ g. behind_empty g.empty g.groups };
+}
+
+impl<T> LateGroups<T> {
+    /// No list, and an empty one that has begun.
+    pub(crate) fn new(alloc: Global) -> LateGroups<T>
+        ensures { result ≡ record { ended = []; begun = [] } }
+    {
+        LateGroups {
+            empty: 0,
+            groups: Groups::new(alloc),
+        }
+    }
+
+    #[tactic(auto, using(crate::proofs::Splitting::get_empty, crate::proofs::Splitting::get_behind))]
+    /// List `index`, or None past the last that has ended.
+    pub(crate) fn get(&self, index: usize) -> Option<&[T]>
+        ensures { option_copied result ≡ slice_get self.now.ended index }
+    {
+        if index < self.empty {
+            Some(&[])
+        } else {
+            self.groups.get(index - self.empty)
+        }
+    }
+
+    #[tactic(auto, using(crate::proofs::Splitting::one_more_empty, crate::proofs::Splitting::behind_push))]
+    /// Ends the list that has begun. More empty lists than a `usize` counts have no room.
+    pub(crate) fn end(&mut self) -> Result<(), AllocError>
+        ensures { OnOk result (self.new ≡ record { ended = self.old.ended ++ self.old.begun ∷ []; begun = [] }) }
+    {
+        if !self.groups.is_new() {
+            return self.groups.end();
+        }
+        let Some(empty) = self.empty.checked_add(1) else {
+            return Err(AllocError);
+        };
+        self.empty = empty;
+        Ok(())
+    }
+}
+
+impl<T: Drop> LateGroups<T> {
+    /// Appends an item to the list that has begun.
+    pub(crate) fn push(&mut self, item: T) -> Result<(), AllocError>
+        ensures { OnOk result (self.new ≡ record self.old { begun = self.old.begun ++ item ∷ [] }) }
+    {
+        self.groups.push(item)
+    }
+
+    /// Appends items to the list that has begun.
+    pub(crate) fn append(&mut self, items: Vec<T>) -> Result<(), AllocError>
+        ensures { OnOk result (self.new ≡ record self.old { begun = self.old.begun ++ items.items }) }
+    {
+        if items.is_empty() {
+            return Ok(());
+        }
+        self.groups.append(items)
+    }
+}

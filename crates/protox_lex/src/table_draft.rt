@@ -1,0 +1,199 @@
+//! The table of a source as far as that has been cut.
+ghost use Rattle.std.specs.Prelude.{◌≡◌, ◌<◌, ◌≤◌, ◌+◌, ◌-◌, ◌^◌, ◌∷◌, ◌++◌, [], List, length, slice_index, true, Some, OnOk, IfOk};
+ghost use Rattle.std.specs.Str.{IsCharBoundary};
+ghost use Rattle.protox_lex.specs.Found.{lexeme_of};
+ghost use Rattle.protox_lex.specs.Lexemes as spec;
+ghost use Rattle.protox_lex.specs.Lexicon.{is_mark, is_quote, IsLineOpener};
+ghost use Rattle.protox_lex.specs.Scanning as scanned;
+ghost use Rattle.protox_lex.specs.Table.{is_gap, table_of, invalid_faults};
+ghost use Rattle.protox_lex.specs.TableView.{finished};
+ghost use Rattle.protox_lex.specs.Tokens.{shape_of, shape_of_result};
+
+use crate::bytes::skip_blanks;
+use crate::error::{ParseErrorKind, Span};
+use crate::found::{Found, invalid, plain_token, read_kind};
+use crate::groups::Groups;
+use crate::late_groups::LateGroups;
+use crate::scan::{Kind, scan};
+use crate::token::Token;
+use crate::token_table::Row;
+use std::alloc::{AllocError, Global};
+
+/// A table as far as the source has been cut.
+#[derive(Drop)]
+pub(crate) struct TableDraft<'a> {
+    pub rows: Vec<Row<'a>>,
+    pub gaps: Groups<Token<'a>>,
+    pub faults: LateGroups<ParseErrorKind>,
+}
+
+fn is_gap_token(token: &Token<'_>) -> bool
+    ensures { result ≡ is_gap (shape_of token.now) }
+{
+    matches!(
+        token,
+        Token::LineComment(_) | Token::BlockComment(_) | Token::Newline
+    )
+}
+
+// Adds the fault of an invalid token.
+fn add_invalid(
+    faults: &mut LateGroups<ParseErrorKind>,
+    token: &Result<Token<'_>, ()>,
+    span: &Span,
+) -> Result<(), AllocError>
+    ensures { OnOk result (faults.new ≡ record faults.old { begun = faults.old.begun ++ invalid_faults (shape_of_result token.now) span.now }) }
+{
+    if token.is_err() {
+        faults.push(ParseErrorKind::InvalidToken {
+            span: span.start..span.end,
+        })?;
+    }
+    Ok(())
+}
+
+impl<'a> TableDraft<'a> {
+    // A row. It ends the gap before it, and the faults of both.
+    #[inline(always)]
+    fn end_row(&mut self, row: Row<'a>) -> Result<(), AllocError>
+        ensures rows { OnOk result (self.new.rows.items ≡ self.old.rows.items ++ row.entry ∷ []) }
+        ensures gaps { OnOk result (self.new.gaps ≡ record { ended = self.old.gaps.ended ++ self.old.gaps.begun ∷ []; begun = [] }) }
+        ensures faults { OnOk result (self.new.faults ≡ record { ended = self.old.faults.ended ++ self.old.faults.begun ∷ []; begun = [] }) }
+    {
+        self.gaps.end()?;
+        self.faults.end()?;
+        self.rows.push(row)?;
+        Ok(())
+    }
+
+    // A comment or a newline, with its faults.
+    fn add_gap(&mut self, token: Token<'a>, faults: Vec<ParseErrorKind>) -> Result<(), AllocError>
+        ensures rows { OnOk result (self.new.rows.items ≡ self.old.rows.items) }
+        ensures gaps { OnOk result (self.new.gaps ≡ record self.old.gaps { begun = self.old.gaps.begun ++ token.entry ∷ [] }) }
+        ensures faults { OnOk result (self.new.faults ≡ record self.old.faults { begun = self.old.faults.begun ++ faults.items }) }
+    {
+        self.gaps.push(token)?;
+        self.faults.append(faults)
+    }
+
+    // Any other lexeme, with its faults.
+    fn add_row(&mut self, row: Row<'a>, faults: Vec<ParseErrorKind>) -> Result<(), AllocError>
+        ensures rows { OnOk result (self.new.rows.items ≡ self.old.rows.items ++ row.entry ∷ []) }
+        ensures gaps { OnOk result (self.new.gaps ≡ record { ended = self.old.gaps.ended ++ self.old.gaps.begun ∷ []; begun = [] }) }
+        ensures faults { OnOk result (self.new.faults ≡ record { ended = self.old.faults.ended ++ ((self.old.faults.begun ++ faults.items) ++ invalid_faults (shape_of_result row.entry.token) row.entry.span) ∷ []; begun = [] }) }
+    {
+        self.faults.append(faults)?;
+        add_invalid(&mut self.faults, &row.token, &row.span)?;
+        self.end_row(row)
+    }
+
+    // The lexeme that begins at `start`. Answers where it ends.
+    fn add(&mut self, start: usize, found: Found<'a>) -> Result<usize, AllocError>
+        ensures value { OnOk result ((xs : List spec.Lexeme) → finished self.new xs ≡ finished self.old (lexeme_of start found.entry ∷ xs)) }
+        ensures stop { IfOk result (λ n. n ≡ found.entry.stop) }
+    {
+        let Found {
+            token,
+            stop,
+            faults,
+        } = found;
+        match token {
+            Ok(token) if is_gap_token(&token) => self.add_gap(token, faults)?,
+            token => self.add_row(
+                Row {
+                    token,
+                    span: start..stop,
+                },
+                faults,
+            )?,
+        }
+        Ok(stop)
+    }
+
+    // A lexeme whose value is its bytes, and which has no fault. Answers where it ends.
+    #[inline(always)]
+    fn add_plain(&mut self, token: Token<'a>, start: usize, len: usize) -> Result<usize, AllocError>
+        requires { start + len < 2 ^ 64 }
+        ensures value { OnOk result ((xs : List spec.Lexeme) → finished self.new xs ≡ finished self.old (spec.plain (shape_of token.entry) start len ∷ xs)) }
+        ensures stop { IfOk result (λ n. n ≡ start + len) }
+    {
+        let stop = start + len;
+        if is_gap_token(&token) {
+            self.gaps.push(token)?;
+        } else {
+            self.end_row(Row {
+                token: Ok(token),
+                span: start..stop,
+            })?;
+        }
+        Ok(stop)
+    }
+
+    // The lexeme of a kind, of which `len` bytes match.
+    #[inline(never)]
+    fn read_kind(
+        &mut self,
+        alloc: Global,
+        text: &'a str,
+        kind: Kind,
+        len: usize,
+        start: usize,
+    ) -> Result<usize, AllocError>
+        requires found { scanned.scan text.now ≡ Some (kind, len) }
+        requires some { 1 ≤ len }
+        requires within { len ≤ length text.now }
+        requires fits { start + length text.now < 2 ^ 64 }
+        requires boundary { IsCharBoundary text.now len }
+        requires mark { kind ≡ Kind.Mark → is_mark (slice_index text.now 0) ≡ true }
+        requires quote { kind ≡ Kind.String → is_quote (slice_index text.now 0) ≡ true }
+        requires opener { kind ≡ Kind.LineComment → IsLineOpener text.now len }
+        requires block { kind ≡ Kind.BlockComment → (2 ≤ length text.now) × (slice_index text.now 1 ≡ 42) }
+        ensures value { OnOk result ((xs : List spec.Lexeme) → finished self.new xs ≡ finished self.old (spec.lexeme kind start text.now len ∷ xs)) }
+        ensures stop { IfOk result (λ n. n ≡ (spec.lexeme kind start text.now len).stop) }
+        ensures within { IfOk result (λ n. (start < n) × (n ≤ start + length text.now)) }
+        ensures boundary { IfOk result (λ n. IsCharBoundary text.now (n - start)) }
+    {
+        let found = read_kind(alloc, text, kind, len, start, false)?;
+        self.add(start, found)
+    }
+
+    // The lexeme at the front of a text that begins at `start`.
+    #[inline(always)]
+    #[tactic(auto, using(crate::proofs::Boundaries::scan_boundary, crate::proofs::Boundaries::scan_mark, crate::proofs::Boundaries::scan_quote, crate::proofs::Boundaries::scan_line, crate::proofs::Boundaries::scan_block), unfolding(crate::specs::Lexemes::first_lexeme))]
+    fn read(&mut self, alloc: Global, text: &'a str, start: usize) -> Result<usize, AllocError>
+        requires some { 0 < length text.now }
+        requires fits { start + length text.now < 2 ^ 64 }
+        ensures value { OnOk result ((xs : List spec.Lexeme) → finished self.new xs ≡ finished self.old (spec.first_lexeme start text.now ∷ xs)) }
+        ensures stop { IfOk result (λ n. n ≡ (spec.first_lexeme start text.now).stop) }
+        ensures within { IfOk result (λ n. (start < n) × (n ≤ start + length text.now)) }
+        ensures boundary { IfOk result (λ n. IsCharBoundary text.now (n - start)) }
+    {
+        match scan(text.as_bytes()) {
+            Some((kind, len)) => match plain_token(text, kind, len) {
+                Some(token) => self.add_plain(token, start, len),
+                None => self.read_kind(alloc, text, kind, len, start),
+            },
+            None => self.add(start, invalid(alloc, text, start)),
+        }
+    }
+}
+
+// Cuts a source into lexemes.
+pub(crate) fn draft<'a>(alloc: Global, source: &'a str) -> Result<TableDraft<'a>, AllocError>
+    ensures { IfOk result (λ d. finished d [] ≡ table_of (spec.cut 0 source.entry.now)) }
+{
+    let mut draft = TableDraft {
+        rows: Vec::new(alloc),
+        gaps: Groups::new(alloc),
+        faults: LateGroups::new(alloc),
+    };
+    let mut at = 0;
+    'lexemes: while at < source.len() {
+        let (blanks, text) = skip_blanks(&source[at..]);
+        if text.is_empty() {
+            break;
+        }
+        at = draft.read(alloc, text, at + blanks)?;
+    }
+    Ok(draft)
+}

@@ -1,6 +1,6 @@
 -- Examples of faults: each file is wrong in these ways and in no other.
 use Prim.Native.String.{String}
-use Rattle.std.proofs.Common.{ℕ, ◌+◌, ◌++◌, ◌≡◌, List, [], ◌∷◌, Option, None, map, true, false, codes, refl}
+use Rattle.std.proofs.Common.{ℕ, ◌+◌, ◌++◌, ◌≡◌, List, [], ◌∷◌, Option, None, map, true, false, codes, refl, ap, length}
 use Rattle.std.specs.Fmt.{digits}
 use Rattle.std.specs.Char.{encode_utf8}
 use Rattle.std.specs.Str.{is_utf8, chars}
@@ -233,6 +233,26 @@ default_proto3_tree = in_message (with_default None ty.Int32 one)
 
 default-proto3 : faults3 default_proto3_tree ≡ fault.Proto3DefaultValue (at 43 54) ∷ []
 default-proto3 = faults-of (w.file3 (at 0 0) (at 0 44)) (default_proto3_tree ∷ [])
+
+-- a map with a default
+abbrev map_default : Option (FieldLabel × Span) → t.Tree t.FieldSort
+map_default label = t.field label (t.a_map (at 30 35) ty.Bool (at 31 32) ty.Int32 (at 33 34)) (word "a" 36) (int 1 (at 40 41)) (default_list one) (at 12 57)
+
+abbrev default_map_tree : FileTree
+default_map_tree = in_message (map_default None)
+
+default-map : faults2 default_map_tree ≡ fault.InvalidDefault (at 43 54) (placed (codes "map")) ∷ []
+default-map = faults-of (w.file (at 0 44)) (default_map_tree ∷ [])
+
+default-map3 : faults3 default_map_tree ≡ fault.InvalidDefault (at 43 54) (placed (codes "map")) ∷ []
+default-map3 = faults-of (w.file3 (at 0 0) (at 0 44)) (default_map_tree ∷ [])
+
+-- with a label there is one fault more: the default isn't wrong as that of a repeated field too
+abbrev default_labelled_map_tree : FileTree
+default_labelled_map_tree = in_message (map_default (w.repeated (at 20 28)))
+
+default-labelled_map : length (faults2 default_labelled_map_tree) ≡ 2
+default-labelled_map = ap length (faults-of (w.file (at 0 44)) (default_labelled_map_tree ∷ []))
 
 abbrev default_type_tree : FileTree
 default_type_tree = in_message (with_default (w.optional (at 20 28)) ty.Bool one)

@@ -21,12 +21,12 @@ use Rattle.protox_ast.specs.Steps.{of_item, of_field, of_message, of_body, body-
 use Rattle.protox_ast.specs.declared.ast.File.{File}
 use Rattle.protox_ast.specs.declared.ast.Syntax.{Syntax}
 use Rattle.protox_ast.specs.declared.ast.Syntax.TheVariants.{Proto2, Proto3}
-use Rattle.protox_generate.specs.declared.checks.Scope.TheVariants as scope
-use Rattle.protox_generate.specs.Siblings.{total}
 use Rattle.protox_generate.specs.Bounds.{greatest, reach, place_reach, syntax_reach, weights, reaches, file_item_weight, file_item_reach, import_reach, file_weight, file_reach}
-use Rattle.protox_generate.specs.part.Checks.{joined, number_faults, label_faults, kind_faults, fault_steps, item_faults, file_faults}
 use Rattle.protox_generate.specs.Checks.{IsFailure}
 use Rattle.protox_generate.specs.Numbers.{in_message_range}
+use Rattle.protox_generate.specs.Siblings.{total}
+use Rattle.protox_generate.specs.part.Checks.{joined, number_faults, label_faults, kind_faults, fault_steps, item_faults, file_faults}
+use Rattle.protox_generate.specs.declared.checks.Scope.TheVariants as scope
 use Rattle.protox_generate.proofs.Membership.{each-both}
 
 -- ---- each of two lists

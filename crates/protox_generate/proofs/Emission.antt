@@ -7,13 +7,13 @@ use Rattle.protox_descriptor.specs.declared.descriptor.source_code_info.Location
 use Rattle.protox_generate.specs.declared.context.Context.{Context}
 use Rattle.protox_ast.specs.declared.ast.Import.{Import}
 use Rattle.protox_descriptor.specs.declared.tag.file.TheConstants as file_tag
-use Rattle.protox_generate.specs.Siblings.{each_after, count, total}
-use Rattle.protox_generate.specs.Head.{is_public, is_weak}
 use Rattle.protox_generate.specs.Bounds.{greatest}
-use Rattle.protox_generate.specs.Locations.{import_locations, kind_locations}
+use Rattle.protox_generate.specs.Head.{is_public, is_weak}
 use Rattle.protox_generate.specs.LocationWords.{commented, nth}
-use Rattle.protox_generate.specs.part.Locations.{OfItem, OfField, item_at, field_from, fields_from}
+use Rattle.protox_generate.specs.Locations.{import_locations, kind_locations}
 use Rattle.protox_generate.specs.Pass.{Emits}
+use Rattle.protox_generate.specs.Siblings.{each_after, count, total}
+use Rattle.protox_generate.specs.part.Locations.{OfItem, OfField, item_at, field_from, fields_from}
 use Rattle.protox_generate.proofs.Siblings.{each_after-snoc, flat_map-snoc, take_one_more, map-take_more, drop_more}
 
 pub Emits-more : (old mid new : Context) (ls ms : List Location) → Emits old mid ls → Emits mid new ms → Emits old new (ls ++ ms)

@@ -1,9 +1,9 @@
 -- Faults that come one node at a time.
 use Rattle.std.proofs.Common.{◌≡◌, ℕ, ◌+◌, ◌<◌, List, [], ◌∷◌, ◌++◌, length, map, take, get_or, ap, sym, ◌∙◌, append_assoc, append-nil}
 use Rattle.protox_lex.specs.declared.error.ParseErrorKind.{ParseErrorKind}
-use Rattle.protox_generate.specs.declared.checks.Scope.{Scope}
-use Rattle.protox_generate.specs.declared.checks.Scope.TheVariants as scope
 use Rattle.protox_generate.specs.part.Checks.{joined, fields_faults}
+use Rattle.protox_generate.specs.declared.checks.Scope.TheVariants as scope
+use Rattle.protox_generate.specs.declared.checks.Scope.{Scope}
 use Rattle.protox_generate.proofs.Siblings.{map-take_more}
 
 joined-snoc : {A : Type 0} (xss : List (List A)) (xs : List A) → joined (xss ++ xs ∷ []) ≡ joined xss ++ xs

@@ -4,9 +4,9 @@ use Rattle.std.specs.Prelude.{Option, ℤ, Some, pos}
 use Rattle.std.specs.List.{flat_map}
 use Rattle.std.proofs.lemmas.List.{take_more}
 use Rattle.std.proofs.Math.Seq.{drop-cons}
-use Rattle.protox_generate.specs.part.Descriptor.{Item, OfField, OfMessage, OfOneof, Other, Parts, parts, fields_of, nested_of, oneofs_of, is_oneof, in_oneof, Gives}
-use Rattle.protox_generate.specs.Siblings.{each_after, count, total}
 use Rattle.protox_generate.specs.Pass.{more, with_field, with_fields}
+use Rattle.protox_generate.specs.Siblings.{each_after, count, total}
+use Rattle.protox_generate.specs.part.Descriptor.{Item, OfField, OfMessage, OfOneof, Other, Parts, parts, fields_of, nested_of, oneofs_of, is_oneof, in_oneof, Gives}
 
 pub each_after-snoc : {A B : Type 0} (f : List A → A → List B) (before xs : List A) (y : A) → each_after f before (xs ++ y ∷ []) ≡ each_after f before xs ++ f (before ++ xs) y
 each_after-snoc f before [] y = rw append-nil (rw append-nil refl)

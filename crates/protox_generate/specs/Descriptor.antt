@@ -13,12 +13,12 @@ use Rattle.protox_descriptor.specs.declared.descriptor.DescriptorProto.{Descript
 use Rattle.protox_descriptor.specs.declared.descriptor.EnumDescriptorProto.{EnumDescriptorProto}
 use Rattle.protox_descriptor.specs.declared.descriptor.FieldDescriptorProto.{FieldDescriptorProto}
 use Rattle.protox_descriptor.specs.declared.descriptor.OneofDescriptorProto.{OneofDescriptorProto}
-use Rattle.protox_generate.specs.Siblings.{each_after, count}
-use Rattle.protox_generate.specs.Numbers.{number_of}
 use Rattle.protox_generate.specs.Enums.{enum_proto}
 use Rattle.protox_generate.specs.Fields.{Kind, Normal, Group, Map, Parts, message_proto, label_of, field_type_of, field_name, type_name_of, default_value, messages_of, is_proto3_optional, optional_flag, synthetic_oneof}
+use Rattle.protox_generate.specs.Numbers.{number_of}
 use Rattle.protox_generate.specs.Options.{OptionStatement, bodies_of, default_of, json_name, json_name_of, options_left, options_message}
 use Rattle.protox_generate.specs.Ranges.{extension_protos, greatest_number, reserved_range, reserved_ranges, reserved_texts}
+use Rattle.protox_generate.specs.Siblings.{each_after, count}
 
 -- ---- what the levels of a message give
 

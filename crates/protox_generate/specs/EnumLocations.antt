@@ -6,9 +6,9 @@ use Rattle.protox_ast.specs.declared.ast.EnumValue.{EnumValue}
 use Rattle.protox_descriptor.specs.declared.descriptor.source_code_info.Location.{Location}
 use Rattle.protox_descriptor.specs.declared.tag.enum_.TheConstants as enum_tag
 use Rattle.protox_descriptor.specs.declared.tag.enum_value.TheConstants as value_tag
-use Rattle.protox_generate.specs.Siblings.{each_after}
 use Rattle.protox_generate.specs.LocationWords.{Path, part, nth, commented, bare, option_list, option_statements, reserved_statements}
 use Rattle.protox_generate.specs.Options.{listed}
+use Rattle.protox_generate.specs.Siblings.{each_after}
 
 module _ (numbers : Span → List ℤ) where
   abbrev pub enum_value_locations : Path → EnumValue → List Location

@@ -8,9 +8,9 @@ use Rattle.protox_lex.specs.declared.error.SyntaxFailure.TheVariants as failure
 use Rattle.protox_ast.specs.Keywords.{Each}
 use Rattle.protox_ast.specs.declared.ast.File.{File}
 use Rattle.protox_ast.specs.declared.ast.Syntax.{Syntax}
-use Rattle.protox_generate.specs.Numbers.{in_message_range}
 use Rattle.protox_generate.specs.FieldFaults.{WrongField}
 use Rattle.protox_generate.specs.Nodes.{Node, AMessageNumber, AnEnumNumber, AField, AJsonName, AnOption, AnEmptyOneof, file_nodes}
+use Rattle.protox_generate.specs.Numbers.{in_message_range}
 use Rattle.protox_generate.specs.ValueFaults.{WrongUninterpreted, WrongValue}
 use Rattle.protox_generate.specs.Values.{a_text, is_in, signed_32}
 

@@ -11,15 +11,15 @@ use Rattle.protox_descriptor.specs.declared.descriptor.EnumDescriptorProto.{Enum
 use Rattle.protox_descriptor.specs.declared.descriptor.FieldDescriptorProto.{FieldDescriptorProto}
 use Rattle.protox_descriptor.specs.declared.descriptor.FileDescriptorProto.{FileDescriptorProto}
 use Rattle.protox_descriptor.specs.declared.descriptor.ServiceDescriptorProto.{ServiceDescriptorProto}
-use Rattle.protox_generate.specs.Head.{syntax_name, package_name, is_public, is_weak}
-use Rattle.protox_generate.specs.Siblings.{places}
-use Rattle.protox_generate.specs.Lines.{span_numbers}
-use Rattle.protox_generate.specs.Sorting.{sorted, path_before}
 use Rattle.protox_generate.specs.Descriptor.{descriptor_steps}
 use Rattle.protox_generate.specs.Enums.{enum_proto}
+use Rattle.protox_generate.specs.Head.{syntax_name, package_name, is_public, is_weak}
+use Rattle.protox_generate.specs.Lines.{span_numbers}
 use Rattle.protox_generate.specs.Locations.{file_locations}
 use Rattle.protox_generate.specs.Options.{bodies_of, options_message}
 use Rattle.protox_generate.specs.Services.{service_proto}
+use Rattle.protox_generate.specs.Siblings.{places}
+use Rattle.protox_generate.specs.Sorting.{sorted, path_before}
 
 -- the messages that an item gives: an `extend` gives those of its groups
 abbrev pub item_messages : Syntax → FileItem → List DescriptorProto

@@ -14,9 +14,9 @@ use Rattle.protox_descriptor.specs.declared.tag.TheConstants.{UNINTERPRETED_OPTI
 use Rattle.protox_descriptor.specs.declared.tag.message.TheConstants as message_tag
 use Rattle.protox_descriptor.specs.declared.tag.message.extension_range.TheConstants as extension_range_tag
 use Rattle.protox_descriptor.specs.declared.tag.message.reserved_range.TheConstants as reserved_range_tag
-use Rattle.protox_generate.specs.Siblings.{each_after}
 use Rattle.protox_generate.specs.Options.{OptionStatement, listed}
 use Rattle.protox_generate.specs.Ranges.{extension_ranges, reserved_names, reserved_ranges}
+use Rattle.protox_generate.specs.Siblings.{each_after}
 use Rattle.protox_generate.specs.Spans.{body_span, end_span, range_span, start_span}
 
 abbrev pub Path : Type 0

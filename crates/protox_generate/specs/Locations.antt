@@ -15,12 +15,12 @@ use Rattle.protox_descriptor.specs.declared.descriptor.source_code_info.Location
 use Rattle.protox_descriptor.specs.declared.tag.file.TheConstants as file_tag
 use Rattle.protox_descriptor.specs.declared.tag.message.TheConstants as message_tag
 use Rattle.protox_descriptor.specs.declared.tag.oneof.TheConstants as oneof_tag
-use Rattle.protox_generate.specs.Siblings.{count, each_after, total}
-use Rattle.protox_generate.specs.Head.{is_public, is_weak}
 use Rattle.protox_generate.specs.EnumLocations.{enum_locations}
 use Rattle.protox_generate.specs.FieldLocations.{OfField, OfKind, kind_step, field_step, field_from, fields_from, extended}
+use Rattle.protox_generate.specs.Head.{is_public, is_weak}
 use Rattle.protox_generate.specs.LocationWords.{Path, part, nth, commented, bare, extensions_statements, option_statements, reserved_statements}
 use Rattle.protox_generate.specs.ServiceLocations.{service_locations}
+use Rattle.protox_generate.specs.Siblings.{count, each_after, total}
 
 -- ---- what stands before an item, and what it brings
 

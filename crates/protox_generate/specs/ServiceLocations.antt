@@ -7,8 +7,8 @@ use Rattle.protox_ast.specs.declared.ast.Service.{Service}
 use Rattle.protox_descriptor.specs.declared.descriptor.source_code_info.Location.{Location}
 use Rattle.protox_descriptor.specs.declared.tag.method.TheConstants as method_tag
 use Rattle.protox_descriptor.specs.declared.tag.service.TheConstants as service_tag
-use Rattle.protox_generate.specs.Siblings.{each_after}
 use Rattle.protox_generate.specs.LocationWords.{Path, part, nth, commented, bare, option_statements}
+use Rattle.protox_generate.specs.Siblings.{each_after}
 
 module _ (numbers : Span → List ℤ) where
   -- a word `stream`, if it stands there

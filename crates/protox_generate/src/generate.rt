@@ -94,7 +94,8 @@ fn build(
     })
 }
 
-// The same, of a tree of which it is only known that its spans and its nodes fit an i32.
+// What `generate_file` answers, in the words of what the code makes, of any tree whose spans and nodes
+// fit an i32.
 fn generate_within(
     alloc: Global,
     ast: File,

@@ -3,12 +3,12 @@
 ghost use Rattle.std.specs.Prelude.{◌≡◌, ◌≤◌, ◌<◌, ◌++◌, ◌∷◌, [], pos, length, map, IfOk, OnOk, if◌then◌else◌};
 ghost use Rattle.protox_ast.specs.declared.ast.Import as import_type;
 ghost use Rattle.protox_generate.specs.Bounds.{greatest, import_reach, place_reach};
-ghost use Rattle.protox_generate.specs.Siblings.{each_after, places};
 ghost use Rattle.protox_generate.specs.Head.{is_public, is_weak, kind_is_public, kind_is_weak};
 ghost use Rattle.protox_generate.specs.Lines.{numbers_at};
 ghost use Rattle.protox_generate.specs.LocationWords.{commented, nth};
 ghost use Rattle.protox_generate.specs.Locations.{import_locations, kind_locations};
 ghost use Rattle.protox_generate.specs.Pass.{Emits};
+ghost use Rattle.protox_generate.specs.Siblings.{each_after, places};
 
 use crate::context::Context;
 use crate::lines::LineResolver;

@@ -3,14 +3,14 @@
 ghost use Rattle.std.specs.Prelude.{◌≡◌, ◌≤◌, ◌+◌, ◌++◌, ◌∷◌, [], map, length, IfOk, OnOk, if◌then◌else◌};
 ghost use Rattle.std.specs.List.{flat_map};
 ghost use Rattle.protox_ast.specs.Steps.{of_message};
-ghost use Rattle.protox_generate.specs.Siblings.{total, each_after, count};
 ghost use Rattle.protox_generate.specs.Bounds.{greatest, weights, reaches, file_item_weight, file_item_reach};
-ghost use Rattle.protox_generate.specs.part.Descriptor.{descriptor_steps};
-ghost use Rattle.protox_generate.specs.part.File.{item_messages};
 ghost use Rattle.protox_generate.specs.Lines.{numbers_at};
 ghost use Rattle.protox_generate.specs.LocationWords.{nth};
-ghost use Rattle.protox_generate.specs.part.Locations.{location_steps, is_message, item_locations};
 ghost use Rattle.protox_generate.specs.Pass.{Emits};
+ghost use Rattle.protox_generate.specs.Siblings.{total, each_after, count};
+ghost use Rattle.protox_generate.specs.part.Descriptor.{descriptor_steps};
+ghost use Rattle.protox_generate.specs.part.File.{item_messages};
+ghost use Rattle.protox_generate.specs.part.Locations.{location_steps, is_message, item_locations};
 
 use crate::context::Context;
 use crate::lines::LineResolver;

@@ -3,14 +3,14 @@
 ghost use Rattle.std.specs.Prelude.{◌≡◌, ◌≤◌, ◌++◌, ◌∷◌, [], length, map, IfOk, OnOk};
 ghost use Rattle.protox_ast.specs.Steps.{of_message, of_body, of_item, of_field, of_kind, of_oneof};
 ghost use Rattle.protox_ast.specs.declared.ast.Field.{out-Field};
-ghost use Rattle.protox_generate.specs.Siblings.{total};
 ghost use Rattle.protox_generate.specs.Bounds.{weights, reach, reaches, place_reach};
-ghost use Rattle.protox_generate.specs.part.Descriptor.{descriptor_steps, OfMessage, OfOneof};
+ghost use Rattle.protox_generate.specs.FieldLocations.{type_tag_of};
 ghost use Rattle.protox_generate.specs.Lines.{numbers_at};
 ghost use Rattle.protox_generate.specs.LocationWords.{nth};
-ghost use Rattle.protox_generate.specs.part.Locations.{location_steps, itself, labelled, typed, field_from, fields_from, group_locations};
-ghost use Rattle.protox_generate.specs.FieldLocations.{type_tag_of};
 ghost use Rattle.protox_generate.specs.Pass.{view, more, with_field, with_fields, with_nested, Emits, HasRoom, Grows};
+ghost use Rattle.protox_generate.specs.Siblings.{total};
+ghost use Rattle.protox_generate.specs.part.Descriptor.{descriptor_steps, OfMessage, OfOneof};
+ghost use Rattle.protox_generate.specs.part.Locations.{location_steps, itself, labelled, typed, field_from, fields_from, group_locations};
 
 use crate::context::Context;
 use crate::lines::LineResolver;

@@ -2,9 +2,9 @@
 
 ghost use Rattle.std.specs.Prelude.{◌≡◌, [], IfOk};
 ghost use Rattle.protox_ast.specs.Steps.{of_field, of_kind};
-ghost use Rattle.protox_generate.specs.part.Descriptor.{descriptor_steps, message_proto, type_name_of, field_type_of};
 ghost use Rattle.protox_generate.specs.Numbers.{label_number, type_number, scalar_number, number_of};
 ghost use Rattle.protox_generate.specs.Pass.{view};
+ghost use Rattle.protox_generate.specs.part.Descriptor.{descriptor_steps, message_proto, type_name_of, field_type_of};
 
 use protox_ast::ast::{Field, FieldKind, FieldLabel, Int};
 use protox_descriptor::descriptor::field_descriptor_proto::{FieldType, Label};

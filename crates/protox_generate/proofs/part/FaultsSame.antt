@@ -13,8 +13,8 @@ use Rattle.protox_generate.specs.Checks as whole
 use Rattle.protox_generate.specs.FieldFaults.{InMessage, Normal}
 use Rattle.protox_generate.specs.Nodes.{Node, node_steps, item_nodes}
 use Rattle.protox_generate.specs.Numbers.{in_message_range}
-use Rattle.protox_generate.specs.declared.checks.Scope.TheVariants as scope
 use Rattle.protox_generate.specs.part.Checks as part
+use Rattle.protox_generate.specs.declared.checks.Scope.TheVariants as scope
 use Rattle.protox_generate.proofs.part.Levels.{normals, file_message, item_given, message-level}
 
 module _ (syntax : Syntax) where

@@ -13,8 +13,8 @@ use Rattle.protox_grammar.proofs.part.Accepted.{file-part}
 use Rattle.protox_generate.specs.Checks as checks
 use Rattle.protox_generate.specs.File as whole
 use Rattle.protox_generate.specs.Head.{is_public, is_weak, package_name, syntax_name}
-use Rattle.protox_generate.specs.LocationWords.{bare}
 use Rattle.protox_generate.specs.Lines.{span_numbers}
+use Rattle.protox_generate.specs.LocationWords.{bare}
 use Rattle.protox_generate.specs.Locations as locations
 use Rattle.protox_generate.specs.Nodes.{item_nodes}
 use Rattle.protox_generate.specs.Siblings.{each_after, places}

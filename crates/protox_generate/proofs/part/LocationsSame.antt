@@ -12,8 +12,8 @@ use Rattle.protox_descriptor.specs.declared.tag.field.TheConstants as field_tag
 use Rattle.protox_descriptor.specs.declared.tag.file.TheConstants as file_tag
 use Rattle.protox_descriptor.specs.declared.tag.message.TheConstants as message_tag
 use Rattle.protox_generate.specs.FieldLocations.{type_tag_of}
-use Rattle.protox_generate.specs.LocationWords.{Path, bare, commented, nth}
 use Rattle.protox_generate.specs.LocationWords as words
+use Rattle.protox_generate.specs.LocationWords.{Path, bare, commented, nth}
 use Rattle.protox_generate.specs.Locations as whole
 use Rattle.protox_generate.specs.Siblings.{count, each_after, total}
 use Rattle.protox_generate.specs.part.Locations as part

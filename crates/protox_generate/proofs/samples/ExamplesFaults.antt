@@ -1,6 +1,6 @@
 -- Examples of faults: each file is wrong in these ways and in no other.
 use Prim.Native.String.{String}
-use Rattle.std.proofs.Common.{ℕ, ◌+◌, ◌++◌, ◌≡◌, List, [], ◌∷◌, Option, None, map, true, false, codes, refl}
+use Rattle.std.proofs.Common.{ℕ, ◌+◌, ◌++◌, ◌≡◌, List, [], ◌∷◌, Option, None, map, true, false, codes, refl, ap, length}
 use Rattle.std.specs.Fmt.{digits}
 use Rattle.std.specs.Char.{encode_utf8}
 use Rattle.std.specs.Str.{is_utf8, chars}
@@ -12,8 +12,8 @@ use Rattle.protox_ast.specs.declared.ast.Int.{Int}
 use Rattle.protox_ast.specs.declared.ast.OptionBody.{OptionBody}
 use Rattle.protox_ast.specs.declared.ast.ReservedRangeEnd.TheVariants as range_end
 use Rattle.protox_ast.specs.declared.ast.Service.{Service}
-use Rattle.protox_generate.specs.Options.{OptionStatement}
 use Rattle.protox_generate.specs.FieldFaults.{may_be_key}
+use Rattle.protox_generate.specs.Options.{OptionStatement}
 use Rattle.protox_generate.specs.Values.{wanted, a_float, an_integer, a_bool, a_text, some_bytes, anything, signed_32, signed_64, unsigned_32, unsigned_64}
 use Rattle.protox_lex.specs.declared.error.ParseErrorKind.{ParseErrorKind}
 use Rattle.protox_lex.specs.declared.error.ParseErrorKind.TheVariants as fault
@@ -58,6 +58,12 @@ number_greatest_tree = AMessage (t.message (word "Foo" 8) (t.inside (t.a_field (
 
 number-greatest : faults2 number_greatest_tree ≡ []
 number-greatest = faults-of (w.file (at 0 44)) (number_greatest_tree ∷ [])
+
+abbrev number_negative_tree : FileTree
+number_negative_tree = AMessage (t.message (word "Foo" 8) (t.inside (t.a_field (t.field (w.optional (at 14 22)) (t.normal ty.Int32 (at 23 28)) (word "i" 29) (minus 1 (at 33 35)) None (at 14 36)) & t.none)) (at 0 38))
+
+number-negative : faults2 number_negative_tree ≡ fault.InvalidMessageNumber (at 33 35) ∷ []
+number-negative = faults-of (w.file (at 0 44)) (number_negative_tree ∷ [])
 
 -- the number before the label
 abbrev zero_source : String
@@ -234,6 +240,26 @@ default_proto3_tree = in_message (with_default None ty.Int32 one)
 default-proto3 : faults3 default_proto3_tree ≡ fault.Proto3DefaultValue (at 43 54) ∷ []
 default-proto3 = faults-of (w.file3 (at 0 0) (at 0 44)) (default_proto3_tree ∷ [])
 
+-- a map with a default
+abbrev map_default : Option (FieldLabel × Span) → t.Tree t.FieldSort
+map_default label = t.field label (t.a_map (at 30 35) ty.Bool (at 31 32) ty.Int32 (at 33 34)) (word "a" 36) (int 1 (at 40 41)) (default_list one) (at 12 57)
+
+abbrev default_map_tree : FileTree
+default_map_tree = in_message (map_default None)
+
+default-map : faults2 default_map_tree ≡ fault.InvalidDefault (at 43 54) (placed (codes "map")) ∷ []
+default-map = faults-of (w.file (at 0 44)) (default_map_tree ∷ [])
+
+default-map3 : faults3 default_map_tree ≡ fault.InvalidDefault (at 43 54) (placed (codes "map")) ∷ []
+default-map3 = faults-of (w.file3 (at 0 0) (at 0 44)) (default_map_tree ∷ [])
+
+-- with a label there is one fault more: the default isn't wrong as that of a repeated field too
+abbrev default_labelled_map_tree : FileTree
+default_labelled_map_tree = in_message (map_default (w.repeated (at 20 28)))
+
+default-labelled_map : length (faults2 default_labelled_map_tree) ≡ 2
+default-labelled_map = ap length (faults-of (w.file (at 0 44)) (default_labelled_map_tree ∷ []))
+
 abbrev default_type_tree : FileTree
 default_type_tree = in_message (with_default (w.optional (at 20 28)) ty.Bool one)
 
@@ -273,6 +299,14 @@ json_name_tree = in_message (t.field (w.optional (at 20 28)) (t.normal ty.Int32 
 
 json-name : faults2 json_name_tree ≡ fault.ValueInvalidType (at 53 54) (codes "a string") (codes "x") ∷ []
 json-name = faults-of (w.file (at 0 44)) (json_name_tree ∷ [])
+
+-- a string that is no UTF-8
+abbrev json_name_bytes_tree : FileTree
+json_name_bytes_tree = in_message (t.field (w.optional (at 20 28)) (t.normal ty.Int32 (at 30 35)) (word "a" 36) (int 1 (at 40 41)) (w.list (w.body_of (word "json_name" 43) (value.String (record { value = 255 ∷ []; span = at 53 59 })) ∷ []) (at 42 60)) (at 12 61))
+
+json-name_bytes : faults2 json_name_bytes_tree ≡ fault.InvalidUtf8String (at 53 59) ∷ []
+unfolding utf8_valid_len is_utf8 chars encode_utf8
+json-name_bytes = faults-of (w.file (at 0 44)) (json_name_bytes_tree ∷ [])
 
 -- ---- each kind of node, in the order in which its faults are found
 

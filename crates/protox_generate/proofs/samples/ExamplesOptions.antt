@@ -13,11 +13,11 @@ use Rattle.std.specs.Fmt.{digits}
 use Rattle.std.specs.Str.{is_utf8, chars}
 use Rattle.std.specs.Char.{encode_utf8}
 use Rattle.std.specs.Str.Lossy.{utf8_valid_len}
-use Rattle.protox_generate.specs.Lines.{span_numbers}
-use Rattle.protox_generate.specs.Sorting.{sorted, path_before}
 use Rattle.protox_generate.specs.File.{file_proto}
+use Rattle.protox_generate.specs.Lines.{span_numbers}
 use Rattle.protox_generate.specs.Locations.{file_locations}
 use Rattle.protox_generate.specs.Options.{uninterpreted, default_of, json_name_of, options_left}
+use Rattle.protox_generate.specs.Sorting.{sorted, path_before}
 use Rattle.protox_generate.specs.Spans.{body_span, parts_span}
 use Rattle.protox_generate.specs.Values.{default_text, wanted}
 use Rattle.protox_generate.proofs.samples.Files.{FileTree, Another, filled, table}

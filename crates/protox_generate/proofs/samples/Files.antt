@@ -10,16 +10,16 @@ use Rattle.protox_descriptor.specs.declared.descriptor.DescriptorProto.{Descript
 use Rattle.protox_descriptor.specs.declared.descriptor.FieldDescriptorProto.{FieldDescriptorProto}
 use Rattle.protox_descriptor.specs.declared.descriptor.source_code_info.Location.{Location}
 use Rattle.protox_descriptor.specs.declared.tag.file.TheConstants as file_tag
-use Rattle.protox_generate.specs.Siblings.{each_after}
-use Rattle.protox_generate.specs.Lines.{span_numbers}
-use Rattle.protox_generate.specs.Locations.{syntax_locations, package_locations, import_locations, OfItem, of_extend_at, item_at, location_steps, of_file_item, file_locations, nothing}
-use Rattle.protox_generate.specs.Sorting.{sorted, path_before}
 use Rattle.protox_generate.specs.Checks.{node_faults, file_faults}
 use Rattle.protox_generate.specs.Descriptor.{descriptor_steps}
 use Rattle.protox_generate.specs.File.{item_messages, item_extensions, file_proto}
+use Rattle.protox_generate.specs.Lines.{span_numbers}
 use Rattle.protox_generate.specs.LocationWords.{part, nth, bare, option_statements}
+use Rattle.protox_generate.specs.Locations.{syntax_locations, package_locations, import_locations, OfItem, of_extend_at, item_at, location_steps, of_file_item, file_locations, nothing}
 use Rattle.protox_generate.specs.Nodes.{Node, node_steps, item_nodes, option_nodes}
 use Rattle.protox_generate.specs.Options.{bodies_of}
+use Rattle.protox_generate.specs.Siblings.{each_after}
+use Rattle.protox_generate.specs.Sorting.{sorted, path_before}
 use Rattle.protox_generate.proofs.samples.Trees.{Tree, MessageSort, ExtendSort, make, give, given}
 use Rattle.protox_generate.proofs.samples.Written.{shown, shown_whole}
 

@@ -14,9 +14,9 @@ use Rattle.protox_ast.specs.declared.ast.FieldLabel.TheVariants as label
 use Rattle.protox_ast.specs.declared.ast.File.{File}
 use Rattle.protox_ast.specs.declared.ast.FileItem.{FileItem}
 use Rattle.protox_ast.specs.declared.ast.FileItem.TheVariants as item
-use Rattle.protox_generate.specs.declared.checks.Scope.{Scope}
-use Rattle.protox_generate.specs.declared.checks.Scope.TheVariants as scope
 use Rattle.protox_generate.specs.Numbers.{in_message_range}
+use Rattle.protox_generate.specs.declared.checks.Scope.TheVariants as scope
+use Rattle.protox_generate.specs.declared.checks.Scope.{Scope}
 
 -- one list after another
 abbrev pub joined : {A : Type 0} → List (List A) → List A

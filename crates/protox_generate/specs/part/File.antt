@@ -7,12 +7,12 @@ use Rattle.protox_ast.specs.declared.ast.FileItem.{FileItem}
 use Rattle.protox_ast.specs.declared.ast.FileItem.TheVariants as item
 use Rattle.protox_descriptor.specs.declared.descriptor.DescriptorProto.{DescriptorProto}
 use Rattle.protox_descriptor.specs.declared.descriptor.FileDescriptorProto.{FileDescriptorProto}
-use Rattle.protox_generate.specs.part.Descriptor.{descriptor_steps}
 use Rattle.protox_generate.specs.Head.{syntax_name, package_name, is_public, is_weak}
-use Rattle.protox_generate.specs.Siblings.{places}
 use Rattle.protox_generate.specs.Lines.{span_numbers}
-use Rattle.protox_generate.specs.part.Locations.{file_locations}
+use Rattle.protox_generate.specs.Siblings.{places}
 use Rattle.protox_generate.specs.Sorting.{sorted, path_before}
+use Rattle.protox_generate.specs.part.Descriptor.{descriptor_steps}
+use Rattle.protox_generate.specs.part.Locations.{file_locations}
 
 abbrev pub item_messages : FileItem → List DescriptorProto
 item_messages (item.Message message) = of_message descriptor_steps message ∷ []

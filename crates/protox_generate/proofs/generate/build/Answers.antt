@@ -1,8 +1,8 @@
 use Rattle.std.proofs.Common.{◌≡◌, refl, ap, ◌∙◌}
-use Rattle.protox_generate.specs.part.File.{file_descriptor}
 use Rattle.protox_generate.specs.Lines.{span_numbers}
-use Rattle.protox_generate.specs.part.Locations.{file_locations}
 use Rattle.protox_generate.specs.Sorting.{sorted, path_before}
+use Rattle.protox_generate.specs.part.File.{file_descriptor}
+use Rattle.protox_generate.specs.part.Locations.{file_locations}
 use Rattle.protox_generate.proofs.LineFacts.{numbers-are}
 use Rattle.protox_generate.proofs.generate.build.Goals as goal
 

@@ -2,11 +2,11 @@ use Rattle.std.proofs.Common.{◌≡◌, ◌≤◌, map, take, drop}
 use Rattle.std.specs.Prelude.{[]}
 use Rattle.protox_ast.specs.declared.ast.Import.{Import}
 use Rattle.protox_generate.specs.Bounds.{greatest, import_reach}
-use Rattle.protox_generate.specs.Siblings.{each_after, places}
 use Rattle.protox_generate.specs.Head.{is_public, is_weak}
 use Rattle.protox_generate.specs.Lines.{numbers_at}
 use Rattle.protox_generate.specs.Locations.{import_locations}
 use Rattle.protox_generate.specs.Pass.{Emits}
+use Rattle.protox_generate.specs.Siblings.{each_after, places}
 use Rattle.protox_generate.proofs.imports.add_imports.Given as goal
 
 abbrev pub invariant-loop-ast : goal.invariant-loop-ast

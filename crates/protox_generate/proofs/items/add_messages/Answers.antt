@@ -1,8 +1,8 @@
 use Rattle.std.proofs.Common.{◌<◌, ◌++◌, length, arith, ap, sym, ◌∙◌}
-use Rattle.protox_generate.specs.part.File.{item_messages}
 use Rattle.protox_generate.specs.Bounds.{file_item_weight, file_item_reach}
-use Rattle.protox_generate.specs.part.Locations.{item_locations, is_message}
 use Rattle.protox_generate.specs.Lines.{numbers_at}
+use Rattle.protox_generate.specs.part.File.{item_messages}
+use Rattle.protox_generate.specs.part.Locations.{item_locations, is_message}
 use Rattle.protox_generate.proofs.Siblings.{total-drop_more}
 use Rattle.protox_generate.proofs.Emission.{count-take_more, flat_map-take_more, greatest-drop_more, items-emit}
 use Rattle.protox_generate.proofs.items.add_messages.Goals as goal

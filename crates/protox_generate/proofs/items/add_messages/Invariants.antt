@@ -1,12 +1,12 @@
 use Rattle.std.proofs.Common.{◌≡◌, ◌≤◌, ◌+◌, map, take, drop, length}
 use Rattle.std.specs.Prelude.{[]}
 use Rattle.std.specs.List.{flat_map}
-use Rattle.protox_generate.specs.part.File.{item_messages}
 use Rattle.protox_generate.specs.Bounds.{file_item_weight, file_item_reach, greatest}
-use Rattle.protox_generate.specs.part.Locations.{item_locations, is_message}
-use Rattle.protox_generate.specs.Siblings.{each_after, count, total}
 use Rattle.protox_generate.specs.Lines.{numbers_at}
 use Rattle.protox_generate.specs.Pass.{Emits}
+use Rattle.protox_generate.specs.Siblings.{each_after, count, total}
+use Rattle.protox_generate.specs.part.File.{item_messages}
+use Rattle.protox_generate.specs.part.Locations.{item_locations, is_message}
 use Rattle.protox_generate.proofs.items.add_messages.Given as goal
 
 abbrev pub invariant-loop-item : goal.invariant-loop-item

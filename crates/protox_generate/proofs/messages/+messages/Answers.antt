@@ -1,10 +1,10 @@
 use Rattle.std.proofs.Common.{◌+◌, [], ◌<◌, length, map, take, arith, ap, sym, ◌∙◌, take_all}
-use Rattle.protox_generate.specs.part.Descriptor.{descriptor_steps, parts}
-use Rattle.protox_generate.specs.Siblings.{each_after, total}
 use Rattle.protox_generate.specs.Bounds.{weights, reaches}
 use Rattle.protox_generate.specs.Lines.{numbers_at}
-use Rattle.protox_generate.specs.part.Locations.{location_steps, item_at, fields_from}
 use Rattle.protox_generate.specs.Pass.{view, more, with_field, with_fields}
+use Rattle.protox_generate.specs.Siblings.{each_after, total}
+use Rattle.protox_generate.specs.part.Descriptor.{descriptor_steps, parts}
+use Rattle.protox_generate.specs.part.Locations.{location_steps, item_at, fields_from}
 use Rattle.protox_ast.specs.Steps.{of_item, of_field, oneof-gives}
 use Rattle.protox_generate.proofs.Siblings.{parts-snoc, map-take_more, total-drop_more, with_fields-snoc, length-take_more}
 use Rattle.protox_generate.proofs.Emission.{Emits-as, body-emits, oneof-emits, total-take_more, weight-take_more, greatest-drop_more}

@@ -1,11 +1,11 @@
 use Rattle.std.proofs.Common.{◌≡◌, ◌≤◌, length, map, take, drop}
 use Rattle.std.specs.Prelude.{[]}
-use Rattle.protox_generate.specs.part.Descriptor.{descriptor_steps, parts}
-use Rattle.protox_generate.specs.Siblings.{each_after, total}
 use Rattle.protox_generate.specs.Bounds.{weights, reaches, greatest}
 use Rattle.protox_generate.specs.Lines.{numbers_at}
-use Rattle.protox_generate.specs.part.Locations.{location_steps, item_at, fields_from}
 use Rattle.protox_generate.specs.Pass.{Emits, HasRoom, Grows, view, with_fields}
+use Rattle.protox_generate.specs.Siblings.{each_after, total}
+use Rattle.protox_generate.specs.part.Descriptor.{descriptor_steps, parts}
+use Rattle.protox_generate.specs.part.Locations.{location_steps, item_at, fields_from}
 use Rattle.protox_ast.specs.Steps.{of_item, of_field}
 use Rattle.protox_generate.proofs.messages.+messages.Given as goal
 

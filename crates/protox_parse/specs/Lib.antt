@@ -2,3 +2,4 @@ pub mod Refusal
 pub mod Refusals
 pub mod Failures
 pub mod Files
+pub mod Truth

@@ -10,6 +10,7 @@ ghost use Rattle.protox_generate.specs.Faults.{IsFaultless};
 ghost use Rattle.protox_generate.specs.File.{file_descriptor};
 ghost use Rattle.protox_ast.specs.Places.{Place};
 ghost use Rattle.protox_parse.specs.Failures.{AreWrongOf, IsOutOfMemory, IsRefusalOf};
+ghost use Rattle.protox_parse.specs.Truth.{AreTrue};
 
 #[cfg(test)]
 mod comment_tests;
@@ -71,6 +72,9 @@ pub fn parse(alloc: Global, name: &str, source: &str) -> Result<FileDescriptorPr
     ensures refused { IfErr result (IsRefusalOf name.now source.now) }
     // Where the source's tokens spell a tree that is accepted, each fault is one of its syntax tree.
     ensures wrong { (f : tree.File Place) → IsAccepted source.now f → IfErr result (AreWrongOf (ast_of.file (length source.now) f)) }
+    // So each is true of the source; and that it is too large is true where that is said.
+    ensures true_of_tree { (f : tree.File Place) → IsAccepted source.now f → IfErr result (AreTrue source.now) }
+    ensures true_of_size { (Fits source.now → ⊥) → IfErr result (AreTrue source.now) }
 {
     if !source_fits(source.len()) {
         return Err(too_large(alloc, name));

@@ -322,3 +322,10 @@ piece-there h = none (file_nodes h.0) (somewhere-from (IsWrongBefore x.pieces 3 
     none [] k = k
     none (v ∷ vs) (inl w) = not-alone v w
     none (v ∷ vs) (inr k) = none vs k
+
+-- of `;` and `# x` the first alone is clean
+abbrev begun : List Lexeme
+begun = x.at (Mark s.semicolon) 0 1 ∷ x.hash ∷ []
+
+clean-begun : CleanFront begun 1
+clean-begun = (((λ e. let z : 1 ≡ 0 = ap is_mark e in omega (arith, z)), refl, (λ some. absurd (some refl))), tt)

@@ -1,5 +1,5 @@
 -- Elements of lists by recursion on the list.
-use Rattle.std.proofs.Common.{◌≡◌, ℕ, zero, suc, ◌<◌, ◌⊎◌, inl, inr, List, [], ◌∷◌, ◌++◌, length, flat_map, map, Any, Contains, slice_index_or, refl, sym, subst, not-suc-le-zero, le_of_suc-le-suc, suc-le-suc, zero-lt-suc}
+use Rattle.std.proofs.Common.{◌≡◌, ℕ, zero, suc, ◌<◌, ◌⊎◌, inl, inr, List, [], ◌∷◌, ◌++◌, length, flat_map, Any, Contains, slice_index_or, refl, sym, subst, not-suc-le-zero, le_of_suc-le-suc, suc-le-suc, zero-lt-suc}
 
 abbrev pub Among : {A : Type 0} → List A → A → Type 0
 Among [] x = ⊥

@@ -1,10 +1,10 @@
 -- Names are tested: what isn't no name is one.
-use Rattle.std.proofs.Common.{◌≡◌, ◌≤◌, ℕ, Bool, true, false, ◌&&◌, ◌||◌, ◌==◌, ◌⊎◌, inl, inr, List, [], ◌∷◌, All, refl, sym, ap, ◌∙◌, arith, true≢false}
+use Rattle.std.proofs.Common.{◌≤◌, ℕ, Bool, true, false, ◌&&◌, ◌||◌, ◌==◌, inl, inr, List, [], ◌∷◌, All, refl, sym, ◌∙◌, arith, true≢false}
 use Rattle.std.specs.Bool.{Decides}
-use Rattle.std.specs.Char.{IsAsciiUppercase, IsAsciiAlphabetic, IsAsciiAlphanumeric, is_ascii_uppercase, is_ascii_alphabetic, is_ascii_alphanumeric}
+use Rattle.std.specs.Char.{is_ascii_uppercase, is_ascii_alphabetic, is_ascii_alphanumeric}
 use Rattle.std.specs.Int.{IsInRange, is_in_range}
 use Rattle.std.specs.List.{list_all}
-use Rattle.std.proofs.lemmas.Bool.Decides.{Decides-and, Decides-or, Decides-by_and, Decides-eqb, Decides-like, leb_tells}
+use Rattle.std.proofs.lemmas.Bool.Decides.{Decides-and, Decides-or, Decides-by_and, Decides-eqb, leb_tells}
 use Rattle.std.specs.Prelude.{nat_le}
 use Rattle.protox_descriptor.specs.Case.{IsIdentByte, IsIdent, IsGroupName}
 

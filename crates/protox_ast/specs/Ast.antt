@@ -1,7 +1,7 @@
 -- The syntax tree that a file's tree gives. The span of a node goes from the start of its first token to the end of its last.
 -- It forgets empty statements, the order between elements that go into different fields, whether an rpc without options ends with `;` or
 -- with braces, and how a string is cut into literals.
-use Rattle.std.specs.Prelude.{ℕ, List, [], ◌∷◌, map, Option, Some, None, option_map}
+use Rattle.std.specs.Prelude.{ℕ, List, [], ◌∷◌, Option, Some, None, option_map}
 use Rattle.std.specs.List.{filter_map}
 use Rattle.protox_lex.specs.Faults.{Span}
 use Rattle.protox_ast.specs.declared.ast.Comments.{Comments}

@@ -2,7 +2,7 @@
 use Rattle.std.specs.Prelude.{◌≡◌, ◌≢◌, ◌<◌, ◌≤◌, ℕ, suc, true, if◌then◌else◌, List, [], ◌∷◌, ◌++◌, map, length, take, Any}
 use Rattle.protox_lex.specs.Faults.{faults_in}
 use Rattle.protox_lex.specs.Lexemes.{Lexeme}
-use Rattle.protox_lex.specs.Shapes.{Shape, Invalid, Row, Rows}
+use Rattle.protox_lex.specs.Shapes.{Shape, Invalid, Rows}
 use Rattle.protox_lex.specs.Table.{is_gap, rows_of}
 use Rattle.protox_ast.specs.Aggregates.{aggregates}
 use Rattle.protox_ast.specs.Spells.{Spells}

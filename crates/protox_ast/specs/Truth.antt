@@ -1,11 +1,11 @@
 -- When a fault is true of a source, by its kind: the faults of lexemes, of tokens that no file has there, and of what is checked while a
 -- file is read. Those of the generator stand elsewhere.
-use Rattle.std.specs.Prelude.{◌≡◌, ℕ, zero, suc, Bool, true, false, ◌||◌, ◌⊎◌, List, [], ◌∷◌, ◌++◌, length, Option, Some, Any, codes}
+use Rattle.std.specs.Prelude.{◌≡◌, ℕ, zero, suc, Bool, true, false, ◌||◌, ◌⊎◌, List, [], ◌∷◌, ◌++◌, length, Some, Any, codes}
 use Rattle.std.specs.Str.{bytes_eq}
 use Rattle.protox_lex.specs.Faults.{Span, span_from}
 use Rattle.protox_lex.specs.Lexemes.{Lexeme}
 use Rattle.protox_lex.specs.Printed.{printed}
-use Rattle.protox_lex.specs.Shapes.{Shape, Str, Invalid, Row, Rows}
+use Rattle.protox_lex.specs.Shapes.{Shape, Str, Invalid, Rows}
 use Rattle.protox_lex.specs.Table.{rows_of}
 use Rattle.protox_lex.specs.declared.error.ParseErrorKind.{ParseErrorKind}
 use Rattle.protox_lex.specs.declared.error.ParseErrorKind.TheVariants as fault

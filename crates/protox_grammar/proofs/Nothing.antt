@@ -1,5 +1,5 @@
 -- Nothing is wrong with a file that is checked while it is read exactly if each of its parts is fine and it is at most 31 levels deep.
-use Rattle.std.proofs.Common.{◌≡◌, ◌↔◌, ◌⊎◌, inl, inr, ◌≤◌, ◌==◌, ℕ, suc, ◌+◌, ◌-◌, true, false, Bool, List, [], ◌∷◌, ◌++◌, map, Option, Some, None, refl, sym, ap, subst, ◌∙◌, arith, max, true≢false, cond}
+use Rattle.std.proofs.Common.{◌≡◌, ◌↔◌, inl, inr, ◌≤◌, ◌==◌, ℕ, suc, ◌+◌, ◌-◌, true, false, Bool, List, [], ◌∷◌, ◌++◌, map, Option, Some, None, refl, sym, ap, ◌∙◌, arith, max, true≢false, cond}
 use Rattle.std.specs.List.{flat_map}
 use Rattle.std.specs.Prelude.{length}
 use Rattle.std.proofs.lemmas.Bool.Decides.{Decides-eqb}
@@ -10,7 +10,7 @@ use Rattle.protox_lex.specs.declared.error.ParseErrorKind.TheVariants as fault
 use Rattle.protox_ast.specs.AstParts.{run_span, strings_value, text_of}
 use Rattle.protox_ast.specs.CheckedNodes as n
 use Rattle.protox_ast.specs.CheckedNodes.{Node}
-use Rattle.protox_ast.specs.Checks.{is_known_syntax, is_text, is_import_path, IsIdent, IsGroupName, package_span, WrongNode, NothingWrong}
+use Rattle.protox_ast.specs.Checks.{is_known_syntax, is_text, is_import_path, package_span, WrongNode, NothingWrong}
 use Rattle.protox_ast.specs.Depth as d
 use Rattle.protox_ast.specs.Fine as fine
 use Rattle.protox_ast.specs.Keywords.{Given, Each}

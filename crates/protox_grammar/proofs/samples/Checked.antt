@@ -1,5 +1,5 @@
 -- Files that the parser's checks refuse, and neighbours that they don't.
-use Rattle.std.proofs.Common.{◌≡◌, Bool, true, false, ℕ, List, [], ◌∷◌, None, codes, length, refl, ap, arith}
+use Rattle.std.proofs.Common.{◌≡◌, true, false, ℕ, List, [], ◌∷◌, None, codes, length, refl, ap, arith}
 use Rattle.std.proofs.lemmas.List.Elements.{All-nil}
 use Rattle.protox_lex.specs.Lexemes.{Lexeme}
 use Rattle.protox_lex.specs.Shapes.{Shape, Newline, Invalid}

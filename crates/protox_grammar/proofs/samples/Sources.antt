@@ -1,9 +1,8 @@
 -- Small sources by their lexemes, and files that go on behind their tokens.
-use Prim.Native.String.{String}
-use Rattle.std.proofs.Common.{◌≡◌, ◌≤◌, ℕ, suc, ◌*◌, ◌+◌, zero, true, List, [], ◌∷◌, ◌++◌, take, length, Option, Some, None, Result, Ok, Err, codes, refl}
+use Rattle.std.proofs.Common.{◌≡◌, ◌≤◌, ℕ, suc, ◌+◌, zero, true, List, [], ◌∷◌, ◌++◌, take, length, None, Result, Ok, Err, codes}
 use Rattle.protox_lex.specs.Faults.{Span, span_from}
 use Rattle.protox_lex.specs.Lexemes.{Lexeme}
-use Rattle.protox_lex.specs.Shapes.{Shape, Ident, LineComment, Str, Mark, Invalid, Row, Rows}
+use Rattle.protox_lex.specs.Shapes.{Shape, LineComment, Mark, Invalid, Row}
 use Rattle.protox_lex.specs.Table.{rows_of}
 use Rattle.protox_lex.specs.declared.error.ParseErrorKind.{ParseErrorKind}
 use Rattle.protox_lex.specs.declared.error.ParseErrorKind.TheVariants as fault

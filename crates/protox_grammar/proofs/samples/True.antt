@@ -1,5 +1,5 @@
 -- Which faults are true of small sources, and which are not.
-use Rattle.std.proofs.Common.{◌≡◌, ◌≢◌, ◌<◌, ◌≤◌, ◌⊎◌, inl, inr, ℕ, zero, suc, true, false, List, [], ◌∷◌, ◌++◌, length, Any, Option, Some, None, Result, Ok, Err, codes, refl, sym, ap, subst, ◌∙◌, arith, true≢false, slice_index_or, is_some, drop}
+use Rattle.std.proofs.Common.{◌≡◌, ◌≢◌, ◌<◌, ◌≤◌, inl, inr, ℕ, suc, true, false, List, [], ◌∷◌, ◌++◌, length, Any, Option, Some, Err, codes, refl, sym, ap, subst, ◌∙◌, arith, true≢false, slice_index_or, is_some, drop}
 use Rattle.std.proofs.lemmas.List.{length-append}
 use Rattle.protox_lex.specs.Faults.{Span, span_from, faults_in}
 use Rattle.protox_lex.specs.Lexemes.{Lexeme}
@@ -8,7 +8,7 @@ use Rattle.protox_lex.specs.Table.{rows_of}
 use Rattle.protox_lex.specs.declared.error.ParseErrorKind.{ParseErrorKind}
 use Rattle.protox_lex.specs.declared.error.ParseErrorKind.TheVariants as fault
 use Rattle.protox_ast.specs.Aggregates.{aggregates}
-use Rattle.protox_ast.specs.AstParts.{first_of, text_of}
+use Rattle.protox_ast.specs.AstParts.{first_of}
 use Rattle.protox_ast.specs.CheckedNodes as node
 use Rattle.protox_ast.specs.CheckedNodes.{Node, file_nodes}
 use Rattle.protox_ast.specs.Fronts.{Inside, IsCleanBehind, CleanFront}
@@ -258,9 +258,11 @@ unknown-there = (
 
 -- of a run of strings the value and the span are those of all
 run-there : IsTrueOf x.unknown_run (fault.UnknownSyntax (span_from 9 20) (codes "proto4"))
-run-there =
-    (4, by-node x.unknown_run 4 (Mark s.semicolon ∷ []) (fault.UnknownSyntax (span_from 9 20) (codes "proto4")) (node.ASyntax two_strings) (omega arith) are_made.run_made
-      (refl, (λ _. refl), (refl, ap (λ v. fault.UnknownSyntax (span_from 9 20) v) (sym (text-same (codes "proto4") refl)))))
+run-there = (
+  4,
+  by-node x.unknown_run 4 (Mark s.semicolon ∷ []) (fault.UnknownSyntax (span_from 9 20) (codes "proto4")) (node.ASyntax two_strings) (omega arith) are_made.run_made
+      (refl, (λ _. refl), (refl, ap (λ v. fault.UnknownSyntax (span_from 9 20) v) (sym (text-same (codes "proto4") refl)))),
+)
 
 -- import '..' is wrong, whatever stands behind it but a string
 parent-there : IsTrueOf x.parent (fault.InvalidImport (span_from 7 11))

@@ -33,7 +33,7 @@ pub(crate) enum Class {
     Plain,
 }
 
-// Each byte of a word at its own place, and a point at every other: one look for each byte.
+// Each byte of a word at its own place, and a point at every other: one look tells.
 static WORD_BYTES: [u8; 256] = *b"\
     ................................\
     ................0123456789......\

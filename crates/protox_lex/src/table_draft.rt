@@ -110,7 +110,7 @@ impl<'a> TableDraft<'a> {
         Ok(stop)
     }
 
-    // A lexeme whose value is its bytes, and which has no fault. Answers where it ends.
+    // A lexeme that has no fault and whose token is known. Answers where it ends.
     #[inline(always)]
     fn add_plain(&mut self, token: Token<'a>, start: usize, len: usize) -> Result<usize, AllocError>
         requires { start + len < 2 ^ 64 }
@@ -157,7 +157,8 @@ impl<'a> TableDraft<'a> {
         self.add(start, found)
     }
 
-    // The lexeme at the front of a text that begins at `start`.
+    // The lexeme at the front of a text that begins at `start`. What is frequent stands in the loop that
+    // calls this, and the rest is called, so that the loop stays short.
     #[inline(always)]
     #[tactic(auto, using(crate::proofs::Boundaries::scan_boundary, crate::proofs::Boundaries::scan_mark, crate::proofs::Boundaries::scan_quote, crate::proofs::Boundaries::scan_line, crate::proofs::Boundaries::scan_block), unfolding(crate::specs::Lexemes::first_lexeme))]
     fn read(&mut self, alloc: Global, text: &'a str, start: usize) -> Result<usize, AllocError>

@@ -1,4 +1,4 @@
-use Rattle.std.proofs.Common.{◌≡◌, ℕ, zero, suc, Bool, true, false, List, [], ◌∷◌, ◌++◌, codes, drop, map, slice_get, Some, Option, refl, sym, ap, ◌∙◌, subst}
+use Rattle.std.proofs.Common.{◌≡◌, ℕ, zero, suc, Bool, false, List, [], ◌∷◌, codes, drop, slice_get, Option, refl, sym, ap, ◌∙◌, subst}
 use Rattle.std.specs.Option.{option_map}
 use Rattle.protox_lex.specs.Lexemes.{Lexeme, plain, cut, cut_from, first_lexeme}
 use Rattle.protox_lex.specs.Scanning.{scan, number, zero_number, fraction_len, tail_len, suffix_len, exponent_len, signed_len}

@@ -2,7 +2,7 @@
 use Rattle.std.proofs.Common.{◌≡◌, ◌≤◌, ℕ, suc, ◌+◌, zero, true, List, [], ◌∷◌, ◌++◌, take, length, None, Result, Ok, Err, codes}
 use Rattle.protox_lex.specs.Faults.{Span, span_from}
 use Rattle.protox_lex.specs.Lexemes.{Lexeme}
-use Rattle.protox_lex.specs.Shapes.{Shape, LineComment, Mark, Invalid, Row}
+use Rattle.protox_lex.specs.Shapes.{Shape, Str, LineComment, Mark, Invalid, Row}
 use Rattle.protox_lex.specs.Table.{rows_of}
 use Rattle.protox_lex.specs.declared.error.ParseErrorKind.{ParseErrorKind}
 use Rattle.protox_lex.specs.declared.error.ParseErrorKind.TheVariants as fault
@@ -82,6 +82,10 @@ pieces = at (word "syntax") 0 6 ∷ at (Mark s.equals) 7 8 ∷ at (text "pro") 9
 -- syntax = "pro" "to4"
 abbrev pub unknown_run : List Lexeme
 unknown_run = at (word "syntax") 0 6 ∷ at (Mark s.equals) 7 8 ∷ at (text "pro") 9 14 ∷ at (text "to4") 15 20 ∷ []
+
+-- import '\xFF'
+abbrev pub no_text : List Lexeme
+no_text = at (word "import") 0 6 ∷ at (Str (255 ∷ [])) 7 13 ∷ []
 
 -- import '..' message
 abbrev pub parent : List Lexeme

@@ -1,6 +1,8 @@
 -- Which faults are true of small sources, and which are not.
 use Rattle.std.proofs.Common.{◌≡◌, ◌≢◌, ◌<◌, ◌≤◌, inl, inr, ℕ, suc, true, false, List, [], ◌∷◌, ◌++◌, length, Any, Option, Some, Err, codes, refl, sym, ap, subst, ◌∙◌, arith, true≢false, slice_index_or, is_some, drop}
 use Rattle.std.proofs.lemmas.List.{length-append}
+use Rattle.std.specs.Str.{is_utf8, chars}
+use Rattle.std.specs.Str.Lossy.{utf8_valid_len}
 use Rattle.protox_lex.specs.Faults.{Span, span_from, faults_in}
 use Rattle.protox_lex.specs.Lexemes.{Lexeme}
 use Rattle.protox_lex.specs.Shapes.{Shape, Int, Mark, Newline, Invalid, Row, Rows}
@@ -12,7 +14,7 @@ use Rattle.protox_ast.specs.AstParts.{first_of}
 use Rattle.protox_ast.specs.CheckedNodes as node
 use Rattle.protox_ast.specs.CheckedNodes.{Node, file_nodes}
 use Rattle.protox_ast.specs.Fronts.{Inside, IsCleanBehind, CleanFront}
-use Rattle.protox_ast.specs.Checks.{IsIdent, is_import_path}
+use Rattle.protox_ast.specs.Checks.{IsIdent, is_import_path, is_text}
 use Rattle.protox_ast.specs.Keywords.{Each, is_significant}
 use Rattle.protox_ast.specs.Spelling as s
 use Rattle.protox_ast.specs.Spells.{BeginsFile, IsUnexpected}
@@ -49,6 +51,7 @@ record AreMade : Type 0 where
   braces : aggregates (made (joined x.option_front 4 (Mark s.close_brace ∷ Mark s.semicolon ∷ []))) ≡ (3, 4) ∷ []
   syntax_made : NodesAre (joined x.unknown 3 (Mark s.semicolon ∷ [])) (node.ASyntax (run (codes "x") 2) ∷ [])
   run_made : NodesAre (joined x.unknown_run 4 (Mark s.semicolon ∷ [])) (node.ASyntax two_strings ∷ [])
+  text_made : NodesAre (joined x.no_text 2 (Mark s.semicolon ∷ [])) (node.AnImport (run (255 ∷ []) 1) ∷ [])
   import_made : NodesAre (joined x.parent 2 (Mark s.semicolon ∷ [])) (node.AnImport (run (codes "..") 1) ∷ [])
   packages_made : NodesAre (joined x.packages 6 []) (node.APackageAgain (package_at (codes "a") 0) (package_at (codes "b") 3) ∷ [])
   group_made : NodesAre (joined x.small_group 6 x.group_end) (node.AGroupName (codes "ab", 5) ∷ [])
@@ -64,6 +67,7 @@ are_made = record {
   braces = refl;
   syntax_made = (refl, refl);
   run_made = (refl, refl);
+  text_made = (refl, refl);
   import_made = (refl, refl);
   packages_made = (refl, refl);
   group_made = (refl, refl);
@@ -262,6 +266,18 @@ run-there = (
   4,
   by-node x.unknown_run 4 (Mark s.semicolon ∷ []) (fault.UnknownSyntax (span_from 9 20) (codes "proto4")) (node.ASyntax two_strings) (omega arith) are_made.run_made
       (refl, (λ _. refl), (refl, ap (λ v. fault.UnknownSyntax (span_from 9 20) v) (sym (text-same (codes "proto4") refl)))),
+)
+
+-- a byte that begins no character is no text
+no-text : is_text (255 ∷ []) ≡ false
+unfolding utf8_valid_len is_utf8 chars
+no-text = refl
+
+text-there : IsTrueOf x.no_text (fault.InvalidUtf8String (span_from 7 13))
+text-there = (
+  2,
+  by-node x.no_text 2 (Mark s.semicolon ∷ []) (fault.InvalidUtf8String (span_from 7 13)) (node.AnImport (run (255 ∷ []) 1)) (omega arith) are_made.text_made
+      (refl, (λ _. refl), inl (no-text, refl)),
 )
 
 -- import '..' is wrong, whatever stands behind it but a string

@@ -8,7 +8,7 @@ use Rattle.protox_lex.specs.Faults.{Span}
 use Rattle.protox_lex.specs.declared.error.ParseErrorKind.{ParseErrorKind}
 use Rattle.protox_lex.specs.declared.error.ParseErrorKind.TheVariants as fault
 use Rattle.protox_ast.specs.AstParts.{join, run_span, strings_value, text_of}
-use Rattle.protox_ast.specs.CheckedNodes.{Node, ASyntax, AnImport, AReservedName, AGroupName, APackageAgain, ATooDeep, file_nodes}
+use Rattle.protox_ast.specs.CheckedNodes.{CheckedNode, ASyntax, AnImport, AReservedName, AGroupName, APackageAgain, ATooDeep, checked_nodes}
 use Rattle.protox_ast.specs.Places.{Place}
 use Rattle.protox_ast.specs.Tree as t
 
@@ -56,17 +56,17 @@ abbrev pub package_span : {M : Type 0} → (M → Span) → t.Package M → Span
 package_span span x = join (span x.keyword) (span x.end)
 
 -- The fault is that of the node, where a mark tells a token's span.
-abbrev pub WrongNode : {M : Type 0} → (M → Span) → Node M → ParseErrorKind → Type 0
-WrongNode span (ASyntax x) wrong = WrongSyntax (run_span span x) (strings_value x) wrong
-WrongNode span (AnImport x) wrong = WrongImport (run_span span x) (strings_value x) wrong
-WrongNode span (AReservedName x) wrong = WrongReservedName (run_span span x) (strings_value x) wrong
-WrongNode span (AGroupName x) wrong = (IsGroupName x.0 → ⊥) × (wrong ≡ fault.InvalidGroupName (span x.1))
-WrongNode span (APackageAgain first again) wrong = wrong ≡ fault.DuplicatePackage (package_span span first) (package_span span again)
-WrongNode span (ATooDeep keyword open_at) wrong = wrong ≡ fault.MessageNestingTooDeep (span keyword)
+abbrev pub WrongCheckedNode : {M : Type 0} → (M → Span) → CheckedNode M → ParseErrorKind → Type 0
+WrongCheckedNode span (ASyntax x) wrong = WrongSyntax (run_span span x) (strings_value x) wrong
+WrongCheckedNode span (AnImport x) wrong = WrongImport (run_span span x) (strings_value x) wrong
+WrongCheckedNode span (AReservedName x) wrong = WrongReservedName (run_span span x) (strings_value x) wrong
+WrongCheckedNode span (AGroupName x) wrong = (IsGroupName x.0 → ⊥) × (wrong ≡ fault.InvalidGroupName (span x.1))
+WrongCheckedNode span (APackageAgain first again) wrong = wrong ≡ fault.DuplicatePackage (package_span span first) (package_span span again)
+WrongCheckedNode span (ATooDeep keyword open_at) wrong = wrong ≡ fault.MessageNestingTooDeep (span keyword)
 
 -- The fault is that of some node of the file.
 abbrev pub WrongTree : t.File Place → ParseErrorKind → Type 0
-WrongTree f wrong = Any (λ node. WrongNode (λ place. place.span) node wrong) (file_nodes f)
+WrongTree f wrong = Any (λ node. WrongCheckedNode (λ place. place.span) node wrong) (checked_nodes f)
 
 -- Nothing is wrong with the file that is checked while it is read.
 abbrev pub NothingWrong : t.File Place → Type 0

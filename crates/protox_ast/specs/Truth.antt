@@ -10,8 +10,8 @@ use Rattle.protox_lex.specs.Table.{rows_of}
 use Rattle.protox_lex.specs.declared.error.ParseErrorKind.{ParseErrorKind}
 use Rattle.protox_lex.specs.declared.error.ParseErrorKind.TheVariants as fault
 use Rattle.protox_ast.specs.AstParts.{first_of}
-use Rattle.protox_ast.specs.CheckedNodes.{Node, ASyntax, AnImport, AReservedName, node_end, file_nodes}
-use Rattle.protox_ast.specs.Checks.{WrongNode}
+use Rattle.protox_ast.specs.CheckedNodes.{CheckedNode, ASyntax, AnImport, AReservedName, node_end, checked_nodes}
+use Rattle.protox_ast.specs.Checks.{WrongCheckedNode}
 use Rattle.protox_ast.specs.Fronts.{GoesOn, Inside}
 use Rattle.protox_ast.specs.Keywords.{is_significant}
 use Rattle.protox_ast.specs.Spells.{IsUnexpected, IsEnded}
@@ -71,20 +71,20 @@ is_string_at [] n = false
 is_string_at (row ∷ rows) zero = is_string row.shape
 is_string_at (row ∷ rows) (suc n) = is_string_at rows n
 
-abbrev pub is_run : {M : Type 0} → Node M → Bool
+abbrev pub is_run : {M : Type 0} → CheckedNode M → Bool
 is_run (ASyntax x) = true
 is_run (AnImport x) = true
 is_run (AReservedName x) = true
 is_run _ = false
 
 -- The node ends with token n - 1, and the fault is its. A run of strings is taken whole: no string follows it.
-abbrev pub IsWrongBefore : List Lexeme → ℕ → ParseErrorKind → Node ℕ → Type 0
+abbrev pub IsWrongBefore : List Lexeme → ℕ → ParseErrorKind → CheckedNode ℕ → Type 0
 IsWrongBefore lexemes n wrong node =
-    (suc (node_end node) ≡ n) × (is_run node ≡ true → is_string_at (rows_of lexemes) n ≡ false) × WrongNode (token_span (rows_of lexemes)) node wrong
+    (suc (node_end node) ≡ n) × (is_run node ≡ true → is_string_at (rows_of lexemes) n ≡ false) × WrongCheckedNode (token_span (rows_of lexemes)) node wrong
 
 -- Some file that goes on behind the first n tokens has a node that ends with the last of them, and the fault is that node's.
 abbrev pub IsWrongBehind : List Lexeme → ℕ → ParseErrorKind → Type 0
-IsWrongBehind lexemes n wrong = (f : t.File ℕ) × GoesOn lexemes n f × Any (IsWrongBefore lexemes n wrong) (file_nodes f)
+IsWrongBehind lexemes n wrong = (f : t.File ℕ) × GoesOn lexemes n f × Any (IsWrongBefore lexemes n wrong) (checked_nodes f)
 
 abbrev pub IsOfNode : List Lexeme → ParseErrorKind → Type 0
 IsOfNode lexemes wrong = (n : ℕ) × IsWrongBehind lexemes n wrong

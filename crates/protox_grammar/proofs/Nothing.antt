@@ -9,8 +9,8 @@ use Rattle.protox_lex.specs.declared.error.ParseErrorKind.{ParseErrorKind}
 use Rattle.protox_lex.specs.declared.error.ParseErrorKind.TheVariants as fault
 use Rattle.protox_ast.specs.AstParts.{run_span, strings_value, text_of}
 use Rattle.protox_ast.specs.CheckedNodes as n
-use Rattle.protox_ast.specs.CheckedNodes.{Node}
-use Rattle.protox_ast.specs.Checks.{is_known_syntax, is_text, is_import_path, package_span, WrongNode, NothingWrong}
+use Rattle.protox_ast.specs.CheckedNodes.{CheckedNode}
+use Rattle.protox_ast.specs.Checks.{is_known_syntax, is_text, is_import_path, package_span, WrongCheckedNode, NothingWrong}
 use Rattle.protox_ast.specs.Depth as d
 use Rattle.protox_ast.specs.Fine as fine
 use Rattle.protox_ast.specs.Keywords.{Given, Each}
@@ -24,32 +24,32 @@ use Rattle.protox_ast.proofs.NameTests.{ident-if, group-name-if}
 abbrev span_of : Place → Span
 span_of place = place.span
 
-abbrev WrongAt : ParseErrorKind → Node Place → Type 0
-WrongAt wrong node = WrongNode span_of node wrong
+abbrev WrongAt : ParseErrorKind → CheckedNode Place → Type 0
+WrongAt wrong node = WrongCheckedNode span_of node wrong
 
-abbrev Quiet : List (Node Place) → Type 0
+abbrev Quiet : List (CheckedNode Place) → Type 0
 Quiet nodes = (wrong : ParseErrorKind) → Somewhere (WrongAt wrong) nodes → ⊥
 
 quiet-none : Quiet []
 quiet-none wrong h = h
 
-quiet-both : (xs ys : List (Node Place)) → Quiet xs → Quiet ys → Quiet (xs ++ ys)
+quiet-both : (xs ys : List (CheckedNode Place)) → Quiet xs → Quiet ys → Quiet (xs ++ ys)
 quiet-both xs ys h k wrong s = elim (somewhere-cases (WrongAt wrong) xs ys s) as (λ _. ⊥) [ inl a ↦ h wrong a | inr b ↦ k wrong b ]
 
-quiet-first : (xs ys : List (Node Place)) → Quiet (xs ++ ys) → Quiet xs
+quiet-first : (xs ys : List (CheckedNode Place)) → Quiet (xs ++ ys) → Quiet xs
 quiet-first xs ys h wrong s = h wrong (somewhere-left (WrongAt wrong) xs ys s)
 
-quiet-last : (xs ys : List (Node Place)) → Quiet (xs ++ ys) → Quiet ys
+quiet-last : (xs ys : List (CheckedNode Place)) → Quiet (xs ++ ys) → Quiet ys
 quiet-last xs ys h wrong s = h wrong (somewhere-right (WrongAt wrong) xs ys s)
 
-quiet-cons : (x : Node Place) (xs : List (Node Place)) → ((wrong : ParseErrorKind) → WrongAt wrong x → ⊥) → Quiet xs → Quiet (x ∷ xs)
+quiet-cons : (x : CheckedNode Place) (xs : List (CheckedNode Place)) → ((wrong : ParseErrorKind) → WrongAt wrong x → ⊥) → Quiet xs → Quiet (x ∷ xs)
 quiet-cons x xs h k wrong (inl a) = h wrong a
 quiet-cons x xs h k wrong (inr b) = k wrong b
 
-quiet-head : (x : Node Place) (xs : List (Node Place)) → Quiet (x ∷ xs) → (wrong : ParseErrorKind) → WrongAt wrong x → ⊥
+quiet-head : (x : CheckedNode Place) (xs : List (CheckedNode Place)) → Quiet (x ∷ xs) → (wrong : ParseErrorKind) → WrongAt wrong x → ⊥
 quiet-head x xs h wrong a = h wrong (inl a)
 
-quiet-tail : (x : Node Place) (xs : List (Node Place)) → Quiet (x ∷ xs) → Quiet xs
+quiet-tail : (x : CheckedNode Place) (xs : List (CheckedNode Place)) → Quiet (x ∷ xs) → Quiet xs
 quiet-tail x xs h wrong s = h wrong (inr s)
 
 true-or : (b : Bool) → (b ≡ false → ⊥) → b ≡ true
@@ -138,14 +138,14 @@ enum-elements-fine (e ∷ es) q =
 
 -- ---- levels
 
-deep-by : (b : Bool) (x : Node Place) → (b ≡ true → ⊥) → Quiet (cond b (x ∷ []) [])
+deep-by : (b : Bool) (x : CheckedNode Place) → (b ≡ true → ⊥) → Quiet (cond b (x ∷ []) [])
 deep-by true x h = absurd (h refl)
 deep-by false x h = quiet-none
 
 deep-quiet : (level : ℕ) (keyword open_at : Place) → suc level ≤ 32 → Quiet (n.deep_nodes level keyword open_at)
 deep-quiet level keyword open_at l = deep-by (level == 32) (n.ATooDeep keyword open_at) (λ e. omega (arith, l, (Decides-eqb level 32).0 e))
 
-shallow-by : (b : Bool) (x : Node Place) → (b ≡ true → (wrong : ParseErrorKind) × WrongAt wrong x) → Quiet (cond b (x ∷ []) []) → b ≡ true → ⊥
+shallow-by : (b : Bool) (x : CheckedNode Place) → (b ≡ true → (wrong : ParseErrorKind) × WrongAt wrong x) → Quiet (cond b (x ∷ []) []) → b ≡ true → ⊥
 shallow-by true x h q e = let w = h refl in q w.0 (inl w.1)
 shallow-by false x h q e = true≢false (sym e)
 
@@ -358,7 +358,7 @@ quiet-one (p ∷ q ∷ ps) h = absurd (quiet-head (n.APackageAgain p q) (map (λ
 
 -- ---- files
 
-file-quiet : (f : t.File Place) → fine.IsFine f → d.depth f ≤ 31 → Quiet (n.file_nodes f)
+file-quiet : (f : t.File Place) → fine.IsFine f → d.depth f ≤ 31 → Quiet (n.checked_nodes f)
 file-quiet f h l =
     quiet-both (n.syntax_nodes f.syntax) (flat_map n.statement_nodes f.statements ++ n.package_nodes (n.packages_in f.statements))
     (given f.syntax h.0)
@@ -370,7 +370,7 @@ file-quiet f h l =
     given None k = quiet-none
     given (Some x) k = syntax-quiet x k
 
-file-fine : (f : t.File Place) → Quiet (n.file_nodes f) → fine.IsFine f × (d.depth f ≤ 31)
+file-fine : (f : t.File Place) → Quiet (n.checked_nodes f) → fine.IsFine f × (d.depth f ≤ 31)
 file-fine f q =
     let rest = quiet-last (n.syntax_nodes f.syntax) (flat_map n.statement_nodes f.statements ++ n.package_nodes (n.packages_in f.statements)) q in
     let s = statements-fine f.statements (quiet-first (flat_map n.statement_nodes f.statements) (n.package_nodes (n.packages_in f.statements)) rest) in
@@ -384,6 +384,6 @@ file-fine f q =
 
 pub nothing-wrong : (f : t.File Place) → NothingWrong f ↔ (fine.IsFine f × (d.depth f ≤ 31))
 nothing-wrong f = (
-  (λ h. file-fine f (λ wrong s. h wrong (any-from (WrongAt wrong) (n.file_nodes f) s))),
-  (λ h wrong a. file-quiet f h.0 h.1 wrong (somewhere-from (WrongAt wrong) (n.file_nodes f) a)),
+  (λ h. file-fine f (λ wrong s. h wrong (any-from (WrongAt wrong) (n.checked_nodes f) s))),
+  (λ h wrong a. file-quiet f h.0 h.1 wrong (somewhere-from (WrongAt wrong) (n.checked_nodes f) a)),
 )

@@ -123,7 +123,7 @@ fn value_or_fault(
     }
 }
 
-/// The value of the integer of `len` bytes at the front, if it has no fault.
+/// The value of the integer of `len` bytes at the front, where it surely has no fault; else `read_integer` looks.
 #[inline(never)]
 pub(crate) fn faultless_value(bytes: &[u8], len: usize) -> Option<u64>
     requires { len ≤ length bytes.now }

@@ -11,11 +11,11 @@ use Rattle.protox_ast.specs.Tree as t
 use Rattle.protox_descriptor.specs.declared.descriptor.FileDescriptorProto.{FileDescriptorProto}
 use Rattle.protox_generate.specs.Faults.{Wrong}
 use Rattle.protox_parse.specs.Failures.{AreWrongOf, IsRefusalOf}
-use Rattle.protox_parse.specs.Truth.{IsTrue, AreTrue}
+use Rattle.protox_parse.specs.Truth.{IsTrueOfSource, AreTrue}
 use Rattle.protox_parse.specs.declared.failure.ParseFailure.{ParseFailure}
 use Rattle.protox_parse.specs.declared.failure.ParseFailure.TheVariants.{Refused, OutOfMemory}
 
-each-true : (source : List ℕ) (f : t.File Place) → IsAccepted source f → (faults : List ParseErrorKind) → Each (Wrong (ast.file (length source) f)) faults → Each (IsTrue source) faults
+each-true : (source : List ℕ) (f : t.File Place) → IsAccepted source f → (faults : List ParseErrorKind) → Each (Wrong (ast.file (length source) f)) faults → Each (IsTrueOfSource source) faults
 each-true source f a [] h = tt
 each-true source f a (x ∷ xs) h = (inr (inr (f, a.spells, h.0)), each-true source f a xs h.1)
 
@@ -29,4 +29,4 @@ pub true-of-size : (name source : List ℕ) (r : Result FileDescriptorProto Pars
 true-of-size name source (Ok d) large h = tt
 true-of-size name source (Err OutOfMemory) large h = tt
 true-of-size name source (Err (Refused e)) large h =
-    elim h.1 as (λ _. Each (IsTrue source) e.errors) [ inl fits ↦ absurd (large fits.0) | inr other ↦ subst (Each (IsTrue source)) (sym other.2) (inl (large, refl), tt) ]
+    elim h.1 as (λ _. Each (IsTrueOfSource source) e.errors) [ inl fits ↦ absurd (large fits.0) | inr other ↦ subst (Each (IsTrueOfSource source)) (sym other.2) (inl (large, refl), tt) ]

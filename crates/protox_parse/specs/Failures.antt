@@ -1,19 +1,15 @@
 -- When a refusal speaks of a source.
-use Rattle.std.specs.Prelude.{◌≡◌, ◌≢◌, ℕ, List, [], ◌∷◌, length, Option, Some, None, ◌⊎◌}
+use Rattle.std.specs.Prelude.{◌≡◌, ◌≢◌, ℕ, List, [], ◌∷◌, length, ◌⊎◌}
 use Rattle.protox_lex.specs.Faults.{LiesIn}
 use Rattle.protox_lex.specs.declared.error.ParseErrorKind.TheVariants.{FileTooLarge}
 use Rattle.protox_ast.specs.Accepted.{Fits}
+pub use Rattle.protox_ast.specs.AstParts.{first_of}
 use Rattle.protox_ast.specs.Keywords.{Each}
 use Rattle.protox_ast.specs.declared.ast.File.{File}
 use Rattle.protox_generate.specs.Faults.{Wrong}
 use Rattle.protox_parse.specs.Refusal.{Refusal}
 use Rattle.protox_parse.specs.declared.failure.ParseFailure.{ParseFailure}
 use Rattle.protox_parse.specs.declared.failure.ParseFailure.TheVariants.{Refused, OutOfMemory}
-
--- the first of a list, if it has any
-abbrev pub first_of : {A : Type 0} → List A → Option A
-first_of [] = None
-first_of (x ∷ xs) = Some x
 
 abbrev pub IsOutOfMemory : ParseFailure → Type 0
 IsOutOfMemory OutOfMemory = Unit {0}

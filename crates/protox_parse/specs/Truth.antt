@@ -24,10 +24,10 @@ IsTrueOfTree source wrong = (f : t.File Place) × Spells (placed (table_of (cut 
 abbrev pub IsTrueOfSize : List ℕ → ParseErrorKind → Type 0
 IsTrueOfSize source wrong = (Fits source → ⊥) × (wrong ≡ FileTooLarge)
 
-abbrev pub IsTrue : List ℕ → ParseErrorKind → Type 0
-IsTrue source wrong = IsTrueOfSize source wrong ⊎ (IsTrueOf (cut 0 source) wrong ⊎ IsTrueOfTree source wrong)
+abbrev pub IsTrueOfSource : List ℕ → ParseErrorKind → Type 0
+IsTrueOfSource source wrong = IsTrueOfSize source wrong ⊎ (IsTrueOf (cut 0 source) wrong ⊎ IsTrueOfTree source wrong)
 
 -- Each fault of the refusal is true of the source; or memory ran out.
 abbrev pub AreTrue : List ℕ → ParseFailure → Type 0
 AreTrue source OutOfMemory = Unit {0}
-AreTrue source (Refused e) = Each (IsTrue source) e.errors
+AreTrue source (Refused e) = Each (IsTrueOfSource source) e.errors

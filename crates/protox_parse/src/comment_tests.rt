@@ -1,4 +1,4 @@
-use crate::{ParseFailure, parse};
+use crate::tests::{parsed, refusal};
 use protox_descriptor::descriptor::FileDescriptorProto;
 use std::alloc::Global;
 use std::test::Fail;
@@ -51,7 +51,7 @@ fn comments_of_imports(rt: HostRuntime) -> Result<(), Fail> {
         ),
     ];
     for (source, expected) in cases {
-        let file = parse(rt.alloc(), "a.proto", source)?;
+        let file = parsed(rt.alloc(), "a.proto", source)?;
         let found = locations(rt.alloc(), &file)?;
         assert_eq!(rt; found.as_str(), expected, "{source:?}");
     }
@@ -71,21 +71,11 @@ fn comments_of_messages(rt: HostRuntime) -> Result<(), Fail> {
         ),
     ];
     for (source, expected) in cases {
-        let file = parse(rt.alloc(), "a.proto", source)?;
+        let file = parsed(rt.alloc(), "a.proto", source)?;
         let found = locations(rt.alloc(), &file)?;
         assert_eq!(rt; found.as_str(), expected, "{source:?}");
     }
     Ok(())
-}
-
-// The first fault of a refused source.
-fn refusal(alloc: Global, source: &str) -> Result<String, Fail> {
-    match parse(alloc, "a.proto", source) {
-        Err(ParseFailure::Refused(error)) => {
-            Ok(format!(in alloc; "{:?} {}", error.span(), error)?)
-        }
-        _ => Err(Fail::new("not refused")),
-    }
 }
 
 #[test]
@@ -102,7 +92,8 @@ fn faulty_comments(rt: HostRuntime) -> Result<(), Fail> {
         ),
     ];
     for (source, expected) in cases {
-        let found = refusal(rt.alloc(), source)?;
+        let error = refusal(&rt, "a.proto", source)?;
+        let found = format!(in rt.alloc(); "{:?} {}", error.span(), error)?;
         assert_eq!(rt; found.as_str(), expected, "{source:?}");
     }
     Ok(())

@@ -10,6 +10,19 @@ use std::test::Fail;
 const EXAMPLE: &str =
     "\n    syntax = \"proto3\";\n    import \"dep.proto\";\n\n    message Foo {\n        Bar bar = 1;\n    }\n";
 
+// The answer of `parse` on a file that is accepted.
+pub(crate) fn parsed(alloc: Global, name: &str, source: &str) -> Result<FileDescriptorProto, Fail> {
+    Ok(parse(alloc, name, source)?)
+}
+
+// The answer of `parse` on a file that is refused.
+pub(crate) fn refusal(rt: &HostRuntime, name: &str, source: &str) -> Result<ParseError, Fail> {
+    match parse(rt.alloc(), name, source) {
+        Err(ParseFailure::Refused(error)) => Ok(error),
+        _ => Err(Fail::new("not refused")),
+    }
+}
+
 // The paths and spans of all locations, as `4.0 4,4,6,5`, a line for each.
 fn locations(alloc: Global, file: &FileDescriptorProto) -> Result<String, Fail> {
     let mut text = String::new(alloc);
@@ -24,16 +37,9 @@ fn locations(alloc: Global, file: &FileDescriptorProto) -> Result<String, Fail> 
     Ok(text)
 }
 
-fn refusal(rt: &HostRuntime, name: &str, source: &str) -> Result<ParseError, Fail> {
-    match parse(rt.alloc(), name, source) {
-        Err(ParseFailure::Refused(error)) => Ok(error),
-        _ => Err(Fail::new("not refused")),
-    }
-}
-
 #[test]
 fn documentation_example(rt: HostRuntime) -> Result<(), Fail> {
-    let file = parse(rt.alloc(), "foo.proto", EXAMPLE)?;
+    let file = parsed(rt.alloc(), "foo.proto", EXAMPLE)?;
     assert_eq!(rt;
         format!(in rt.alloc(); "{:?}", file.name)?.as_str(),
         "Some(\"foo.proto\")"
@@ -84,7 +90,7 @@ fn blank_files(rt: HostRuntime) -> Result<(), Fail> {
         ("\n\n", "[] [2, 0, 0, 0]\n"),
     ];
     for (source, expected) in cases {
-        let file = parse(rt.alloc(), "a.proto", source)?;
+        let file = parsed(rt.alloc(), "a.proto", source)?;
         let places = locations(rt.alloc(), &file)?;
         assert_eq!(rt; places.as_str(), expected, "{source:?}");
         assert!(rt; file.syntax.is_none());
@@ -185,7 +191,7 @@ fn file_and_descriptor(rt: HostRuntime) -> Result<(), Fail> {
     let file = parse_file(rt.alloc(), EXAMPLE)?;
     assert_eq!(rt; file.span, 5..93);
     let descriptor = generate_file(rt.alloc(), file, "foo.proto", EXAMPLE)?;
-    assert!(rt; descriptor == parse(rt.alloc(), "foo.proto", EXAMPLE)?);
+    assert!(rt; descriptor == parsed(rt.alloc(), "foo.proto", EXAMPLE)?);
     Ok(())
 }
 

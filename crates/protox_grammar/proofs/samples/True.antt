@@ -12,7 +12,7 @@ use Rattle.protox_lex.specs.declared.error.ParseErrorKind.TheVariants as fault
 use Rattle.protox_ast.specs.Aggregates.{aggregates}
 use Rattle.protox_ast.specs.AstParts.{first_of}
 use Rattle.protox_ast.specs.CheckedNodes as node
-use Rattle.protox_ast.specs.CheckedNodes.{Node, file_nodes}
+use Rattle.protox_ast.specs.CheckedNodes.{CheckedNode, checked_nodes}
 use Rattle.protox_ast.specs.Fronts.{Inside, IsCleanBehind, CleanFront}
 use Rattle.protox_ast.specs.Checks.{IsIdent, is_import_path, is_text}
 use Rattle.protox_ast.specs.Keywords.{Each, is_significant}
@@ -34,8 +34,8 @@ use Rattle.protox_grammar.proofs.samples.Sources.{made, joined, IsMade, goes-on}
 
 -- ---- files that go on, by computing
 
-abbrev NodesAre : List Shape → List (Node ℕ) → Type 0
-NodesAre ss nodes = IsMade ss × (file_nodes (made ss) ≡ nodes)
+abbrev NodesAre : List Shape → List (CheckedNode ℕ) → Type 0
+NodesAre ss nodes = IsMade ss × (checked_nodes (made ss) ≡ nodes)
 
 abbrev run : List ℕ → ℕ → t.Strings ℕ
 run value n = record { first = (value, n); others = [] }
@@ -248,7 +248,7 @@ message-expected expected found h = let u = h.1 in not-first u.front u.here u.re
 -- ---- nodes that are checked
 
 -- the only node of a file that goes on is wrong
-by-node : (xs : List Lexeme) (n : ℕ) (more : List Shape) (wrong : ParseErrorKind) (v : Node ℕ)
+by-node : (xs : List Lexeme) (n : ℕ) (more : List Shape) (wrong : ParseErrorKind) (v : CheckedNode ℕ)
     → n ≤ length (rows_of xs) → NodesAre (joined xs n more) (v ∷ []) → IsWrongBefore xs n wrong v → IsWrongBehind xs n wrong
 by-node xs n more wrong v l made_so w =
     (made (joined xs n more), goes-on xs n more l made_so.0, subst (Any (IsWrongBefore xs n wrong)) (sym made_so.1) (any-from (IsWrongBefore xs n wrong) (v ∷ []) (inl w)))
@@ -325,7 +325,7 @@ abbrev is_unknown : ParseErrorKind → ℕ
 is_unknown (fault.UnknownSyntax span value) = 1
 is_unknown _ = 0
 
-not-alone : (v : Node ℕ) → IsWrongBefore x.pieces 3 (fault.UnknownSyntax (span_from 9 14) (codes "pro")) v → ⊥
+not-alone : (v : CheckedNode ℕ) → IsWrongBefore x.pieces 3 (fault.UnknownSyntax (span_from 9 14) (codes "pro")) v → ⊥
 not-alone (node.ASyntax y) w = true≢false (w.1 refl)
 not-alone (node.AnImport y) w = true≢false (w.1 refl)
 not-alone (node.AReservedName y) w = true≢false (w.1 refl)
@@ -334,9 +334,9 @@ not-alone (node.APackageAgain y z) w = let z : 1 ≡ 0 = ap is_unknown w.2 in om
 not-alone (node.ATooDeep y z) w = let z : 1 ≡ 0 = ap is_unknown w.2 in omega (arith, z)
 
 piece-there : IsWrongBehind x.pieces 3 (fault.UnknownSyntax (span_from 9 14) (codes "pro")) → ⊥
-piece-there h = none (file_nodes h.0) (somewhere-from (IsWrongBefore x.pieces 3 (fault.UnknownSyntax (span_from 9 14) (codes "pro"))) (file_nodes h.0) h.2)
+piece-there h = none (checked_nodes h.0) (somewhere-from (IsWrongBefore x.pieces 3 (fault.UnknownSyntax (span_from 9 14) (codes "pro"))) (checked_nodes h.0) h.2)
   where
-    none : (all : List (Node ℕ)) → Somewhere (IsWrongBefore x.pieces 3 (fault.UnknownSyntax (span_from 9 14) (codes "pro"))) all → ⊥
+    none : (all : List (CheckedNode ℕ)) → Somewhere (IsWrongBefore x.pieces 3 (fault.UnknownSyntax (span_from 9 14) (codes "pro"))) all → ⊥
     none [] k = k
     none (v ∷ vs) (inl w) = not-alone v w
     none (v ∷ vs) (inr k) = none vs k

@@ -77,7 +77,7 @@ fn front(text: &str, len: usize) -> &str
 }
 
 /// The token of a lexeme that has no fault and is read fast: an identifier, an integer, a mark or a
-/// newline.
+/// newline. None where `read_kind` has to look.
 #[inline(always)]
 pub(crate) fn plain_token(text: &str, kind: Kind, len: usize) -> Option<Token<'_>>
     requires within { len ≤ length text.now }

@@ -123,7 +123,8 @@ fn value_or_fault(
     }
 }
 
-/// The value of the integer of `len` bytes at the front, where it surely has no fault; else `read_integer` looks.
+/// The value of the integer of `len` bytes at the front, where it surely has no fault. None where
+/// `read_integer` has to look.
 #[inline(never)]
 pub(crate) fn faultless_value(bytes: &[u8], len: usize) -> Option<u64>
     requires { len ≤ length bytes.now }

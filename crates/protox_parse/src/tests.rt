@@ -2,8 +2,7 @@ use crate::error::Span;
 use crate::generate::generate_file;
 use crate::syntax::parse_file;
 use crate::{ParseError, ParseFailure, parse, source_fits};
-use protox_descriptor::descriptor::FileDescriptorProto;
-use protox_descriptor::descriptor::field_descriptor_proto::Label;
+use protox_descriptor::descriptor::{FieldDescriptorProto, FileDescriptorProto};
 use std::alloc::Global;
 use std::test::Fail;
 
@@ -37,46 +36,42 @@ fn locations(alloc: Global, file: &FileDescriptorProto) -> Result<String, Fail> 
     Ok(text)
 }
 
+// The name, the syntax and the imports of a file.
+fn head(alloc: Global, file: &FileDescriptorProto) -> Result<String, Fail> {
+    Ok(format!(in alloc; "{:?} {:?} {:?}", file.name, file.syntax, file.dependency)?)
+}
+
+// A field's name, label, number, type and type's name.
+fn field(alloc: Global, field: &FieldDescriptorProto) -> Result<String, Fail> {
+    let front = format!(in alloc; "{:?} {:?} {:?}", field.name, field.label, field.number)?;
+    Ok(format!(in alloc; "{front} {:?} {:?}\n", field.field_type, field.type_name)?)
+}
+
+// The name of each message and its fields, a line for each.
+fn messages(alloc: Global, file: &FileDescriptorProto) -> Result<String, Fail> {
+    let mut text = String::new(alloc);
+    for message in file.message_type.iter() {
+        text.push_str(format!(in alloc; "{:?}\n", message.name)?.as_str())?;
+        for of_message in message.field.iter() {
+            text.push_str(field(alloc, of_message)?.as_str())?;
+        }
+    }
+    Ok(text)
+}
+
 #[test]
 fn documentation_example(rt: HostRuntime) -> Result<(), Fail> {
     let file = parsed(rt.alloc(), "foo.proto", EXAMPLE)?;
     assert_eq!(rt;
-        format!(in rt.alloc(); "{:?}", file.name)?.as_str(),
-        "Some(\"foo.proto\")"
+        head(rt.alloc(), &file)?.as_str(),
+        "Some(\"foo.proto\") Some(\"proto3\") [\"dep.proto\"]"
     );
     assert_eq!(rt;
-        format!(in rt.alloc(); "{:?}", file.syntax)?.as_str(),
-        "Some(\"proto3\")"
+        messages(rt.alloc(), &file)?.as_str(),
+        "Some(\"Foo\")\nSome(\"bar\") Some(1) Some(1) None Some(\"Bar\")\n"
     );
     assert_eq!(rt;
-        format!(in rt.alloc(); "{:?}", file.dependency)?.as_str(),
-        "[\"dep.proto\"]"
-    );
-    assert_eq!(rt; file.message_type.len(), 1);
-    let Some(message) = file.message_type.get(0) else {
-        return Err(Fail::new("no message"));
-    };
-    assert_eq!(rt;
-        format!(in rt.alloc(); "{:?}", message.name)?.as_str(),
-        "Some(\"Foo\")"
-    );
-    let Some(field) = message.field.get(0) else {
-        return Err(Fail::new("no field"));
-    };
-    assert_eq!(rt;
-        format!(in rt.alloc(); "{:?}", field.name)?.as_str(),
-        "Some(\"bar\")"
-    );
-    assert_eq!(rt; field.label, Some(Label::Optional as i32));
-    assert_eq!(rt; field.number, Some(1));
-    assert_eq!(rt;
-        format!(in rt.alloc(); "{:?}", field.type_name)?.as_str(),
-        "Some(\"Bar\")"
-    );
-    assert!(rt; field.field_type.is_none());
-    let places = locations(rt.alloc(), &file)?;
-    assert_eq!(rt;
-        places.as_str(),
+        locations(rt.alloc(), &file)?.as_str(),
         "[] [1, 4, 6, 5]\n[3, 0] [2, 4, 23]\n[4, 0] [4, 4, 6, 5]\n[4, 0, 1] [4, 12, 15]\n[4, 0, 2, 0] [5, 8, 20]\n[4, 0, 2, 0, 1] [5, 12, 15]\n[4, 0, 2, 0, 3] [5, 18, 19]\n[4, 0, 2, 0, 6] [5, 8, 11]\n[12] [1, 4, 22]\n"
     );
     Ok(())

@@ -22,7 +22,7 @@ use Rattle.protox_generate.specs.Numbers.{in_message_range}
 use Rattle.protox_generate.specs.Spans.{body_span}
 use Rattle.protox_generate.specs.ValueFaults.{invalid_type, out_of_range, WrongInteger, WrongValue, WrongUninterpreted}
 use Rattle.protox_generate.specs.Values.{Interval, is_in, any_64, signed_32, Wanted, a_float, an_integer, a_bool, a_text, some_bytes, anything, wanted, as_bool, as_float_text}
-use Rattle.protox_generate.proofs.Membership.{Among, somewhere-from, any-from, among-from, contains-from, among-left, among-right, among-cases, among-flat, somewhere-flat, not-true, not-false, both-true, and-true, none-true, none-test}
+use Rattle.protox_generate.proofs.Membership.{Among, somewhere-from, any-from, among-from, contains-from, among-left, among-right, among-cases, among-flat, somewhere-flat, not-true, not-false, and_parts, and-true, none-true, none-test}
 
 -- ---- the word of a kind
 
@@ -254,14 +254,14 @@ module _ (syntax : Syntax) (f : FieldNode) (span : Span) where
   repeated-from : (wrong : ParseErrorKind) → Among on_repeateds (settled wrong) → WrongDefault syntax f span wrong
   repeated-from wrong h =
       let r = test-from (not (is_map f.kind) && is_repeated f.label) (fault.InvalidDefault span (placed (codes "repeated"))) wrong h in
-      let b = both-true (not (is_map f.kind)) (is_repeated f.label) r.0 in
+      let b = and_parts (not (is_map f.kind)) (is_repeated f.label) r.0 in
       on_repeated (not-true (is_map f.kind) b.0) b.1 (default-word span (codes "repeated") wrong r.1)
 
   proto3-from : (wrong : ParseErrorKind) → Among in_proto3s (settled wrong) → WrongDefault syntax f span wrong
   proto3-from wrong h =
       let r = test-from (is_proto3 syntax && (not (is_map f.kind) && not (is_repeated f.label))) (fault.Proto3DefaultValue span) wrong h in
-      let b = both-true (is_proto3 syntax) (not (is_map f.kind) && not (is_repeated f.label)) r.0 in
-      let c = both-true (not (is_map f.kind)) (not (is_repeated f.label)) b.1 in
+      let b = and_parts (is_proto3 syntax) (not (is_map f.kind) && not (is_repeated f.label)) r.0 in
+      let c = and_parts (not (is_map f.kind)) (not (is_repeated f.label)) b.1 in
       in_proto3 (is-proto3 syntax b.0) (not-true (is_map f.kind) c.0) (not-true (is_repeated f.label) c.1) (unsettle (fault.Proto3DefaultValue span) wrong refl r.1)
 
   rest-from : (wrong : ParseErrorKind) → Among (on_repeateds ++ in_proto3s) (settled wrong) → WrongDefault syntax f span wrong

@@ -1,6 +1,7 @@
 -- What holds of each element of a list, and of its elements by recursion.
 use Rattle.std.proofs.Common.{◌≡◌, Bool, true, false, not, inl, inr, List, [], ◌∷◌, ◌++◌, flat_map, Option, Some, None, refl, sym, ap, subst, true≢false, is_none}
 use Rattle.std.specs.Prelude.{◌&&◌}
+pub use Rattle.std.proofs.lemmas.Bool.{and_parts, not-true}
 use Rattle.protox_ast.specs.Keywords.{Each}
 pub use Rattle.protox_ast.proofs.Membership.{Among, Somewhere, somewhere-from, any-from, among-from, contains-from, among-left, among-right, among-cases, among-flat, somewhere-flat}
 
@@ -30,16 +31,8 @@ somewhere-among P x h (y ∷ ys) (inr a) = inr (somewhere-among P x h ys a)
 
 -- ---- tests
 
-pub not-true : (b : Bool) → not b ≡ true → b ≡ false
-not-true true e = sym e
-not-true false e = refl
-
 pub not-false : (b : Bool) → b ≡ false → not b ≡ true
 not-false b e = ap not e
-
-pub both-true : (a b : Bool) → (a && b) ≡ true → (a ≡ true) × (b ≡ true)
-both-true true b e = (refl, e)
-both-true false b e = absurd (true≢false (sym e))
 
 pub and-true : (a b : Bool) → a ≡ true → b ≡ true → (a && b) ≡ true
 and-true true b e f = f

@@ -29,12 +29,12 @@ group_is from items [] k l = absurd (omega arith)
 group_is from items (end ∷ ends) zero l = refl
 group_is from items (end ∷ ends) (suc k) l = group_is end items ends k (omega arith)
 
-pub length-split : {T : Type 0} (from : ℕ) (items : List T) (ends : List ℕ) → length (split from items ends) ≡ length ends
-length-split from items [] = refl
-length-split from items (end ∷ ends) = ap suc (length-split end items ends)
+pub length_split : {T : Type 0} (from : ℕ) (items : List T) (ends : List ℕ) → length (split from items ends) ≡ length ends
+length_split from items [] = refl
+length_split from items (end ∷ ends) = ap suc (length_split end items ends)
 
 pub no_group : {T : Type 0} (items : List T) (ends : List ℕ) (k : ℕ) → length ends ≤ k → slice_get (split 0 items ends) k ≡ None
-no_group items ends k h = slice_get_past (split 0 items ends) k (omega (arith, length-split 0 items ends))
+no_group items ends k h = slice_get_past (split 0 items ends) k (omega (arith, length_split 0 items ends))
 
 -- one more end
 pub end_within : (from size : ℕ) (ends : List ℕ) → EndWithin from size ends → EndWithin from size (ends ++ size ∷ [])

@@ -1,10 +1,8 @@
 -- Tables of lexemes.
 use Rattle.std.proofs.Common.{◌≡◌, ◌+◌, inl, inr, length, arith, ℕ, zero, suc, List, [], ◌∷◌, ◌++◌, get_or, refl, sym, ap, ◌∙◌, subst, append-nil, Bool, true, false, Option, Some, None}
 use Rattle.std.proofs.lemmas.Bool.{cases_Bool}
-use Rattle.std.proofs.lemmas.List.{map-append}
-use Rattle.std.proofs.lemmas.Option.{slice_get-map}
 use Rattle.std.specs.Borrow.{Bor}
-use Rattle.std.specs.Option.{option_map, option_copied}
+use Rattle.std.specs.Option.{option_map}
 use Rattle.std.specs.Prelude.{slice_get, IfSome, map}
 use Rattle.protox_lex.specs.declared.token.Token.{Token}
 use Rattle.protox_lex.specs.Tokens.{shape_of}
@@ -15,14 +13,14 @@ use Rattle.protox_lex.specs.Gaps.{IsGap, HoldGaps}
 use Rattle.protox_lex.specs.Lexemes.{Lexeme}
 use Rattle.protox_lex.specs.Shapes.{Shape}
 use Rattle.protox_lex.specs.Table.{is_gap, in_front, rows_of, gaps_of, faults_of, table_of}
-use Rattle.protox_lex.specs.TableView.{finished}
+use Rattle.protox_lex.specs.TableView.{finished, shapes_of_lent}
 
 in_front_nil : {T : Type 0} (xss : List (List T)) → in_front [] xss ≡ xss
 in_front_nil [] = refl
 in_front_nil (xs ∷ xss) = refl
 
 -- a draft with nothing in it
-pub finished_start : (d : TableDraft) (xs : List Lexeme) → d.rows.items ≡ [] → d.gaps ≡ record { ended = []; begun = [] } → d.faults ≡ record { ended = []; begun = [] } → finished d xs ≡ table_of xs
+pub finished_start : (d : TableDraft) (xs : List Lexeme) → d.rows ≡ [] → d.gaps ≡ record { ended = []; begun = [] } → d.faults ≡ record { ended = []; begun = [] } → finished d xs ≡ table_of xs
 finished_start d xs rows gaps faults = rw (rows, gaps, faults, in_front_nil (gaps_of xs), in_front_nil (faults_of xs)) refl
 
 -- ---- how many gaps
@@ -88,10 +86,10 @@ pub gaps_held : (gaps : List (List Shape)) (xs : List Lexeme) → gaps ≡ gaps_
 gaps_held gaps xs e = let P : List (List Shape) → Type 0 = λ gs. HoldGaps gs in subst P (sym e) (hold_gaps xs)
 
 -- a gap that is lent
-pub lent_gap : (gaps : List (List Token)) (k : ℕ) (r : Option (Bor (List Token))) → HoldGaps (map (map shape_of) gaps) → option_copied r ≡ slice_get gaps k → IfSome r (λ gap. IsGap (map shape_of gap.now))
+pub lent_gap : (gaps : List (List Shape)) (k : ℕ) (r : Option (Bor (List Token))) → HoldGaps gaps → option_map shapes_of_lent r ≡ slice_get gaps k → IfSome r (λ gap. IsGap (map shape_of gap.now))
 lent_gap gaps k None h e = tt
-lent_gap gaps k (Some gap) h e = h k (map shape_of gap.now) (slice_get-map (map shape_of) gaps k ∙ ap (option_map (map shape_of)) (sym e))
+lent_gap gaps k (Some gap) h e = h k (map shape_of gap.now) (sym e)
 
 -- the gaps of a draft, once the last has ended
-pub ended_gaps : (ended : List (List Token)) (begun : List Token) → map (map shape_of) (ended ++ begun ∷ []) ≡ map (map shape_of) ended ++ in_front (map shape_of begun) ([] ∷ [])
-ended_gaps ended begun = map-append (map shape_of) ended (begun ∷ []) ∙ ap (λ g. map (map shape_of) ended ++ g ∷ []) (sym (append-nil (map shape_of begun)))
+pub ended_gaps : (ended : List (List Shape)) (begun : List Shape) → ended ++ begun ∷ [] ≡ ended ++ in_front begun ([] ∷ [])
+ended_gaps ended begun = ap (λ g. ended ++ g ∷ []) (sym (append-nil begun))

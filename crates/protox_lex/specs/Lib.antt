@@ -1,4 +1,5 @@
 pub mod Shapes
+pub mod Sharing
 pub mod Faults
 pub mod FaultTexts
 pub mod FaultNotes

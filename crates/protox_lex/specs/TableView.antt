@@ -1,19 +1,13 @@
--- What a clause sees of a table and of its rows.
+-- What a clause sees of a table and of its tokens.
 use Rattle.std.specs.Borrow.{Bor}
 use Rattle.std.specs.Prelude.{List, map, ◌++◌, Result, Ok, Err}
 use Rattle.protox_lex.specs.declared.token.Token.{Token}
-use Rattle.protox_lex.specs.declared.token_table.Row.{Row as TableRow}
 use Rattle.protox_lex.specs.declared.table_draft.TableDraft.{TableDraft}
 use Rattle.protox_lex.specs.declared.token_table.TokenTable.TheInside.{Inside}
-use Rattle.protox_lex.specs.Faults.{Span}
 use Rattle.protox_lex.specs.Lexemes.{Lexeme}
-use Rattle.protox_lex.specs.Shapes.{Shape, Invalid, Row}
+use Rattle.protox_lex.specs.Shapes.{Shape, Invalid}
 use Rattle.protox_lex.specs.Table.{Table, in_front, rows_of, gaps_of, faults_of}
-use Rattle.protox_lex.specs.Tokens.{shape_of, shape_of_result}
-
--- the row as data
-abbrev pub row_of : TableRow → Row Span
-row_of r = record { shape = shape_of_result r.token; at = r.span }
+use Rattle.protox_lex.specs.Tokens.{shape_of}
 
 -- the shape of a token that is lent, or of an invalid one
 abbrev pub shape_of_lent : Result (Bor Token) (Unit {0}) → Shape
@@ -25,12 +19,12 @@ abbrev pub shapes_of_lent : Bor (List Token) → List Shape
 shapes_of_lent tokens = map shape_of tokens.now
 
 abbrev pub table_seen : Inside → Table
-table_seen t = record { rows = map row_of t.rows.items; gaps = map (map shape_of) t.gaps.ended; faults = t.faults.ended }
+table_seen t = record { rows = t.rows; gaps = t.gaps.ended; faults = t.faults.ended }
 
 -- the table that a draft becomes where these lexemes are still to come
 abbrev pub finished : TableDraft → List Lexeme → Table
 finished d xs = record {
-  rows = map row_of d.rows.items ++ rows_of xs;
-  gaps = map (map shape_of) d.gaps.ended ++ in_front (map shape_of d.gaps.begun) (gaps_of xs);
+  rows = d.rows ++ rows_of xs;
+  gaps = d.gaps.ended ++ in_front d.gaps.begun (gaps_of xs);
   faults = d.faults.ended ++ in_front d.faults.begun (faults_of xs);
 }

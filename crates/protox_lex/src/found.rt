@@ -7,6 +7,7 @@ ghost use Rattle.protox_lex.specs.Lexemes as spec;
 ghost use Rattle.protox_lex.specs.Scanning as scanned;
 ghost use Rattle.protox_lex.specs.Lexicon.{is_mark, is_quote, IsLineOpener};
 ghost use Rattle.protox_lex.specs.Found.{lexeme_of};
+ghost use Rattle.protox_lex.specs.Table.{is_gap};
 ghost use Rattle.protox_lex.specs.Tokens.{shape_of, borrowed_of};
 
 use crate::block_comment::read_block_comment;
@@ -57,6 +58,7 @@ pub(crate) fn invalid(alloc: Global, text: &str, start: usize) -> Found<'_>
     requires some { 0 < length text.now }
     requires fits { start + length text.now < 2 ^ 64 }
     ensures value { lexeme_of start result ≡ spec.invalid start text.now }
+    ensures from { start ≤ result.stop }
     ensures within { result.stop ≤ start + length text.now }
     ensures boundary { IsCharBoundary text.now (result.stop - start) }
 {
@@ -76,19 +78,17 @@ fn front(text: &str, len: usize) -> &str
     &text[..len]
 }
 
-/// The token of a lexeme that has no fault and is read fast: an identifier, an integer, a mark or a
-/// newline. None where `read_kind` has to look.
+/// The token of a lexeme that has no fault and is read fast: an identifier or an integer. None where
+/// `read_kind` has to look.
 #[inline(always)]
 pub(crate) fn plain_token(text: &str, kind: Kind, len: usize) -> Option<Token<'_>>
     requires within { len ≤ length text.now }
     requires boundary { IsCharBoundary text.now len }
-    requires mark { kind ≡ Kind.Mark → is_mark (slice_index text.now 0) ≡ true }
+    ensures row { IfSome result (λ t. is_gap (shape_of t) ≡ false) }
     ensures value { IfSome result (λ t. (start : ℕ) → spec.lexeme kind start text.now len ≡ spec.plain (shape_of t) start len) }
 {
     match kind {
         Kind::Identifier => Some(Token::Ident(front(text, len))),
-        Kind::Mark => mark_of(text.as_bytes()[0]),
-        Kind::Newline => Some(Token::Newline),
         Kind::Integer => Some(Token::IntLiteral(faultless_value(text.as_bytes(), len)?)),
         _ => None,
     }

@@ -1,5 +1,5 @@
 //! Lists that stand one behind another in one vector.
-ghost use Rattle.std.specs.Prelude.{◌≡◌, ◌≤◌, ◌++◌, ◌∷◌, [], length, slice_get, slice_index, true, OnOk};
+ghost use Rattle.std.specs.Prelude.{◌≡◌, ◌≤◌, ◌++◌, ◌∷◌, [], length, slice_get, slice_index, true, OnOk, OnErr};
 ghost use Rattle.std.specs.Option.{option_copied};
 
 use std::alloc::{AllocError, Global};
@@ -66,10 +66,19 @@ impl<T> Groups<T> {
         }
     }
 
+    #[tactic(auto, using(crate::proofs::Splitting::length_split))]
+    /// How many lists have ended.
+    pub(crate) fn len(&self) -> usize
+        ensures { result ≡ length self.now.ended }
+    {
+        self.ends.len()
+    }
+
     #[tactic(auto, using(crate::proofs::Splitting::end_within, crate::proofs::Splitting::grouped_end))]
-    /// Ends the list that has begun.
+    /// Ends the list that has begun. On `AllocError` nothing has changed.
     pub(crate) fn end(&mut self) -> Result<(), AllocError>
-        ensures { OnOk result (self.new ≡ record { ended = self.old.ended ++ self.old.begun ∷ []; begun = [] }) }
+        ensures err { OnErr result (self.new ≡ self.old) }
+        ensures ok { OnOk result (self.new ≡ record { ended = self.old.ended ++ self.old.begun ∷ []; begun = [] }) }
     {
         self.ends.push(self.items.len())?;
         Ok(())
@@ -78,9 +87,10 @@ impl<T> Groups<T> {
 
 impl<T: Drop> Groups<T> {
     #[tactic(auto, using(crate::proofs::Splitting::append_within, crate::proofs::Splitting::grouped_append))]
-    /// Appends an item to the list that has begun.
+    /// Appends an item to the list that has begun. On `AllocError` nothing has changed.
     pub(crate) fn push(&mut self, item: T) -> Result<(), AllocError>
-        ensures { OnOk result (self.new ≡ record self.old { begun = self.old.begun ++ item ∷ [] }) }
+        ensures err { OnErr result (self.new ≡ self.old) }
+        ensures ok { OnOk result (self.new ≡ record self.old { begun = self.old.begun ++ item ∷ [] }) }
     {
         self.items.push(item)?;
         Ok(())

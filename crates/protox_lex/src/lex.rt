@@ -3,7 +3,7 @@
 
 pub use crate::lexer::Lexer;
 pub use crate::token::{EqFloat, Token};
-pub use crate::token_table::{Row, TokenTable};
+pub use crate::token_table::TokenTable;
 
 pub const SYNTAX: &str = "syntax";
 

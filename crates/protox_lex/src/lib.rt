@@ -22,6 +22,8 @@ mod memory_tests;
 mod number;
 mod piece;
 mod scan;
+mod shared_gaps;
+mod shared_rows;
 mod string;
 #[cfg(test)]
 mod surface_tests;

@@ -1,29 +1,31 @@
 //! The table of a source as far as that has been cut.
-ghost use Rattle.std.specs.Prelude.{◌≡◌, ◌<◌, ◌≤◌, ◌+◌, ◌-◌, ◌^◌, ◌∷◌, ◌++◌, [], List, length, slice_index, true, Some, OnOk, IfOk};
+ghost use Rattle.std.specs.Prelude.{◌≡◌, ◌<◌, ◌≤◌, ◌+◌, ◌-◌, ◌^◌, ◌∷◌, ◌++◌, [], List, length, slice_index, true, false, Some, OnOk, IfOk};
 ghost use Rattle.std.specs.Str.{IsCharBoundary};
+ghost use Rattle.protox_lex.specs.Faults.{span_from};
 ghost use Rattle.protox_lex.specs.Found.{lexeme_of};
 ghost use Rattle.protox_lex.specs.Lexemes as spec;
 ghost use Rattle.protox_lex.specs.Lexicon.{is_mark, is_quote, IsLineOpener};
 ghost use Rattle.protox_lex.specs.Scanning as scanned;
+ghost use Rattle.protox_lex.specs.Shapes.{Mark, Newline};
 ghost use Rattle.protox_lex.specs.Table.{is_gap, table_of, invalid_faults};
 ghost use Rattle.protox_lex.specs.TableView.{finished};
 ghost use Rattle.protox_lex.specs.Tokens.{shape_of, shape_of_result};
 
 use crate::bytes::skip_blanks;
-use crate::error::{ParseErrorKind, Span};
+use crate::error::ParseErrorKind;
 use crate::found::{Found, invalid, plain_token, read_kind};
-use crate::groups::Groups;
 use crate::late_groups::LateGroups;
 use crate::scan::{Kind, scan};
+use crate::shared_gaps::SharedGaps;
+use crate::shared_rows::{SharedRows, slot_of};
 use crate::token::Token;
-use crate::token_table::Row;
 use std::alloc::{AllocError, Global};
 
 /// A table as far as the source has been cut.
 #[derive(Drop)]
 pub(crate) struct TableDraft<'a> {
-    pub rows: Vec<Row<'a>>,
-    pub gaps: Groups<Token<'a>>,
+    pub rows: SharedRows<'a>,
+    pub gaps: SharedGaps<'a>,
     pub faults: LateGroups<ParseErrorKind>,
 }
 
@@ -40,36 +42,33 @@ fn is_gap_token(token: &Token<'_>) -> bool
 fn add_invalid(
     faults: &mut LateGroups<ParseErrorKind>,
     token: &Result<Token<'_>, ()>,
-    span: &Span,
+    start: usize,
+    stop: usize,
 ) -> Result<(), AllocError>
-    ensures { OnOk result (faults.new ≡ record faults.old { begun = faults.old.begun ++ invalid_faults (shape_of_result token.now) span.now }) }
+    ensures { OnOk result (faults.new ≡ record faults.old { begun = faults.old.begun ++ invalid_faults (shape_of_result token.now) (span_from start stop) }) }
 {
     if token.is_err() {
-        faults.push(ParseErrorKind::InvalidToken {
-            span: span.start..span.end,
-        })?;
+        faults.push(ParseErrorKind::InvalidToken { span: start..stop })?;
     }
     Ok(())
 }
 
 impl<'a> TableDraft<'a> {
-    // A row. It ends the gap before it, and the faults of both.
+    // A row begins: the gap before it ends, and the faults of both.
     #[inline(always)]
-    fn end_row(&mut self, row: Row<'a>) -> Result<(), AllocError>
-        ensures rows { OnOk result (self.new.rows.items ≡ self.old.rows.items ++ row.entry ∷ []) }
+    fn end_gap(&mut self) -> Result<(), AllocError>
+        ensures rows { OnOk result (self.new.rows ≡ self.old.rows) }
         ensures gaps { OnOk result (self.new.gaps ≡ record { ended = self.old.gaps.ended ++ self.old.gaps.begun ∷ []; begun = [] }) }
         ensures faults { OnOk result (self.new.faults ≡ record { ended = self.old.faults.ended ++ self.old.faults.begun ∷ []; begun = [] }) }
     {
         self.gaps.end()?;
-        self.faults.end()?;
-        self.rows.push(row)?;
-        Ok(())
+        self.faults.end()
     }
 
     // A comment or a newline, with its faults.
     fn add_gap(&mut self, token: Token<'a>, faults: Vec<ParseErrorKind>) -> Result<(), AllocError>
-        ensures rows { OnOk result (self.new.rows.items ≡ self.old.rows.items) }
-        ensures gaps { OnOk result (self.new.gaps ≡ record self.old.gaps { begun = self.old.gaps.begun ++ token.entry ∷ [] }) }
+        ensures rows { OnOk result (self.new.rows ≡ self.old.rows) }
+        ensures gaps { OnOk result (self.new.gaps ≡ record self.old.gaps { begun = self.old.gaps.begun ++ shape_of token.entry ∷ [] }) }
         ensures faults { OnOk result (self.new.faults ≡ record self.old.faults { begun = self.old.faults.begun ++ faults.items }) }
     {
         self.gaps.push(token)?;
@@ -77,18 +76,27 @@ impl<'a> TableDraft<'a> {
     }
 
     // Any other lexeme, with its faults.
-    fn add_row(&mut self, row: Row<'a>, faults: Vec<ParseErrorKind>) -> Result<(), AllocError>
-        ensures rows { OnOk result (self.new.rows.items ≡ self.old.rows.items ++ row.entry ∷ []) }
+    fn add_row(
+        &mut self,
+        token: Result<Token<'a>, ()>,
+        start: usize,
+        stop: usize,
+        faults: Vec<ParseErrorKind>,
+    ) -> Result<(), AllocError>
+        requires { start ≤ stop }
+        ensures rows { OnOk result (self.new.rows ≡ self.old.rows ++ record { shape = shape_of_result token.entry; at = span_from start stop } ∷ []) }
         ensures gaps { OnOk result (self.new.gaps ≡ record { ended = self.old.gaps.ended ++ self.old.gaps.begun ∷ []; begun = [] }) }
-        ensures faults { OnOk result (self.new.faults ≡ record { ended = self.old.faults.ended ++ ((self.old.faults.begun ++ faults.items) ++ invalid_faults (shape_of_result row.entry.token) row.entry.span) ∷ []; begun = [] }) }
+        ensures faults { OnOk result (self.new.faults ≡ record { ended = self.old.faults.ended ++ ((self.old.faults.begun ++ faults.items) ++ invalid_faults (shape_of_result token.entry) (span_from start stop)) ∷ []; begun = [] }) }
     {
         self.faults.append(faults)?;
-        add_invalid(&mut self.faults, &row.token, &row.span)?;
-        self.end_row(row)
+        add_invalid(&mut self.faults, &token, start, stop)?;
+        self.end_gap()?;
+        self.rows.push(token, start, stop - start)
     }
 
     // The lexeme that begins at `start`. Answers where it ends.
     fn add(&mut self, start: usize, found: Found<'a>) -> Result<usize, AllocError>
+        requires { start ≤ found.stop }
         ensures value { OnOk result ((xs : List spec.Lexeme) → finished self.new xs ≡ finished self.old (lexeme_of start found.entry ∷ xs)) }
         ensures stop { IfOk result (λ n. n ≡ found.entry.stop) }
     {
@@ -99,34 +107,55 @@ impl<'a> TableDraft<'a> {
         } = found;
         match token {
             Ok(token) if is_gap_token(&token) => self.add_gap(token, faults)?,
-            token => self.add_row(
-                Row {
-                    token,
-                    span: start..stop,
-                },
-                faults,
-            )?,
+            token => self.add_row(token, start, stop, faults)?,
         }
         Ok(stop)
     }
 
-    // A lexeme that has no fault and whose token is known. Answers where it ends.
+    // The lexeme of `len` bytes at the front, which has no fault and whose token is known. Answers
+    // where it ends.
     #[inline(always)]
-    fn add_plain(&mut self, token: Token<'a>, start: usize, len: usize) -> Result<usize, AllocError>
-        requires { start + len < 2 ^ 64 }
+    fn add_plain(
+        &mut self,
+        token: Token<'a>,
+        text: &[u8],
+        start: usize,
+        len: usize,
+    ) -> Result<usize, AllocError>
+        requires fits { start + len < 2 ^ 64 }
+        requires row { is_gap (shape_of token) ≡ false }
         ensures value { OnOk result ((xs : List spec.Lexeme) → finished self.new xs ≡ finished self.old (spec.plain (shape_of token.entry) start len ∷ xs)) }
         ensures stop { IfOk result (λ n. n ≡ start + len) }
     {
         let stop = start + len;
-        if is_gap_token(&token) {
-            self.gaps.push(token)?;
-        } else {
-            self.end_row(Row {
-                token: Ok(token),
-                span: start..stop,
-            })?;
-        }
+        self.end_gap()?;
+        self.rows.push_plain(token, slot_of(text, len), start, len)?;
         Ok(stop)
+    }
+
+    // A mark, which has `len` bytes. Answers where it ends.
+    #[inline(always)]
+    fn add_mark(&mut self, byte: u8, start: usize, len: usize) -> Result<usize, AllocError>
+        requires fits { start + len < 2 ^ 64 }
+        requires mark { is_mark byte ≡ true }
+        ensures value { OnOk result ((xs : List spec.Lexeme) → finished self.new xs ≡ finished self.old (spec.plain (Mark byte) start len ∷ xs)) }
+        ensures stop { IfOk result (λ n. n ≡ start + len) }
+    {
+        let stop = start + len;
+        self.end_gap()?;
+        self.rows.push_mark(byte, start, len)?;
+        Ok(stop)
+    }
+
+    // A newline, which has `len` bytes. Answers where it ends.
+    #[inline(always)]
+    fn add_newline(&mut self, start: usize, len: usize) -> Result<usize, AllocError>
+        requires { start + len < 2 ^ 64 }
+        ensures value { OnOk result ((xs : List spec.Lexeme) → finished self.new xs ≡ finished self.old (spec.plain Newline start len ∷ xs)) }
+        ensures stop { IfOk result (λ n. n ≡ start + len) }
+    {
+        self.gaps.push_newline()?;
+        Ok(start + len)
     }
 
     // The lexeme of a kind, of which `len` bytes match.
@@ -170,8 +199,10 @@ impl<'a> TableDraft<'a> {
         ensures boundary { IfOk result (λ n. IsCharBoundary text.now (n - start)) }
     {
         match scan(text.as_bytes()) {
+            Some((Kind::Mark, len)) => self.add_mark(text.as_bytes()[0], start, len),
+            Some((Kind::Newline, len)) => self.add_newline(start, len),
             Some((kind, len)) => match plain_token(text, kind, len) {
-                Some(token) => self.add_plain(token, start, len),
+                Some(token) => self.add_plain(token, text.as_bytes(), start, len),
                 None => self.read_kind(alloc, text, kind, len, start),
             },
             None => self.add(start, invalid(alloc, text, start)),
@@ -184,8 +215,8 @@ pub(crate) fn draft<'a>(alloc: Global, source: &'a str) -> Result<TableDraft<'a>
     ensures { IfOk result (λ d. finished d [] ≡ table_of (spec.cut 0 source.entry.now)) }
 {
     let mut draft = TableDraft {
-        rows: Vec::new(alloc),
-        gaps: Groups::new(alloc),
+        rows: SharedRows::new(alloc)?,
+        gaps: SharedGaps::new(alloc)?,
         faults: LateGroups::new(alloc),
     };
     let mut at = 0;

@@ -1,6 +1,6 @@
 //! Sources and what they are cut into.
 use crate::error::ParseErrorKind;
-use crate::lex::{Lexer, MAX, Row, Token, TokenTable};
+use crate::lex::{Lexer, MAX, Token, TokenTable};
 use std::alloc::{AllocError, Global};
 use std::test::Fail;
 
@@ -212,13 +212,20 @@ fn many_levels(rt: HostRuntime) -> Result<(), Fail> {
     Ok(())
 }
 
-// The spans of the rows.
-fn push_spans(out: &mut String, alloc: Global, rows: &[Row<'_>]) -> Result<(), AllocError> {
-    for row in rows {
-        let text = format!(in alloc; "{}..{} ", row.span.start, row.span.end)?;
-        out.push_str(text.as_str())?;
+// The span of row `k`.
+fn push_span(
+    out: &mut String,
+    alloc: Global,
+    table: &TokenTable<'_>,
+    k: usize,
+) -> Result<(), AllocError> {
+    match table.span(k) {
+        Some(span) => {
+            let text = format!(in alloc; "{}..{} ", span.start, span.end)?;
+            out.push_str(text.as_str())
+        }
+        None => out.push_str("none"),
     }
-    Ok(())
 }
 
 // The tokens of the gap before row `k`.
@@ -246,13 +253,52 @@ fn rows_and_gaps(rt: HostRuntime) -> Result<(), Fail> {
     let table = TokenTable::new(alloc, "08\u{a1}// a\n\n max\n")?;
     assert_eq!(rt; table.rows(), 4);
     let mut spans = String::new(alloc);
-    push_spans(&mut spans, alloc, table.as_rows())?;
-    assert_eq!(rt; spans.as_str(), "0..1 1..2 2..4 11..14 ");
+    for k in 0..5 {
+        push_span(&mut spans, alloc, &table, k)?;
+    }
+    assert_eq!(rt; spans.as_str(), "0..1 1..2 2..4 11..14 none");
     let mut gaps = String::new(alloc);
     for k in 0..6 {
         push_gap(&mut gaps, alloc, &table, k)?;
     }
     assert_eq!(rt; gaps.as_str(), "| | | // a\n\n \n | \n | none");
+    Ok(())
+}
+
+// Words that agree in length, first, middle and last letter, and marks and words that come again.
+#[test]
+fn rows_that_come_again(rt: HostRuntime) -> Result<(), Fail> {
+    let alloc = rt.alloc();
+    let table = TokenTable::new(alloc, "abcde; adcbe; abcde 7 07 7")?;
+    let mut out = String::new(alloc);
+    for k in 0..table.rows() {
+        push_span(&mut out, alloc, &table, k)?;
+        if let Some(Ok(token)) = table.row(k) {
+            let text = format!(in alloc; "{token} ")?;
+            out.push_str(text.as_str())?;
+        }
+    }
+    assert_eq!(rt;
+        out.as_str(),
+        "0..5 abcde 5..6 ; 7..12 adcbe 12..13 ; 14..19 abcde 20..21 7 22..24 7 25..26 7 "
+    );
+    Ok(())
+}
+
+// Many newlines, and newlines before and behind a comment.
+#[test]
+fn gaps_of_newlines(rt: HostRuntime) -> Result<(), Fail> {
+    let alloc = rt.alloc();
+    let source = "a\n\n\n\n\n\n\nb\n\n\n\n\n\n\n\nc\n/*d*/\n\n";
+    let table = TokenTable::new(alloc, source)?;
+    let mut gaps = String::new(alloc);
+    for k in 0..4 {
+        push_gap(&mut gaps, alloc, &table, k)?;
+    }
+    assert_eq!(rt;
+        gaps.as_str(),
+        "| \n \n \n \n \n \n \n | \n \n \n \n \n \n \n \n | \n /*d*/ \n \n | "
+    );
     Ok(())
 }
 

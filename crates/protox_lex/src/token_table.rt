@@ -5,30 +5,24 @@ ghost use Rattle.protox_lex.specs.Faults.{faults_in};
 ghost use Rattle.protox_lex.specs.Gaps.{IsGap};
 ghost use Rattle.protox_lex.specs.Lexemes as spec;
 ghost use Rattle.protox_lex.specs.Table.{table_of};
-ghost use Rattle.protox_lex.specs.TableView.{row_of, shape_of_lent, shapes_of_lent};
+ghost use Rattle.protox_lex.specs.TableView.{shape_of_lent, shapes_of_lent};
 ghost use Rattle.protox_lex.specs.Tokens.{shape_of};
 
 use crate::error::{ParseErrorKind, Span};
 use crate::fault_list::{append, copy_faults};
-use crate::groups::Groups;
 use crate::late_groups::LateGroups;
+use crate::shared_gaps::SharedGaps;
+use crate::shared_rows::SharedRows;
 use crate::table_draft::{TableDraft, draft};
 use crate::token::Token;
 use std::alloc::{AllocError, Global};
 use std::marker::Model;
 
-/// A token that is no comment and no newline, or an invalid lexeme, and where it stands.
-#[derive(Drop)]
-pub struct Row<'a> {
-    pub token: Result<Token<'a>, ()>,
-    pub span: Span,
-}
-
 /// The rows of a source, which it borrows, and the gaps between them.
 #[derive(Drop)]
 pub struct TokenTable<'a> {
-    rows: Vec<Row<'a>>,
-    gaps: Groups<Token<'a>>,
+    rows: SharedRows<'a>,
+    gaps: SharedGaps<'a>,
     faults: LateGroups<ParseErrorKind>,
 }
 
@@ -47,7 +41,7 @@ impl<'a> Model for TokenTable<'a> {
 }
 
 impl<'a> TokenTable<'a> {
-    /// The table of a source.
+    /// The table of a source. One of more than 4 GiB has no room in it: `AllocError`.
     #[tactic(auto, using(crate::proofs::Tables::gaps_held))]
     pub fn new(alloc: Global, source: &'a str) -> Result<TokenTable<'a>, AllocError>
         ensures { IfOk result (λ table. table ≡ table_of (spec.cut 0 source.entry.now)) }
@@ -70,19 +64,14 @@ impl<'a> TokenTable<'a> {
     pub fn row(&self, k: usize) -> Option<Result<&Token<'a>, ()>>
         ensures { option_map shape_of_lent result ≡ option_map (λ row. row.shape) (slice_get self.now.rows k) }
     {
-        let row = self.rows.get(k)?;
-        match &row.token {
-            Ok(token) => Some(Ok(token)),
-            Err(()) => Some(Err(())),
-        }
+        self.rows.token(k)
     }
 
     /// The span of row `k`. None from `rows()` on.
     pub fn span(&self, k: usize) -> Option<Span>
         ensures { result ≡ option_map (λ row. row.at) (slice_get self.now.rows k) }
     {
-        let row = self.rows.get(k)?;
-        Some(row.span.start..row.span.end)
+        self.rows.span(k)
     }
 
     /// The comments and newlines before row `k`, or at `rows()` those before the end. None past it.
@@ -91,13 +80,6 @@ impl<'a> TokenTable<'a> {
         ensures gap { IfSome result (λ gap. IsGap (map shape_of gap.now)) }
     {
         self.gaps.get(k)
-    }
-
-    /// The rows in order.
-    pub fn as_rows(&self) -> &[Row<'a>]
-        ensures { map row_of result.now ≡ self.now.rows }
-    {
-        &self.rows
     }
 
     #[tactic(auto, using(crate::proofs::Tables::nothing_released))]

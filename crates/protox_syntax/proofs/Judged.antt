@@ -1,5 +1,5 @@
 -- What is judged of a table.
-use Rattle.std.proofs.Common.{◌≡◌, ◌≤◌, ◌<◌, ◌+◌, ◌-◌, ℕ, Bool, true, false, cond, List, [], ◌∷◌, ◌++◌, length, Option, Some, None, Ok, Err, refl, sym, ap, subst, ◌∙◌, arith}
+use Rattle.std.proofs.Common.{◌≡◌, ◌≤◌, ◌<◌, ◌+◌, ◌-◌, ◌^◌, ℕ, Bool, true, false, cond, List, [], ◌∷◌, ◌++◌, length, Option, Some, None, Ok, Err, refl, sym, ap, subst, ◌∙◌, arith}
 use Rattle.std.specs.Prelude.{slice_index_or, slice_get, option_to_list}
 use Rattle.std.specs.List.{All}
 use Rattle.protox_lex.specs.Faults.{Span, LiesIn}
@@ -22,7 +22,7 @@ use Rattle.protox_syntax.specs.Weave.{released, weave, refusal, row_at}
 use Rattle.protox_syntax.specs.Judging.{IsTableOf, IsWhole}
 use Rattle.protox_syntax.proofs.Weaving.{append-empty, each-append, each-front, weave-each, note-stays, nothing-noted, weave-none, released-none}
 use Rattle.protox_syntax.proofs.TableFaults.{all-each, each-at, invalid-faulty}
-use Rattle.protox_ast.proofs.Standing.{Stand, bare, bare-placed, as-many}
+use Rattle.protox_ast.proofs.Standing.{Stand, bare, bare-placed, as-many, count-fits}
 use Rattle.protox_syntax.proofs.NotesLie.{notes-lie}
 use Rattle.protox_ast.specs.Places.{placed}
 use Rattle.protox_ast.specs.declared.ast.Comments.{Comments}
@@ -61,6 +61,10 @@ module _ (t : Table) (size : ℕ) (tab : IsTableOf size t) where
 
   stood : Stand 0 size (placed t)
   stood = subst (StandBetween 0 size) (sym bare-rows) stands
+
+  -- each row has a byte of its own
+  pub total-fits : length t.rows + 1 < 2 ^ 64
+  total-fits = omega (arith, tab.2, tab.4, count-fits 0 size (placed t) stood, as-many true t.rows t.gaps)
 
   entries-lie : (i : ℕ) → Each (LiesIn size) (slice_index_or t.faults i [])
   entries-lie i =

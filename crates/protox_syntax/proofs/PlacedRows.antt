@@ -1,19 +1,15 @@
 -- The rows of a table with their places, by number.
-use Rattle.std.proofs.Common.{◌≡◌, ◌<◌, ◌≤◌, ◌+◌, ◌-◌, ℕ, zero, suc, Bool, true, false, List, [], ◌∷◌, drop, map, length, Option, Some, None, refl, sym, ap, subst, ◌∙◌, eqb, arith}
+use Rattle.std.proofs.Common.{◌≡◌, ◌<◌, ◌≤◌, ◌+◌, ◌-◌, ℕ, zero, suc, Bool, true, false, List, [], ◌∷◌, drop, length, Option, Some, None, refl, sym, ap, subst, ◌∙◌, eqb, arith}
 use Rattle.std.proofs.lemmas.Bool.{ne_eqb}
-use Rattle.std.proofs.lemmas.List.{length-map}
 use Rattle.protox_lex.specs.declared.comments.GapComments.{GapComments}
 use Rattle.protox_lex.specs.Attributing.{attribution_of}
-use Rattle.std.specs.Prelude.{slice_get, slice_index_or, Result, Ok, Err, IfOk}
+use Rattle.std.specs.Prelude.{slice_get, slice_index_or, option_map, Result, Ok, Err, IfOk}
 use Rattle.protox_lex.specs.Faults.{Span}
 use Rattle.protox_lex.specs.Gaps.{may_lead, Attribution, attribution}
 use Rattle.protox_lex.specs.Shapes.{Shape, Ident, Int, Float, Str, Mark, LineComment, BlockComment, Newline, Invalid, Row, Rows}
-use Rattle.protox_lex.specs.declared.token_table.Row as source
 use Rattle.protox_lex.specs.Table.{Table}
-use Rattle.protox_lex.specs.TableView.{row_of}
-use Rattle.protox_lex.specs.Tokens.{shape_of_result}
 use Rattle.protox_ast.proofs.Standing.{as-many}
-use Rattle.protox_syntax.specs.Rows.{no_row, shape_of_row, IsFirst}
+use Rattle.protox_syntax.specs.Rows.{no_row, bare_row, shape_of_row, IsFirst}
 use Rattle.protox_ast.specs.Places.{Place, placed, next_gap, later_gaps, next_shape, place_of, placed_from}
 
 -- ---- gaps and rows by number
@@ -56,23 +52,6 @@ row-placed first [] gaps k d e h = absurd (omega arith)
 row-placed first (r ∷ rs) [] zero d e h = refl
 row-placed first (r ∷ rs) (g ∷ gs) zero d e h = refl
 row-placed first (r ∷ rs) gaps (suc k) d e h = row-placed false rs (later_gaps gaps) k d e (omega arith) ∙ shifted first r rs gaps k (slice_index_or rs k e)
-
--- ---- a table's own rows
-
-pub row-within : (table : Table) (rows : List source.Row) (k : ℕ) → map row_of rows ≡ table.rows → k < length (placed table) → k < length rows
-row-within table rows k same h = omega (arith, h, as-many true table.rows table.gaps, ap length same, length-map rows row_of)
-
-row-out : (rows : List source.Row) (k : ℕ) (d : source.Row) → k < length rows → slice_index_or (map row_of rows) k (row_of d) ≡ row_of (slice_index_or rows k d)
-row-out [] k d h = absurd (omega arith)
-row-out (r ∷ rs) zero d h = refl
-row-out (r ∷ rs) (suc k) d h = row-out rs k d (omega arith)
-
--- row k as it stands in the table, and with its place
-pub row-seen : (table : Table) (rows : List source.Row) (k : ℕ) (d : source.Row) → map row_of rows ≡ table.rows → k < length (placed table)
-    → slice_index_or (placed table) k no_row ≡ placed_row true table.rows table.gaps k (row_of (slice_index_or rows k d))
-row-seen table rows k d same h =
-    row-placed true table.rows table.gaps k no_row (row_of d) (omega (arith, h, as-many true table.rows table.gaps))
-    ∙ ap (placed_row true table.rows table.gaps k) (ap (λ rs. slice_index_or rs k (row_of d)) (sym same) ∙ row-out rows k d (row-within table rows k same h))
 
 -- ---- the rows that are left
 
@@ -140,11 +119,6 @@ module _ (table : Table) where
   pub left-length : (k : ℕ) → length (drop k (placed table)) ≡ length table.rows - k
   left-length k = dropped (placed table) k ∙ ap (λ n. n - k) many
 
-  -- the row before gap k
-  row-before : (k : ℕ) (rows : List source.Row) (d : source.Row) → map row_of rows ≡ table.rows → 0 < k → k ≤ length (placed table)
-      → slice_index_or (placed table) (k - 1) no_row ≡ placed_row true table.rows table.gaps (k - 1) (row_of (slice_index_or rows (k - 1) d))
-  row-before k rows d same some h = row-seen table rows (k - 1) d same (omega (arith, some, h))
-
 pub first-is : (x : Row Place) (xs ys : Rows Place) → x ∷ xs ≡ ys → IsFirst ys (Some x)
 first-is x xs ys e = subst (λ (zs : Rows Place). IsFirst zs (Some x)) e refl
 
@@ -172,34 +146,28 @@ module _ (table : Table) (k : ℕ) (some : 0 < k) (inside : k ≤ length (placed
   abbrev before_it : Attribution
   before_it = attribution (the_gap (k - 1)) (eqb (k - 1) 0) (shape_of_row table.rows (k - 1))
 
-  abbrev none : Row Span
-  none = record { shape = Newline; at = record { start = 0; end = 0 } }
-
-  is-before : attribution (the_gap (k - 1)) (begins true (k - 1)) (Some (slice_index_or table.rows (k - 1) none).shape) ≡ before_it
-  is-before = rw (begins-first (k - 1), seen-shape table.rows (k - 1) none there) refl
+  is-before : attribution (the_gap (k - 1)) (begins true (k - 1)) (Some (slice_index_or table.rows (k - 1) bare_row).shape) ≡ before_it
+  is-before = rw (begins-first (k - 1), seen-shape table.rows (k - 1) bare_row there) refl
 
   pub detached-is : (slice_index_or (placed table) (k - 1) no_row).at.detached ≡ before_it.detached
-  detached-is = ap (λ (r : Row Place). r.at.detached) (own none) ∙ ap (λ a. a.detached) is-before
+  detached-is = ap (λ (r : Row Place). r.at.detached) (own bare_row) ∙ ap (λ a. a.detached) is-before
 
   pub leading-is : (slice_index_or (placed table) (k - 1) no_row).at.leading ≡ before_it.leading
-  leading-is = ap (λ (r : Row Place). r.at.leading) (own none) ∙ ap (λ a. a.leading) is-before
+  leading-is = ap (λ (r : Row Place). r.at.leading) (own bare_row) ∙ ap (λ a. a.leading) is-before
 
   pub trailing-is : (slice_index_or (placed table) (k - 1) no_row).at.trailing ≡ (attribution (the_gap k) false (shape_of_row table.rows k)).trailing
   trailing-is =
       let next : suc (k - 1) ≡ k = omega (arith, some) in
-      ap (λ (r : Row Place). r.at.trailing) (own none)
+      ap (λ (r : Row Place). r.at.trailing) (own bare_row)
       ∙ ap (λ n. (attribution (next_gap (drop n table.gaps)) false (next_shape (drop n table.rows))).trailing) next
       ∙ ap (λ g. (attribution g false (next_shape (drop k table.rows))).trailing) (gap-at table.gaps k)
       ∙ ap (λ s. (attribution (the_gap k) false s).trailing) (shape-at table.rows k)
 
-  pub shape-is : (rows : List source.Row) (d : source.Row) → map row_of rows ≡ table.rows → (slice_index_or (placed table) (k - 1) no_row).shape ≡ shape_of_result (slice_index_or rows (k - 1) d).token
-  shape-is rows d same = ap (λ (r : Row Place). r.shape) (row-before table k rows d same some inside)
+  pub shape-is : (slice_index_or (placed table) (k - 1) no_row).shape ≡ (slice_index_or table.rows (k - 1) bare_row).shape
+  shape-is = ap (λ (r : Row Place). r.shape) (own bare_row)
 
-  pub span-is : (rows : List source.Row) (d : source.Row) → map row_of rows ≡ table.rows → (slice_index_or (placed table) (k - 1) no_row).at.span ≡ (slice_index_or rows (k - 1) d).span
-  span-is rows d same = ap (λ (r : Row Place). r.at.span) (row-before table k rows d same some inside)
-
-  pub stands-in : (rows : List source.Row) → map row_of rows ≡ table.rows → k - 1 < length rows
-  stands-in rows same = row-within table rows (k - 1) same (omega (arith, some, inside))
+  pub span-is : (slice_index_or (placed table) (k - 1) no_row).at.span ≡ (slice_index_or table.rows (k - 1) bare_row).at
+  span-is = ap (λ (r : Row Place). r.at.span) (own bare_row)
 
 -- ---- answers
 
@@ -212,9 +180,13 @@ pub precede : {E : Type 0} (r : Result GapComments E) (a : Attribution) (texts :
 precede (Ok g) a texts text h d l = (ap (λ (b : Attribution). b.detached) h ∙ sym d, ap (λ (b : Attribution). b.leading) h ∙ sym l)
 precede (Err d) a texts text h e l = tt
 
--- past the last gap there is none
-pub no-gap : (gaps : List (List Shape)) (k : ℕ) → slice_get gaps k ≡ None → slice_index_or gaps k [] ≡ []
-no-gap [] zero e = refl
-no-gap [] (suc k) e = refl
-no-gap (g ∷ gs) zero e = absurd cc
-no-gap (g ∷ gs) (suc k) e = no-gap gs k e
+-- past the last there is none
+pub none-there : {A : Type 0} (xs : List A) (k : ℕ) (d : A) → slice_get xs k ≡ None → slice_index_or xs k d ≡ d
+none-there [] zero d e = refl
+none-there [] (suc k) d e = refl
+none-there (x ∷ xs) zero d e = absurd cc
+none-there (x ∷ xs) (suc k) d e = none-there xs k d e
+
+pub none-mapped : {A B : Type 0} (f : A → B) (o : Option A) → option_map f o ≡ None → o ≡ None
+none-mapped f None e = refl
+none-mapped f (Some x) e = absurd cc

@@ -1,24 +1,22 @@
 -- The place of all the rows of a table.
-use Rattle.std.proofs.Common.{◌≡◌, ℕ, suc, ◌-◌, ◌≤◌, true, false, nat_eq, List, [], ◌∷◌, map, length, slice_index_or, refl, ap, sym, ◌∙◌, arith}
+use Rattle.std.proofs.Common.{◌≡◌, ℕ, suc, ◌-◌, ◌≤◌, true, false, nat_eq, List, [], ◌∷◌, length, slice_index_or, refl, ap, sym, ◌∙◌, arith}
 use Rattle.std.proofs.lemmas.Bool.{eqb-true, eqb-false}
-use Rattle.protox_lex.specs.declared.token_table.Row as source
 use Rattle.protox_lex.specs.Faults.{Span}
 use Rattle.protox_lex.specs.Shapes.{Shape, Row, Rows}
-use Rattle.protox_lex.specs.TableView.{row_of}
 use Rattle.protox_ast.specs.part.Ast.{join, last_place, rows_span}
 use Rattle.protox_ast.specs.Places.{Place, later_gaps, placed_from}
 use Rattle.protox_syntax.specs.Judging.{bare_span}
 
-last-at : (r : source.Row) (rs : List source.Row) (d : source.Row) → last_place (λ (x : Row Span). x.at) (row_of r).at (map row_of rs) ≡ (slice_index_or (r ∷ rs) (length rs) d).span
+last-at : (r : Row Span) (rs : Rows Span) (d : Row Span) → last_place (λ (x : Row Span). x.at) r.at rs ≡ (slice_index_or (r ∷ rs) (length rs) d).at
 last-at r [] d = refl
 last-at r (s ∷ rs) d = last-at s rs d
 
 -- from the first row to the last
-pub rows-span : (size : ℕ) (rows : List source.Row) (d e : source.Row) → 1 ≤ length rows → join (slice_index_or rows 0 d).span (slice_index_or rows (length rows - 1) e).span ≡ bare_span size (map row_of rows)
-rows-span size [] d e h = absurd (omega (arith, h))
-rows-span size (r ∷ rs) d e h =
+pub rows-span : (size : ℕ) (rows : Rows Span) (d : Row Span) → 1 ≤ length rows → join (slice_index_or rows 0 d).at (slice_index_or rows (length rows - 1) d).at ≡ bare_span size rows
+rows-span size [] d h = absurd (omega (arith, h))
+rows-span size (r ∷ rs) d h =
     let before : suc (length rs) - 1 ≡ length rs = omega arith in
-    ap (λ k. join r.span (slice_index_or (r ∷ rs) k e).span) before ∙ ap (join r.span) (sym (last-at r rs e))
+    ap (λ k. join r.at (slice_index_or (r ∷ rs) k d).at) before ∙ ap (join r.at) (sym (last-at r rs d))
 
 last-placed : (span : Span) (rows : Rows Span) (gaps : List (List Shape)) → last_place (λ (x : Row Place). x.at.span) span (placed_from false rows gaps) ≡ last_place (λ (x : Row Span). x.at) span rows
 last-placed span [] gaps = refl

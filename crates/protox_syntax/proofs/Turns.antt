@@ -1,5 +1,5 @@
 -- One turn of a loop that reads while the next row passes a test.
-use Rattle.std.proofs.Common.{◌≡◌, ◌<◌, Bool, true, false, eqb, List, [], ◌∷◌, length, Result, Ok, refl, sym, ◌∙◌, arith}
+use Rattle.std.proofs.Common.{◌≡◌, ◌<◌, Bool, true, false, eqb, [], ◌∷◌, length, Result, Ok, refl, sym, ◌∙◌, arith}
 use Rattle.std.proofs.lemmas.Bool.{eqb-true}
 use Rattle.protox_ast.specs.Places.{Place}
 use Rattle.protox_lex.specs.Shapes.{Shape, Rows}

@@ -7,6 +7,7 @@ use Rattle.protox_lex.specs.Lexemes.{cut}
 use Rattle.protox_lex.specs.Table.{Table, table_of}
 use Rattle.protox_lex.specs.declared.error.SyntaxFailure.{SyntaxFailure}
 use Rattle.protox_lex.specs.declared.error.SyntaxFailure.TheVariants.{Faults, OutOfMemory}
+use Rattle.protox_ast.specs.Accepted.{Fits}
 use Rattle.protox_ast.specs.Keywords.{Each}
 use Rattle.protox_ast.specs.part.Ast.{join, last_place, rows_span}
 use Rattle.protox_ast.specs.Places.{Place, placed}
@@ -18,9 +19,9 @@ use Rattle.protox_syntax.specs.declared.statement_types.Statements.{Statements}
 use Rattle.protox_syntax.specs.Whole.{whole, all_notes}
 use Rattle.protox_syntax.specs.Weave.{released}
 
--- the table of a source of so many bytes
+-- the table of a source of so many bytes, which fits the length limit
 abbrev pub IsTableOf : ℕ → Table → Type 0
-IsTableOf size t = (source : List ℕ) × IsUtf8 source × (length source ≡ size) × (t ≡ table_of (cut 0 source))
+IsTableOf size t = (source : List ℕ) × IsUtf8 source × (length source ≡ size) × (t ≡ table_of (cut 0 source)) × Fits source
 
 -- from the first row to the last, without the comments around them
 abbrev pub bare_span : ℕ → Rows Span → Span

@@ -1,17 +1,14 @@
 -- What a clause sees of the rows of a table.
-use Rattle.std.specs.Prelude.{◌≡◌, ℕ, ◌<◌, ◌≤◌, ◌-◌, map, List, [], ◌∷◌, drop, length, Option, Some, None, slice_get, slice_index_or, option_map}
-use Rattle.protox_lex.specs.declared.token_table.Row as source
+use Rattle.std.specs.Prelude.{◌≡◌, ℕ, ◌<◌, ◌≤◌, ◌-◌, [], ◌∷◌, drop, length, Option, Some, None, slice_get, slice_index_or, option_map}
 use Rattle.protox_lex.specs.Faults.{Span}
-use Rattle.protox_lex.specs.Shapes.{Shape, Row, Rows, Newline}
-use Rattle.protox_lex.specs.TableView.{row_of}
-use Rattle.protox_lex.specs.Table.{Table}
+use Rattle.protox_lex.specs.Shapes.{Shape, Row, Rows, Newline, Invalid}
 use Rattle.protox_ast.specs.Places.{Place, placed}
 use Rattle.protox_syntax.specs.declared.rows.RowAt.TheInside as row_at
 use Rattle.protox_syntax.specs.declared.rows.Unread.TheInside as unread
 
--- the rows of a table, without the comments around them
-abbrev pub rows_from : List source.Row → Rows Span
-rows_from rs = map row_of rs
+-- no row, without the comments around it
+abbrev pub bare_row : Row Span
+bare_row = record { shape = Invalid; at = record { start = 0; end = 0 } }
 
 -- the shape of a row, or None behind the last
 abbrev pub shape_of_row : Rows Span → ℕ → Option Shape

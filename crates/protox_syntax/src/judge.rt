@@ -2,7 +2,6 @@
 
 ghost use Rattle.std.specs.Prelude.{◌≡◌, ◌+◌, ◌++◌, [], length, Ok, Err, OnOk, option_map, option_to_list};
 ghost use Rattle.protox_ast.specs.Places.{placed};
-ghost use Rattle.protox_syntax.specs.Rows.{rows_from};
 ghost use Rattle.protox_grammar.specs.Reader.{Unexpected};
 ghost use Rattle.protox_syntax.specs.Judging.{IsTableOf, Judges, bare_span, made, syntax_or_default, stated_at};
 ghost use Rattle.protox_syntax.specs.Notes.{syntax_if_any_notes};
@@ -10,27 +9,26 @@ ghost use Rattle.protox_syntax.specs.Reads.{syntax_if_any_at};
 ghost use Rattle.protox_syntax.specs.Whole.{whole, all_notes};
 
 use crate::expected::Expected;
-use crate::leaf::{copied, join};
+use crate::leaf::join;
 use crate::notes::Note;
 use crate::progress::{refusal, woven};
 use crate::refused::Refused;
-use crate::rows::Unread;
+use crate::rows::{Unread, span_in};
 use crate::statement_types::Statements;
 use crate::statements::{statements, syntax_if_any};
 use protox_ast::ast::{Comments, File, Syntax};
 use protox_descriptor::values::Items;
 use protox_lex::error::{ParseErrorKind, Span, SyntaxFailure};
-use protox_lex::lex::{Row, TokenTable};
+use protox_lex::lex::TokenTable;
 use std::alloc::{AllocError, Global};
 
 // From the first row to the last; without any row from the end of the source to its start.
-fn file_span(rows: &[Row<'_>], size: usize) -> Span
-    ensures { result ≡ bare_span size (rows_from rows.now) }
+fn file_span(table: &TokenTable<'_>, size: usize) -> Span
+    ensures { result ≡ bare_span size table.now.rows }
 {
-    match rows {
-        [] => size..0,
-        [only] => copied(&only.span),
-        [first, .., last] => join(&first.span, &last.span),
+    match table.rows() {
+        0 => size..0,
+        count => join(&span_in(table, 0), &span_in(table, count - 1)),
     }
 }
 
@@ -63,7 +61,7 @@ fn made(
 {
     let Statements { imports, items } = statements;
     File {
-        span: file_span(table.as_rows(), size),
+        span: file_span(table, size),
         syntax: syntax_or_default(&syntax),
         syntax_span: stated_at(syntax),
         package: None,
@@ -89,7 +87,7 @@ fn stopped(
         Some(note) => note.left,
         None => 0,
     };
-    let total = table.as_rows().len() + 1;
+    let total = table.rows() + 1;
     let errors = woven(alloc, table, total, notes, left)?;
     Err(SyntaxFailure::Faults(errors))
 }
@@ -108,9 +106,8 @@ fn refused(
     requires notes { notes.items ≡ all_notes (placed table.now) }
     ensures { Judges table.now size result }
 {
-    let rows = table.as_rows();
-    let fault = refusal(alloc, rows, left, expected.text())?;
-    let total = rows.len() + 1;
+    let fault = refusal(alloc, table, left, expected.text())?;
+    let total = table.rows() + 1;
     let mut errors = woven(alloc, table, total, notes, left)?;
     add_fault(&mut errors, fault)?;
     Err(SyntaxFailure::Faults(errors))
@@ -142,7 +139,7 @@ fn finished(
     requires notes { notes.items ≡ all_notes (placed table.now) }
     ensures { Judges table.now size result }
 {
-    let total = table.as_rows().len() + 1;
+    let total = table.rows() + 1;
     let errors = woven(alloc, table, total, notes, 0)?;
     if errors.is_empty() {
         return Ok(made(alloc, table, size, syntax, statements));

@@ -4,7 +4,8 @@ ghost use Rattle.std.specs.Prelude.{◌≡◌, length};
 ghost use Rattle.protox_ast.specs.part.Ast.{join};
 ghost use Rattle.protox_grammar.specs.Reader.{is_token, head_in, fixed};
 ghost use Rattle.protox_lex.specs.Shapes.{Ident, Mark};
-ghost use Rattle.protox_lex.specs.Tokens.{shape_of, shape_of_result};
+ghost use Rattle.protox_lex.specs.TableView.{shape_of_lent};
+ghost use Rattle.protox_lex.specs.Tokens.{shape_of};
 ghost use Rattle.protox_syntax.specs.Outcome.{Gives};
 
 use crate::expected::Expected;
@@ -28,8 +29,8 @@ pub(crate) fn copied(span: &Span) -> Span
 }
 
 /// Whether the token is this word.
-pub(crate) fn is_word(token: &Result<Token<'_>, ()>, word: &str) -> bool
-    ensures { result ≡ is_token (Ident word.now) (shape_of_result token.now) }
+pub(crate) fn is_word(token: Result<&Token<'_>, ()>, word: &str) -> bool
+    ensures { result ≡ is_token (Ident word.now) (shape_of_lent token.entry) }
 {
     match token {
         Ok(Token::Ident(text)) => *text == word,
@@ -38,8 +39,8 @@ pub(crate) fn is_word(token: &Result<Token<'_>, ()>, word: &str) -> bool
 }
 
 /// Whether the token is the mark of this byte.
-pub(crate) fn is_mark(token: &Result<Token<'_>, ()>, mark: u8) -> bool
-    ensures { result ≡ is_token (Mark mark) (shape_of_result token.now) }
+pub(crate) fn is_mark(token: Result<&Token<'_>, ()>, mark: u8) -> bool
+    ensures { result ≡ is_token (Mark mark) (shape_of_lent token.entry) }
 {
     match token {
         Ok(token) => is_mark_token(token, mark),

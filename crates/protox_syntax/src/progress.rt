@@ -1,14 +1,12 @@
 //! The list of faults: those of the rows in their order, and among them those that are noted at nodes.
 
 ghost use Rattle.std.specs.Prelude.{◌≡◌, ◌<◌, ◌+◌, ◌++◌, ◌^◌, OnOk, IfOk};
-ghost use Rattle.protox_syntax.specs.Rows.{rows_from};
 ghost use Rattle.protox_syntax.specs.Weave.{released, progress, read_to, play, beginning, weave, refusal, row_at};
 
-use crate::leaf::copied;
 use crate::notes::Note;
 use protox_descriptor::values::Text;
 use protox_lex::error::ParseErrorKind;
-use protox_lex::lex::{Row, TokenTable};
+use protox_lex::lex::TokenTable;
 use std::alloc::{AllocError, Global};
 
 // The faults of `count` rows and their gaps, from `low` on.
@@ -89,20 +87,21 @@ fn unexpected_end(alloc: Global, expected: &str) -> Result<ParseErrorKind, Alloc
 /// The fault of the row from which on `left` rows are left. That of an invalid one is among its own.
 pub(crate) fn refusal(
     alloc: Global,
-    rows: &[Row<'_>],
+    table: &TokenTable<'_>,
     left: usize,
     expected: &str,
 ) -> Result<Option<ParseErrorKind>, AllocError>
-    ensures { IfOk result (λ fault. fault ≡ refusal expected.now (row_at (rows_from rows.now) left)) }
+    ensures { IfOk result (λ fault. fault ≡ refusal expected.now (row_at table.now.rows left)) }
 {
-    let Some(row) = rows.get(rows.len().saturating_sub(left)) else {
+    let index = table.rows().saturating_sub(left);
+    let (Some(token), Some(span)) = (table.row(index), table.span(index)) else {
         return Ok(Some(unexpected_end(alloc, expected)?));
     };
-    let Ok(token) = &row.token else {
+    let Ok(token) = token else {
         return Ok(None);
     };
     Ok(Some(ParseErrorKind::UnexpectedToken {
-        span: copied(&row.span),
+        span,
         expected: Text::copy(alloc, expected)?,
         found: Text::from_string(token.to_string(alloc)?),
     }))

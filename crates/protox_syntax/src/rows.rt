@@ -1,13 +1,12 @@
 //! Where a reader stands among the rows of a table.
 
-ghost use Rattle.std.specs.Prelude.{◌≡◌, ◌==◌, ◌<◌, IfOk, [], length, map, slice_index_or};
+ghost use Rattle.std.specs.Prelude.{◌≡◌, ◌==◌, IfOk, [], length, map, slice_index_or};
 ghost use Rattle.protox_ast.specs.Places.{placed};
 ghost use Rattle.protox_lex.specs.Gaps.{IsGap, attribution};
 ghost use Rattle.protox_lex.specs.Attributing.{attribution_of};
-ghost use Rattle.protox_lex.specs.Shapes.{Row};
-ghost use Rattle.protox_lex.specs.declared.token_table.Row as source_row;
-ghost use Rattle.protox_lex.specs.Tokens.{shape_of, shape_of_result};
-ghost use Rattle.protox_syntax.specs.Rows.{IsFirst, IsSplit, shape_of_row};
+ghost use Rattle.protox_lex.specs.TableView.{shape_of_lent};
+ghost use Rattle.protox_lex.specs.Tokens.{shape_of};
+ghost use Rattle.protox_syntax.specs.Rows.{IsFirst, IsSplit, bare_row, shape_of_row};
 ghost use Rattle.protox_ast.specs.part.Ast.{comments};
 ghost use Rattle.protox_syntax.specs.Reads.{declared};
 
@@ -15,7 +14,7 @@ use protox_ast::ast::Comments;
 use protox_descriptor::values::Items;
 use protox_lex::comments::{GapComments, gap_comments};
 use protox_lex::error::Span;
-use protox_lex::lex::{self, Token, TokenTable};
+use protox_lex::lex::{Token, TokenTable};
 use std::alloc::{AllocError, Global};
 use std::marker::Model;
 
@@ -28,7 +27,6 @@ pub(crate) struct RowAt<'t, 'a> {
 
 impl<'t, 'a> Model for RowAt<'t, 'a> {
     ghost use Rattle.protox_lex.specs.Shapes.{Row};
-    ghost use Rattle.protox_lex.specs.declared.token_table.Row as source_row;
     ghost use Rattle.protox_ast.specs.Places.{Place};
     ghost use Rattle.protox_syntax.specs.Rows.{the_row, IsRow};
 
@@ -89,19 +87,32 @@ fn comments_at(
     }
 }
 
-fn row_in<'t, 'a>(rows: &'t [lex::Row<'a>], index: usize) -> &'t lex::Row<'a>
-    requires { index < length rows.now }
-    ensures { (other : source_row.Row) → result.now ≡ slice_index_or rows.now index other }
+// The token of a row. Where the table has none, it is invalid.
+fn token_in<'t, 'a>(table: &'t TokenTable<'a>, index: usize) -> Result<&'t Token<'a>, ()>
+    ensures { shape_of_lent result ≡ (slice_index_or table.now.rows index bare_row).shape }
 {
-    &rows[index]
+    match table.row(index) {
+        Some(token) => token,
+        None => Err(()),
+    }
+}
+
+/// The span of a row. Where the table has none, it is empty.
+pub(crate) fn span_in(table: &TokenTable<'_>, index: usize) -> Span
+    ensures { result ≡ (slice_index_or table.now.rows index bare_row).at }
+{
+    match table.span(index) {
+        Some(span) => span,
+        None => 0..0,
+    }
 }
 
 impl<'t, 'a> RowAt<'t, 'a> {
     /// The row's token.
-    pub(crate) fn token(&self) -> &'t Result<Token<'a>, ()>
-        ensures { shape_of_result result.now ≡ self.now.shape }
+    pub(crate) fn token(&self) -> Result<&'t Token<'a>, ()>
+        ensures { shape_of_lent result ≡ self.now.shape }
     {
-        &row_in(self.table.as_rows(), self.behind - 1).token
+        token_in(self.table, self.behind - 1)
     }
 
     /// The comments of the gap before it.
@@ -123,8 +134,7 @@ impl<'t, 'a> RowAt<'t, 'a> {
     pub(crate) fn span(&self) -> Span
         ensures { result ≡ self.now.at.span }
     {
-        let row = row_in(self.table.as_rows(), self.behind - 1);
-        row.span.start..row.span.end
+        span_in(self.table, self.behind - 1)
     }
 }
 

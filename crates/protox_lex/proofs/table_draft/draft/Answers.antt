@@ -12,7 +12,7 @@ use Rattle.protox_lex.proofs.table_draft.draft.Goals.{else-lexemes-test, then-le
 pub lexemes-init : goal.lexemes-init
 lexemes-init c = record {
   boundary = IsCharBoundary-start c.args.source.now c.utf8.source;
-  whole = finished_start record { rows = c.new.result; gaps = c.new-2.result; faults = c.new-3.result } (spec.cut 0 c.args.source.now) c.new.ensures.items c.new-2.ensures c.new-3.ensures;
+  whole = finished_start record { rows = c.in_ok-new.field-0; gaps = c.in_ok-new-2.field-0; faults = c.new-3.result } (spec.cut 0 c.args.source.now) c.in_ok-new.ensures c.in_ok-new-2.ensures c.new-3.ensures;
 }
 
 pub lexemes-preserved : goal.lexemes-preserved

@@ -1,9 +1,8 @@
-use Rattle.std.proofs.Common.{refl, sym, ap, ◌∙◌}
-use Rattle.protox_syntax.specs.Judging.{bare_span}
+use Rattle.std.proofs.Common.{refl, sym, ◌∙◌}
 use Rattle.protox_syntax.proofs.Spans.{placed-span}
 use Rattle.protox_syntax.proofs.judge.made.Goals as goal
 
 pub returns : goal.returns
 returns c =
-    let whole = c.file_span.ensures ∙ ap (bare_span c.args.size) c.as_rows.ensures ∙ sym (placed-span c.args.size c.args.table.now.rows c.args.table.now.gaps) in
+    let whole = c.file_span.ensures ∙ sym (placed-span c.args.size c.args.table.now.rows c.args.table.now.gaps) in
     rw (whole, c.syntax_or_default.ensures, c.stated_at.ensures, c.new.ensures) refl

@@ -1,0 +1,206 @@
+-- Rows that name their tokens by number, and gaps that are kept by number.
+use Rattle.std.proofs.Common.{◌≡◌, ℕ, zero, suc, ◌+◌, ◌-◌, ◌<◌, ◌≤◌, inl, inr, Bool, List, [], ◌∷◌, ◌++◌, length, length-append, append_assoc, map, set, take, replicate, refl, sym, ap, subst, ◌∙◌, arith, Option, Some, None, Err, eqb, nat_lt, false}
+use Rattle.std.proofs.Math.ListN.{get_or-append}
+use Rattle.std.proofs.Math.Seq.{get_or-append_seam}
+use Rattle.std.proofs.lemmas.Bool.{cases_Bool, eqb-true, eqb-false, ltb-false, le-ltb, lt-ltb}
+use Rattle.std.proofs.lemmas.Grind.{get_or-set_at}
+use Rattle.std.proofs.lemmas.List.{map-append, get_or-set_other, length-set, length-replicate, take-map, take-replicate}
+use Rattle.std.proofs.lemmas.Option.{slice_get-map, slice_get-get_or}
+use Rattle.std.specs.Borrow.{Bor}
+use Rattle.std.specs.Option.{option_map, option_copied}
+use Rattle.std.proofs.lemmas.List.Elements.{All-push}
+use Rattle.std.specs.Prelude.{slice_get, slice_index_or}
+use Rattle.protox_lex.specs.declared.shared_rows.KeptToken.{KeptToken}
+use Rattle.protox_lex.specs.declared.shared_rows.NumberedRow.{NumberedRow}
+use Rattle.protox_lex.specs.declared.token.Token.{Token}
+use Rattle.protox_lex.specs.Faults.{Span, span_from}
+use Rattle.protox_lex.specs.Grouping.{Grouped}
+use Rattle.protox_lex.specs.Shapes.{Shape, Mark, Newline, Row}
+use Rattle.protox_lex.specs.Sharing.{kept_at, shape_at, len_at, row_by, rows_by, AreKept, AreMarks, AreShared, AreLines, AreThere, AreGaps, gap_at, gaps_by}
+use Rattle.protox_lex.specs.TableView.{shapes_of_lent}
+use Rattle.protox_lex.specs.Tokens.{shape_of, shape_of_result}
+
+-- what is kept stays
+kept_stays : (tokens more : List KeptToken) (number : ℕ) → number < length tokens → kept_at (tokens ++ more) number ≡ kept_at tokens number
+kept_stays tokens more number l = get_or-append tokens more record { token = Err tt; len = 0 } number l
+
+kept_last : (tokens : List KeptToken) (token : KeptToken) → kept_at (tokens ++ token ∷ []) (length tokens) ≡ token
+kept_last tokens token = get_or-append_seam tokens token [] record { token = Err tt; len = 0 }
+
+-- a row, by what is kept for it
+abbrev row_with : ℕ → KeptToken → Row Span
+row_with start token = record { shape = shape_of_result token.token; at = span_from start (start + token.len) }
+
+rows_stay : (tokens more : List KeptToken) (rows : List NumberedRow) → AreKept tokens rows → rows_by (tokens ++ more) rows ≡ rows_by tokens rows
+rows_stay tokens more [] h = refl
+rows_stay tokens more (row ∷ rows) h =
+    let here : row_by (tokens ++ more) row ≡ row_by tokens row = ap (row_with row.start) (kept_stays tokens more row.token (h zero row (omega arith))) in
+    rw (here, rows_stay tokens more rows (λ k d l. h (suc k) d (omega arith))) refl
+
+-- a row of a token that is kept
+pub known_push : (tokens : List KeptToken) (rows : List NumberedRow) (row : NumberedRow) (shape : Shape) (len : ℕ) → shape_at tokens row.token ≡ shape → len_at tokens row.token ≡ len
+    → rows_by tokens (rows ++ row ∷ []) ≡ rows_by tokens rows ++ record { shape = shape; at = span_from row.start (row.start + len) } ∷ []
+known_push tokens rows row shape len e size = map-append (row_by tokens) rows (row ∷ []) ∙ rw (e, size) refl
+
+pub shared_known : (tokens : List KeptToken) (rows : List NumberedRow) (marks : List (Option ℕ)) (recent : List ℕ) (row : NumberedRow) → AreShared tokens rows marks recent → row.token < length tokens
+    → AreShared tokens (rows ++ row ∷ []) marks recent
+shared_known tokens rows marks recent row s l = record { kept = All-push (λ (r : NumberedRow). r.token < length tokens) rows row s.kept l; marks_are = s.marks_are; bytes = s.bytes; slots = s.slots }
+
+-- a row of one more token
+pub rows_push : (tokens : List KeptToken) (token : KeptToken) (rows : List NumberedRow) (row : NumberedRow) → AreKept tokens rows → row.token ≡ length tokens
+    → rows_by (tokens ++ token ∷ []) (rows ++ row ∷ []) ≡ rows_by tokens rows ++ record { shape = shape_of_result token.token; at = span_from row.start (row.start + token.len) } ∷ []
+rows_push tokens token rows row h e =
+    let last : row_by (tokens ++ token ∷ []) row ≡ row_with row.start token = ap (row_with row.start) (ap (kept_at (tokens ++ token ∷ [])) e ∙ kept_last tokens token) in
+    map-append (row_by (tokens ++ token ∷ [])) rows (row ∷ []) ∙ rw (rows_stay tokens (token ∷ []) rows h, last) refl
+
+kept_push : (tokens : List KeptToken) (token : KeptToken) (rows : List NumberedRow) (row : NumberedRow) → AreKept tokens rows → row.token ≡ length tokens
+    → AreKept (tokens ++ token ∷ []) (rows ++ row ∷ [])
+kept_push tokens token rows row h e =
+    let size = length-append tokens (token ∷ []) in
+    All-push (λ (r : NumberedRow). r.token < length (tokens ++ token ∷ [])) rows row (λ k d l. let below = h k d l in omega (arith, size)) (omega (arith, size, e))
+
+marks_push : (tokens : List KeptToken) (token : KeptToken) (marks : List (Option ℕ)) → AreMarks tokens marks → AreMarks (tokens ++ token ∷ []) marks
+marks_push tokens token marks h byte number e =
+    let (l, s) = h byte number e in
+    (omega (arith, l, length-append tokens (token ∷ [])), ap (λ k. shape_of_result k.token) (kept_stays tokens (token ∷ []) number l) ∙ s)
+
+pub shared_push : (tokens : List KeptToken) (token : KeptToken) (rows : List NumberedRow) (marks : List (Option ℕ)) (recent : List ℕ) (row : NumberedRow) → AreShared tokens rows marks recent → row.token ≡ length tokens
+    → AreShared (tokens ++ token ∷ []) (rows ++ row ∷ []) marks recent
+shared_push tokens token rows marks recent row s e = record { kept = kept_push tokens token rows row s.kept e; marks_are = marks_push tokens token marks s.marks_are; bytes = s.bytes; slots = s.slots }
+
+-- one more token, and no row of it yet
+pub shared_more : (tokens : List KeptToken) (token : KeptToken) (rows : List NumberedRow) (marks : List (Option ℕ)) (recent : List ℕ) → AreShared tokens rows marks recent
+    → AreShared (tokens ++ token ∷ []) rows marks recent
+shared_more tokens token rows marks recent s =
+    let size = length-append tokens (token ∷ []) in
+    record { kept = λ k d l. (let below = s.kept k d l in omega (arith, size)); marks_are = marks_push tokens token marks s.marks_are; bytes = s.bytes; slots = s.slots }
+
+-- a row of a mark that is kept from now on
+marks_first : (tokens : List KeptToken) (token : KeptToken) (marks : List (Option ℕ)) (byte : ℕ) → AreMarks tokens marks → shape_of_result token.token ≡ Mark byte → byte < length marks
+    → AreMarks (tokens ++ token ∷ []) (set marks byte (Some (length tokens)))
+marks_first tokens token marks byte h s l b number e = elim (cases_Bool (eqb b byte)) [
+  | inl same ↦
+      let here : b ≡ byte = eqb-true b byte same in
+      let found : Some (length tokens) ≡ Some number = sym (get_or-set_at marks byte b (Some (length tokens)) None here l) ∙ e in
+      let is : length tokens ≡ number = cc in
+      (omega (arith, is, length-append tokens (token ∷ [])), ap (shape_at (tokens ++ token ∷ [])) (sym is) ∙ ap (λ k. shape_of_result k.token) (kept_last tokens token) ∙ s ∙ ap Mark (sym here))
+  | inr other ↦
+      marks_push tokens token marks h b number (sym (get_or-set_other marks byte b (Some (length tokens)) None (eqb-false b byte other)) ∙ e)
+]
+
+pub shared_first : (tokens : List KeptToken) (token : KeptToken) (rows : List NumberedRow) (marks : List (Option ℕ)) (recent : List ℕ) (row : NumberedRow) (byte number : ℕ) → AreShared tokens rows marks recent → row.token ≡ number → number ≡ length tokens
+    → shape_of_result token.token ≡ Mark byte → byte < 256 → AreShared (tokens ++ token ∷ []) (rows ++ row ∷ []) (set marks byte (Some number)) recent
+shared_first tokens token rows marks recent row byte number s t e shape l =
+    let P : ℕ → Type 0 = λ number. AreMarks (tokens ++ token ∷ []) (set marks byte (Some number)) in
+    record {
+      kept = kept_push tokens token rows row s.kept (t ∙ e);
+      marks_are = subst P (sym e) (marks_first tokens token marks byte s.marks_are shape (omega (arith, l, s.bytes)));
+      bytes = length-set marks byte (Some number) ∙ s.bytes;
+      slots = s.slots;
+    }
+
+-- the number of a mark that is kept
+pub mark_found : (tokens : List KeptToken) (marks : List (Option ℕ)) (byte number : ℕ) (found : Option ℕ) → AreMarks tokens marks → byte < length marks → found ≡ slice_index_or marks byte found → found ≡ Some number
+    → (number < length tokens) × (shape_at tokens number ≡ Mark byte)
+mark_found tokens marks byte number found are within is some =
+    let one = slice_get-get_or marks byte found within in
+    let other = slice_get-get_or marks byte None within in
+    let same : slice_index_or marks byte None ≡ slice_index_or marks byte found = cc in
+    are byte number (same ∙ sym is ∙ some)
+
+-- ---- gaps
+
+-- newlines that are lent
+pub lines_lent : (lines : List Token) (count : ℕ) → AreLines lines → count ≤ 8 → map shape_of (take count lines) ≡ replicate count Newline
+lines_lent lines count e l = sym (take-map shape_of count lines) ∙ ap (take count) e ∙ take-replicate count 8 Newline l
+
+gap_found : (kept : List (List Token)) (numbers : List ℕ) (k number : ℕ) → k < length numbers → number ≡ slice_index_or numbers k 0 → slice_get (map (gap_at kept) numbers) k ≡ Some (gap_at kept number)
+gap_found kept numbers k number within is = slice_get-map (gap_at kept) numbers k ∙ ap (option_map (gap_at kept)) (slice_get-get_or numbers k 0 within ∙ ap Some (sym is))
+
+pub few_found : (lines : List Token) (kept : List (List Token)) (numbers : List ℕ) (k number : ℕ) → AreLines lines → k < length numbers → number ≡ slice_index_or numbers k 0 → number < 8
+    → Some (map shape_of (take number lines)) ≡ slice_get (map (gap_at kept) numbers) k
+few_found lines kept numbers k number e within is l =
+    let at : gap_at kept number ≡ replicate number Newline = rw (lt-ltb number 8 l) refl in
+    ap Some (lines_lent lines number e (omega (arith, l)) ∙ sym at) ∙ sym (gap_found kept numbers k number within is)
+
+pub many_found : (kept : List (List Token)) (numbers : List ℕ) (k number : ℕ) (lent : Option (Bor (List Token))) → AreThere numbers kept → k < length numbers → number ≡ slice_index_or numbers k 0 → 8 ≤ number
+    → option_copied lent ≡ slice_get kept (number - 8) → option_map shapes_of_lent lent ≡ slice_get (map (gap_at kept) numbers) k
+many_found kept numbers k number lent there within is l e =
+    let below = there k 0 within in
+    let some = slice_get-get_or kept (number - 8) [] (omega (arith, l, below, is)) in
+    let at : gap_at kept number ≡ map shape_of (slice_index_or kept (number - 8) []) = rw (le-ltb number 8 l) refl in
+    lent_is lent (slice_index_or kept (number - 8) []) (e ∙ some) ∙ ap Some (sym at) ∙ sym (gap_found kept numbers k number within is)
+  where
+    lent_is : (lent : Option (Bor (List Token))) (gap : List Token) → option_copied lent ≡ Some gap → option_map shapes_of_lent lent ≡ Some (map shape_of gap)
+    lent_is None gap e = absurd (cc)
+    lent_is (Some g) gap e = let same : g.now ≡ gap = cc in ap (λ ts. Some (map shape_of ts)) same
+
+-- more kept gaps change none
+gaps_kept : (kept : List (List Token)) (gap : List Token) (numbers : List ℕ) → AreThere numbers kept → map (gap_at (kept ++ gap ∷ [])) numbers ≡ map (gap_at kept) numbers
+gaps_kept kept gap [] h = refl
+gaps_kept kept gap (number ∷ numbers) h =
+    let below = h zero number (omega arith) in
+    let here : gap_at (kept ++ gap ∷ []) number ≡ gap_at kept number =
+    elim (cases_Bool (nat_lt number 8)) [
+      | inl few ↦ rw few refl
+      | inr many ↦
+          let past : 8 ≤ number = ltb-false number 8 many in
+          rw many (ap (map shape_of) (get_or-append kept (gap ∷ []) [] (number - 8) (omega (arith, past, below))))
+    ] in
+    rw (here, gaps_kept kept gap numbers (λ k d l. h (suc k) d (omega arith))) refl
+
+-- the gap that is kept last
+gap_last : (kept : List (List Token)) (gap : List Token) → gap_at (kept ++ gap ∷ []) (8 + length kept) ≡ map shape_of gap
+gap_last kept gap =
+    let past : nat_lt (8 + length kept) 8 ≡ false = le-ltb (8 + length kept) 8 (omega arith) in
+    let behind : 8 + length kept - 8 ≡ length kept = omega arith in
+    rw past (ap (map shape_of) (ap (λ n. slice_index_or (kept ++ gap ∷ []) n []) behind ∙ get_or-append_seam kept gap [] []))
+
+pub end_kept : (numbers : List ℕ) (kept : List (List Token)) (gap : List Token) (number : ℕ) → AreThere numbers kept → number ≡ 8 + length kept
+    → map (gap_at (kept ++ gap ∷ [])) (numbers ++ number ∷ []) ≡ map (gap_at kept) numbers ++ map shape_of gap ∷ []
+end_kept numbers kept gap number h e =
+    map-append (gap_at (kept ++ gap ∷ [])) numbers (number ∷ []) ∙ rw (gaps_kept kept gap numbers h, e, gap_last kept gap) refl
+
+pub there_more : (numbers : List ℕ) (kept : List (List Token)) (gap : List Token) → AreThere numbers kept → AreThere numbers (kept ++ gap ∷ [])
+there_more numbers kept gap h k d l = let below = h k d l in omega (arith, length-append kept (gap ∷ []))
+
+pub there_push : (numbers : List ℕ) (kept : List (List Token)) (number : ℕ) → AreThere numbers kept → number < 8 + length kept → AreThere (numbers ++ number ∷ []) kept
+there_push numbers kept number h l = All-push (λ n. n < 8 + length kept) numbers number h l
+
+-- a gap of a few newlines
+pub few_there : (lines : List Token) (numbers : List ℕ) (kept : Grouped Token) (has_begun : Bool) (count : ℕ) → AreGaps lines numbers kept has_begun → count < 8 → AreGaps lines (numbers ++ count ∷ []) kept has_begun
+few_there lines numbers kept has_begun count g l = record { newlines = g.newlines; there = there_push numbers kept.ended count g.there (omega (arith, l)); begun = g.begun }
+
+pub end_few : (lines : List Token) (numbers : List ℕ) (kept : Grouped Token) (count : ℕ) → AreGaps lines numbers kept false → count < 8
+    → gaps_by (numbers ++ count ∷ []) kept 0 ≡ record { ended = (gaps_by numbers kept count).ended ++ (gaps_by numbers kept count).begun ∷ []; begun = [] }
+end_few lines numbers kept count g l =
+    let ended : map (gap_at kept.ended) (numbers ++ count ∷ []) ≡ map (gap_at kept.ended) numbers ++ replicate count Newline ∷ [] = map-append (gap_at kept.ended) numbers (count ∷ []) ∙ rw (lt-ltb count 8 l) refl in
+    rw (ended, g.begun refl) refl
+
+-- a newline that is kept was one of those behind what is kept
+pub newline_kept : (begun : List Token) (token : Token) (count : ℕ) → 0 < count → shape_of token ≡ Newline
+    → map shape_of (begun ++ token ∷ []) ++ replicate (count - 1) Newline ≡ map shape_of begun ++ replicate count Newline
+newline_kept begun token zero l e = absurd (omega arith)
+newline_kept begun token (suc count) l e = let less : suc count - 1 ≡ count = omega arith in rw (less, map-append shape_of begun (token ∷ []), e) (append_assoc (map shape_of begun) (Newline ∷ []) (replicate count Newline))
+
+-- no row yet
+pub nothing_shared : (tokens : List KeptToken) (rows : List NumberedRow) (marks : List (Option ℕ)) (recent : List ℕ) → tokens ≡ [] → rows ≡ [] → marks ≡ replicate 256 None → length recent ≡ 4096
+    → AreShared tokens rows marks recent
+nothing_shared tokens rows marks recent t r m size = record {
+  kept = rw r (λ k d l. absurd (omega arith));
+  marks_are = λ byte number e. absurd (none byte number (sym (ap (λ ms. slice_index_or ms byte None) m) ∙ e));
+  bytes = ap length m ∙ (let none : Option ℕ = None in length-replicate 256 none);
+  slots = size;
+} where
+  never : (n byte number : ℕ) → slice_index_or (replicate n None) byte None ≡ Some number → ⊥
+  never zero byte number e = absurd (cc)
+  never (suc n) zero number e = absurd (cc)
+  never (suc n) (suc byte) number e = never n byte number e
+
+  none : (byte number : ℕ) → slice_index_or (replicate 256 None) byte None ≡ Some number → ⊥
+  none byte number e = never 256 byte number e
+
+-- what is a copy of nothing is nothing
+pub only_none : (R : Option ℕ → Type 0) → ((n : ℕ) → R (Some n) → ⊥) → (copy : Option ℕ) → R copy → copy ≡ None
+only_none R never None r = refl
+only_none R never (Some n) r = absurd (never n r)

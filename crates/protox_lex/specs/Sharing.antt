@@ -1,0 +1,69 @@
+-- Machinery: rows that name their tokens by number, and gaps that are kept by number.
+use Rattle.std.specs.Prelude.{◌≡◌, ◌<◌, ◌+◌, ◌-◌, ◌++◌, ℕ, Bool, false, if◌then◌else◌, nat_lt, replicate, Option, Some, None, Err, List, [], map, length, slice_index_or}
+use Rattle.std.specs.List.{All}
+use Rattle.protox_lex.specs.declared.shared_rows.KeptToken.{KeptToken}
+use Rattle.protox_lex.specs.declared.shared_rows.NumberedRow.{NumberedRow}
+use Rattle.protox_lex.specs.declared.token.Token.{Token}
+use Rattle.protox_lex.specs.Faults.{Span, span_from}
+use Rattle.protox_lex.specs.Grouping.{Grouped}
+use Rattle.protox_lex.specs.Shapes.{Shape, Mark, Newline, Row, Rows}
+use Rattle.protox_lex.specs.Tokens.{shape_of, shape_of_result}
+
+-- what is kept by that number
+abbrev pub kept_at : List KeptToken → ℕ → KeptToken
+kept_at tokens number = slice_index_or tokens number record { token = Err tt; len = 0 }
+
+abbrev pub shape_at : List KeptToken → ℕ → Shape
+shape_at tokens number = shape_of_result (kept_at tokens number).token
+
+abbrev pub len_at : List KeptToken → ℕ → ℕ
+len_at tokens number = (kept_at tokens number).len
+
+-- the row as data
+abbrev pub row_by : List KeptToken → NumberedRow → Row Span
+row_by tokens row = record { shape = shape_at tokens row.token; at = span_from row.start (row.start + len_at tokens row.token) }
+
+abbrev pub rows_by : List KeptToken → List NumberedRow → Rows Span
+rows_by tokens rows = map (row_by tokens) rows
+
+-- The token of each row is kept.
+abbrev pub AreKept : List KeptToken → List NumberedRow → Type 0
+AreKept tokens rows = All (λ (row : NumberedRow). row.token < length tokens) rows
+
+-- A number that stands for a byte is that of its mark.
+abbrev pub AreMarks : List KeptToken → List (Option ℕ) → Type 0
+AreMarks tokens marks = (byte number : ℕ) → slice_index_or marks byte None ≡ Some number → (number < length tokens) × (shape_at tokens number ≡ Mark byte)
+
+-- what is true of shared rows
+pub record AreShared (tokens : List KeptToken) (rows : List NumberedRow) (marks : List (Option ℕ)) (recent : List ℕ) : Type 0 where
+  pub kept : AreKept tokens rows
+  pub marks_are : AreMarks tokens marks
+  pub bytes : length marks ≡ 256
+  pub slots : length recent ≡ 4096
+
+-- ---- gaps
+
+-- the newlines that gaps are lent from
+abbrev pub AreLines : List Token → Type 0
+AreLines lines = map shape_of lines ≡ replicate 8 Newline
+
+-- The gap of a number: the first eight are of so many newlines, and behind them are those that are kept.
+abbrev pub gap_at : List (List Token) → ℕ → List Shape
+gap_at kept number = if nat_lt number 8 then replicate number Newline else map shape_of (slice_index_or kept (number - 8) [])
+
+-- the gaps of these numbers; of the one that has begun some is kept, and newlines stand behind that
+abbrev pub gaps_by : List ℕ → Grouped Token → ℕ → Grouped Shape
+gaps_by numbers kept newlines = record {
+  ended = map (gap_at kept.ended) numbers;
+  begun = map shape_of kept.begun ++ replicate newlines Newline;
+}
+
+-- Each gap is there.
+abbrev pub AreThere : List ℕ → List (List Token) → Type 0
+AreThere numbers kept = All (λ number. number < 8 + length kept) numbers
+
+-- what is true of shared gaps
+pub record AreGaps (lines : List Token) (numbers : List ℕ) (kept : Grouped Token) (has_begun : Bool) : Type 0 where
+  pub newlines : AreLines lines
+  pub there : AreThere numbers kept.ended
+  pub begun : has_begun ≡ false → kept.begun ≡ []

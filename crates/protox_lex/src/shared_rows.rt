@@ -1,0 +1,274 @@
+//! The rows of a table, in little memory.
+ghost use Rattle.std.specs.Prelude.{◌≡◌, ◌<◌, ◌+◌, ◌++◌, ◌∷◌, [], true, length, slice_get, OnOk, IfOk, IfSome};
+ghost use Rattle.std.specs.Option.{option_map};
+ghost use Rattle.protox_lex.specs.Faults.{span_from};
+ghost use Rattle.protox_lex.specs.Lexicon.{is_mark};
+ghost use Rattle.protox_lex.specs.Shapes.{Mark};
+ghost use Rattle.protox_lex.specs.Sharing.{shape_at, len_at, AreMarks};
+ghost use Rattle.protox_lex.specs.TableView.{shape_of_lent};
+ghost use Rattle.protox_lex.specs.Tokens.{shape_of, shape_of_result};
+
+use crate::bytes::byte_at;
+use crate::error::Span;
+use crate::token::{Token, mark_of};
+use std::alloc::{AllocError, Global};
+use std::marker::Model;
+
+/// Where a row begins, and the number of its token. A row takes 8 bytes.
+#[derive(Clone, Copy)]
+pub(crate) struct NumberedRow {
+    pub start: u32,
+    pub token: u32,
+}
+
+/// A token, and how many bytes it has in the source.
+#[derive(Drop)]
+pub(crate) struct KeptToken<'a> {
+    pub token: Result<Token<'a>, ()>,
+    pub len: u32,
+}
+
+// How many words and integers are remembered.
+const SLOTS: usize = 4096;
+
+/// Rows. Each mark is kept once, and no word or integer that is equal to one that is remembered.
+#[derive(Drop)]
+pub(crate) struct SharedRows<'a> {
+    rows: Vec<NumberedRow>,
+    tokens: Vec<KeptToken<'a>>,
+    marks: Vec<Option<u32>>,
+    recent: Vec<u32>,
+}
+
+impl<'a> Model for SharedRows<'a> {
+    ghost use Rattle.protox_lex.specs.Faults.{Span};
+    ghost use Rattle.protox_lex.specs.Shapes.{Rows};
+    ghost use Rattle.protox_lex.specs.Sharing.{rows_by, AreShared};
+
+    ghost Value = { Rows Span };
+
+    ghost view = { λ s. rows_by s.tokens.items s.rows.items };
+
+    ghost invariant = { λ s. AreShared s.tokens.items s.rows.items s.marks.items s.recent.items };
+}
+
+/// Where the number of a token is remembered that is spelled by the first `len` bytes. Any place
+/// would do, but words that share one are kept more often.
+#[inline(always)]
+pub(crate) fn slot_of(text: &[u8], len: usize) -> usize
+    ensures { result < 4096 }
+{
+    let first = byte_at(text, 0) as usize;
+    let middle = byte_at(text, len / 2) as usize;
+    let last = byte_at(text, len.saturating_sub(1)) as usize;
+    (first * 61 + middle * 197 + last * 7 + len % SLOTS * 389) % SLOTS
+}
+
+// The number of a token that is equal to this one, if that one is remembered there.
+#[inline(always)]
+fn known(
+    tokens: &[KeptToken<'_>],
+    recent: &[u32],
+    slot: usize,
+    token: &Token<'_>,
+    len: usize,
+) -> Option<u32>
+    requires { slot < length recent.now }
+    ensures within { IfSome result (λ number. number < length tokens.now) }
+    ensures equal { IfSome result (λ number. shape_at tokens.now number ≡ shape_of token.now) }
+    ensures size { IfSome result (λ number. len_at tokens.now number ≡ len) }
+{
+    let number = recent[slot];
+    let kept = tokens.get(number as usize)?;
+    match &kept.token {
+        Ok(known) if known == token && kept.len as usize == len => Some(number),
+        _ => None,
+    }
+}
+
+// The number of the mark that is this byte, if it is kept with this length.
+#[inline(always)]
+#[tactic(auto, using(crate::proofs::Sharing::mark_found))]
+fn known_mark(tokens: &[KeptToken<'_>], marks: &[Option<u32>], byte: u8, len: usize) -> Option<u32>
+    requires marks { length marks.now ≡ 256 }
+    requires kept { AreMarks tokens.now marks.now }
+    ensures within { IfSome result (λ number. number < length tokens.now) }
+    ensures equal { IfSome result (λ number. shape_at tokens.now number ≡ Mark byte) }
+    ensures size { IfSome result (λ number. len_at tokens.now number ≡ len) }
+{
+    let number = marks[byte as usize]?;
+    let kept = tokens.get(number as usize)?;
+    if kept.len as usize == len {
+        Some(number)
+    } else {
+        None
+    }
+}
+
+// What a narrow number can be at most.
+const NARROW: usize = u32::MAX as usize;
+
+// A row. It may not begin behind the first 4 GiB of a source.
+#[inline(always)]
+fn numbered(token: u32, start: usize) -> Result<NumberedRow, AllocError>
+    ensures { IfOk result (λ row. row ≡ record { start = start; token = token }) }
+{
+    if NARROW < start {
+        return Err(AllocError);
+    }
+    Ok(NumberedRow {
+        start: start as u32,
+        token,
+    })
+}
+
+// A token that is kept. It may not be longer than 4 GiB.
+fn kept<'a>(token: Result<Token<'a>, ()>, len: usize) -> Result<KeptToken<'a>, AllocError>
+    ensures { IfOk result (λ kept. kept ≡ record { token = token.entry; len = len }) }
+{
+    if NARROW < len {
+        return Err(AllocError);
+    }
+    Ok(KeptToken {
+        token,
+        len: len as u32,
+    })
+}
+
+impl<'a> SharedRows<'a> {
+    /// No row.
+    pub(crate) fn new(alloc: Global) -> Result<SharedRows<'a>, AllocError>
+        ensures { IfOk result (λ rows. rows ≡ []) }
+    {
+        Ok(SharedRows {
+            rows: Vec::new(alloc),
+            tokens: Vec::new(alloc),
+            marks: vec![in alloc; None; 256]?,
+            recent: vec![in alloc; 0; SLOTS]?,
+        })
+    }
+
+    /// How many rows there are.
+    pub(crate) fn len(&self) -> usize
+        ensures { result ≡ length self.now }
+    {
+        self.rows.len()
+    }
+
+    /// The token of a row, or `Err(())` for an invalid one. None past the last.
+    pub(crate) fn token(&self, index: usize) -> Option<Result<&Token<'a>, ()>>
+        ensures { option_map shape_of_lent result ≡ option_map (λ row. row.shape) (slice_get self.now index) }
+    {
+        let row = self.rows.get(index)?;
+        match &self.tokens[row.token as usize].token {
+            Ok(token) => Some(Ok(token)),
+            Err(()) => Some(Err(())),
+        }
+    }
+
+    /// The span of a row, or None past the last.
+    pub(crate) fn span(&self, index: usize) -> Option<Span>
+        ensures { result ≡ option_map (λ row. row.at) (slice_get self.now index) }
+    {
+        let row = self.rows.get(index)?;
+        let start = row.start as usize;
+        Some(start..start + self.tokens[row.token as usize].len as usize)
+    }
+
+    #[tactic(auto, using(crate::proofs::Sharing::rows_push))]
+    /// Appends a row.
+    pub(crate) fn push(
+        &mut self,
+        token: Result<Token<'a>, ()>,
+        start: usize,
+        len: usize,
+    ) -> Result<(), AllocError>
+        ensures { OnOk result (self.new ≡ self.old ++ record { shape = shape_of_result token.entry; at = span_from start (start + len) } ∷ []) }
+    {
+        let Ok(number) = u32::try_from(self.tokens.len()) else {
+            return Err(AllocError);
+        };
+        let row = numbered(number, start)?;
+        let token = kept(token, len)?;
+        self.tokens.push(token)?;
+        self.rows.push(row)?;
+        Ok(())
+    }
+
+    // Appends a row of a mark that is not kept yet.
+    #[inline(never)]
+    #[tactic(auto, using(crate::proofs::Sharing::rows_push))]
+    fn push_first_mark(&mut self, byte: u8, start: usize, len: usize) -> Result<(), AllocError>
+        requires { is_mark byte ≡ true }
+        ensures { OnOk result (self.new ≡ self.old ++ record { shape = Mark byte; at = span_from start (start + len) } ∷ []) }
+    {
+        let Some(token) = mark_of(byte) else {
+            unreachable!()
+        };
+        let Ok(number) = u32::try_from(self.tokens.len()) else {
+            return Err(AllocError);
+        };
+        let row = numbered(number, start)?;
+        let token = kept(Ok(token), len)?;
+        self.tokens.push(token)?;
+        self.rows.push(row)?;
+        self.marks[byte as usize] = Some(number);
+        Ok(())
+    }
+
+    /// Appends a row of a mark.
+    #[inline(always)]
+    #[tactic(auto, using(crate::proofs::Sharing::known_push, crate::proofs::Sharing::shared_known))]
+    pub(crate) fn push_mark(&mut self, byte: u8, start: usize, len: usize) -> Result<(), AllocError>
+        requires { is_mark byte ≡ true }
+        ensures { OnOk result (self.new ≡ self.old ++ record { shape = Mark byte; at = span_from start (start + len) } ∷ []) }
+    {
+        match known_mark(&self.tokens, &self.marks, byte, len) {
+            Some(number) => {
+                self.rows.push(numbered(number, start)?)?;
+                Ok(())
+            }
+            None => self.push_first_mark(byte, start, len),
+        }
+    }
+
+    // Appends a row of a word or integer that is not remembered, and remembers it.
+    #[inline(never)]
+    fn push_first(
+        &mut self,
+        token: Token<'a>,
+        slot: usize,
+        start: usize,
+        len: usize,
+    ) -> Result<(), AllocError>
+        requires { slot < 4096 }
+        ensures { OnOk result (self.new ≡ self.old ++ record { shape = shape_of token.entry; at = span_from start (start + len) } ∷ []) }
+    {
+        if let Ok(number) = u32::try_from(self.tokens.len()) {
+            self.recent[slot] = number;
+        }
+        self.push(Ok(token), start, len)
+    }
+
+    /// Appends a row of a word or an integer. A slot is where its number is remembered.
+    #[inline(always)]
+    #[tactic(auto, using(crate::proofs::Sharing::known_push, crate::proofs::Sharing::shared_known))]
+    pub(crate) fn push_plain(
+        &mut self,
+        token: Token<'a>,
+        slot: usize,
+        start: usize,
+        len: usize,
+    ) -> Result<(), AllocError>
+        requires { slot < 4096 }
+        ensures { OnOk result (self.new ≡ self.old ++ record { shape = shape_of token.entry; at = span_from start (start + len) } ∷ []) }
+    {
+        match known(&self.tokens, &self.recent, slot, &token, len) {
+            Some(number) => {
+                self.rows.push(numbered(number, start)?)?;
+                Ok(())
+            }
+            None => self.push_first(token, slot, start, len),
+        }
+    }
+}

@@ -1,5 +1,5 @@
 -- Rows that name their tokens by number, and gaps that are kept by number.
-use Rattle.std.proofs.Common.{◌≡◌, ℕ, zero, suc, ◌+◌, ◌-◌, ◌<◌, ◌≤◌, inl, inr, Bool, List, [], ◌∷◌, ◌++◌, length, length-append, append_assoc, map, set, take, replicate, refl, sym, ap, subst, ◌∙◌, arith, Option, Some, None, Err, eqb, nat_lt, false}
+use Rattle.std.proofs.Common.{◌≡◌, ℕ, zero, suc, ◌+◌, ◌-◌, ◌<◌, ◌≤◌, inl, inr, List, [], ◌∷◌, ◌++◌, length, length-append, append_assoc, map, set, take, replicate, refl, sym, ap, subst, ◌∙◌, arith, Option, Some, None, Err, eqb, nat_lt, false}
 use Rattle.std.proofs.Math.ListN.{get_or-append}
 use Rattle.std.proofs.Math.Seq.{get_or-append_seam}
 use Rattle.std.proofs.lemmas.Bool.{cases_Bool, eqb-true, eqb-false, ltb-false, le-ltb, lt-ltb}
@@ -14,9 +14,8 @@ use Rattle.protox_lex.specs.declared.shared_rows.KeptToken.{KeptToken}
 use Rattle.protox_lex.specs.declared.shared_rows.NumberedRow.{NumberedRow}
 use Rattle.protox_lex.specs.declared.token.Token.{Token}
 use Rattle.protox_lex.specs.Faults.{Span, span_from}
-use Rattle.protox_lex.specs.Grouping.{Grouped}
 use Rattle.protox_lex.specs.Shapes.{Shape, Mark, Newline, Row}
-use Rattle.protox_lex.specs.Sharing.{kept_at, shape_at, len_at, row_by, rows_by, AreKept, AreMarks, AreShared, AreLines, AreThere, AreGaps, gap_at, gaps_by}
+use Rattle.protox_lex.specs.Sharing.{kept_at, shape_at, len_at, row_by, rows_by, AreKept, AreMarks, AreShared, AreLines, AreThere, gap_at}
 use Rattle.protox_lex.specs.TableView.{shapes_of_lent}
 use Rattle.protox_lex.specs.Tokens.{shape_of, shape_of_result}
 
@@ -111,7 +110,7 @@ mark_found tokens marks byte number found are within is some =
 -- ---- gaps
 
 -- newlines that are lent
-pub lines_lent : (lines : List Token) (count : ℕ) → AreLines lines → count ≤ 8 → map shape_of (take count lines) ≡ replicate count Newline
+lines_lent : (lines : List Token) (count : ℕ) → AreLines lines → count ≤ 8 → map shape_of (take count lines) ≡ replicate count Newline
 lines_lent lines count e l = sym (take-map shape_of count lines) ∙ ap (take count) e ∙ take-replicate count 8 Newline l
 
 gap_found : (kept : List (List Token)) (numbers : List ℕ) (k number : ℕ) → k < length numbers → number ≡ slice_index_or numbers k 0 → slice_get (map (gap_at kept) numbers) k ≡ Some (gap_at kept number)
@@ -167,16 +166,6 @@ there_more numbers kept gap h k d l = let below = h k d l in omega (arith, lengt
 pub there_push : (numbers : List ℕ) (kept : List (List Token)) (number : ℕ) → AreThere numbers kept → number < 8 + length kept → AreThere (numbers ++ number ∷ []) kept
 there_push numbers kept number h l = All-push (λ n. n < 8 + length kept) numbers number h l
 
--- a gap of a few newlines
-pub few_there : (lines : List Token) (numbers : List ℕ) (kept : Grouped Token) (has_begun : Bool) (count : ℕ) → AreGaps lines numbers kept has_begun → count < 8 → AreGaps lines (numbers ++ count ∷ []) kept has_begun
-few_there lines numbers kept has_begun count g l = record { newlines = g.newlines; there = there_push numbers kept.ended count g.there (omega (arith, l)); begun = g.begun }
-
-pub end_few : (lines : List Token) (numbers : List ℕ) (kept : Grouped Token) (count : ℕ) → AreGaps lines numbers kept false → count < 8
-    → gaps_by (numbers ++ count ∷ []) kept 0 ≡ record { ended = (gaps_by numbers kept count).ended ++ (gaps_by numbers kept count).begun ∷ []; begun = [] }
-end_few lines numbers kept count g l =
-    let ended : map (gap_at kept.ended) (numbers ++ count ∷ []) ≡ map (gap_at kept.ended) numbers ++ replicate count Newline ∷ [] = map-append (gap_at kept.ended) numbers (count ∷ []) ∙ rw (lt-ltb count 8 l) refl in
-    rw (ended, g.begun refl) refl
-
 -- a newline that is kept was one of those behind what is kept
 pub newline_kept : (begun : List Token) (token : Token) (count : ℕ) → 0 < count → shape_of token ≡ Newline
     → map shape_of (begun ++ token ∷ []) ++ replicate (count - 1) Newline ≡ map shape_of begun ++ replicate count Newline
@@ -188,7 +177,7 @@ pub nothing_shared : (tokens : List KeptToken) (rows : List NumberedRow) (marks 
     → AreShared tokens rows marks recent
 nothing_shared tokens rows marks recent t r m size = record {
   kept = rw r (λ k d l. absurd (omega arith));
-  marks_are = λ byte number e. absurd (none byte number (sym (ap (λ ms. slice_index_or ms byte None) m) ∙ e));
+  marks_are = λ byte number e. absurd (never 256 byte number (sym (ap (λ ms. slice_index_or ms byte None) m) ∙ e));
   bytes = ap length m ∙ (let none : Option ℕ = None in length-replicate 256 none);
   slots = size;
 } where
@@ -196,9 +185,6 @@ nothing_shared tokens rows marks recent t r m size = record {
   never zero byte number e = absurd (cc)
   never (suc n) zero number e = absurd (cc)
   never (suc n) (suc byte) number e = never n byte number e
-
-  none : (byte number : ℕ) → slice_index_or (replicate 256 None) byte None ≡ Some number → ⊥
-  none byte number e = never 256 byte number e
 
 -- what is a copy of nothing is nothing
 pub only_none : (R : Option ℕ → Type 0) → ((n : ℕ) → R (Some n) → ⊥) → (copy : Option ℕ) → R copy → copy ≡ None

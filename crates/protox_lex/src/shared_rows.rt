@@ -105,15 +105,15 @@ fn known_mark(tokens: &[KeptToken<'_>], marks: &[Option<u32>], byte: u8, len: us
     }
 }
 
-// What a narrow number can be at most.
-const NARROW: usize = u32::MAX as usize;
+// The greatest number that 4 bytes hold.
+const GREATEST: usize = u32::MAX as usize;
 
 // A row. It may not begin behind the first 4 GiB of a source.
 #[inline(always)]
 fn numbered(token: u32, start: usize) -> Result<NumberedRow, AllocError>
     ensures { IfOk result (λ row. row ≡ record { start = start; token = token }) }
 {
-    if NARROW < start {
+    if GREATEST < start {
         return Err(AllocError);
     }
     Ok(NumberedRow {
@@ -126,7 +126,7 @@ fn numbered(token: u32, start: usize) -> Result<NumberedRow, AllocError>
 fn kept<'a>(token: Result<Token<'a>, ()>, len: usize) -> Result<KeptToken<'a>, AllocError>
     ensures { IfOk result (λ kept. kept ≡ record { token = token.entry; len = len }) }
 {
-    if NARROW < len {
+    if GREATEST < len {
         return Err(AllocError);
     }
     Ok(KeptToken {

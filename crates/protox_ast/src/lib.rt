@@ -2,5 +2,3 @@
 #![tactic(auto)]
 
 pub mod ast;
-#[cfg(test)]
-mod tests;

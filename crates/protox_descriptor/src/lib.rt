@@ -5,6 +5,4 @@
 pub mod case;
 pub mod descriptor;
 pub mod tag;
-#[cfg(test)]
-mod tests;
 pub mod values;

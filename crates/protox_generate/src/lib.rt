@@ -11,5 +11,3 @@ mod lines;
 mod messages;
 mod parts;
 mod sorting;
-#[cfg(test)]
-mod tests;

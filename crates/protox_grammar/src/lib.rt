@@ -41,6 +41,3 @@ pub fn spelled_is_expected()
     ensures token { truth.NoneIsUnexpected }
     ensures end { truth.NoneIsEnded }
 {}
-
-#[cfg(test)]
-mod marks;

@@ -12,11 +12,7 @@ ghost use Rattle.protox_ast.specs.Places.{Place};
 ghost use Rattle.protox_parse.specs.Failures.{AreWrongOf, IsOutOfMemory, IsRefusalOf};
 ghost use Rattle.protox_parse.specs.Truth.{AreTrue};
 
-#[cfg(test)]
-mod comment_tests;
 mod failure;
-#[cfg(test)]
-mod tests;
 
 pub use failure::{ParseError, ParseFailure};
 use failure::{refused, too_large};

@@ -1,0 +1,114 @@
+#!/usr/bin/env python3
+"""Runs the gate and says where its minutes went: processor minutes by crate and kind, and each edit's seconds.
+
+usage: gate.py [LOG]        at the top of the repository; runs `rt ci`, whose output goes to LOG (out of the tree) or is shown
+
+The gate starts one prover for each proof, each crate's tests and each edit, and a prover starts others of its own. Their
+processor time is read from /proc twice a second, so what is said of one process is short by half a second at most. The first edit of a crate proves the
+crate once more; that part is told apart as `again`, the least edit of the crate standing for an edit's own cost.
+"""
+import collections
+import os
+import subprocess
+import sys
+import time
+
+TICKS = os.sysconf('SC_CLK_TCK')
+
+
+def stat_of(pid):
+    """The parent of a process, and its processor seconds."""
+    with open(f'/proc/{pid}/stat') as file:
+        fields = file.read().rpartition(')')[2].split()
+    return int(fields[1]), (int(fields[11]) + int(fields[12])) / TICKS
+
+
+def what_of(pid):
+    """The crate and the kind of a prover's work, or None of another process."""
+    with open(f'/proc/{pid}/cmdline', 'rb') as file:
+        words = file.read().decode(errors='replace').split('\0')
+    if '--crate-name' not in words:
+        return None
+    folder = os.readlink(f'/proc/{pid}/cwd')
+    kind = 'edit' if 'rt-edit-' in folder else 'tests' if '--test' in words else 'proof'
+    return words[words.index('--crate-name') + 1], kind
+
+
+def is_below(pid, top):
+    while pid > 1 and pid != top:
+        pid, _ = stat_of(pid)
+    return pid == top
+
+
+class Provers:
+    """The provers that were seen: each one's work, the prover that it serves, and its seconds."""
+
+    def __init__(self):
+        self.work, self.serves, self.seconds = {}, {}, {}
+
+    def see(self, pid, top):
+        parent, seconds = stat_of(pid)
+        if pid not in self.work:
+            what = what_of(pid)
+            if what is None or not is_below(pid, top):
+                return
+            self.work[pid] = what
+            self.serves[pid] = self.serves.get(parent, pid)
+        self.seconds[pid] = seconds
+
+    def runs(self):
+        """The work and the seconds of each run, in the order in which they were begun."""
+        sums = collections.Counter()
+        for pid, seconds in self.seconds.items():
+            sums[self.serves[pid]] += seconds
+        return [(*self.work[pid], sums[pid]) for pid in self.work if self.serves[pid] == pid]
+
+
+def watch(gate):
+    provers = Provers()
+    while gate.poll() is None:
+        for pid in sorted(int(name) for name in os.listdir('/proc') if name.isdigit()):
+            try:
+                provers.see(pid, gate.pid)
+            except (OSError, IndexError, ValueError):
+                continue
+        time.sleep(0.5)
+    return provers.runs()
+
+
+def names_of_edits(crate):
+    folder = f'crates/{crate}/must-fail'
+    return sorted(n for n in os.listdir(folder) if n.endswith('.edit')) if os.path.isdir(folder) else []
+
+
+def main():
+    began = time.time()
+    log = open(sys.argv[1], 'w') if len(sys.argv) > 1 else None
+    gate = subprocess.Popen(['rt', 'ci'], stdout=log, stderr=subprocess.STDOUT if log else None)
+    runs = watch(gate)
+    table, edits = collections.defaultdict(collections.Counter), collections.defaultdict(list)
+    for crate, kind, seconds in runs:
+        if kind == 'edit':
+            edits[crate].append(seconds)
+        else:
+            table[crate][kind] += seconds
+    for crate, times in edits.items():
+        least = min(times[1:] or times)
+        table[crate]['again'] += max(times[0] - least, 0)
+        table[crate]['edits'] += sum(times[1:]) + min(times[0], least)
+    kinds = ['proof', 'tests', 'again', 'edits']
+    print(f'{"minutes of processor time":28}' + ''.join(f'{kind:>8}' for kind in kinds) + '     all')
+    for crate in sorted(table, key=lambda crate: -sum(table[crate].values())):
+        print(f'{crate:28}' + ''.join(f'{table[crate][kind] / 60:8.1f}' for kind in kinds)
+              + f'{sum(table[crate].values()) / 60:8.1f}')
+    print(f'{"all":28}' + ''.join(f'{sum(row[kind] for row in table.values()) / 60:8.1f}' for kind in kinds)
+          + f'{sum(sum(row.values()) for row in table.values()) / 60:8.1f}')
+    print(f'{(time.time() - began) / 60:.1f} minutes from start to end')
+    for crate, times in edits.items():
+        for name, seconds in zip(names_of_edits(crate), times):
+            print(f'{seconds:6.0f} s  {crate}/{name}')
+    return gate.returncode
+
+
+if __name__ == '__main__':
+    sys.exit(main())

@@ -1,0 +1,40 @@
+//! The laws at the marks that are used: none, and places.
+ghost use Rattle.protox_grammar.specs.Grammar as grammar;
+ghost use Rattle.protox_lex.specs.Faults.{Span};
+
+use protox_grammar::{accepts, ended, one_tree, too_deep, unexpected};
+
+fn without_marks()
+    ensures one_tree { grammar.OneTree (Unit {0}) }
+    ensures accepts { grammar.AcceptsIff (Unit {0}) }
+    ensures unexpected { grammar.TightUnexpected (Unit {0}) }
+    ensures too_deep { grammar.TightDeep (Unit {0}) }
+    ensures ended { grammar.TightEnd (Unit {0}) }
+{
+    one_tree(&());
+    accepts(&());
+    unexpected(&());
+    too_deep(&());
+    ended(&());
+}
+
+fn with_places()
+    ensures one_tree { grammar.OneTree Span }
+    ensures accepts { grammar.AcceptsIff Span }
+    ensures unexpected { grammar.TightUnexpected Span }
+    ensures too_deep { grammar.TightDeep Span }
+    ensures ended { grammar.TightEnd Span }
+{
+    let place = 0usize..0;
+    one_tree(&place);
+    accepts(&place);
+    unexpected(&place);
+    too_deep(&place);
+    ended(&place);
+}
+
+#[test]
+fn laws_at_marks() {
+    without_marks();
+    with_places();
+}

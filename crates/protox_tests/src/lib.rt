@@ -1,0 +1,15 @@
+//! One run of each public call of the crates below, with what a program's lines cannot show: equality, what
+//! is answered by value, and runs that other programs make with memory refused. Cases of the parser and the
+//! lexer are data of the programs `protocases` and `lexcases`.
+#![tactic(auto)]
+
+#[cfg(test)]
+mod descriptors;
+#[cfg(test)]
+mod laws;
+#[cfg(test)]
+mod parsing;
+#[cfg(test)]
+mod running;
+#[cfg(test)]
+mod trees;

@@ -1,0 +1,128 @@
+//! The parser, its two halves, and its refusals.
+use protox_parse::error::Span;
+use protox_parse::generate::{LineResolver, generate_file};
+use protox_parse::syntax::parse_file;
+use protox_parse::{ParseError, ParseFailure, parse, source_fits};
+use std::alloc::{AllocError, Global};
+use std::test::Fail;
+
+const EXAMPLE: &str =
+    "\n    syntax = \"proto3\";\n    import \"dep.proto\";\n\n    message Foo {\n        Bar bar = 1;\n    }\n";
+
+#[test]
+fn length_limit(rt: HostRuntime) {
+    let found = [0, 2147483647, 2147483648].map(|len: usize| source_fits(len));
+    assert_eq!(rt; found, [true, true, false]);
+}
+
+// Whether the halves of the parser, one after the other, answer what the parser does.
+fn halves_agree(alloc: Global) -> Result<bool, Fail> {
+    if !source_fits(EXAMPLE.len()) {
+        return Err(Fail::new("too long"));
+    }
+    let file = parse_file(alloc, EXAMPLE)?;
+    let descriptor = generate_file(alloc, file, "foo.proto", EXAMPLE)?;
+    Ok(parse(alloc, "foo.proto", EXAMPLE).is_ok_and(|whole| whole == descriptor))
+}
+
+#[test]
+fn file_and_descriptor(rt: HostRuntime) -> Result<(), Fail> {
+    let found = halves_agree(rt.alloc())?;
+    assert!(rt; found);
+    Ok(())
+}
+
+// Where the file lies in its source, by the tree.
+fn file_span(alloc: Global) -> Result<Span, Fail> {
+    if !source_fits(EXAMPLE.len()) {
+        return Err(Fail::new("too long"));
+    }
+    Ok(parse_file(alloc, EXAMPLE)?.span)
+}
+
+#[test]
+fn span_of_file(rt: HostRuntime) -> Result<(), Fail> {
+    let found = file_span(rt.alloc())?;
+    assert_eq!(rt; found, 5..93);
+    Ok(())
+}
+
+// The answer of `parse` on a file that is refused.
+fn refusal(alloc: Global, name: &str, source: &str) -> Result<ParseError, Fail> {
+    match parse(alloc, name, source) {
+        Err(ParseFailure::Refused(error)) => Ok(error),
+        _ => Err(Fail::new("not refused")),
+    }
+}
+
+// What each reader of a refusal answers.
+fn readers(alloc: Global, error: &ParseError) -> Result<String, AllocError> {
+    let front = format!(in alloc; "{} {:?} {:?}", error.file(), error.source(), error.span())?;
+    let kind = error.kind();
+    let faults = error.errors().len();
+    format!(in alloc; "{front}\n{error}\n{error:?}\n{kind:?}\n{faults}")
+}
+
+fn read(alloc: Global, name: &str, source: &str) -> Result<String, Fail> {
+    let error = refusal(alloc, name, source)?;
+    let found = readers(alloc, &error);
+    let faults = error.into_inner().len();
+    Ok(format!(in alloc; "{}\n{faults}", found?)?)
+}
+
+#[test]
+fn refusal_of_a_token(rt: HostRuntime) -> Result<(), Fail> {
+    let found = read(rt.alloc(), "foo.proto", "message {}")?;
+    assert_eq!(rt;
+        found.as_str(),
+        "foo.proto \"message {}\" Some(8..9)\nexpected an identifier, but found '{'\nfoo.proto:1:9: expected an identifier, but found '{'\nUnexpectedToken { span: 8..9, expected: \"an identifier\", found: \"{\" }\n1\n1"
+    );
+    Ok(())
+}
+
+#[test]
+fn refusal_of_the_end(rt: HostRuntime) -> Result<(), Fail> {
+    let found = read(rt.alloc(), "a.proto", "message")?;
+    assert_eq!(rt;
+        found.as_str(),
+        "a.proto \"message\" None\nexpected an identifier, but reached end of file\nexpected an identifier, but reached end of file\nUnexpectedEof { expected: \"an identifier\" }\n1\n1"
+    );
+    Ok(())
+}
+
+// Whatever growth fails: the answer is that memory ran out, or the file's own.
+fn locations(alloc: Global) -> Option<usize> {
+    match parse(alloc, "foo.proto", EXAMPLE) {
+        Err(ParseFailure::OutOfMemory) => Some(9),
+        Err(ParseFailure::Refused(_)) => None,
+        Ok(file) => file.source_code_info.map(|info| info.location.len()),
+    }
+}
+
+#[test]
+fn want_of_memory(rt: HostRuntime) {
+    assert_eq!(rt; locations(rt.alloc()), Some(9));
+}
+
+fn places(alloc: Global) -> Result<String, Fail> {
+    let source = "a\nbc\n";
+    if !source_fits(source.len()) {
+        return Err(Fail::new("too long"));
+    }
+    let lines = LineResolver::new(alloc, source)?;
+    let begin = (lines.resolve(0), lines.resolve(1));
+    let places = (lines.resolve(2), lines.resolve(4), lines.resolve(5));
+    let within = lines.resolve_span(alloc, 2..4)?;
+    let across = lines.resolve_span(alloc, 1..4)?;
+    Ok(format!(in alloc; "{begin:?} {places:?} {within:?} {across:?}")?)
+}
+
+#[test]
+fn lines_and_columns(rt: HostRuntime) -> Result<(), Fail> {
+    let found = places(rt.alloc())?;
+    assert_eq!(rt;
+        found.as_str(),
+        "((0, 0), (0, 1)) ((1, 0), (1, 2), (2, 0)) [1, 0, 2] [0, 1, 1, 2]"
+    );
+    Ok(())
+}

@@ -1,0 +1,60 @@
+//! The work of the program `protoscan`.
+use protoscan_run::run;
+use std::alloc::Global;
+use std::test::Fail;
+
+// What is written, what is said of a refusal, and the status, for words and a file's bytes.
+fn scanned(alloc: Global, words: &[String], file: Option<&[u8]>) -> Result<String, Fail> {
+    let mut out = Vec::new(alloc);
+    let mut err = Vec::new(alloc);
+    let status = run(alloc, words, file, &mut out, &mut err);
+    let written = String::from_utf8_lossy(alloc, &out)?;
+    let said = String::from_utf8_lossy(alloc, &err)?;
+    Ok(format!(in alloc; "{written}{said}{status}")?)
+}
+
+fn scanned_as(alloc: Global, name: &str, file: Option<&[u8]>) -> Result<String, Fail> {
+    let words = vec![in alloc; String::from_str(alloc, name)?]?;
+    scanned(alloc, &words, file)
+}
+
+#[test]
+fn runs(rt: HostRuntime) -> Result<(), Fail> {
+    let cases = [
+        ("a.proto", "", ". 0,0,0\n0"),
+        ("a.proto", "   ", ". 0,3,0\n0"),
+        ("a.proto", "\n\n", ". 2,0,0,0\n0"),
+        (
+            "foo.proto",
+            "message {}",
+            "foo.proto:1:9: expected an identifier, but found '{'\n1",
+        ),
+        (
+            "a.proto",
+            "message M { A a = 0; }",
+            "a.proto:1:19: message numbers must be between 1 and 536870911\n1",
+        ),
+        (
+            "a.proto",
+            "message M {",
+            "expected a message field, oneof, reserved range, enum, message, option or '}', but reached end of file\n1",
+        ),
+        ("a.proto", "\u{feff};", "a.proto:1:1: invalid token\n1"),
+    ];
+    for (name, source, expected) in cases {
+        let found = scanned_as(rt.alloc(), name, Some(source.as_bytes()))?;
+        assert_eq!(rt; found.as_str(), expected, "{source:?}");
+    }
+    Ok(())
+}
+
+#[test]
+fn without_a_file_to_read(rt: HostRuntime) -> Result<(), Fail> {
+    let missing = scanned_as(rt.alloc(), "a", None)?;
+    assert_eq!(rt; missing.as_str(), "2");
+    let bytes = scanned_as(rt.alloc(), "a", Some([255, 254].as_slice()))?;
+    assert_eq!(rt; bytes.as_str(), "2");
+    let wordless = scanned(rt.alloc(), &[], Some(b"".as_slice()))?;
+    assert_eq!(rt; wordless.as_str(), "2");
+    Ok(())
+}

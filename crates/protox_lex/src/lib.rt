@@ -16,6 +16,7 @@ mod groups;
 mod late_groups;
 pub mod laws;
 pub mod lex;
+mod lexeme_fault;
 mod lexer;
 #[cfg(test)]
 mod memory_tests;

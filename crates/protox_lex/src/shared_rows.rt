@@ -1,5 +1,5 @@
 //! The rows of a table, in little memory.
-ghost use Rattle.std.specs.Prelude.{◌≡◌, ◌<◌, ◌+◌, ◌++◌, ◌∷◌, [], true, length, slice_get, OnOk, IfOk, IfSome};
+ghost use Rattle.std.specs.Prelude.{◌≡◌, ◌<◌, ◌+◌, ◌++◌, ◌∷◌, [], true, length, slice_get, OnOk, OnErr, IfOk, IfSome};
 ghost use Rattle.std.specs.Option.{option_map};
 ghost use Rattle.protox_lex.specs.Faults.{span_from};
 ghost use Rattle.protox_lex.specs.Lexicon.{is_mark};
@@ -135,6 +135,27 @@ fn kept<'a>(token: Result<Token<'a>, ()>, len: usize) -> Result<KeptToken<'a>, A
     })
 }
 
+// The mark that is this byte, as it is kept.
+fn kept_mark(byte: u8, len: usize) -> Result<KeptToken<'static>, AllocError>
+    requires { is_mark byte ≡ true }
+    ensures { IfOk result (λ kept. (shape_of_result kept.token ≡ Mark byte) × (kept.len ≡ len)) }
+{
+    match mark_of(byte) {
+        Some(token) => kept(Ok(token), len),
+        None => unreachable!(),
+    }
+}
+
+// Appends a row of a token that is kept.
+#[inline(always)]
+fn push_known(rows: &mut Vec<NumberedRow>, number: u32, start: usize) -> Result<(), AllocError>
+    ensures ok { OnOk result (rows.new.items ≡ rows.old.items ++ record { start = start; token = number } ∷ []) }
+    ensures err { OnErr result (rows.new.items ≡ rows.old.items) }
+{
+    rows.push(numbered(number, start)?)?;
+    Ok(())
+}
+
 impl<'a> SharedRows<'a> {
     /// No row.
     pub(crate) fn new(alloc: Global) -> Result<SharedRows<'a>, AllocError>
@@ -202,15 +223,11 @@ impl<'a> SharedRows<'a> {
         requires { is_mark byte ≡ true }
         ensures { OnOk result (self.new ≡ self.old ++ record { shape = Mark byte; at = span_from start (start + len) } ∷ []) }
     {
-        let Some(token) = mark_of(byte) else {
-            unreachable!()
-        };
         let Ok(number) = u32::try_from(self.tokens.len()) else {
             return Err(AllocError);
         };
         let row = numbered(number, start)?;
-        let token = kept(Ok(token), len)?;
-        self.tokens.push(token)?;
+        self.tokens.push(kept_mark(byte, len)?)?;
         self.rows.push(row)?;
         self.marks[byte as usize] = Some(number);
         Ok(())
@@ -224,10 +241,7 @@ impl<'a> SharedRows<'a> {
         ensures { OnOk result (self.new ≡ self.old ++ record { shape = Mark byte; at = span_from start (start + len) } ∷ []) }
     {
         match known_mark(&self.tokens, &self.marks, byte, len) {
-            Some(number) => {
-                self.rows.push(numbered(number, start)?)?;
-                Ok(())
-            }
+            Some(number) => push_known(&mut self.rows, number, start),
             None => self.push_first_mark(byte, start, len),
         }
     }
@@ -264,10 +278,7 @@ impl<'a> SharedRows<'a> {
         ensures { OnOk result (self.new ≡ self.old ++ record { shape = shape_of token.entry; at = span_from start (start + len) } ∷ []) }
     {
         match known(&self.tokens, &self.recent, slot, &token, len) {
-            Some(number) => {
-                self.rows.push(numbered(number, start)?)?;
-                Ok(())
-            }
+            Some(number) => push_known(&mut self.rows, number, start),
             None => self.push_first(token, slot, start, len),
         }
     }

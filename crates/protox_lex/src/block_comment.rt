@@ -18,7 +18,7 @@ use crate::token::Token;
 use std::alloc::{AllocError, Global};
 
 /// `/*` or `*/`.
-#[derive(Clone, Copy, Debug)]
+#[derive(Clone, Copy)]
 pub(crate) enum Mark {
     Opens,
     Closes,

@@ -89,7 +89,3 @@ gaps_held gaps xs e = let P : List (List Shape) → Type 0 = λ gs. HoldGaps gs 
 pub lent_gap : (gaps : List (List Shape)) (k : ℕ) (r : Option (Bor (List Token))) → HoldGaps gaps → option_map shapes_of_lent r ≡ slice_get gaps k → IfSome r (λ gap. IsGap (map shape_of gap.now))
 lent_gap gaps k None h e = tt
 lent_gap gaps k (Some gap) h e = h k (map shape_of gap.now) (sym e)
-
--- the gaps of a draft, once the last has ended
-pub ended_gaps : (ended : List (List Shape)) (begun : List Shape) → ended ++ begun ∷ [] ≡ ended ++ in_front begun ([] ∷ [])
-ended_gaps ended begun = ap (λ g. ended ++ g ∷ []) (sym (append-nil begun))

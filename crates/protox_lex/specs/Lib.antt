@@ -1,6 +1,7 @@
 pub mod Shapes
 pub mod Sharing
 pub mod Faults
+pub mod LexemeFaults
 pub mod FaultTexts
 pub mod FaultNotes
 pub mod Tokens

@@ -28,3 +28,7 @@ finished d xs = record {
   gaps = d.gaps.ended ++ in_front d.gaps.begun (gaps_of xs);
   faults = d.faults.ended ++ in_front d.faults.begun (faults_of xs);
 }
+
+-- the table of a draft whose last gap has ended
+abbrev pub ended_table : TableDraft → Table
+ended_table d = record { rows = d.rows; gaps = d.gaps.ended; faults = d.faults.ended }

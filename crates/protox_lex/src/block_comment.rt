@@ -11,15 +11,14 @@ ghost use Rattle.protox_lex.specs.Nesting.{in_front, read_len, run, run_out};
 
 use crate::bytes::{Class, run_len};
 use crate::comment_text::comment_text;
-use crate::error::ParseErrorKind;
 use crate::fault_list::append;
 use crate::found::Found;
+use crate::lexeme_fault::{FaultKind, LexemeFault};
 use crate::token::Token;
-use protox_descriptor::values::Text;
 use std::alloc::{AllocError, Global};
 
 /// `/*` or `*/`.
-#[derive(Clone, Copy, Debug)]
+#[derive(Clone, Copy)]
 pub(crate) enum Mark {
     Opens,
     Closes,
@@ -54,8 +53,8 @@ fn mark_at(bytes: &[u8], at: usize) -> Option<Mark>
 struct Levels {
     inner: usize,
     last: Option<usize>,
-    settled: Vec<ParseErrorKind>,
-    since: Vec<ParseErrorKind>,
+    settled: Vec<LexemeFault>,
+    since: Vec<LexemeFault>,
 }
 
 impl Levels {
@@ -67,7 +66,8 @@ impl Levels {
         ensures ok { OnOk result ((ms : List spec.Mark) → run start ms self.new.inner self.new.last self.new.settled.items self.new.since.items ≡ run start (spec.opens at ∷ ms) self.old.inner self.old.last self.old.settled.items self.old.since.items) }
         ensures inner { OnOk result (self.new.inner ≡ self.old.inner + 1) }
     {
-        self.since.push(ParseErrorKind::NestedBlockComment {
+        self.since.push(LexemeFault {
+            kind: FaultKind::NestedBlockComment,
             span: start + at..start + (at + 2),
         })?;
         self.inner += 1;
@@ -119,7 +119,7 @@ impl Levels {
     }
 
     // The faults of a comment that ends here, at its own mark.
-    fn end(self) -> Result<Vec<ParseErrorKind>, AllocError>
+    fn end(self) -> Result<Vec<LexemeFault>, AllocError>
         ensures ok { IfOk result (λ v. v.items ≡ self.settled.items ++ self.since.items) }
         ensures free { self.since.items ≡ [] → IsOk result }
     {
@@ -133,7 +133,7 @@ impl Levels {
     }
 
     // The mark at which a comment ends that nothing closes, if there is one, and its faults.
-    fn run_out(self, alloc: Global) -> Result<(Option<usize>, Vec<ParseErrorKind>), AllocError>
+    fn run_out(self) -> Result<(Option<usize>, Vec<LexemeFault>), AllocError>
         ensures { IfOk result (λ r. (r.0, r.1.items) ≡ run_out self.last self.settled.items self.since.items) }
     {
         let Levels {
@@ -146,8 +146,10 @@ impl Levels {
             Some(at) => Ok((Some(at), settled)),
             None => {
                 append(&mut settled, since)?;
-                let expected = Text::copy(alloc, "comment terminator")?;
-                settled.push(ParseErrorKind::UnexpectedEof { expected })?;
+                settled.push(LexemeFault {
+                    kind: FaultKind::EndInComment,
+                    span: 0..0,
+                })?;
                 Ok((None, settled))
             }
         }
@@ -160,7 +162,7 @@ fn read_marks(
     alloc: Global,
     bytes: &[u8],
     start: usize,
-) -> Result<(Option<usize>, Vec<ParseErrorKind>), AllocError>
+) -> Result<(Option<usize>, Vec<LexemeFault>), AllocError>
     requires opener { 2 ≤ length bytes.now }
     requires fits { start + length bytes.now < 2 ^ 64 }
     ensures mark { IfOk result (λ r. r.0 ≡ option_map (λ e. e.at) (spec.ending (spec.marks_of bytes.now))) }
@@ -182,12 +184,12 @@ fn read_marks(
         }
         at += levels.take(mark, start, at)?;
     }
-    levels.run_out(alloc)
+    levels.run_out()
 }
 
 // What stands between the marks of a comment, or nothing where it has a fault.
 #[tactic(auto, using(crate::proofs::Boundaries::ascii_boundary))]
-fn content<'a>(text: &'a str, mark: usize, faults: &[ParseErrorKind]) -> &'a str
+fn content<'a>(text: &'a str, mark: usize, faults: &[LexemeFault]) -> &'a str
     requires opener { slice_index text.now 1 < 128 }
     requires low { 2 ≤ mark }
     requires high { mark < length text.now }

@@ -9,8 +9,8 @@ ghost use Rattle.protox_lex.specs.Found.{lexeme_of};
 ghost use Rattle.protox_lex.specs.Tokens.{is_borrowed_str};
 
 use crate::bytes::skip;
-use crate::error::ParseErrorKind;
 use crate::found::Found;
+use crate::lexeme_fault::{FaultKind, LexemeFault};
 use crate::token::Token;
 use std::alloc::{AllocError, Global};
 use std::borrow::CowStr;
@@ -50,7 +50,7 @@ fn hash_faults(
     word: &str,
     start: usize,
     text_format: bool,
-) -> Result<Vec<ParseErrorKind>, AllocError>
+) -> Result<Vec<LexemeFault>, AllocError>
     requires some { 0 < length word.now }
     requires fits { start + length word.now < 2 ^ 64 }
     ensures value { IfOk result (λ v. v.items ≡ faults_in text_format (spec.hash_faults start word.now)) }
@@ -58,7 +58,8 @@ fn hash_faults(
 {
     let mut faults = Vec::new(alloc);
     if word.as_bytes()[0] == b'#' && !text_format {
-        faults.push(ParseErrorKind::HashCommentOutsideTextFormat {
+        faults.push(LexemeFault {
+            kind: FaultKind::HashCommentOutsideTextFormat,
             span: start..start + word.len(),
         })?;
     }

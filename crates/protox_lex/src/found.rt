@@ -12,7 +12,7 @@ ghost use Rattle.protox_lex.specs.Tokens.{shape_of, borrowed_of};
 
 use crate::block_comment::read_block_comment;
 use crate::comment::read_line_comment;
-use crate::error::ParseErrorKind;
+use crate::lexeme_fault::LexemeFault;
 use crate::number::{faultless_value, read_float, read_integer};
 use crate::scan::{Kind, scan};
 use crate::string::read_string;
@@ -24,7 +24,7 @@ use std::alloc::{AllocError, Global};
 pub(crate) struct Found<'a> {
     pub token: Result<Token<'a>, ()>,
     pub stop: usize,
-    pub faults: Vec<ParseErrorKind>,
+    pub faults: Vec<LexemeFault>,
 }
 
 fn plain(alloc: Global, token: Token<'_>, start: usize, len: usize) -> Found<'_>

@@ -1,8 +1,9 @@
 //! Laws of the definitions that the contracts cite. Each is a function that does nothing, or nothing
 //! but compare: its contract is the law.
-ghost use Rattle.std.specs.Prelude.{◌≡◌, ◌⊎◌, ◌↔◌, IsTrue, ◌+◌, ◌++◌, ◌∷◌, [], ℕ, Bool, true, false, if◌then◌else◌, List, None, length, take, map, flat_map};
+ghost use Rattle.std.specs.Prelude.{◌≡◌, ◌⊎◌, ◌↔◌, IsTrue, ◌+◌, ◌++◌, ◌∷◌, [], ℕ, Bool, true, false, if◌then◌else◌, List, Some, None, codes, drop, length, take, map, flat_map, slice_get};
 ghost use Rattle.std.specs.Cow.{cow_str_bytes};
 ghost use Rattle.std.specs.List.{All};
+ghost use Rattle.std.specs.Option.{option_map};
 ghost use Rattle.std.specs.Str.{IsUtf8};
 ghost use Rattle.protox_lex.specs.declared.error.ParseErrorKind.TheVariants.{InvalidStringCharacters, InvalidStringEscape};
 ghost use Rattle.protox_lex.specs.Faults.{LiesIn, span_from};
@@ -11,14 +12,17 @@ ghost use Rattle.protox_lex.specs.LexesBack.{AreBytes, IsPrintable, ArePrintable
 ghost use Rattle.protox_lex.specs.Lexicon.{is_quote};
 ghost use Rattle.protox_lex.specs.Pattern.{Pattern, Fits};
 ghost use Rattle.protox_lex.specs.Printed.{printed};
-ghost use Rattle.protox_lex.specs.Shapes.{Shape, Str, Invalid};
+ghost use Rattle.protox_lex.specs.Shapes.{Shape, Ident, Int, Float, Str, LineComment, Invalid};
+ghost use Rattle.protox_lex.specs.State.{TakeNone};
 ghost use Rattle.protox_lex.specs.StringPieces.{IsPieces, all_wrong, begins_wrong};
 ghost use Rattle.protox_lex.specs.Strings.{Piece, wrong, len_of, pieces, faults_of as string_faults};
 ghost use Rattle.protox_lex.specs.Table.{rows_of, gaps_of, faults_of, StandBetween};
-ghost use Rattle.protox_lex.specs.Tokens.{shape_of};
+ghost use Rattle.protox_lex.specs.Tokens.{shape_of, shape_of_result};
 ghost use Rattle.protox_lex.specs.Words.{IsWordOf};
 
+use crate::lexer::Lexer;
 use crate::token::{EqFloat, Token};
+use std::alloc::Global;
 
 /// Each text has one cut into lexemes, and `cut` is it.
 #[tactic(auto, using(crate::proofs::Cut::cut_is_cut, crate::proofs::Cut::only_cut))]
@@ -101,4 +105,33 @@ pub fn floats_are_equal_by_text(a: &EqFloat<'_>, b: &EqFloat<'_>) -> bool
     ensures { IsTrue result ↔ (cow_str_bytes a.now.0 ≡ cow_str_bytes b.now.0) }
 {
     a == b
+}
+
+// The next of lexemes that take no memory.
+fn next_of_free<'a>(lexer: &mut Lexer<'a>) -> Option<Result<Token<'a>, ()>>
+    requires live { lexer.old.failed ≡ false }
+    requires free { TakeNone lexer.old.text_format lexer.old.left }
+    ensures first { option_map shape_of_result result ≡ option_map (λ x. x.shape) (slice_get lexer.old.left 0) }
+    ensures left { lexer.new.left ≡ drop 1 lexer.old.left }
+    ensures live { lexer.new.failed ≡ false }
+    ensures mode { lexer.new.text_format ≡ lexer.old.text_format }
+{
+    match lexer.next() {
+        Ok(found) => found,
+        Err(_) => unreachable!(),
+    }
+}
+
+/// Whatever memory there is, even none, these are lexed.
+pub fn five_lexemes(alloc: Global) -> [Option<Result<Token<'static>, ()>>; 5]
+    ensures { map (option_map shape_of_result) result
+        ≡ map Some (Ident (codes "foo") ∷ Str (codes "bar") ∷ Int 12 ∷ Float (codes ".5") ∷ LineComment (codes " c\n") ∷ []) }
+{
+    let mut lexer = Token::lexer(alloc, "foo 'bar' 12 .5 // c\n");
+    let first = next_of_free(&mut lexer);
+    let second = next_of_free(&mut lexer);
+    let third = next_of_free(&mut lexer);
+    let fourth = next_of_free(&mut lexer);
+    let fifth = next_of_free(&mut lexer);
+    [first, second, third, fourth, fifth]
 }

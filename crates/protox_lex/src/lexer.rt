@@ -10,7 +10,7 @@ ghost use Rattle.protox_lex.specs.State.{State, Answers, TakesNone};
 
 use crate::bytes::skip_blanks;
 use crate::error::{ParseErrorKind, Span};
-use crate::fault_list::append;
+use crate::fault_list::tell;
 use crate::found::{Found, read_lexeme};
 use crate::token::Token;
 use std::alloc::{AllocError, Global};
@@ -83,7 +83,7 @@ fn read_into<'a>(
         stop,
         faults,
     } = read_lexeme(alloc, text, start, text_format)?;
-    append(errors, faults)?;
+    tell(alloc, errors, &faults, false)?;
     Ok((token, stop))
 }
 

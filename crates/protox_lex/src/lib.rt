@@ -4,8 +4,6 @@
 mod block_comment;
 mod bytes;
 mod comment;
-#[cfg(test)]
-mod comment_tests;
 mod comment_text;
 pub mod comments;
 pub mod error;
@@ -16,19 +14,14 @@ mod groups;
 mod late_groups;
 pub mod laws;
 pub mod lex;
+mod lexeme_fault;
 mod lexer;
-#[cfg(test)]
-mod memory_tests;
 mod number;
 mod piece;
 mod scan;
 mod shared_gaps;
 mod shared_rows;
 mod string;
-#[cfg(test)]
-mod surface_tests;
 mod table_draft;
-#[cfg(test)]
-mod tests;
 mod token;
 mod token_table;

@@ -11,8 +11,8 @@ ghost use Rattle.protox_lex.specs.Found.{lexeme_of};
 ghost use Rattle.protox_lex.specs.Shapes as shape;
 
 use crate::bytes::{Class, byte_at, is_in, run_len};
-use crate::error::ParseErrorKind;
 use crate::found::Found;
+use crate::lexeme_fault::{FaultKind, LexemeFault};
 use crate::token::{EqFloat, Token};
 use std::alloc::{AllocError, Global};
 use std::borrow::CowStr;
@@ -80,7 +80,7 @@ fn integer_value(word: &[u8]) -> Option<u64>
 
 // The fault of a letter right behind an integer.
 fn check_space(
-    faults: &mut Vec<ParseErrorKind>,
+    faults: &mut Vec<LexemeFault>,
     bytes: &[u8],
     len: usize,
     start: usize,
@@ -94,7 +94,8 @@ fn check_space(
     let prefix = prefix_of(&bytes[..len]);
     if !(prefix == 0 && bytes[0] == b'0') && is_in(Class::Letter, byte_at(bytes, len)) {
         let end = len + 1 + run_len(&bytes[len + 1..], Class::Alphabetic);
-        faults.push(ParseErrorKind::NoSpaceBetweenIntAndIdent {
+        faults.push(LexemeFault {
+            kind: FaultKind::NoSpaceBetweenIntAndIdent,
             span: start + prefix..start + end,
         })?;
     }
@@ -103,7 +104,7 @@ fn check_space(
 
 // The value of an integer, or 0 and a fault where it does not fit.
 fn value_or_fault(
-    faults: &mut Vec<ParseErrorKind>,
+    faults: &mut Vec<LexemeFault>,
     word: &[u8],
     start: usize,
 ) -> Result<u64, AllocError>
@@ -115,7 +116,8 @@ fn value_or_fault(
     match integer_value(word) {
         Some(value) => Ok(value),
         None => {
-            faults.push(ParseErrorKind::IntegerOutOfRange {
+            faults.push(LexemeFault {
+                kind: FaultKind::IntegerOutOfRange,
                 span: start + prefix_of(word)..start + word.len(),
             })?;
             Ok(0)
@@ -166,7 +168,7 @@ fn suffix_faults(
     word: &str,
     start: usize,
     text_format: bool,
-) -> Result<Vec<ParseErrorKind>, AllocError>
+) -> Result<Vec<LexemeFault>, AllocError>
     requires some { 0 < length word.now }
     requires fits { start + length word.now < 2 ^ 64 }
     ensures value { IfOk result (λ v. v.items ≡ faults_in text_format (spec.suffix_faults start word.now)) }
@@ -174,7 +176,8 @@ fn suffix_faults(
 {
     let mut faults = Vec::new(alloc);
     if is_in(Class::F, word.as_bytes()[word.len() - 1]) && !text_format {
-        faults.push(ParseErrorKind::FloatSuffixOutsideTextFormat {
+        faults.push(LexemeFault {
+            kind: FaultKind::FloatSuffixOutsideTextFormat,
             span: start..start + word.len(),
         })?;
     }

@@ -10,7 +10,7 @@ use crate::number::digits_value;
 /// A piece of a literal: a run of bytes that stand for themselves, a byte or a character that an
 /// escape or a quote stands for, an invalid piece and whether it begins with a backslash (each with
 /// its length), the closing quote, and a newline.
-#[derive(Clone, Copy, Debug)]
+#[derive(Clone, Copy)]
 pub(crate) enum Piece {
     Run(usize),
     Byte(u8, usize),

@@ -6,7 +6,7 @@ ghost use Rattle.protox_lex.specs.Scanning as spec;
 
 use crate::bytes::{Class, byte_at, is_in, run_len};
 
-#[derive(Clone, Copy, PartialEq, Eq, Debug)]
+#[derive(Clone, Copy)]
 pub enum Kind {
     Identifier,
     Integer,

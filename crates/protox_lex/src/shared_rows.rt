@@ -1,5 +1,5 @@
 //! The rows of a table, in little memory.
-ghost use Rattle.std.specs.Prelude.{◌≡◌, ◌<◌, ◌+◌, ◌++◌, ◌∷◌, [], true, length, slice_get, OnOk, IfOk, IfSome};
+ghost use Rattle.std.specs.Prelude.{◌≡◌, ◌<◌, ◌+◌, ◌++◌, ◌∷◌, [], true, length, slice_get, OnOk, OnErr, IfOk, IfSome};
 ghost use Rattle.std.specs.Option.{option_map};
 ghost use Rattle.protox_lex.specs.Faults.{span_from};
 ghost use Rattle.protox_lex.specs.Lexicon.{is_mark};
@@ -64,6 +64,15 @@ pub(crate) fn slot_of(text: &[u8], len: usize) -> usize
     (first * 61 + middle * 197 + last * 7 + len % SLOTS * 389) % SLOTS
 }
 
+// What is kept is this token, of that length.
+#[inline(always)]
+fn is_kept(kept: &KeptToken<'_>, token: &Token<'_>, len: usize) -> bool
+    ensures equal { result ≡ true → shape_of_result kept.now.token ≡ shape_of token.now }
+    ensures size { result ≡ true → kept.now.len ≡ len }
+{
+    kept.len as usize == len && matches!(&kept.token, Ok(known) if known == token)
+}
+
 // The number of a token that is equal to this one, if that one is remembered there.
 #[inline(always)]
 fn known(
@@ -80,9 +89,10 @@ fn known(
 {
     let number = recent[slot];
     let kept = tokens.get(number as usize)?;
-    match &kept.token {
-        Ok(known) if known == token && kept.len as usize == len => Some(number),
-        _ => None,
+    if is_kept(kept, token, len) {
+        Some(number)
+    } else {
+        None
     }
 }
 
@@ -122,17 +132,47 @@ fn numbered(token: u32, start: usize) -> Result<NumberedRow, AllocError>
     })
 }
 
-// A token that is kept. It may not be longer than 4 GiB.
-fn kept<'a>(token: Result<Token<'a>, ()>, len: usize) -> Result<KeptToken<'a>, AllocError>
-    ensures { IfOk result (λ kept. kept ≡ record { token = token.entry; len = len }) }
+// The row of the next token, and that one's length. It may not be longer than 4 GiB.
+fn next_row(
+    tokens: &[KeptToken<'_>],
+    start: usize,
+    len: usize,
+) -> Result<(NumberedRow, u32), AllocError>
+    ensures row { IfOk result (λ next. next.0 ≡ record { start = start; token = length tokens.now }) }
+    ensures len { IfOk result (λ next. next.1 ≡ len) }
 {
     if GREATEST < len {
         return Err(AllocError);
     }
-    Ok(KeptToken {
-        token,
-        len: len as u32,
-    })
+    let Ok(number) = u32::try_from(tokens.len()) else {
+        return Err(AllocError);
+    };
+    Ok((numbered(number, start)?, len as u32))
+}
+
+// The mark that is this byte, as it is kept.
+fn kept_mark(byte: u8, len: u32) -> KeptToken<'static>
+    requires { is_mark byte ≡ true }
+    ensures shape { shape_of_result result.token ≡ Mark byte }
+    ensures len { result.len ≡ len }
+{
+    match mark_of(byte) {
+        Some(token) => KeptToken {
+            token: Ok(token),
+            len,
+        },
+        None => unreachable!(),
+    }
+}
+
+// Appends a row of a token that is kept.
+#[inline(always)]
+fn push_known(rows: &mut Vec<NumberedRow>, number: u32, start: usize) -> Result<(), AllocError>
+    ensures ok { OnOk result (rows.new.items ≡ rows.old.items ++ record { start = start; token = number } ∷ []) }
+    ensures err { OnErr result (rows.new.items ≡ rows.old.items) }
+{
+    rows.push(numbered(number, start)?)?;
+    Ok(())
 }
 
 impl<'a> SharedRows<'a> {
@@ -185,12 +225,8 @@ impl<'a> SharedRows<'a> {
     ) -> Result<(), AllocError>
         ensures { OnOk result (self.new ≡ self.old ++ record { shape = shape_of_result token.entry; at = span_from start (start + len) } ∷ []) }
     {
-        let Ok(number) = u32::try_from(self.tokens.len()) else {
-            return Err(AllocError);
-        };
-        let row = numbered(number, start)?;
-        let token = kept(token, len)?;
-        self.tokens.push(token)?;
+        let (row, len) = next_row(&self.tokens, start, len)?;
+        self.tokens.push(KeptToken { token, len })?;
         self.rows.push(row)?;
         Ok(())
     }
@@ -202,17 +238,10 @@ impl<'a> SharedRows<'a> {
         requires { is_mark byte ≡ true }
         ensures { OnOk result (self.new ≡ self.old ++ record { shape = Mark byte; at = span_from start (start + len) } ∷ []) }
     {
-        let Some(token) = mark_of(byte) else {
-            unreachable!()
-        };
-        let Ok(number) = u32::try_from(self.tokens.len()) else {
-            return Err(AllocError);
-        };
-        let row = numbered(number, start)?;
-        let token = kept(Ok(token), len)?;
-        self.tokens.push(token)?;
+        let (row, len) = next_row(&self.tokens, start, len)?;
+        self.tokens.push(kept_mark(byte, len))?;
         self.rows.push(row)?;
-        self.marks[byte as usize] = Some(number);
+        self.marks[byte as usize] = Some(row.token);
         Ok(())
     }
 
@@ -224,10 +253,7 @@ impl<'a> SharedRows<'a> {
         ensures { OnOk result (self.new ≡ self.old ++ record { shape = Mark byte; at = span_from start (start + len) } ∷ []) }
     {
         match known_mark(&self.tokens, &self.marks, byte, len) {
-            Some(number) => {
-                self.rows.push(numbered(number, start)?)?;
-                Ok(())
-            }
+            Some(number) => push_known(&mut self.rows, number, start),
             None => self.push_first_mark(byte, start, len),
         }
     }
@@ -264,10 +290,7 @@ impl<'a> SharedRows<'a> {
         ensures { OnOk result (self.new ≡ self.old ++ record { shape = shape_of token.entry; at = span_from start (start + len) } ∷ []) }
     {
         match known(&self.tokens, &self.recent, slot, &token, len) {
-            Some(number) => {
-                self.rows.push(numbered(number, start)?)?;
-                Ok(())
-            }
+            Some(number) => push_known(&mut self.rows, number, start),
             None => self.push_first(token, slot, start, len),
         }
     }

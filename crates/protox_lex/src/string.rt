@@ -11,11 +11,10 @@ ghost use Rattle.protox_lex.specs.Found.{lexeme_of};
 ghost use Rattle.protox_lex.specs.Tokens.{is_borrowed_slice};
 ghost use Rattle.protox_lex.specs.Pieces.{piece_of, IsWithin, reading_of, finished};
 
-use crate::error::ParseErrorKind;
 use crate::found::Found;
+use crate::lexeme_fault::{FaultKind, LexemeFault};
 use crate::piece::{Piece, read_piece};
 use crate::token::Token;
-use protox_descriptor::values::Text;
 use std::alloc::{AllocError, Global};
 use std::borrow::CowSlice;
 
@@ -24,7 +23,7 @@ use std::borrow::CowSlice;
 struct Reader<'a> {
     value: CowSlice<'a, u8>,
     bad: Option<(bool, usize)>,
-    faults: Vec<ParseErrorKind>,
+    faults: Vec<LexemeFault>,
 }
 
 // A run of plain bytes is borrowed where nothing stands before it.
@@ -71,19 +70,23 @@ fn add_bytes<'a>(
 
 // The fault of the invalid pieces that end at a place.
 fn close(
-    faults: &mut Vec<ParseErrorKind>,
+    faults: &mut Vec<LexemeFault>,
     bad: Option<(bool, usize)>,
     at: usize,
 ) -> Result<(), AllocError>
     ensures ok { OnOk result (faults.new.items ≡ faults.old.items ++ spec.closed bad at) }
     ensures free { spec.closed bad at ≡ [] → IsOk result }
 {
-    match bad {
-        Some((true, from)) => faults.push(ParseErrorKind::InvalidStringEscape { span: from..at })?,
-        Some((false, from)) => {
-            faults.push(ParseErrorKind::InvalidStringCharacters { span: from..at })?
-        }
-        None => {}
+    if let Some((is_escape, from)) = bad {
+        let kind = if is_escape {
+            FaultKind::InvalidStringEscape
+        } else {
+            FaultKind::InvalidStringCharacters
+        };
+        faults.push(LexemeFault {
+            kind,
+            span: from..at,
+        })?;
     }
     Ok(())
 }
@@ -140,7 +143,7 @@ fn take_bytes<'a>(
 }
 
 // The literal that ends at a place.
-fn found<'a>(value: CowSlice<'a, u8>, faults: Vec<ParseErrorKind>, stop: usize) -> Found<'a>
+fn found<'a>(value: CowSlice<'a, u8>, faults: Vec<LexemeFault>, stop: usize) -> Found<'a>
     ensures value { (start : ℕ) → lexeme_of start result ≡ record { start = start; stop = stop; shape = shape.Str (cow_slice_items value.entry); borrowed = is_borrowed_slice value.entry; faults = faults.items } }
     ensures stop { result.stop ≡ stop }
 {
@@ -179,12 +182,15 @@ fn break_off<'a>(reader: Reader<'a>, at: usize) -> Result<Found<'a>, AllocError>
         mut faults,
     } = reader;
     close(&mut faults, bad, at)?;
-    faults.push(ParseErrorKind::UnterminatedString { span: at..at + 1 })?;
+    faults.push(LexemeFault {
+        kind: FaultKind::UnterminatedString,
+        span: at..at + 1,
+    })?;
     Ok(found(value, faults, at + 1))
 }
 
 // At the end of the text.
-fn run_out<'a>(alloc: Global, reader: Reader<'a>, at: usize) -> Result<Found<'a>, AllocError>
+fn run_out<'a>(reader: Reader<'a>, at: usize) -> Result<Found<'a>, AllocError>
     ensures value { IfOk result (λ f. (start : ℕ) → lexeme_of start f ≡ finished start (reading_of reader.entry) at []) }
     ensures stop { IfOk result (λ f. f.stop ≡ at) }
 {
@@ -194,8 +200,10 @@ fn run_out<'a>(alloc: Global, reader: Reader<'a>, at: usize) -> Result<Found<'a>
         mut faults,
     } = reader;
     close(&mut faults, bad, at)?;
-    let expected = Text::copy(alloc, "string terminator")?;
-    faults.push(ParseErrorKind::UnexpectedEof { expected })?;
+    faults.push(LexemeFault {
+        kind: FaultKind::EndInString,
+        span: at..at,
+    })?;
     Ok(found(value, faults, at))
 }
 
@@ -272,7 +280,7 @@ fn read_literal(alloc: Global, bytes: &[u8], start: usize) -> Result<Found<'_>, 
             }
         }
     }
-    run_out(alloc, reader, start + at)
+    run_out(reader, start + at)
 }
 
 /// The literal at the front.

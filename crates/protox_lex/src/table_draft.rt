@@ -8,13 +8,13 @@ ghost use Rattle.protox_lex.specs.Lexicon.{is_mark, is_quote, IsLineOpener};
 ghost use Rattle.protox_lex.specs.Scanning as scanned;
 ghost use Rattle.protox_lex.specs.Shapes.{Mark, Newline};
 ghost use Rattle.protox_lex.specs.Table.{is_gap, table_of, invalid_faults};
-ghost use Rattle.protox_lex.specs.TableView.{finished};
+ghost use Rattle.protox_lex.specs.TableView.{finished, ended_table};
 ghost use Rattle.protox_lex.specs.Tokens.{shape_of, shape_of_result};
 
 use crate::bytes::skip_blanks;
-use crate::error::ParseErrorKind;
 use crate::found::{Found, invalid, plain_token, read_kind};
 use crate::late_groups::LateGroups;
+use crate::lexeme_fault::{FaultKind, LexemeFault};
 use crate::scan::{Kind, scan};
 use crate::shared_gaps::SharedGaps;
 use crate::shared_rows::{SharedRows, slot_of};
@@ -26,7 +26,7 @@ use std::alloc::{AllocError, Global};
 pub(crate) struct TableDraft<'a> {
     pub rows: SharedRows<'a>,
     pub gaps: SharedGaps<'a>,
-    pub faults: LateGroups<ParseErrorKind>,
+    pub faults: LateGroups<LexemeFault>,
 }
 
 fn is_gap_token(token: &Token<'_>) -> bool
@@ -40,7 +40,7 @@ fn is_gap_token(token: &Token<'_>) -> bool
 
 // Adds the fault of an invalid token.
 fn add_invalid(
-    faults: &mut LateGroups<ParseErrorKind>,
+    faults: &mut LateGroups<LexemeFault>,
     token: &Result<Token<'_>, ()>,
     start: usize,
     stop: usize,
@@ -48,7 +48,10 @@ fn add_invalid(
     ensures { OnOk result (faults.new ≡ record faults.old { begun = faults.old.begun ++ invalid_faults (shape_of_result token.now) (span_from start stop) }) }
 {
     if token.is_err() {
-        faults.push(ParseErrorKind::InvalidToken { span: start..stop })?;
+        faults.push(LexemeFault {
+            kind: FaultKind::InvalidToken,
+            span: start..stop,
+        })?;
     }
     Ok(())
 }
@@ -66,7 +69,7 @@ impl<'a> TableDraft<'a> {
     }
 
     // A comment or a newline, with its faults.
-    fn add_gap(&mut self, token: Token<'a>, faults: Vec<ParseErrorKind>) -> Result<(), AllocError>
+    fn add_gap(&mut self, token: Token<'a>, faults: Vec<LexemeFault>) -> Result<(), AllocError>
         ensures rows { OnOk result (self.new.rows ≡ self.old.rows) }
         ensures gaps { OnOk result (self.new.gaps ≡ record self.old.gaps { begun = self.old.gaps.begun ++ shape_of token.entry ∷ [] }) }
         ensures faults { OnOk result (self.new.faults ≡ record self.old.faults { begun = self.old.faults.begun ++ faults.items }) }
@@ -81,7 +84,7 @@ impl<'a> TableDraft<'a> {
         token: Result<Token<'a>, ()>,
         start: usize,
         stop: usize,
-        faults: Vec<ParseErrorKind>,
+        faults: Vec<LexemeFault>,
     ) -> Result<(), AllocError>
         requires { start ≤ stop }
         ensures rows { OnOk result (self.new.rows ≡ self.old.rows ++ record { shape = shape_of_result token.entry; at = span_from start stop } ∷ []) }
@@ -211,7 +214,7 @@ impl<'a> TableDraft<'a> {
 }
 
 // Cuts a source into lexemes.
-pub(crate) fn draft<'a>(alloc: Global, source: &'a str) -> Result<TableDraft<'a>, AllocError>
+fn draft<'a>(alloc: Global, source: &'a str) -> Result<TableDraft<'a>, AllocError>
     ensures { IfOk result (λ d. finished d [] ≡ table_of (spec.cut 0 source.entry.now)) }
 {
     let mut draft = TableDraft {
@@ -227,5 +230,14 @@ pub(crate) fn draft<'a>(alloc: Global, source: &'a str) -> Result<TableDraft<'a>
         }
         at = draft.read(alloc, text, at + blanks)?;
     }
+    Ok(draft)
+}
+
+/// The table of a source, whose last gap has ended.
+pub(crate) fn ended_draft<'a>(alloc: Global, source: &'a str) -> Result<TableDraft<'a>, AllocError>
+    ensures { IfOk result (λ d. ended_table d ≡ table_of (spec.cut 0 source.entry.now)) }
+{
+    let mut draft = draft(alloc, source)?;
+    draft.end_gap()?;
     Ok(draft)
 }

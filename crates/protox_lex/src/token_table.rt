@@ -9,11 +9,12 @@ ghost use Rattle.protox_lex.specs.TableView.{shape_of_lent, shapes_of_lent};
 ghost use Rattle.protox_lex.specs.Tokens.{shape_of};
 
 use crate::error::{ParseErrorKind, Span};
-use crate::fault_list::{append, copy_faults};
+use crate::fault_list::tell;
 use crate::late_groups::LateGroups;
+use crate::lexeme_fault::LexemeFault;
 use crate::shared_gaps::SharedGaps;
 use crate::shared_rows::SharedRows;
-use crate::table_draft::{TableDraft, draft};
+use crate::table_draft::{TableDraft, ended_draft};
 use crate::token::Token;
 use std::alloc::{AllocError, Global};
 use std::marker::Model;
@@ -23,7 +24,7 @@ use std::marker::Model;
 pub struct TokenTable<'a> {
     rows: SharedRows<'a>,
     gaps: SharedGaps<'a>,
-    faults: LateGroups<ParseErrorKind>,
+    faults: LateGroups<LexemeFault>,
 }
 
 impl<'a> Model for TokenTable<'a> {
@@ -46,10 +47,7 @@ impl<'a> TokenTable<'a> {
     pub fn new(alloc: Global, source: &'a str) -> Result<TokenTable<'a>, AllocError>
         ensures { IfOk result (λ table. table ≡ table_of (spec.cut 0 source.entry.now)) }
     {
-        let mut draft = draft(alloc, source)?;
-        draft.gaps.end()?;
-        draft.faults.end()?;
-        let TableDraft { rows, gaps, faults } = draft;
+        let TableDraft { rows, gaps, faults } = ended_draft(alloc, source)?;
         Ok(TokenTable { rows, gaps, faults })
     }
 
@@ -97,7 +95,7 @@ impl<'a> TokenTable<'a> {
         ensures free { faults_in text_format (slice_index_or self.now.faults k []) ≡ [] → IsOk result }
     {
         match self.faults.get(k) {
-            Some(faults) => append(errors, copy_faults(alloc, faults, text_format)?),
+            Some(faults) => tell(alloc, errors, faults, text_format),
             None => Ok(()),
         }
     }

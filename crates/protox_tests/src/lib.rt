@@ -8,6 +8,8 @@ mod descriptors;
 #[cfg(test)]
 mod laws;
 #[cfg(test)]
+mod lexing;
+#[cfg(test)]
 mod parsing;
 #[cfg(test)]
 mod running;

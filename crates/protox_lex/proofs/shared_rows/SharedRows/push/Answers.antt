@@ -1,4 +1,4 @@
-use Rattle.std.proofs.Common.{ap, ◌∙◌}
+use Rattle.std.proofs.Common.{length, ap, ◌∙◌}
 use Rattle.protox_lex.proofs.Sharing.{shared_more, shared_push}
 use Rattle.protox_lex.proofs.shared_rows.SharedRows.push.Goals as goal
 
@@ -7,5 +7,5 @@ invariant_of-self-in_err-push-2 c = rw (c.in_ok-push.ensures.items, c.in_err-pus
 
 pub invariant_of-self-2 : goal.invariant_of-self-2
 invariant_of-self-2 c =
-    let last = ap (λ row. row.token) c.in_ok-row.ensures ∙ c.in-Ok.ensures.1 ∙ c.len.ensures ∙ c.self.inside.tokens.ok.0 in
+    let last = ap (λ row. row.token) c.in_ok-row.ensures.row ∙ ap length c.deref.ensures.value in
     rw (c.in_ok-push.ensures.items, c.in_ok-push-2.ensures.items) (shared_push _ _ _ _ _ _ c.self.invariant last)

@@ -1,5 +1,4 @@
-use Rattle.std.proofs.Common.{ap, ◌∙◌}
-use Rattle.protox_lex.specs.Tokens.{shape_of_result}
+use Rattle.std.proofs.Common.{length, refl, ap, ◌∙◌}
 use Rattle.protox_lex.proofs.Sharing.{shared_more, shared_first}
 use Rattle.protox_lex.proofs.shared_rows.SharedRows.push_first_mark.Goals as goal
 
@@ -8,6 +7,6 @@ invariant_of-self-in_err-push-2 c = rw (c.in_ok-push.ensures.items, c.in_err-pus
 
 pub invariant_of-self-2 : goal.invariant_of-self-2
 invariant_of-self-2 c =
-    let last = c.in-Ok.ensures.1 ∙ c.len.ensures ∙ c.self.inside.tokens.ok.0 in
+    let last = ap (λ row. row.token) c.in_ok-row.ensures.row ∙ ap length c.deref.ensures.value in
     rw (c.in_ok-push.ensures.items, c.in_ok-push-2.ensures.items)
-    (shared_first _ _ _ _ _ _ c.args.byte _ c.self.invariant (ap (λ row. row.token) c.in_ok-row.ensures) last (ap (λ token. shape_of_result token.token) c.in_ok-token.ensures ∙ c.in-Some.ensures.shape) c.ranges.byte.fits)
+    (shared_first _ _ _ _ _ _ c.args.byte _ c.self.invariant refl last c.kept_mark.ensures.shape c.ranges.byte.fits)

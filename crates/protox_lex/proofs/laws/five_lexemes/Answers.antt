@@ -5,7 +5,7 @@ use Rattle.protox_lex.specs.Scanning.{scan, number, zero_number, fraction_len, t
 use Rattle.protox_lex.specs.Shapes.{Shape, Ident, Str, Int, Float, LineComment}
 use Rattle.protox_lex.specs.State.{TakeNone}
 use Rattle.protox_lex.specs.Strings.{pieces, pieces_from, piece}
-use Rattle.protox_lex.proofs.memory_tests.five_lexemes.Goals as goal
+use Rattle.protox_lex.proofs.laws.five_lexemes.Goals as goal
 
 abbrev text : List ℕ
 text = codes "foo 'bar' 12 .5 // c\n"
@@ -35,70 +35,70 @@ free_from k mode left m l =
     let Q : List Lexeme → Type 0 = λ ls. TakeNone false ls in
     subst P (sym m) (subst Q (sym l) (free_behind k lexemes all_free))
 
-pub next_of_free-requires-clause-free : goal.next_of_free-requires-clause-free
-next_of_free-requires-clause-free c =
+pub next_of_free-first-requires-clause-free : goal.next_of_free-first-requires-clause-free
+next_of_free-first-requires-clause-free c =
     let s = c.lexer-lexer.ensures in
     free_from 0 _ _ (ap (λ v. v.text_format) s) (ap (λ v. v.left) s ∙ are_cut)
 
-pub next_of_free-requires-2-clause-free : goal.next_of_free-requires-2-clause-free
-next_of_free-requires-2-clause-free c =
+pub next_of_free-second-requires-clause-free : goal.next_of_free-second-requires-clause-free
+next_of_free-second-requires-clause-free c =
     let s = c.lexer-lexer.ensures in
     let m0 = ap (λ v. v.text_format) s in
     let l0 = ap (λ v. v.left) s ∙ are_cut in
-    let m1 = c.next_of_free.ensures.mode ∙ m0 in
-    let l1 = c.next_of_free.ensures.left ∙ ap (drop 1) l0 in
+    let m1 = c.next_of_free-first.ensures.mode ∙ m0 in
+    let l1 = c.next_of_free-first.ensures.left ∙ ap (drop 1) l0 in
     free_from 1 _ _ m1 l1
 
-pub next_of_free-requires-3-clause-free : goal.next_of_free-requires-3-clause-free
-next_of_free-requires-3-clause-free c =
+pub next_of_free-third-requires-clause-free : goal.next_of_free-third-requires-clause-free
+next_of_free-third-requires-clause-free c =
     let s = c.lexer-lexer.ensures in
     let m0 = ap (λ v. v.text_format) s in
     let l0 = ap (λ v. v.left) s ∙ are_cut in
-    let m1 = c.next_of_free.ensures.mode ∙ m0 in
-    let l1 = c.next_of_free.ensures.left ∙ ap (drop 1) l0 in
-    let m2 = c.next_of_free-2.ensures.mode ∙ m1 in
-    let l2 = c.next_of_free-2.ensures.left ∙ ap (drop 1) l1 in
+    let m1 = c.next_of_free-first.ensures.mode ∙ m0 in
+    let l1 = c.next_of_free-first.ensures.left ∙ ap (drop 1) l0 in
+    let m2 = c.next_of_free-second.ensures.mode ∙ m1 in
+    let l2 = c.next_of_free-second.ensures.left ∙ ap (drop 1) l1 in
     free_from 2 _ _ m2 l2
 
-pub next_of_free-requires-4-clause-free : goal.next_of_free-requires-4-clause-free
-next_of_free-requires-4-clause-free c =
+pub next_of_free-fourth-requires-clause-free : goal.next_of_free-fourth-requires-clause-free
+next_of_free-fourth-requires-clause-free c =
     let s = c.lexer-lexer.ensures in
     let m0 = ap (λ v. v.text_format) s in
     let l0 = ap (λ v. v.left) s ∙ are_cut in
-    let m1 = c.next_of_free.ensures.mode ∙ m0 in
-    let l1 = c.next_of_free.ensures.left ∙ ap (drop 1) l0 in
-    let m2 = c.next_of_free-2.ensures.mode ∙ m1 in
-    let l2 = c.next_of_free-2.ensures.left ∙ ap (drop 1) l1 in
-    let m3 = c.next_of_free-3.ensures.mode ∙ m2 in
-    let l3 = c.next_of_free-3.ensures.left ∙ ap (drop 1) l2 in
+    let m1 = c.next_of_free-first.ensures.mode ∙ m0 in
+    let l1 = c.next_of_free-first.ensures.left ∙ ap (drop 1) l0 in
+    let m2 = c.next_of_free-second.ensures.mode ∙ m1 in
+    let l2 = c.next_of_free-second.ensures.left ∙ ap (drop 1) l1 in
+    let m3 = c.next_of_free-third.ensures.mode ∙ m2 in
+    let l3 = c.next_of_free-third.ensures.left ∙ ap (drop 1) l2 in
     free_from 3 _ _ m3 l3
 
-pub next_of_free-requires-5-clause-free : goal.next_of_free-requires-5-clause-free
-next_of_free-requires-5-clause-free c =
+pub next_of_free-fifth-requires-clause-free : goal.next_of_free-fifth-requires-clause-free
+next_of_free-fifth-requires-clause-free c =
     let s = c.lexer-lexer.ensures in
     let m0 = ap (λ v. v.text_format) s in
     let l0 = ap (λ v. v.left) s ∙ are_cut in
-    let m1 = c.next_of_free.ensures.mode ∙ m0 in
-    let l1 = c.next_of_free.ensures.left ∙ ap (drop 1) l0 in
-    let m2 = c.next_of_free-2.ensures.mode ∙ m1 in
-    let l2 = c.next_of_free-2.ensures.left ∙ ap (drop 1) l1 in
-    let m3 = c.next_of_free-3.ensures.mode ∙ m2 in
-    let l3 = c.next_of_free-3.ensures.left ∙ ap (drop 1) l2 in
-    let m4 = c.next_of_free-4.ensures.mode ∙ m3 in
-    let l4 = c.next_of_free-4.ensures.left ∙ ap (drop 1) l3 in
+    let m1 = c.next_of_free-first.ensures.mode ∙ m0 in
+    let l1 = c.next_of_free-first.ensures.left ∙ ap (drop 1) l0 in
+    let m2 = c.next_of_free-second.ensures.mode ∙ m1 in
+    let l2 = c.next_of_free-second.ensures.left ∙ ap (drop 1) l1 in
+    let m3 = c.next_of_free-third.ensures.mode ∙ m2 in
+    let l3 = c.next_of_free-third.ensures.left ∙ ap (drop 1) l2 in
+    let m4 = c.next_of_free-fourth.ensures.mode ∙ m3 in
+    let l4 = c.next_of_free-fourth.ensures.left ∙ ap (drop 1) l3 in
     free_from 4 _ _ m4 l4
 
-pub returns-clause-lexemes : goal.returns-clause-lexemes
-returns-clause-lexemes c =
+pub returns : goal.returns
+returns c =
     let s = c.lexer-lexer.ensures in
     let l0 = ap (λ v. v.left) s ∙ are_cut in
-    let l1 = c.next_of_free.ensures.left ∙ ap (drop 1) l0 in
-    let l2 = c.next_of_free-2.ensures.left ∙ ap (drop 1) l1 in
-    let l3 = c.next_of_free-3.ensures.left ∙ ap (drop 1) l2 in
-    let l4 = c.next_of_free-4.ensures.left ∙ ap (drop 1) l3 in
-    let e0 = c.in_ok-first.ensures.first ∙ ap first_shape l0 in
-    let e1 = c.in_ok-second.ensures.first ∙ ap first_shape l1 in
-    let e2 = c.in_ok-third.ensures.first ∙ ap first_shape l2 in
-    let e3 = c.in_ok-fourth.ensures.first ∙ ap first_shape l3 in
-    let e4 = c.in_ok-fifth.ensures.first ∙ ap first_shape l4 in
+    let l1 = c.next_of_free-first.ensures.left ∙ ap (drop 1) l0 in
+    let l2 = c.next_of_free-second.ensures.left ∙ ap (drop 1) l1 in
+    let l3 = c.next_of_free-third.ensures.left ∙ ap (drop 1) l2 in
+    let l4 = c.next_of_free-fourth.ensures.left ∙ ap (drop 1) l3 in
+    let e0 = c.next_of_free-first.ensures.first ∙ ap first_shape l0 in
+    let e1 = c.next_of_free-second.ensures.first ∙ ap first_shape l1 in
+    let e2 = c.next_of_free-third.ensures.first ∙ ap first_shape l2 in
+    let e3 = c.next_of_free-fourth.ensures.first ∙ ap first_shape l3 in
+    let e4 = c.next_of_free-fifth.ensures.first ∙ ap first_shape l4 in
     rw (e0, e1, e2, e3, e4) refl

@@ -1,0 +1,61 @@
+//! What the lexer answers.
+
+use crate::shown::{show_faults, show_lexeme};
+use protox_lex::lex::{Lexer, Token};
+use std::alloc::{AllocError, Global};
+use std::io::{self, Write};
+
+fn lexer(alloc: Global, source: &str, text_format: bool) -> Lexer<'_> {
+    let mut lexer = Token::lexer(alloc, source);
+    lexer.set_text_format_mode(text_format);
+    lexer
+}
+
+// A line of the next lexeme. Answers whether there was one.
+fn show_next<W: Write>(lexer: &mut Lexer<'_>, out: &mut W) -> io::Result<bool> {
+    let Some(token) = lexer.next()? else {
+        return Ok(false);
+    };
+    let span = lexer.span();
+    write!(out, "{}..{} ", span.start, span.end)?;
+    show_lexeme(token.as_ref().ok(), out)?;
+    writeln!(out)?;
+    Ok(true)
+}
+
+// The lexemes in a mode, and then their faults.
+fn show_all<W: Write>(
+    alloc: Global,
+    source: &str,
+    text_format: bool,
+    out: &mut W,
+) -> io::Result<()> {
+    let mut lexer = lexer(alloc, source, text_format);
+    for _ in 0..u64::MAX {
+        if !show_next(&mut lexer, out)? {
+            break;
+        }
+    }
+    show_faults(alloc, lexer.errors(), out)
+}
+
+// How many faults there are in a mode.
+fn count_faults(alloc: Global, source: &str, text_format: bool) -> Result<usize, AllocError> {
+    let mut lexer = lexer(alloc, source, text_format);
+    for _ in 0..u64::MAX {
+        if lexer.next()?.is_none() {
+            break;
+        }
+    }
+    Ok(lexer.errors().len())
+}
+
+/// The lexemes and faults of a source, and once more in text format where that makes a difference.
+pub fn show_lexer<W: Write>(alloc: Global, source: &str, out: &mut W) -> io::Result<()> {
+    show_all(alloc, source, false, out)?;
+    if count_faults(alloc, source, true)? == count_faults(alloc, source, false)? {
+        return Ok(());
+    }
+    writeln!(out, "-- in text format")?;
+    show_all(alloc, source, true, out)
+}

@@ -1,0 +1,91 @@
+//! What the table answers.
+
+use crate::shown::{show_faults, show_gap, show_lexeme};
+use protox_descriptor::values::{Items, Text};
+use protox_lex::comments::{GapComments, gap_comments};
+use protox_lex::lex::{Token, TokenTable};
+use std::alloc::Global;
+use std::io::{self, Write};
+
+fn show_comment<W: Write>(place: &str, text: &Option<Text>, out: &mut W) -> io::Result<()> {
+    match text {
+        Some(text) => writeln!(out, "  {place} {:?}", text.as_str()),
+        None => Ok(()),
+    }
+}
+
+fn show_detached<W: Write>(texts: &Items<Text>, out: &mut W) -> io::Result<()> {
+    for text in texts.as_slice() {
+        writeln!(out, "  detached {:?}", text.as_str())?;
+    }
+    Ok(())
+}
+
+fn show_attributed<W: Write>(comments: &GapComments, out: &mut W) -> io::Result<()> {
+    show_comment("trailing", &comments.trailing, out)?;
+    show_detached(&comments.detached, out)?;
+    show_comment("leading", &comments.leading, out)
+}
+
+// The token of row `k`, unless that is invalid or there is none.
+fn token_at<'t, 'a>(table: &'t TokenTable<'a>, k: usize) -> Option<&'t Token<'a>> {
+    match table.row(k) {
+        Some(Ok(token)) => Some(token),
+        _ => None,
+    }
+}
+
+// The gap before row `k`, and the declarations that its comments belong to.
+fn show_comments<W: Write>(
+    alloc: Global,
+    table: &TokenTable<'_>,
+    k: usize,
+    out: &mut W,
+) -> io::Result<()> {
+    let Some(gap) = table.gap(k) else {
+        return Ok(());
+    };
+    show_gap(gap, out)?;
+    let comments = gap_comments(alloc, gap, k == 0, token_at(table, k))?;
+    show_attributed(&comments, out)
+}
+
+// The faults that stand at row `k`, and once more in text format where that makes a difference.
+fn show_released<W: Write>(
+    alloc: Global,
+    table: &TokenTable<'_>,
+    k: usize,
+    out: &mut W,
+) -> io::Result<()> {
+    let mut outside = Vec::new(alloc);
+    table.release(alloc, k, false, &mut outside)?;
+    show_faults(alloc, &outside, out)?;
+    let mut inside = Vec::new(alloc);
+    table.release(alloc, k, true, &mut inside)?;
+    if inside.len() != outside.len() {
+        writeln!(out, "in text format faults: {}", inside.len())?;
+        show_faults(alloc, &inside, out)?;
+    }
+    Ok(())
+}
+
+fn show_row<W: Write>(table: &TokenTable<'_>, k: usize, out: &mut W) -> io::Result<()> {
+    let Some(span) = table.span(k) else {
+        return writeln!(out, "rows: {k}");
+    };
+    write!(out, "row {}..{} ", span.start, span.end)?;
+    show_lexeme(token_at(table, k), out)?;
+    writeln!(out)
+}
+
+/// The rows of a source's table, and before each its gap, the comments there, and the faults of both.
+pub fn show_table<W: Write>(alloc: Global, source: &str, out: &mut W) -> io::Result<()> {
+    let table = TokenTable::new(alloc, source)?;
+    writeln!(out, "-- table")?;
+    for k in 0..=table.rows() {
+        show_comments(alloc, &table, k, out)?;
+        show_released(alloc, &table, k, out)?;
+        show_row(&table, k, out)?;
+    }
+    Ok(())
+}

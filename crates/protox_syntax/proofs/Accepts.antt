@@ -24,7 +24,8 @@ use Rattle.protox_syntax.specs.Weave.{released}
 use Rattle.protox_syntax.specs.Judging.{IsWhole, Judges, made, syntax_or_default, stated_at}
 use Rattle.protox_syntax.proofs.Fine.{seen_file, read-whole, whole-read, notes-fine, fine-notes}
 use Rattle.protox_syntax.proofs.Judged.{Read}
-use Rattle.protox_syntax.proofs.Same.{here, syntax_and_place}
+use Rattle.protox_rows.proofs.Same.{here}
+use Rattle.protox_syntax.proofs.Same.{syntax_and_place}
 use Rattle.protox_syntax.proofs.TableFaults.{empty-released, released-empty, clean-empty, empty-clean}
 
 default-same : (x : Option (tree.Syntax Place)) → syntax_or_default (option_map syntax_and_place x) ≡ ast.file_syntax x

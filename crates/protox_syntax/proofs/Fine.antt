@@ -26,12 +26,15 @@ use Rattle.protox_grammar.proofs.Forms.{mark-laws}
 use Rattle.protox_grammar.proofs.Tests.{words-class}
 use Rattle.protox_grammar.proofs.part.Main.{accepts_iff}
 use Rattle.protox_grammar.proofs.Shows.{Shows, seen, paired, then, head-tests, optional-shows}
+use Rattle.protox_rows.specs.Reads as base
 use Rattle.protox_syntax.specs.Reads as reads
-use Rattle.protox_syntax.specs.Notes.{is_invalid, noted, syntax_faults, text_faults, path_faults, checked, syntax_check, syntax_notes, syntax_if_any_notes, import_check, import_notes, statement_notes, then_notes, notes_from, statements_notes}
+use Rattle.protox_rows.specs.Notes.{is_invalid, noted, checked, then_notes}
+use Rattle.protox_syntax.specs.Notes.{syntax_faults, text_faults, path_faults, syntax_check, syntax_value_notes, syntax_notes, syntax_if_any_notes, path_check, path_notes, import_notes, statement_notes, notes_from, statements_notes}
 use Rattle.protox_syntax.specs.Whole.{whole, all_notes}
-use Rattle.protox_syntax.specs.declared.notes.Note.{Note}
+use Rattle.protox_rows.specs.declared.notes.Note.{Note}
 use Rattle.protox_syntax.specs.declared.statement_types.Statements.{Statements}
-use Rattle.protox_syntax.proofs.Same.{here, syntax_and_place, statements_of, joined, strings-shows, import_kind-shows, syntax-class, semicolon-class, import-class, statement-shows, statements-shows, syntax_if_any-shows}
+use Rattle.protox_rows.proofs.Same.{here, joined, strings-shows, semicolon-class}
+use Rattle.protox_syntax.proofs.Same.{syntax_and_place, statements_of, import_kind-shows, syntax-class, import-class, statement-shows, statements-shows, syntax_if_any-shows}
 
 -- ---- the parts of what was read
 
@@ -167,7 +170,7 @@ both-noted xs ys P Q h k = (
 
 -- a syntax statement that was read is noted unless its syntax is known
 syntax-noted : (xs : Rows Place) (x : tree.Syntax Place × Rows Place) → (r.syntax).read xs ≡ Ok x → NotedUnless (syntax_notes xs) (HasKnownSyntax x.0)
-unfolding r.syntax syntax_notes
+unfolding r.syntax syntax_notes syntax_value_notes
 syntax-noted xs x e =
     let t = mapped-split (λ (x : Place × (Place × (tree.Strings Place × Place))). record { keyword = x.0; equals_sign = x.1.0; value = x.1.1.0; end = x.1.1.1 })
     (seq (r.the (codes "syntax")).read (seq (r.sign s.equals).read (seq (r.strings).read (r.sign s.semicolon).read))) xs x e in
@@ -175,15 +178,13 @@ syntax-noted xs x e =
     let b = seq-split (r.sign s.equals).read (seq (r.strings).read (r.sign s.semicolon).read) a.0 (t.0.1, x.1) a.2 in
     let c = seq-split (r.strings).read (r.sign s.semicolon).read b.0 (t.0.1.1, x.1) b.2 in
     let read_strings = shown strings-shows b.0 (t.0.1.1.0, c.0) c.1 in
-    let front = seq-join (reads.the (codes "syntax")) (seq (reads.sign s.equals) reads.strings_at) xs a.0 c.0 t.0.0 (t.0.1.0, joined t.0.1.1.0) a.1
-    (seq-join (reads.sign s.equals) reads.strings_at a.0 b.0 c.0 t.0.1.0 (joined t.0.1.1.0) b.1 read_strings) in
-    let notes = ap (checked syntax_check) front in
+    let notes = ap (then_notes (λ ys. then_notes syntax_value_notes (base.sign s.equals ys))) a.1 ∙ ap (then_notes syntax_value_notes) b.1 ∙ ap (checked syntax_check) read_strings in
     subst (λ v. NotedUnless (syntax_notes xs) (HasKnownSyntax v)) t.2
     (same-notes _ _ _ notes (syntax-sound (ast.strings_value t.0.1.1.0) (ast.strings_span t.0.1.1.0) c.0 (mark-valid c.0 (t.0.1.1.1, x.1) c.2)))
 
 -- an import that was read is noted unless it imports a file
 import-noted : (xs : Rows Place) (x : tree.Import Place × Rows Place) → (r.«import»).read xs ≡ Ok x → NotedUnless (import_notes xs) (ImportsFile x.0)
-unfolding r.«import» import_notes
+unfolding r.«import» import_notes path_notes
 import-noted xs x e =
     let t = mapped-split (λ (x : Place × (Option (tree.ImportKind Place) × (tree.Strings Place × Place))). record { keyword = x.0; kind = x.1.0; value = x.1.1.0; end = x.1.1.1 })
     (seq (r.the (codes "import")).read (seq (optional (among (3 ∷ 4 ∷ [])) r.import_kind).read (seq (r.strings).read (r.sign s.semicolon).read))) xs x e in
@@ -192,9 +193,7 @@ import-noted xs x e =
     let c = seq-split (r.strings).read (r.sign s.semicolon).read b.0 (t.0.1.1, x.1) b.2 in
     let read_kind = shown (optional-shows reads.is_import_kind (in_set (among (3 ∷ 4 ∷ []))) (words-class (codes "weak" ∷ codes "public" ∷ []) refl) import_kind-shows) a.0 (t.0.1.0, b.0) b.1 in
     let read_strings = shown strings-shows b.0 (t.0.1.1.0, c.0) c.1 in
-    let front = seq-join (reads.the (codes "import")) (seq (reader.optional reads.is_import_kind reads.import_kind_at) reads.strings_at) xs a.0 c.0 t.0.0 (option_map ast.import_kind t.0.1.0, joined t.0.1.1.0) a.1
-    (seq-join (reader.optional reads.is_import_kind reads.import_kind_at) reads.strings_at a.0 b.0 c.0 (option_map ast.import_kind t.0.1.0) (joined t.0.1.1.0) read_kind read_strings) in
-    let notes = ap (checked import_check) front in
+    let notes = ap (then_notes (λ ys. then_notes path_notes (reader.optional reads.is_import_kind reads.import_kind_at ys))) a.1 ∙ ap (then_notes path_notes) read_kind ∙ ap (checked path_check) read_strings in
     subst (λ v. NotedUnless (import_notes xs) (ImportsFile v)) t.2
     (same-notes _ _ _ notes (import-sound (ast.strings_value t.0.1.1.0) (ast.strings_span t.0.1.1.0) c.0 (mark-valid c.0 (t.0.1.1.1, x.1) c.2)))
 
@@ -206,8 +205,8 @@ notes_by mark word notes = cond mark [] (cond word notes [])
 notes-by : (xs : Rows Place) (mark word : Bool) → head_in (in_set (only 56)) xs ≡ mark → head_in (in_set (only 2)) xs ≡ word → statement_notes xs ≡ notes_by mark word (import_notes xs)
 unfolding statement_notes
 notes-by xs mark word h k =
-    ap (λ b. notes_by b (head_in (reads.is_word (codes "import")) xs) (import_notes xs)) (head-tests (reads.is_mark s.semicolon) (in_set (only 56)) semicolon-class xs ∙ h)
-    ∙ ap (λ b. notes_by mark b (import_notes xs)) (head-tests (reads.is_word (codes "import")) (in_set (only 2)) import-class xs ∙ k)
+    ap (λ b. notes_by b (head_in (base.is_word (codes "import")) xs) (import_notes xs)) (head-tests (base.is_mark s.semicolon) (in_set (only 56)) semicolon-class xs ∙ h)
+    ∙ ap (λ b. notes_by mark b (import_notes xs)) (head-tests (base.is_word (codes "import")) (in_set (only 2)) import-class xs ∙ k)
 
 abbrev Sum : Type 0
 Sum = Place ⊎ (tree.Import Place ⊎ tree.Message Place)
@@ -264,7 +263,7 @@ statements-noted xs x e = each-noted (suc (length xs)) xs x e
 
 syntax_if_any-notes : (xs : Rows Place) (b : Bool) → head_in (in_set (only 0)) xs ≡ b → syntax_if_any_notes xs ≡ cond b (syntax_notes xs) []
 unfolding syntax_if_any_notes
-syntax_if_any-notes xs b h = ap (λ b. cond b (syntax_notes xs) []) (head-tests (reads.is_word (codes "syntax")) (in_set (only 0)) syntax-class xs ∙ h)
+syntax_if_any-notes xs b h = ap (λ b. cond b (syntax_notes xs) []) (head-tests (base.is_word (codes "syntax")) (in_set (only 0)) syntax-class xs ∙ h)
 
 syntax_if_any-noted : (xs : Rows Place) (x : Option (tree.Syntax Place) × Rows Place) → (optional (only 0) r.syntax).read xs ≡ Ok x → NotedUnless (syntax_if_any_notes xs) (Given HasKnownSyntax x.0)
 syntax_if_any-noted xs x e =

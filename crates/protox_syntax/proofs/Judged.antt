@@ -13,9 +13,10 @@ use Rattle.protox_lex.proofs.Places.{stand, lie}
 use Rattle.protox_ast.specs.Keywords.{Each}
 use Rattle.protox_ast.specs.declared.ast.Syntax.{Syntax}
 use Rattle.protox_grammar.specs.Reader.{Unexpected}
-use Rattle.protox_syntax.specs.declared.notes.Note.{Note}
+use Rattle.protox_rows.specs.declared.notes.Note.{Note}
 use Rattle.protox_syntax.specs.declared.statement_types.Statements.{Statements}
-use Rattle.protox_syntax.specs.Notes.{is_invalid, syntax_if_any_notes, then_notes, statements_notes}
+use Rattle.protox_rows.specs.Notes.{is_invalid, then_notes}
+use Rattle.protox_syntax.specs.Notes.{syntax_if_any_notes, statements_notes}
 use Rattle.protox_syntax.specs.Reads.{syntax_if_any_at}
 use Rattle.protox_syntax.specs.Whole.{whole, all_notes}
 use Rattle.protox_syntax.specs.Weave.{released, weave, refusal, row_at}

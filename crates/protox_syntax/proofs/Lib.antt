@@ -1,6 +1,3 @@
-pub mod Turns
-pub mod PlacedRows
-pub mod Declared
 pub mod Same
 pub mod Spans
 pub mod Texts

@@ -22,13 +22,16 @@ use Rattle.protox_grammar.proofs.Parts as parts
 use Rattle.protox_grammar.proofs.part.Messages as messages
 use Rattle.protox_grammar.proofs.Tests.{words-class}
 use Rattle.protox_grammar.proofs.Shows.{Shows, optional-shows}
+use Rattle.protox_rows.specs.Reads as base
 use Rattle.protox_syntax.specs.Reads as reads
 use Rattle.protox_ast.proofs.Standing.{Stand, stand-after, stand-front}
-use Rattle.protox_syntax.specs.Notes.{is_invalid, one_note, noted, syntax_faults, text_faults, path_faults, checked, syntax_front, syntax_check, syntax_notes, syntax_if_any_notes, import_front, import_check, import_notes, statement_notes, then_notes, notes_from, statements_notes}
+use Rattle.protox_rows.specs.Notes.{is_invalid, one_note, noted, checked, then_notes}
+use Rattle.protox_syntax.specs.Notes.{syntax_faults, text_faults, path_faults, syntax_check, syntax_value_notes, syntax_notes, syntax_if_any_notes, path_check, path_notes, import_notes, statement_notes, notes_from, statements_notes}
 use Rattle.protox_syntax.specs.Whole.{all_notes}
-use Rattle.protox_syntax.specs.declared.notes.Note.{Note}
-use Rattle.protox_syntax.proofs.Same.{here, strings-shows, import_kind-shows, statement-shows, syntax_if_any-shows}
-use Rattle.protox_syntax.proofs.Fine.{seq-split, shown-back}
+use Rattle.protox_rows.specs.declared.notes.Note.{Note}
+use Rattle.protox_rows.proofs.Same.{here, strings-shows}
+use Rattle.protox_syntax.proofs.Same.{import_kind-shows, statement-shows, syntax_if_any-shows}
+use Rattle.protox_syntax.proofs.Fine.{shown-back}
 
 -- ---- places of strings
 
@@ -54,7 +57,7 @@ shown-after a l f b k low high xs x e h =
     let p = read-after a l low high xs y.0 y.1 h in
     (p.0, p.1, subst (λ v. Stand p.0 high v) (ap (λ t. t.1) y.2) p.2)
 
-strings-read : (low high : ℕ) (xs : Rows Place) (x : (List ℕ × Span) × Rows Place) → reads.strings_at xs ≡ Ok x → Stand low high xs → SpanLiesIn high x.0.1
+strings-read : (low high : ℕ) (xs : Rows Place) (x : (List ℕ × Span) × Rows Place) → base.strings_at xs ≡ Ok x → Stand low high xs → SpanLiesIn high x.0.1
 unfolding r.strings
 strings-read low high xs x e h =
     let y = shown-back strings-shows xs x e in
@@ -92,43 +95,43 @@ then-lies high notes (Err e) h = tt
 syntax_check-lies : (high : ℕ) (value : List ℕ) (span : Span) (ys : Rows Place) → SpanLiesIn high span → Each (NoteLies high) (noted (syntax_faults value span) ys)
 syntax_check-lies high value span ys h = noted-lies high (syntax_faults value span) ys (each-cond (LiesIn high) (is_known_syntax value) [] (UnknownSyntax span (ast.text_of value) ∷ []) tt (h, tt))
 
-import_check-lies : (high : ℕ) (value : List ℕ) (span : Span) (ys : Rows Place) → SpanLiesIn high span → Each (NoteLies high) (noted (text_faults value span) ys ++ noted (path_faults (ast.text_of value) span) ys)
-import_check-lies high value span ys h = each-both (NoteLies high) (noted (text_faults value span) ys) (noted (path_faults (ast.text_of value) span) ys)
+path_check-lies : (high : ℕ) (value : List ℕ) (span : Span) (ys : Rows Place) → SpanLiesIn high span → Each (NoteLies high) (noted (text_faults value span) ys ++ noted (path_faults (ast.text_of value) span) ys)
+path_check-lies high value span ys h = each-both (NoteLies high) (noted (text_faults value span) ys) (noted (path_faults (ast.text_of value) span) ys)
     (noted-lies high (text_faults value span) ys (each-cond (LiesIn high) (is_text value) [] (InvalidUtf8String span ∷ []) tt (h, tt)))
     (noted-lies high (path_faults (ast.text_of value) span) ys (each-cond (LiesIn high) (is_import_path (ast.text_of value)) [] (InvalidImport span ∷ []) tt (h, tt)))
 
-syntax_front-lies : (low high : ℕ) (xs : Rows Place) (x : (Place × (Place × (List ℕ × Span))) × Rows Place) → syntax_front xs ≡ Ok x → Stand low high xs → SpanLiesIn high x.0.1.1.1
-syntax_front-lies low high xs x e h =
-    let a = seq-split (reads.the (codes "syntax")) (seq (reads.sign s.equals) reads.strings_at) xs x e in
-    let b = seq-split (reads.sign s.equals) reads.strings_at a.0 (x.0.1, x.1) a.2 in
-    let p = read-after (r.the (codes "syntax")) (word-laws here (codes "syntax") 0 refl).read low high xs (x.0.0, a.0) a.1 h in
-    let q = read-after (r.sign s.equals) (mark-laws here s.equals 54 refl).read p.0 high a.0 (x.0.1.0, b.0) b.1 p.2 in
-    strings-read q.0 high b.0 (x.0.1.1, x.1) b.2 q.2
-
-import_front-lies : (low high : ℕ) (xs : Rows Place) (x : (Place × (Option (ImportKind × Span) × (List ℕ × Span))) × Rows Place) → import_front xs ≡ Ok x → Stand low high xs → SpanLiesIn high x.0.1.1.1
-import_front-lies low high xs x e h =
-    let a = seq-split (reads.the (codes "import")) (seq (optional reads.is_import_kind reads.import_kind_at) reads.strings_at) xs x e in
-    let b = seq-split (optional reads.is_import_kind reads.import_kind_at) reads.strings_at a.0 (x.0.1, x.1) a.2 in
-    let p = read-after (r.the (codes "import")) (word-laws here (codes "import") 2 refl).read low high xs (x.0.0, a.0) a.1 h in
-    let q = shown-after (rule.optional (among (3 ∷ 4 ∷ [])) r.import_kind) (optional-laws (among (3 ∷ 4 ∷ [])) (parts.import_kind-laws here) refl).read _ (optional reads.is_import_kind reads.import_kind_at)
-    (optional-shows reads.is_import_kind (in_set (among (3 ∷ 4 ∷ []))) (words-class (codes "weak" ∷ codes "public" ∷ []) refl) import_kind-shows) p.0 high a.0 (x.0.1.0, b.0) b.1 p.2 in
-    strings-read q.0 high b.0 (x.0.1.1, x.1) b.2 q.2
+syntax_value-lies : (low high : ℕ) (xs : Rows Place) → Stand low high xs → Each (NoteLies high) (syntax_value_notes xs)
+unfolding syntax_value_notes
+syntax_value-lies low high xs h = checked-lies high syntax_check (base.strings_at xs) (λ x e. syntax_check-lies high x.0.0 x.0.1 x.1 (strings-read low high xs x e h))
 
 syntax-lies : (low high : ℕ) (xs : Rows Place) → Stand low high xs → Each (NoteLies high) (syntax_notes xs)
 unfolding syntax_notes
-syntax-lies low high xs h = checked-lies high syntax_check (syntax_front xs) (λ x e. syntax_check-lies high x.0.1.1.0 x.0.1.1.1 x.1 (syntax_front-lies low high xs x e h))
+syntax-lies low high xs h = then-lies high (λ ys. then_notes syntax_value_notes (base.sign s.equals ys)) (base.the (codes "syntax") xs) (λ x e.
+    let p = read-after (r.the (codes "syntax")) (word-laws here (codes "syntax") 0 refl).read low high xs x e h in
+    then-lies high syntax_value_notes (base.sign s.equals x.1) (λ y f.
+    let q = read-after (r.sign s.equals) (mark-laws here s.equals 54 refl).read p.0 high x.1 y f p.2 in
+    syntax_value-lies q.0 high y.1 q.2))
+
+path-lies : (low high : ℕ) (xs : Rows Place) → Stand low high xs → Each (NoteLies high) (path_notes xs)
+unfolding path_notes
+path-lies low high xs h = checked-lies high path_check (base.strings_at xs) (λ x e. path_check-lies high x.0.0 x.0.1 x.1 (strings-read low high xs x e h))
 
 import-lies : (low high : ℕ) (xs : Rows Place) → Stand low high xs → Each (NoteLies high) (import_notes xs)
 unfolding import_notes
-import-lies low high xs h = checked-lies high import_check (import_front xs) (λ x e. import_check-lies high x.0.1.1.0 x.0.1.1.1 x.1 (import_front-lies low high xs x e h))
+import-lies low high xs h = then-lies high (λ ys. then_notes path_notes (optional reads.is_import_kind reads.import_kind_at ys)) (base.the (codes "import") xs) (λ x e.
+    let p = read-after (r.the (codes "import")) (word-laws here (codes "import") 2 refl).read low high xs x e h in
+    then-lies high path_notes (optional reads.is_import_kind reads.import_kind_at x.1) (λ y f.
+    let q = shown-after (rule.optional (among (3 ∷ 4 ∷ [])) r.import_kind) (optional-laws (among (3 ∷ 4 ∷ [])) (parts.import_kind-laws here) refl).read _ (optional reads.is_import_kind reads.import_kind_at)
+    (optional-shows reads.is_import_kind (in_set (among (3 ∷ 4 ∷ []))) (words-class (codes "weak" ∷ codes "public" ∷ []) refl) import_kind-shows) p.0 high x.1 y f p.2 in
+    path-lies q.0 high y.1 q.2))
 
 -- ---- notes of statements and of a file
 
 statement-lies : (low high : ℕ) (xs : Rows Place) → Stand low high xs → Each (NoteLies high) (statement_notes xs)
 unfolding statement_notes
 statement-lies low high xs h =
-    each-cond (NoteLies high) (head_in (reads.is_mark s.semicolon) xs) [] _ tt
-    (each-cond (NoteLies high) (head_in (reads.is_word (codes "import")) xs) (import_notes xs) [] (import-lies low high xs h) tt)
+    each-cond (NoteLies high) (head_in (base.is_mark s.semicolon) xs) [] _ tt
+    (each-cond (NoteLies high) (head_in (base.is_word (codes "import")) xs) (import_notes xs) [] (import-lies low high xs h) tt)
 
 from-lies : (n low high : ℕ) (xs : Rows Place) → Stand low high xs → Each (NoteLies high) (notes_from n xs)
 unfolding notes_from
@@ -146,7 +149,7 @@ statements-lie low high xs h = from-lies (suc (length xs)) low high xs h
 
 syntax_if_any-lies : (low high : ℕ) (xs : Rows Place) → Stand low high xs → Each (NoteLies high) (syntax_if_any_notes xs)
 unfolding syntax_if_any_notes
-syntax_if_any-lies low high xs h = each-cond (NoteLies high) (head_in (reads.is_word (codes "syntax")) xs) (syntax_notes xs) [] (syntax-lies low high xs h) tt
+syntax_if_any-lies low high xs h = each-cond (NoteLies high) (head_in (base.is_word (codes "syntax")) xs) (syntax_notes xs) [] (syntax-lies low high xs h) tt
 
 -- What is noted of rows lies in the source that they stand in.
 pub notes-lie : (low high : ℕ) (rows : Rows Place) → Stand low high rows → Each (λ (n : Note). LiesIn high n.fault) (all_notes rows)

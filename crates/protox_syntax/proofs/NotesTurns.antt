@@ -5,12 +5,13 @@ use Rattle.protox_ast.specs.Places.{Place}
 use Rattle.protox_lex.specs.Shapes.{Rows}
 use Rattle.protox_grammar.specs.Reader.{Refusal}
 use Rattle.protox_syntax.specs.Reads.{statement_at}
-use Rattle.protox_syntax.specs.Notes.{AddsTo, statement_notes, then_notes, notes_from, statements_notes}
-use Rattle.protox_syntax.specs.Outcome.{Fails}
-use Rattle.protox_syntax.specs.declared.notes.Note.{Note}
+use Rattle.protox_rows.specs.Notes.{AddsTo, then_notes}
+use Rattle.protox_syntax.specs.Notes.{statement_notes, notes_from, statements_notes}
+use Rattle.protox_rows.specs.Outcome.{Fails}
+use Rattle.protox_rows.specs.declared.notes.Note.{Note}
 use Rattle.protox_syntax.specs.declared.statement_types.Statement.{Statement}
-use Rattle.protox_syntax.specs.declared.refused.Refused.{Refused}
-use Rattle.protox_syntax.specs.declared.refused.Refused.TheVariants.{OutOfMemory, At}
+use Rattle.protox_rows.specs.declared.refused.Refused.{Refused}
+use Rattle.protox_rows.specs.declared.refused.Refused.TheVariants.{OutOfMemory, At}
 use Rattle.protox_syntax.proofs.Same.{statement-eats}
 
 then-same : {A : Type 0} (f g : Rows Place → List Note) (read : Result (A × Rows Place) Refusal) → ((x : A × Rows Place) → read ≡ Ok x → f x.1 ≡ g x.1) → then_notes f read ≡ then_notes g read

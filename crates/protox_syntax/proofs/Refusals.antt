@@ -17,7 +17,8 @@ use Rattle.protox_grammar.proofs.part.Messages as messages
 use Rattle.protox_grammar.proofs.Shows.{Shows}
 use Rattle.protox_syntax.specs.Reads as reads
 use Rattle.protox_syntax.specs.Whole.{whole}
-use Rattle.protox_syntax.proofs.Same.{here, syntax_if_any-shows, statements-shows}
+use Rattle.protox_rows.proofs.Same.{here}
+use Rattle.protox_syntax.proofs.Same.{syntax_if_any-shows, statements-shows}
 use Rattle.protox_syntax.proofs.Fine.{shown-back}
 
 -- the row that is refused is one of those that were read

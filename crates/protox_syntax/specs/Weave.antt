@@ -5,8 +5,8 @@ use Rattle.protox_lex.specs.Shapes.{Row, Rows}
 use Rattle.protox_lex.specs.Printed.{printed}
 use Rattle.protox_lex.specs.declared.error.ParseErrorKind.{ParseErrorKind}
 use Rattle.protox_lex.specs.declared.error.ParseErrorKind.TheVariants.{UnexpectedToken, UnexpectedEof}
-use Rattle.protox_syntax.specs.declared.notes.Note.{Note}
-use Rattle.protox_syntax.specs.Notes.{is_invalid}
+use Rattle.protox_rows.specs.declared.notes.Note.{Note}
+use Rattle.protox_rows.specs.Notes.{is_invalid}
 
 -- the faults of so many rows and their gaps, from a row on
 abbrev pub released : List (List ParseErrorKind) → ℕ → ℕ → List ParseErrorKind

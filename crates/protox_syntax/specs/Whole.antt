@@ -6,10 +6,11 @@ use Rattle.protox_grammar.specs.Reader.{Refusal, ◌>>=◌}
 use Rattle.protox_ast.specs.Places.{Place}
 use Rattle.protox_ast.specs.declared.ast.Comments.{Comments}
 use Rattle.protox_ast.specs.declared.ast.Syntax.{Syntax}
-use Rattle.protox_syntax.specs.declared.notes.Note.{Note}
+use Rattle.protox_rows.specs.declared.notes.Note.{Note}
 use Rattle.protox_syntax.specs.declared.statement_types.Statements.{Statements}
 use Rattle.protox_syntax.specs.Reads.{syntax_if_any_at, statements_at}
-use Rattle.protox_syntax.specs.Notes.{syntax_if_any_notes, statements_notes, then_notes}
+use Rattle.protox_rows.specs.Notes.{then_notes}
+use Rattle.protox_syntax.specs.Notes.{syntax_if_any_notes, statements_notes}
 
 -- the syntax statement, and what the statements give
 abbrev pub whole : Rows Place → Result (Option (Syntax × (Span × Comments)) × Statements) Refusal

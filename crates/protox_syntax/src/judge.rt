@@ -1,6 +1,6 @@
 //! Reads a whole table, and says what is wrong with it.
 
-ghost use Rattle.std.specs.Prelude.{◌≡◌, ◌+◌, ◌++◌, [], length, Ok, Err, OnOk, option_map, option_to_list};
+ghost use Rattle.std.specs.Prelude.{◌≡◌, [], length, Ok, Err, option_map};
 ghost use Rattle.protox_ast.specs.Places.{placed};
 ghost use Rattle.protox_grammar.specs.Reader.{Unexpected};
 ghost use Rattle.protox_syntax.specs.Judging.{IsTableOf, Judges, bare_span, made, syntax_or_default, stated_at};
@@ -8,19 +8,19 @@ ghost use Rattle.protox_syntax.specs.Notes.{syntax_if_any_notes};
 ghost use Rattle.protox_syntax.specs.Reads.{syntax_if_any_at};
 ghost use Rattle.protox_syntax.specs.Whole.{whole, all_notes};
 
-use crate::expected::Expected;
-use crate::leaf::join;
-use crate::notes::Note;
-use crate::progress::{refusal, woven};
-use crate::refused::Refused;
-use crate::rows::{Unread, span_in};
+use crate::progress::{add_refusal, woven};
 use crate::statement_types::Statements;
 use crate::statements::{statements, syntax_if_any};
 use protox_ast::ast::{Comments, File, Syntax};
 use protox_descriptor::values::Items;
-use protox_lex::error::{ParseErrorKind, Span, SyntaxFailure};
+use protox_lex::error::{Span, SyntaxFailure};
 use protox_lex::lex::TokenTable;
-use std::alloc::{AllocError, Global};
+use protox_rows::expected::Expected;
+use protox_rows::leaf::join;
+use protox_rows::notes::Note;
+use protox_rows::refused::Refused;
+use protox_rows::rows::{Unread, span_in};
+use std::alloc::Global;
 
 // From the first row to the last; without any row from the end of the source to its start.
 fn file_span(table: &TokenTable<'_>, size: usize) -> Span
@@ -106,23 +106,10 @@ fn refused(
     requires notes { notes.items ≡ all_notes (placed table.now) }
     ensures { Judges table.now size result }
 {
-    let fault = refusal(alloc, table, left, expected.text())?;
     let total = table.rows() + 1;
     let mut errors = woven(alloc, table, total, notes, left)?;
-    add_fault(&mut errors, fault)?;
+    add_refusal(alloc, table, left, expected.text(), &mut errors)?;
     Err(SyntaxFailure::Faults(errors))
-}
-
-fn add_fault(
-    errors: &mut Vec<ParseErrorKind>,
-    fault: Option<ParseErrorKind>,
-) -> Result<(), AllocError>
-    ensures { OnOk result (errors.new.items ≡ errors.old.items ++ option_to_list fault) }
-{
-    if let Some(fault) = fault {
-        errors.push(fault)?;
-    }
-    Ok(())
 }
 
 // All rows are read.

@@ -1,12 +1,14 @@
 //! The list of faults: those of the rows in their order, and among them those that are noted at nodes.
 
-ghost use Rattle.std.specs.Prelude.{◌≡◌, ◌<◌, ◌+◌, ◌++◌, ◌^◌, OnOk, IfOk};
-ghost use Rattle.protox_syntax.specs.Weave.{released, progress, read_to, play, beginning, weave, refusal, row_at};
+ghost use Rattle.std.specs.Prelude.{◌≡◌, ◌<◌, ◌+◌, ◌++◌, ◌^◌, OnOk, IfOk, Some, option_to_list};
+ghost use Rattle.protox_lex.specs.Printed.{printed};
+ghost use Rattle.protox_lex.specs.Tokens.{shape_of};
+ghost use Rattle.protox_syntax.specs.Weave.{released, progress, read_to, noted_in, play, beginning, weave, refusal, row_at};
 
-use crate::notes::Note;
 use protox_descriptor::values::Text;
-use protox_lex::error::ParseErrorKind;
-use protox_lex::lex::TokenTable;
+use protox_lex::error::{ParseErrorKind, Span};
+use protox_lex::lex::{Token, TokenTable};
+use protox_rows::notes::Note;
 use std::alloc::{AllocError, Global};
 
 // The faults of `count` rows and their gaps, from `low` on.
@@ -42,7 +44,23 @@ fn read_to(
     Ok(next + count)
 }
 
-// The notes in their order, each behind the faults of the rows that are read before it.
+// A note, behind the faults of the rows that are read before it.
+fn play_note(
+    alloc: Global,
+    table: &TokenTable<'_>,
+    total: usize,
+    note: Note,
+    next: usize,
+    errors: &mut Vec<ParseErrorKind>,
+) -> Result<usize, AllocError>
+    ensures { IfOk result (λ n. progress errors.new.items n ≡ noted_in table.now.faults total note (progress errors.old.items next)) }
+{
+    let next = read_to(alloc, table, total, note.left, next, errors)?;
+    errors.push(note.fault)?;
+    Ok(next)
+}
+
+// The notes in their order.
 fn play(
     alloc: Global,
     table: &TokenTable<'_>,
@@ -54,8 +72,7 @@ fn play(
 {
     let mut next = 0;
     'notes: for note in notes {
-        next = read_to(alloc, table, total, note.left, next, errors)?;
-        errors.push(note.fault)?;
+        next = play_note(alloc, table, total, note, next, errors)?;
     }
     Ok(next)
 }
@@ -76,16 +93,32 @@ pub(crate) fn woven(
     Ok(errors)
 }
 
-fn unexpected_end(alloc: Global, expected: &str) -> Result<ParseErrorKind, AllocError>
-    ensures { IfOk result (λ fault. fault ≡ ParseErrorKind.UnexpectedEof expected.now) }
+fn unexpected_end(alloc: Global, expected: &str) -> Result<Option<ParseErrorKind>, AllocError>
+    ensures { IfOk result (λ fault. fault ≡ Some (ParseErrorKind.UnexpectedEof expected.now)) }
 {
-    Ok(ParseErrorKind::UnexpectedEof {
-        expected: Text::copy(alloc, expected)?,
-    })
+    let expected = Text::copy(alloc, expected)?;
+    Ok(Some(ParseErrorKind::UnexpectedEof { expected }))
 }
 
-/// The fault of the row from which on `left` rows are left. That of an invalid one is among its own.
-pub(crate) fn refusal(
+fn unexpected_token(
+    alloc: Global,
+    token: &Token<'_>,
+    span: Span,
+    expected: &str,
+) -> Result<Option<ParseErrorKind>, AllocError>
+    ensures { IfOk result (λ fault. fault ≡ Some (ParseErrorKind.UnexpectedToken span expected.now (printed (shape_of token.now)))) }
+{
+    let found = token.to_string(alloc)?;
+    let expected = Text::copy(alloc, expected)?;
+    Ok(Some(ParseErrorKind::UnexpectedToken {
+        span,
+        expected,
+        found: Text::from_string(found),
+    }))
+}
+
+// The fault of the row from which on `left` rows are left. That of an invalid one is among its own.
+fn refusal(
     alloc: Global,
     table: &TokenTable<'_>,
     left: usize,
@@ -95,14 +128,27 @@ pub(crate) fn refusal(
 {
     let index = table.rows().saturating_sub(left);
     let (Some(token), Some(span)) = (table.row(index), table.span(index)) else {
-        return Ok(Some(unexpected_end(alloc, expected)?));
+        return unexpected_end(alloc, expected);
     };
-    let Ok(token) = token else {
-        return Ok(None);
-    };
-    Ok(Some(ParseErrorKind::UnexpectedToken {
-        span,
-        expected: Text::copy(alloc, expected)?,
-        found: Text::from_string(token.to_string(alloc)?),
-    }))
+    match token {
+        Ok(token) => unexpected_token(alloc, token, span, expected),
+        Err(_) => Ok(None),
+    }
+}
+
+/// Adds the fault of the row from which on `left` rows are left.
+pub(crate) fn add_refusal(
+    alloc: Global,
+    table: &TokenTable<'_>,
+    left: usize,
+    expected: &str,
+    errors: &mut Vec<ParseErrorKind>,
+) -> Result<(), AllocError>
+    ensures { OnOk result (errors.new.items ≡ errors.old.items ++ option_to_list (refusal expected.now (row_at table.now.rows left))) }
+{
+    match refusal(alloc, table, left, expected)? {
+        Some(fault) => errors.push(fault)?,
+        None => (),
+    }
+    Ok(())
 }

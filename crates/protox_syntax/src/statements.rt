@@ -1,24 +1,30 @@
 //! The syntax statement, and the statements of a file.
 
-ghost use Rattle.std.specs.Prelude.{◌≡◌, ◌∷◌, [], codes, OnOk};
-ghost use Rattle.protox_grammar.specs.Reader.{any_word, head_in, optional};
-ghost use Rattle.protox_syntax.specs.Outcome.{Gives};
-ghost use Rattle.protox_syntax.specs.Notes.{Adds, syntax_notes, syntax_if_any_notes, import_notes, statement_notes, statements_notes};
-ghost use Rattle.protox_syntax.specs.Reads.{add_statement, is_import_kind, import_kind_at, import_at, statement_at, statements_at, syntax_at, syntax_if_any_at};
-ghost use Rattle.protox_ast.specs.part.Ast.{syntax_of};
+ghost use Rattle.std.specs.Prelude.{◌≡◌, ◌∷◌, ◌++◌, [], codes, OnOk, IfOk};
+ghost use Rattle.protox_grammar.specs.Reader.{any_word, head_in, mapped, optional};
+ghost use Rattle.protox_ast.specs.Spelling.{semicolon};
+ghost use Rattle.protox_ast.specs.part.Ast.{syntax_of, text_of};
+ghost use Rattle.protox_rows.specs.Outcome.{Gives};
+ghost use Rattle.protox_rows.specs.Notes.{Adds};
+ghost use Rattle.protox_rows.specs.Reads.{the, sign};
+ghost use Rattle.protox_messages.specs.Reads.{message_at};
+ghost use Rattle.protox_syntax.specs.Notes.{syntax_value_notes, syntax_notes, syntax_if_any_notes, path_check, path_notes, import_notes, statement_notes, statements_notes};
+ghost use Rattle.protox_syntax.specs.Reads.{add_statement, is_import_kind, import_kind_at, path_at, ended_path_at, import_at, statement_at, statements_at, syntax_value_at, syntax_at, syntax_if_any_at};
+ghost use Rattle.protox_syntax.specs.declared.statement_types.Statement.TheVariants as statement;
 
-use crate::expected::Expected;
-use crate::leaf::{expect_mark, expect_word, join, sees_mark, sees_word};
-use crate::messages::message;
-use crate::notes::{Note, check_path, check_syntax, check_text};
-use crate::refused::Refused;
-use crate::rows::{Unread, comments_of};
+use crate::checks::{check_path, check_syntax, check_text};
 use crate::statement_types::{Statement, Statements};
-use crate::strings::{strings, text_of};
 use protox_ast::ast::{Comments, FileItem, Import, ImportKind, Syntax};
-use protox_descriptor::values::Items;
+use protox_descriptor::values::{Items, Text};
 use protox_lex::error::Span;
 use protox_lex::lex::Token;
+use protox_messages::messages::message;
+use protox_rows::expected::Expected;
+use protox_rows::leaf::{expect_mark, expect_word, join, sees_mark, sees_word};
+use protox_rows::notes::Note;
+use protox_rows::refused::Refused;
+use protox_rows::rows::{RowAt, Unread, comments_of};
+use protox_rows::strings::{strings, text_of};
 use std::alloc::{AllocError, Global};
 
 fn syntax_of(value: &[u8]) -> Syntax
@@ -29,6 +35,21 @@ fn syntax_of(value: &[u8]) -> Syntax
     } else {
         Syntax::Proto2
     }
+}
+
+/// string+, as the syntax that it names.
+#[tactic(auto, unfolding(crate::specs::Reads::syntax_value_at, crate::specs::Notes::syntax_value_notes))]
+fn syntax_value<'t, 'a>(
+    alloc: Global,
+    notes: &mut Vec<Note>,
+    rows: Unread<'t, 'a>,
+) -> Result<(Syntax, Unread<'t, 'a>), Refused>
+    ensures read { Gives (λ x. (x.0, x.1)) result (syntax_value_at rows.entry) }
+    ensures notes { Adds result notes.old.items (syntax_value_notes rows.entry) notes.new.items }
+{
+    let (value, span, rest) = strings(alloc, rows, Expected::String)?;
+    check_syntax(alloc, notes, &rest, &value, &span)?;
+    Ok((syntax_of(&value), rest))
 }
 
 /// syntax = "syntax" "=" string+ ";"
@@ -44,12 +65,11 @@ fn syntax<'t, 'a>(
     let begun = rows.again();
     let (start, rest) = expect_word(rows, "syntax", Expected::Syntax)?;
     let (_, rest) = expect_mark(rest, b'=', Expected::Equals)?;
-    let (value, value_span, rest) = strings(alloc, rest, Expected::String)?;
-    check_syntax(alloc, notes, &rest, &value, &value_span)?;
+    let (syntax, rest) = syntax_value(alloc, notes, rest)?;
     let (end, rest) = expect_mark(rest, b';', Expected::Semicolon)?;
     let comments = comments_of(alloc, &begun, &end)?;
     let span = join(&start.span(), &end.span());
-    Ok(((syntax_of(&value), (span, comments)), rest))
+    Ok(((syntax, (span, comments)), rest))
 }
 
 /// syntax?
@@ -87,6 +107,18 @@ fn is_import_word(word: &str) -> bool
     matches!(word, "weak" | "public")
 }
 
+// This word, as a kind of import.
+fn kind_word<'t, 'a>(
+    rows: Unread<'t, 'a>,
+    word: &str,
+    kind: ImportKind,
+) -> Result<((ImportKind, Span), Unread<'t, 'a>), Refused>
+    ensures { Gives (λ x. (x.0, x.1)) result (mapped (λ p. (kind, p.span)) (the word.now) rows.entry) }
+{
+    let (word, rest) = expect_word(rows, word, Expected::WeakOrPublic)?;
+    Ok(((kind, word.span()), rest))
+}
+
 /// "weak" | "public"
 #[tactic(auto, unfolding(crate::specs::Reads::import_kind_at))]
 fn import_kind<'t, 'a>(
@@ -95,11 +127,9 @@ fn import_kind<'t, 'a>(
     ensures { Gives (λ x. (x.0, x.1)) result (import_kind_at rows.entry) }
 {
     if sees_word(&rows, "weak") {
-        let (word, rest) = expect_word(rows, "weak", Expected::WeakOrPublic)?;
-        return Ok(((ImportKind::Weak, word.span()), rest));
+        return kind_word(rows, "weak", ImportKind::Weak);
     }
-    let (word, rest) = expect_word(rows, "public", Expected::WeakOrPublic)?;
-    Ok(((ImportKind::Public, word.span()), rest))
+    kind_word(rows, "public", ImportKind::Public)
 }
 
 fn import_kind_if_any<'t, 'a>(
@@ -122,6 +152,55 @@ fn after_import(kind: &Option<(ImportKind, Span)>) -> Expected {
     }
 }
 
+// The text of a path, which is checked.
+fn checked_path(
+    alloc: Global,
+    notes: &mut Vec<Note>,
+    rows: &Unread<'_, '_>,
+    bytes: &[u8],
+    span: &Span,
+) -> Result<Text, AllocError>
+    ensures text { IfOk result (λ t. t ≡ text_of bytes.now) }
+    ensures notes { OnOk result (notes.new.items ≡ notes.old.items ++ path_check (bytes.now, span.now) rows.now) }
+{
+    check_text(notes, rows, bytes, span)?;
+    let text = text_of(alloc, bytes)?;
+    check_path(notes, rows, text.as_str(), span)?;
+    Ok(text)
+}
+
+/// string+, as the path that it is.
+#[tactic(auto, unfolding(crate::specs::Reads::path_at, crate::specs::Notes::path_notes))]
+fn path<'t, 'a>(
+    alloc: Global,
+    notes: &mut Vec<Note>,
+    rows: Unread<'t, 'a>,
+    expected: Expected,
+) -> Result<((Text, Span), Unread<'t, 'a>), Refused>
+    ensures read { Gives (λ x. (x.0, x.1)) result (path_at rows.entry) }
+    ensures notes { Adds result notes.old.items (path_notes rows.entry) notes.new.items }
+{
+    let (bytes, span, rest) = strings(alloc, rows, expected)?;
+    let text = checked_path(alloc, notes, &rest, &bytes, &span)?;
+    Ok(((text, span), rest))
+}
+
+/// string+ ";"
+#[tactic(auto, unfolding(crate::specs::Reads::ended_path_at))]
+fn ended_path<'t, 'a>(
+    alloc: Global,
+    notes: &mut Vec<Note>,
+    rows: Unread<'t, 'a>,
+    expected: Expected,
+) -> Result<((Text, Span), RowAt<'t, 'a>, Unread<'t, 'a>), Refused>
+    ensures read { Gives (λ x. ((x.0, x.1.at), x.2)) result (ended_path_at rows.entry) }
+    ensures notes { Adds result notes.old.items (path_notes rows.entry) notes.new.items }
+{
+    let (path, rest) = path(alloc, notes, rows, expected)?;
+    let (end, rest) = expect_mark(rest, b';', Expected::Semicolon)?;
+    Ok((path, end, rest))
+}
+
 /// import = "import" ("weak" | "public")? string+ ";"
 #[tactic(auto, unfolding(crate::specs::Reads::import_at, crate::specs::Notes::import_notes))]
 fn import<'t, 'a>(
@@ -135,21 +214,48 @@ fn import<'t, 'a>(
     let begun = rows.again();
     let (start, rest) = expect_word(rows, "import", Expected::Import)?;
     let (kind, rest) = import_kind_if_any(rest)?;
-    let (bytes, value_span, rest) = strings(alloc, rest, after_import(&kind))?;
-    let value = text_of(alloc, &bytes)?;
-    check_text(notes, &rest, &bytes, &value_span)?;
-    check_path(notes, &rest, value.as_str(), &value_span)?;
-    let (end, rest) = expect_mark(rest, b';', Expected::Semicolon)?;
+    let ((value, value_span), end, rest) = ended_path(alloc, notes, rest, after_import(&kind))?;
+    let comments = comments_of(alloc, &begun, &end)?;
+    let span = join(&start.span(), &end.span());
     Ok((
         Import {
             kind,
             value,
             value_span,
-            comments: comments_of(alloc, &begun, &end)?,
-            span: join(&start.span(), &end.span()),
+            comments,
+            span,
         },
         rest,
     ))
+}
+
+fn empty_statement<'t, 'a>(rows: Unread<'t, 'a>) -> Result<(Statement, Unread<'t, 'a>), Refused>
+    ensures { Gives (λ x. (x.0, x.1)) result (mapped (λ s. statement.Empty) (sign semicolon) rows.entry) }
+{
+    let (_, rest) = expect_mark(rows, b';', Expected::Semicolon)?;
+    Ok((Statement::Empty, rest))
+}
+
+fn import_statement<'t, 'a>(
+    alloc: Global,
+    notes: &mut Vec<Note>,
+    rows: Unread<'t, 'a>,
+) -> Result<(Statement, Unread<'t, 'a>), Refused>
+    ensures read { Gives (λ x. (x.0, x.1)) result (mapped statement.Import import_at rows.entry) }
+    ensures notes { Adds result notes.old.items (import_notes rows.entry) notes.new.items }
+{
+    let (import, rest) = import(alloc, notes, rows)?;
+    Ok((Statement::Import(import), rest))
+}
+
+fn message_statement<'t, 'a>(
+    alloc: Global,
+    rows: Unread<'t, 'a>,
+) -> Result<(Statement, Unread<'t, 'a>), Refused>
+    ensures { Gives (λ x. (x.0, x.1)) result (mapped statement.Message message_at rows.entry) }
+{
+    let (message, rest) = message(alloc, rows)?;
+    Ok((Statement::Message(message), rest))
 }
 
 /// statement = ";" | import | message
@@ -163,15 +269,12 @@ fn statement<'t, 'a>(
     ensures notes { Adds result notes.old.items (statement_notes rows.entry) notes.new.items }
 {
     if sees_mark(&rows, b';') {
-        let (_, rest) = expect_mark(rows, b';', Expected::Semicolon)?;
-        return Ok((Statement::Empty, rest));
+        return empty_statement(rows);
     }
     if sees_word(&rows, "import") {
-        let (import, rest) = import(alloc, notes, rows)?;
-        return Ok((Statement::Import(import), rest));
+        return import_statement(alloc, notes, rows);
     }
-    let (message, rest) = message(alloc, rows)?;
-    Ok((Statement::Message(message), rest))
+    message_statement(alloc, rows)
 }
 
 fn put_statement(file: &mut Statements, statement: Statement) -> Result<(), AllocError>

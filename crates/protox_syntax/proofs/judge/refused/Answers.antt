@@ -1,5 +1,4 @@
-use Rattle.std.proofs.Common.{◌+◌, ◌++◌, ap, ◌∙◌, arith}
-use Rattle.std.specs.Prelude.{option_to_list}
+use Rattle.std.proofs.Common.{◌+◌, ap, arith}
 use Rattle.protox_syntax.proofs.Judged.{total-fits, refused-judged}
 use Rattle.protox_syntax.proofs.judge.refused.Goals as goal
 
@@ -8,4 +7,4 @@ overflow_add-total c = omega (arith, c.rows-total.ensures, total-fits c.args.tab
 
 pub returns : goal.returns
 returns c =
-    refused-judged c.args.table.now c.args.size c.requires.table c.args.notes.items _ c.args.left c.text.result.now c.in_ok-errors.errors.items c.add_fault.new.errors.items (ap (λ n. n + 1) c.rows-total.ensures) c.requires.read c.requires.notes c.in_ok-errors.ensures (c.in_ok-add_fault.ensures ∙ ap (λ f. c.in_ok-errors.errors.items ++ option_to_list f) c.in_ok-fault.ensures)
+    refused-judged c.args.table.now c.args.size c.requires.table c.args.notes.items _ c.args.left c.text.result.now c.in_ok-errors.errors.items c.add_refusal.new.errors.items (ap (λ n. n + 1) c.rows-total.ensures) c.requires.read c.requires.notes c.in_ok-errors.ensures c.in_ok-add_refusal.ensures

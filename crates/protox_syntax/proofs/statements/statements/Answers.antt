@@ -1,10 +1,11 @@
 use Rattle.std.proofs.Common.{sym, ◌∙◌, refl}
 use Rattle.std.proofs.lemmas.Result.{err_from_is_err_and}
-use Rattle.protox_syntax.specs.Reads.{add_statement, anything, statement_at, statements_at}
+use Rattle.protox_rows.specs.Reads.{anything}
+use Rattle.protox_syntax.specs.Reads.{add_statement, statement_at, statements_at}
 use Rattle.protox_syntax.specs.Notes.{statements_notes}
 use Rattle.protox_syntax.proofs.Same.{statement-eats}
 use Rattle.protox_syntax.proofs.NotesTurns.{more-notes, last-notes, all-notes}
-use Rattle.protox_syntax.proofs.Turns as turns
+use Rattle.protox_rows.proofs.Turns as turns
 use Rattle.protox_syntax.proofs.statements.statements.Goals as goal
 
 pub returns-in_err-statement-clause-read : goal.returns-in_err-statement-clause-read

@@ -1,6 +1,7 @@
 use Rattle.std.proofs.Common.{◌≡◌, ◌++◌, length}
 use Rattle.protox_grammar.specs.Reader.{star, gathered}
-use Rattle.protox_syntax.specs.Reads.{add_statement, anything, statement_at, statements_at}
+use Rattle.protox_rows.specs.Reads.{anything}
+use Rattle.protox_syntax.specs.Reads.{add_statement, statement_at, statements_at}
 use Rattle.protox_syntax.specs.Notes.{statements_notes}
 use Rattle.protox_syntax.proofs.statements.statements.Given as goal
 

@@ -1,0 +1,152 @@
+//! Fields.
+
+ghost use Rattle.std.specs.Prelude.{◌≡◌, option_map};
+ghost use Rattle.protox_ast.specs.part.Ast.{scalar};
+ghost use Rattle.protox_grammar.specs.Reader.{head_in};
+ghost use Rattle.protox_grammar.specs.Rules.{find_scalar, all_scalars, see_scalar};
+ghost use Rattle.protox_lex.specs.TableView.{shape_of_lent};
+ghost use Rattle.protox_rows.specs.Outcome.{Gives};
+ghost use Rattle.protox_messages.specs.Reads.{is_scalar, scalar_at, type_at, number_at, named_at, normal_at};
+
+use protox_ast::ast::{Field, FieldKind, Ident, Int, Ty};
+use protox_lex::error::Span;
+use protox_lex::lex::Token;
+use protox_rows::expected::Expected;
+use protox_rows::leaf::{expect_mark, join, refused};
+use protox_rows::names::{ident, int, typename};
+use protox_rows::refused::Refused;
+use protox_rows::rows::{RowAt, Unread, comments_of};
+use std::alloc::Global;
+
+// The scalar type that the word names.
+fn scalar_type(word: &str) -> Option<Ty>
+    ensures { result ≡ option_map scalar (find_scalar all_scalars word.now) }
+{
+    match word {
+        "double" => Some(Ty::Double),
+        "float" => Some(Ty::Float),
+        "int32" => Some(Ty::Int32),
+        "int64" => Some(Ty::Int64),
+        "uint32" => Some(Ty::Uint32),
+        "uint64" => Some(Ty::Uint64),
+        "sint32" => Some(Ty::Sint32),
+        "sint64" => Some(Ty::Sint64),
+        "fixed32" => Some(Ty::Fixed32),
+        "fixed64" => Some(Ty::Fixed64),
+        "sfixed32" => Some(Ty::Sfixed32),
+        "sfixed64" => Some(Ty::Sfixed64),
+        "bool" => Some(Ty::Bool),
+        "string" => Some(Ty::String),
+        "bytes" => Some(Ty::Bytes),
+        _ => None,
+    }
+}
+
+// The scalar type that the token names.
+fn scalar_in(token: Result<&Token<'_>, ()>) -> Option<Ty>
+    ensures { result ≡ option_map scalar (see_scalar (shape_of_lent token.entry)) }
+{
+    match token {
+        Ok(Token::Ident(word)) => scalar_type(word),
+        _ => None,
+    }
+}
+
+fn sees_scalar(rows: &Unread<'_, '_>) -> bool
+    ensures { result ≡ head_in is_scalar rows.now }
+{
+    match rows.first() {
+        Some(first) => scalar_in(first.token()).is_some(),
+        None => false,
+    }
+}
+
+#[tactic(auto, unfolding(protox_grammar::specs::Reader::leaf, crate::specs::Reads::scalar_at))]
+fn scalar_word<'t, 'a>(rows: Unread<'t, 'a>) -> Result<(Ty, Span, Unread<'t, 'a>), Refused>
+    ensures { Gives (λ x. ((x.0, x.1), x.2)) result (scalar_at rows.entry) }
+{
+    let Some((first, rest)) = rows.split() else {
+        return Err(refused(&rows, Expected::Type));
+    };
+    match scalar_in(first.token()) {
+        Some(ty) => Ok((ty, first.span(), rest)),
+        None => Err(refused(&rows, Expected::Type)),
+    }
+}
+
+/// type = one of the 15 scalar words | typename
+#[tactic(auto, unfolding(crate::specs::Reads::type_at))]
+fn field_type<'t, 'a>(
+    alloc: Global,
+    rows: Unread<'t, 'a>,
+    expected: Expected,
+) -> Result<(Ty, Span, Unread<'t, 'a>), Refused>
+    ensures { Gives (λ x. ((x.0, x.1), x.2)) result (type_at rows.entry) }
+{
+    if sees_scalar(&rows) {
+        return scalar_word(rows);
+    }
+    let (name, span, rest) = typename(alloc, rows, expected)?;
+    Ok((Ty::Named(name), span, rest))
+}
+
+// A name may go on with a dot.
+fn after_type(ty: &Ty) -> Expected {
+    match ty {
+        Ty::Named(_) => Expected::DotOrIdent,
+        _ => Expected::Ident,
+    }
+}
+
+/// "=" int ";"
+#[tactic(auto, unfolding(crate::specs::Reads::number_at))]
+fn number<'t, 'a>(rows: Unread<'t, 'a>) -> Result<(Int, RowAt<'t, 'a>, Unread<'t, 'a>), Refused>
+    ensures { Gives (λ x. ((x.0, x.1.at), x.2)) result (number_at rows.entry) }
+{
+    let (_, rest) = expect_mark(rows, b'=', Expected::Equals)?;
+    let (number, rest) = int(rest)?;
+    let (end, rest) = expect_mark(rest, b';', Expected::SemicolonOrOptions)?;
+    Ok((number, end, rest))
+}
+
+/// ident "=" int ";"
+#[tactic(auto, unfolding(crate::specs::Reads::named_at))]
+fn named<'t, 'a>(
+    alloc: Global,
+    rows: Unread<'t, 'a>,
+    expected: Expected,
+) -> Result<(Ident, (Int, RowAt<'t, 'a>), Unread<'t, 'a>), Refused>
+    ensures { Gives (λ x. ((x.0, (x.1.0, x.1.1.at)), x.2)) result (named_at rows.entry) }
+{
+    let (name, rest) = ident(alloc, rows, expected)?;
+    let (number, end, rest) = number(rest)?;
+    Ok((name, (number, end), rest))
+}
+
+/// normal = type ident "=" int ";"
+#[tactic(auto, unfolding(crate::specs::Reads::normal_at))]
+pub(crate) fn normal<'t, 'a>(
+    alloc: Global,
+    rows: Unread<'t, 'a>,
+    expected: Expected,
+) -> Result<(Field, Unread<'t, 'a>), Refused>
+    ensures { Gives (λ x. (x.0, x.1)) result (normal_at rows.entry) }
+{
+    let begun = rows.again();
+    let (ty, ty_span, rest) = field_type(alloc, rows, expected)?;
+    let (name, (number, end), rest) = named(alloc, rest, after_type(&ty))?;
+    let comments = comments_of(alloc, &begun, &end)?;
+    let span = join(&ty_span, &end.span());
+    Ok((
+        Field {
+            label: None,
+            name,
+            kind: FieldKind::Normal { ty, ty_span },
+            number,
+            options: None,
+            comments,
+            span,
+        },
+        rest,
+    ))
+}

@@ -1,0 +1,5 @@
+//! Reads messages and their fields.
+#![tactic(auto)]
+
+mod fields;
+pub mod messages;

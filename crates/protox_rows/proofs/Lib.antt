@@ -1,0 +1,4 @@
+pub mod Turns
+pub mod PlacedRows
+pub mod Declared
+pub mod Same

@@ -1,0 +1,22 @@
+use Rattle.std.proofs.Common.{sym, ◌∙◌}
+use Rattle.std.proofs.lemmas.Result.{err_from_is_err_and}
+use Rattle.protox_grammar.specs.Reader.{is_string}
+use Rattle.protox_rows.specs.Reads.{more_string, string_at, strings_at}
+use Rattle.protox_rows.proofs.Same.{string-eats}
+use Rattle.protox_rows.proofs.Turns as turns
+use Rattle.protox_rows.proofs.strings.strings.Goals as goal
+
+pub returns-in_err-more : goal.returns-in_err-more
+returns-in_err-more c =
+    let p = err_from_is_err_and c.from_residual-in_err-more.result c.from_residual-in_err-more.ensures.1 in
+    rw (p.1, p.2) (turns.ends more_string is_string string_at string-eats (strings_at c.args.rows) c.in_err-more.field-0.0 _ _ (sym c.sees_string.ensures ∙ c.more-test.true) c.in_err-more.ensures c.more.invariant)
+
+pub more-smaller : goal.more-smaller
+more-smaller c = turns.shorter string_at string-eats c.more.rest c.in_ok-more.after _ c.in_ok-more.ensures
+
+pub more-preserved : goal.more-preserved
+more-preserved c =
+    rw (c.in_ok-extend_from_slice.ensures.items, c.join-span.ensures) (turns.more more_string is_string string_at string-eats (strings_at c.args.rows) _ _ _ _ (sym c.sees_string.ensures ∙ c.more-test.true) c.in_ok-more.ensures c.more.invariant)
+
+pub returns : goal.returns
+returns c = turns.done more_string is_string string_at string-eats (strings_at c.args.rows) _ _ (sym c.sees_string.ensures ∙ c.more-test.false) c.more.invariant

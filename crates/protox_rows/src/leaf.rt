@@ -1,0 +1,133 @@
+//! Single rows.
+
+ghost use Rattle.std.specs.Prelude.{◌≡◌, length};
+ghost use Rattle.protox_ast.specs.part.Ast.{join};
+ghost use Rattle.protox_grammar.specs.Reader.{is_token, head_in, fixed};
+ghost use Rattle.protox_lex.specs.Shapes.{Ident, Mark};
+ghost use Rattle.protox_lex.specs.TableView.{shape_of_lent};
+ghost use Rattle.protox_lex.specs.Tokens.{shape_of};
+ghost use Rattle.protox_rows.specs.Outcome.{Gives};
+
+use crate::expected::Expected;
+use crate::refused::Refused;
+use crate::rows::{RowAt, Unread};
+use protox_lex::error::Span;
+use protox_lex::lex::Token;
+
+/// From the start of the one to the end of the other.
+pub fn join(start: &Span, end: &Span) -> Span
+    ensures { result ≡ join start.now end.now }
+{
+    start.start..end.end
+}
+
+/// The same span.
+pub fn copied(span: &Span) -> Span
+    ensures { result ≡ span.now }
+{
+    span.start..span.end
+}
+
+/// Whether the token is this word.
+pub fn is_word(token: Result<&Token<'_>, ()>, word: &str) -> bool
+    ensures { result ≡ is_token (Ident word.now) (shape_of_lent token.entry) }
+{
+    match token {
+        Ok(Token::Ident(text)) => *text == word,
+        _ => false,
+    }
+}
+
+/// Whether the token is the mark of this byte.
+pub fn is_mark(token: Result<&Token<'_>, ()>, mark: u8) -> bool
+    ensures { result ≡ is_token (Mark mark) (shape_of_lent token.entry) }
+{
+    match token {
+        Ok(token) => is_mark_token(token, mark),
+        Err(_) => false,
+    }
+}
+
+fn is_mark_token(token: &Token<'_>, mark: u8) -> bool
+    ensures { result ≡ is_token (Mark mark) (shape_of token.now) }
+{
+    match token {
+        Token::Dot => b'.' == mark,
+        Token::Minus => b'-' == mark,
+        Token::Plus => b'+' == mark,
+        Token::LeftParen => b'(' == mark,
+        Token::RightParen => b')' == mark,
+        Token::LeftBrace => b'{' == mark,
+        Token::RightBrace => b'}' == mark,
+        Token::LeftBracket => b'[' == mark,
+        Token::RightBracket => b']' == mark,
+        Token::LeftAngleBracket => b'<' == mark,
+        Token::RightAngleBracket => b'>' == mark,
+        Token::Comma => b',' == mark,
+        Token::Equals => b'=' == mark,
+        Token::Colon => b':' == mark,
+        Token::Semicolon => b';' == mark,
+        Token::ForwardSlash => b'/' == mark,
+        _ => false,
+    }
+}
+
+/// Whether this word comes next.
+pub fn sees_word(rows: &Unread<'_, '_>, word: &str) -> bool
+    ensures { result ≡ head_in (is_token (Ident word.now)) rows.now }
+{
+    match rows.first() {
+        Some(first) => is_word(first.token(), word),
+        None => false,
+    }
+}
+
+/// Whether this mark comes next.
+pub fn sees_mark(rows: &Unread<'_, '_>, mark: u8) -> bool
+    ensures { result ≡ head_in (is_token (Mark mark)) rows.now }
+{
+    match rows.first() {
+        Some(first) => is_mark(first.token(), mark),
+        None => false,
+    }
+}
+
+/// The first of these rows doesn't fit.
+pub fn refused(rows: &Unread<'_, '_>, expected: Expected) -> Refused
+    ensures { result ≡ Refused.At (length rows.now) expected }
+{
+    Refused::At {
+        left: rows.len(),
+        expected,
+    }
+}
+
+/// Takes this word.
+#[tactic(auto, unfolding(protox_grammar::specs::Reader::fixed))]
+pub fn expect_word<'t, 'a>(
+    rows: Unread<'t, 'a>,
+    word: &str,
+    expected: Expected,
+) -> Result<(RowAt<'t, 'a>, Unread<'t, 'a>), Refused>
+    ensures { Gives (λ x. (x.0.at, x.1)) result (fixed (Ident word.now) rows.entry) }
+{
+    match rows.split() {
+        Some((first, rest)) if is_word(first.token(), word) => Ok((first, rest)),
+        _ => Err(refused(&rows, expected)),
+    }
+}
+
+/// Takes this mark.
+#[tactic(auto, unfolding(protox_grammar::specs::Reader::fixed))]
+pub fn expect_mark<'t, 'a>(
+    rows: Unread<'t, 'a>,
+    mark: u8,
+    expected: Expected,
+) -> Result<(RowAt<'t, 'a>, Unread<'t, 'a>), Refused>
+    ensures { Gives (λ x. (x.0.at, x.1)) result (fixed (Mark mark) rows.entry) }
+{
+    match rows.split() {
+        Some((first, rest)) if is_mark(first.token(), mark) => Ok((first, rest)),
+        _ => Err(refused(&rows, expected)),
+    }
+}

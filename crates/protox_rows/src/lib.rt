@@ -1,0 +1,10 @@
+//! What every rule of the grammar is read with: rows, names, numbers and strings, notes of faults.
+#![tactic(auto)]
+
+pub mod expected;
+pub mod leaf;
+pub mod names;
+pub mod notes;
+pub mod refused;
+pub mod rows;
+pub mod strings;

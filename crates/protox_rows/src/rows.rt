@@ -1,0 +1,249 @@
+//! Where a reader stands among the rows of a table.
+
+ghost use Rattle.std.specs.Prelude.{◌≡◌, ◌==◌, IfOk, [], length, map, slice_index_or};
+ghost use Rattle.protox_ast.specs.Places.{placed};
+ghost use Rattle.protox_lex.specs.Gaps.{IsGap, attribution};
+ghost use Rattle.protox_lex.specs.Attributing.{attribution_of};
+ghost use Rattle.protox_lex.specs.TableView.{shape_of_lent};
+ghost use Rattle.protox_lex.specs.Tokens.{shape_of};
+ghost use Rattle.protox_rows.specs.Rows.{IsFirst, IsSplit, bare_row, shape_of_row};
+ghost use Rattle.protox_ast.specs.part.Ast.{comments};
+ghost use Rattle.protox_rows.specs.Reads.{declared};
+
+use protox_ast::ast::Comments;
+use protox_descriptor::values::Items;
+use protox_lex::comments::{GapComments, gap_comments};
+use protox_lex::error::Span;
+use protox_lex::lex::{Token, TokenTable};
+use std::alloc::{AllocError, Global};
+use std::marker::Model;
+
+/// A row of a table, by the number of the gap behind it.
+#[derive(Drop)]
+pub struct RowAt<'t, 'a> {
+    table: &'t TokenTable<'a>,
+    behind: usize,
+}
+
+impl<'t, 'a> Model for RowAt<'t, 'a> {
+    ghost use Rattle.protox_lex.specs.Shapes.{Row};
+    ghost use Rattle.protox_ast.specs.Places.{Place};
+    ghost use Rattle.protox_rows.specs.Rows.{the_row, IsRow};
+
+    ghost Value = { Row Place };
+
+    ghost view = { the_row };
+
+    ghost invariant = { IsRow };
+}
+
+/// The rows of a table that are not read yet.
+#[derive(Drop)]
+pub struct Unread<'t, 'a> {
+    table: &'t TokenTable<'a>,
+    index: usize,
+}
+
+impl<'t, 'a> Model for Unread<'t, 'a> {
+    ghost use Rattle.protox_lex.specs.Shapes.{Rows};
+    ghost use Rattle.protox_ast.specs.Places.{Place};
+    ghost use Rattle.protox_rows.specs.Rows.{rows_left};
+
+    ghost Value = { Rows Place };
+
+    ghost view = { rows_left };
+}
+
+// The comments of the gap before a row, or of the one behind the last.
+fn comments_in(
+    alloc: Global,
+    table: &TokenTable<'_>,
+    gap: &[Token<'_>],
+    index: usize,
+    first: bool,
+) -> Result<GapComments, AllocError>
+    requires { IsGap (map shape_of gap.now) }
+    ensures { IfOk result (λ c. attribution_of c ≡ attribution (map shape_of gap.now) first (shape_of_row table.now.rows index)) }
+{
+    match table.row(index) {
+        None => gap_comments(alloc, gap, first, None),
+        Some(Ok(token)) => gap_comments(alloc, gap, first, Some(token)),
+        Some(Err(())) => gap_comments(alloc, gap, first, Some(&Token::Semicolon)),
+    }
+}
+
+// The comments of the gap of that number. The first gap begins the file.
+fn comments_at(
+    alloc: Global,
+    table: &TokenTable<'_>,
+    index: usize,
+    first: bool,
+) -> Result<GapComments, AllocError>
+    ensures { IfOk result (λ c. attribution_of c ≡ attribution (slice_index_or table.now.gaps index []) first (shape_of_row table.now.rows index)) }
+{
+    match table.gap(index) {
+        Some(gap) => comments_in(alloc, table, gap, index, first),
+        None => comments_in(alloc, table, &[], index, first),
+    }
+}
+
+// The token of a row. Where the table has none, it is invalid.
+fn token_in<'t, 'a>(table: &'t TokenTable<'a>, index: usize) -> Result<&'t Token<'a>, ()>
+    ensures { shape_of_lent result ≡ (slice_index_or table.now.rows index bare_row).shape }
+{
+    match table.row(index) {
+        Some(token) => token,
+        None => Err(()),
+    }
+}
+
+/// The span of a row. Where the table has none, it is empty.
+pub fn span_in(table: &TokenTable<'_>, index: usize) -> Span
+    ensures { result ≡ (slice_index_or table.now.rows index bare_row).at }
+{
+    match table.span(index) {
+        Some(span) => span,
+        None => 0..0,
+    }
+}
+
+impl<'t, 'a> RowAt<'t, 'a> {
+    /// The row's token.
+    pub fn token(&self) -> Result<&'t Token<'a>, ()>
+        ensures { shape_of_lent result ≡ self.now.shape }
+    {
+        token_in(self.table, self.behind - 1)
+    }
+
+    /// The comments of the gap before it.
+    fn before(&self, alloc: Global) -> Result<GapComments, AllocError>
+        ensures { IfOk result (λ c. (c.detached ≡ self.now.at.detached) × (c.leading ≡ self.now.at.leading)) }
+    {
+        let index = self.behind - 1;
+        comments_at(alloc, self.table, index, index == 0)
+    }
+
+    /// Those of the gap behind it.
+    fn after(&self, alloc: Global) -> Result<GapComments, AllocError>
+        ensures { IfOk result (λ c. c.trailing ≡ self.now.at.trailing) }
+    {
+        comments_at(alloc, self.table, self.behind, false)
+    }
+
+    /// Its span.
+    pub fn span(&self) -> Span
+        ensures { result ≡ self.now.at.span }
+    {
+        span_in(self.table, self.behind - 1)
+    }
+}
+
+impl<'t, 'a> Unread<'t, 'a> {
+    /// All rows of a table.
+    pub fn all(table: &'t TokenTable<'a>) -> Unread<'t, 'a>
+        ensures { result ≡ placed table.now }
+    {
+        Unread { table, index: 0 }
+    }
+
+    /// The same rows.
+    pub fn again(&self) -> Unread<'t, 'a>
+        ensures { result ≡ self.now }
+    {
+        Unread {
+            table: self.table,
+            index: self.index,
+        }
+    }
+
+    /// How many rows are left.
+    pub fn len(&self) -> usize
+        ensures { result ≡ length self.now }
+    {
+        self.table.rows().saturating_sub(self.index)
+    }
+
+    /// Whether no row is left.
+    pub fn is_empty(&self) -> bool
+        ensures { result ≡ (length self.now == 0) }
+    {
+        self.len() == 0
+    }
+
+    /// The first of these rows, if there is one.
+    pub fn first(&self) -> Option<RowAt<'t, 'a>>
+        ensures { IsFirst self.now result }
+    {
+        if self.index < self.table.rows() {
+            Some(RowAt {
+                table: self.table,
+                behind: self.index + 1,
+            })
+        } else {
+            None
+        }
+    }
+
+    /// The first of these rows, and the others.
+    pub fn split(&self) -> Option<(RowAt<'t, 'a>, Unread<'t, 'a>)>
+        ensures { IsSplit self.now result }
+    {
+        if self.index < self.table.rows() {
+            let next = self.index + 1;
+            let first = RowAt {
+                table: self.table,
+                behind: next,
+            };
+            let others = Unread {
+                table: self.table,
+                index: next,
+            };
+            Some((first, others))
+        } else {
+            None
+        }
+    }
+}
+
+// The comments of a declaration that begins with one row, and that ends or opens its body with another.
+fn comments_between(
+    alloc: Global,
+    first: &RowAt<'_, '_>,
+    last: &RowAt<'_, '_>,
+) -> Result<Comments, AllocError>
+    ensures { IfOk result (λ c. c ≡ comments first.now.at last.now.at) }
+{
+    let before = first.before(alloc)?;
+    let after = last.after(alloc)?;
+    Ok(Comments {
+        leading_detached_comments: before.detached,
+        leading_comment: before.leading,
+        trailing_comment: after.trailing,
+    })
+}
+
+fn comments_behind(alloc: Global, last: &RowAt<'_, '_>) -> Result<Comments, AllocError>
+    ensures { IfOk result (λ c. c ≡ declared [] last.now.at) }
+{
+    let behind = last.after(alloc)?;
+    Ok(Comments {
+        leading_detached_comments: Items::new(alloc),
+        leading_comment: None,
+        trailing_comment: behind.trailing,
+    })
+}
+
+/// The comments of a declaration that begins with the first of these rows, and that ends or opens its
+/// body with `last`.
+pub fn comments_of(
+    alloc: Global,
+    rows: &Unread<'_, '_>,
+    last: &RowAt<'_, '_>,
+) -> Result<Comments, AllocError>
+    ensures { IfOk result (λ c. c ≡ declared rows.now last.now.at) }
+{
+    match rows.first() {
+        Some(first) => comments_between(alloc, &first, last),
+        None => comments_behind(alloc, last),
+    }
+}

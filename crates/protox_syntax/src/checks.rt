@@ -1,0 +1,107 @@
+//! What is checked of a syntax statement and of an import.
+
+ghost use Rattle.std.specs.Prelude.{◌≡◌, ◌++◌, ◌==◌, OnOk};
+ghost use Rattle.std.specs.List.{list_any};
+ghost use Rattle.protox_ast.specs.Checks.{is_known_syntax, is_text, is_import_path, is_plain_component};
+ghost use Rattle.protox_rows.specs.Notes.{noted};
+ghost use Rattle.protox_syntax.specs.Notes.{syntax_faults, text_faults, path_faults};
+
+use protox_lex::error::{ParseErrorKind, Span};
+use protox_rows::leaf::copied;
+use protox_rows::notes::{Note, add_note};
+use protox_rows::rows::Unread;
+use protox_rows::strings::text_of;
+use std::alloc::{AllocError, Global};
+
+// The syntaxes that there are.
+fn is_known_syntax(value: &[u8]) -> bool
+    ensures { result ≡ is_known_syntax value.now }
+{
+    value == b"proto2".as_slice() || value == b"proto3".as_slice()
+}
+
+fn is_text(bytes: &[u8]) -> bool
+    ensures { result ≡ is_text bytes.now }
+{
+    match str::from_utf8(bytes) {
+        Ok(_) => true,
+        Err(_) => false,
+    }
+}
+
+fn has_backslash(component: &str) -> bool
+    ensures { result ≡ list_any (λ b. b == 92) component.now }
+{
+    component.bytes().any(|b| b == b'\\')
+}
+
+fn is_plain_component(component: &str) -> bool
+    ensures { result ≡ is_plain_component component.now }
+{
+    !component.is_empty() && component != "." && component != ".." && !has_backslash(component)
+}
+
+fn is_import_path(path: &str) -> bool
+    ensures { result ≡ is_import_path path.now }
+{
+    path.split('/')
+        .all(|component| is_plain_component(component))
+}
+
+/// Whether the syntax is one that there is.
+pub fn check_syntax(
+    alloc: Global,
+    notes: &mut Vec<Note>,
+    rows: &Unread<'_, '_>,
+    value: &[u8],
+    span: &Span,
+) -> Result<(), AllocError>
+    ensures { OnOk result (notes.new.items ≡ notes.old.items ++ noted (syntax_faults value.now span.now) rows.now) }
+{
+    if is_known_syntax(value) {
+        return Ok(());
+    }
+    let fault = ParseErrorKind::UnknownSyntax {
+        span: copied(span),
+        syntax: text_of(alloc, value)?,
+    };
+    add_note(notes, rows, fault)
+}
+
+/// Whether an import's string is text.
+pub fn check_text(
+    notes: &mut Vec<Note>,
+    rows: &Unread<'_, '_>,
+    value: &[u8],
+    span: &Span,
+) -> Result<(), AllocError>
+    ensures { OnOk result (notes.new.items ≡ notes.old.items ++ noted (text_faults value.now span.now) rows.now) }
+{
+    if is_text(value) {
+        return Ok(());
+    }
+    add_note(
+        notes,
+        rows,
+        ParseErrorKind::InvalidUtf8String { span: copied(span) },
+    )
+}
+
+/// Whether an import's text is a path of plain components.
+pub fn check_path(
+    notes: &mut Vec<Note>,
+    rows: &Unread<'_, '_>,
+    path: &str,
+    span: &Span,
+) -> Result<(), AllocError>
+    ensures { OnOk result (notes.new.items ≡ notes.old.items ++ noted (path_faults path.now span.now) rows.now) }
+{
+    if is_import_path(path) {
+        return Ok(());
+    }
+    add_note(
+        notes,
+        rows,
+        ParseErrorKind::InvalidImport { span: copied(span) },
+    )
+}

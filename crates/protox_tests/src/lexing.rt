@@ -58,12 +58,7 @@ fn words(rt: HostRuntime) -> Result<(), Fail> {
 }
 
 // Whether row `k` of a source is this word.
-fn row_is(
-    alloc: Global,
-    source: &str,
-    k: usize,
-    word: &'static str,
-) -> Result<bool, AllocError> {
+fn row_is(alloc: Global, source: &str, k: usize, word: &'static str) -> Result<bool, AllocError> {
     let table = TokenTable::new(alloc, source)?;
     Ok(matches!(table.row(k), Some(Ok(token)) if *token == Token::keyword(word)))
 }
@@ -227,10 +222,7 @@ fn lexemes_without_memory(rt: HostRuntime) -> Result<(), Fail> {
     let found = five_lexemes(rt.alloc());
     let float = EqFloat(CowStr::Borrowed(".5"));
     let all = is_token(&found[0], &Token::Ident("foo"))
-        && is_token(
-            &found[1],
-            &Token::StringLiteral(CowSlice::Borrowed(b"bar")),
-        )
+        && is_token(&found[1], &Token::StringLiteral(CowSlice::Borrowed(b"bar")))
         && is_token(&found[2], &Token::IntLiteral(12))
         && is_token(&found[3], &Token::FloatLiteral(float))
         && is_token(&found[4], &Token::LineComment(CowStr::Borrowed(" c\n")));

@@ -11,6 +11,9 @@ use Rattle.protox_grammar.proofs.Takes.{ok_is}
 use Rattle.protox_grammar.proofs.Sets.{gated, starts-then}
 use Rattle.protox_grammar.proofs.Laws.{IsSpelled, ahead-past}
 use Rattle.protox_grammar.proofs.Reading.{Concerns, Opens, chosen, failed, unexpected-deep, IsRead, Took, Begins, left_of, bind_err, ok-err, err-ok, err-left, seq-read}
+use Rattle.protox_grammar.proofs.TracingChoices.{peek-traced}
+use Rattle.protox_grammar.proofs.TracingPairs.{joined-traced}
+use Rattle.protox_grammar.proofs.Tracing.{IsTraced}
 use Rattle.protox_grammar.proofs.Forms.{Lawful, stops-none}
 
 -- ---- the next row is in a set
@@ -65,20 +68,24 @@ module _ {M : Type 0} (G : Set) where
     | inr k ↦ unexpected-deep {A = Unit {0} × Rows M} (length (r ∷ rs)) n k.1
   ]
 
+  peek-read : IsRead {M = M} (peek G)
+  peek-read = record {
+    some = tt;
+    some_may = tt;
+    within = λ t h. tt;
+    takes = peek-takes;
+    again = λ t z h k. peek-again z k;
+    viable = peek-viable;
+    opens = λ n xs h. absurd (peek-deep n xs h);
+    tight = λ d front s rest l h t z more c k e. peek-tight d front s rest l h z more k e;
+    short = λ xs h t z k e. peek-short xs h;
+  }
+
   pub peek-laws : Lawful {M = M} (peek G) true none (λ k. not (G k))
   peek-laws = record {
     spelled = record { starts = λ t z e. refl; follow = λ t z m s. s; ahead = λ t s y z e. e; once = λ t u y z p q e. (refl, e) };
-    read = record {
-      some = tt;
-      some_may = tt;
-      within = λ t h. tt;
-      takes = peek-takes;
-      again = λ t z h k. peek-again z k;
-      viable = peek-viable;
-      opens = λ n xs h. absurd (peek-deep n xs h);
-      tight = λ d front s rest l h t z more c k e. peek-tight d front s rest l h z more k e;
-      short = λ xs h t z k e. peek-short xs h;
-    };
+    read = peek-read;
+    traced = peek-traced G peek-read;
   }
 
 -- ---- one after another, on a condition
@@ -210,11 +217,12 @@ module _ {M A B : Type 0} (C : A → B → Type 0) (a : Rule M A) (b : Rule M B)
       tight = λ d front s rest l h t z more c. plain-read.tight d front s rest l h t z more (plain-concerned d t c);
       short = plain-read.short;
     };
+    traced = joined-traced a b ea fa ga la.spelled la.read la.traced eb fb gb lb.spelled lb.read lb.traced C met some some_may free;
   }
 
 -- ---- a rule that anything may follow
 
-pub sealed-spelled : {M A : Type 0} {r : Rule M A} {e : Bool} {f : Set} → IsSpelled r e f none → IsSpelled (record { spell = r.spell; may = r.may; fits = r.fits; ends = λ t z. r.may t; read = r.read }) e f none
+pub sealed-spelled : {M A : Type 0} {r : Rule M A} {e : Bool} {f : Set} → IsSpelled r e f none → IsSpelled (record { spell = r.spell; may = r.may; fits = r.fits; ends = λ t z. r.may t; read = r.read; steps = r.steps; trace = r.trace }) e f none
 sealed-spelled l = record {
   starts = λ t z h. l.starts t z (l.follow t z h (stops-none z));
   follow = λ t z m s. m;
@@ -222,7 +230,7 @@ sealed-spelled l = record {
   once = λ t u y z p q h. l.once t u y z (l.follow t y p (stops-none y)) (l.follow u z q (stops-none z)) h;
 }
 
-pub sealed-read : {M A : Type 0} {r : Rule M A} {e : Bool} {f : Set} → Lawful r e f none → IsRead (record { spell = r.spell; may = r.may; fits = r.fits; ends = λ t z. r.may t; read = r.read })
+pub sealed-read : {M A : Type 0} {r : Rule M A} {e : Bool} {f : Set} → Lawful r e f none → IsRead (record { spell = r.spell; may = r.may; fits = r.fits; ends = λ t z. r.may t; read = r.read; steps = r.steps; trace = r.trace })
 sealed-read {M} {A} {r = r} l = record {
   some = l.read.some;
   some_may = l.read.some_may;
@@ -235,6 +243,17 @@ sealed-read {M} {A} {r = r} l = record {
   short = λ xs h t z k j. l.read.short xs h t z (l.spelled.follow t z k (stops-none z)) j;
 }
   where
-    sealed-concerned : (d : Refusal) (t : A) → Concerns (record { spell = r.spell; may = r.may; fits = r.fits; ends = λ t z. r.may t; read = r.read }) d t → Concerns r d t
+    sealed-concerned : (d : Refusal) (t : A) → Concerns (record { spell = r.spell; may = r.may; fits = r.fits; ends = λ t z. r.may t; read = r.read; steps = r.steps; trace = r.trace }) d t → Concerns r d t
     sealed-concerned (Unexpected n) t c = tt
     sealed-concerned (Deep n) t c = c
+
+pub sealed-traced : {M A : Type 0} {r : Rule M A} {e : Bool} {f : Set} → Lawful r e f none → IsTraced (record { spell = r.spell; may = r.may; fits = r.fits; ends = λ t z. r.may t; read = r.read; steps = r.steps; trace = r.trace })
+sealed-traced l = record {
+  rows = l.traced.rows;
+  quiet = l.traced.quiet;
+  placed = λ t z h. l.traced.placed t z (l.spelled.follow t z h (stops-none z));
+  blind = l.traced.blind;
+  ok = l.traced.ok;
+  halts = λ xs e h. let v = l.traced.halts xs e h in record { rest = v.rest; parts = v.parts; placed = v.placed; tree = v.tree; tree_may = v.tree_may; later = v.later; goes_on = v.goes_on; deep = v.deep };
+  agrees = λ front rest t z more h q alike. l.traced.agrees front rest t z more (l.spelled.follow t z h (stops-none z)) q alike;
+}

@@ -4,6 +4,7 @@
 
 ghost use Rattle.protox_grammar.specs.Grammar as grammar;
 ghost use Rattle.protox_grammar.specs.TruthLaws as truth;
+ghost use Rattle.protox_grammar.specs.CheckLaws as checks;
 
 /// No rows are the spelling of two trees that keep the keyword rules.
 pub fn one_tree<M>(_mark: &M)
@@ -40,6 +41,28 @@ pub fn stops_are_true()
 pub fn spelled_is_expected()
     ensures token { truth.NoneIsUnexpected }
     ensures end { truth.NoneIsEnded }
+{}
+
+/// A wrong node that is noted while the tokens of a source are read is one of a file that goes on there, and its fault is true of the source.
+pub fn noted_is_true()
+    ensures node { checks.NotedIsTrue }
+    ensures fault { checks.NotedIsTrueOf }
+{}
+
+/// A wrong node of a file that goes on behind some tokens is noted by then, unless a body that is too deep was opened before.
+pub fn none_is_passed_over()
+    ensures { checks.NoneIsPassedOver }
+{}
+
+/// Where a body that is too deep was opened, this is noted.
+pub fn too_deep_is_noted()
+    ensures { checks.TooDeepIsNoted }
+{}
+
+/// Some file goes on inside an aggregate just where the last brace of an aggregate that was noted opens it.
+pub fn insides_are_open()
+    ensures inside { checks.InsideIsOpen }
+    ensures open { checks.OpenIsInside }
 {}
 
 #[cfg(test)]

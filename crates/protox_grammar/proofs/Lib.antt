@@ -43,6 +43,7 @@ pub mod NotedTrueOf
 pub mod Insides
 pub mod InsideLaws
 pub mod DeepNoted
+pub mod OneOfThree
 pub mod Truths
 pub mod samples
 pub mod part

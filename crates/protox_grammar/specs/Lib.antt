@@ -8,5 +8,6 @@ pub mod Reads
 pub mod Noted
 pub mod CheckLaws
 pub mod Grammar
+pub mod OneOfThree
 pub mod TruthLaws
 pub mod part

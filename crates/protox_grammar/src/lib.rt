@@ -3,12 +3,18 @@
 #![tactic(auto)]
 
 ghost use Rattle.protox_grammar.specs.Grammar as grammar;
+ghost use Rattle.protox_grammar.specs.OneOfThree as three;
 ghost use Rattle.protox_grammar.specs.TruthLaws as truth;
 ghost use Rattle.protox_grammar.specs.CheckLaws as checks;
 
 /// No rows are the spelling of two trees that keep the keyword rules.
 pub fn one_tree<M>(_mark: &M)
     ensures { grammar.OneTree M }
+{}
+
+/// Rows spell a file, or end too soon, or one of them is unexpected: just one of the three, and just one row.
+pub fn one_of_three<M>(_mark: &M)
+    ensures { three.OneOfThree M }
 {}
 
 /// What is read is the tree that the rows spell, if it is at most so deep.

@@ -16,7 +16,7 @@ use Rattle.protox_grammar.specs.CheckLaws.{InsideIsOpen, OpenIsInside, tokens_of
 use Rattle.protox_grammar.proofs.StepLists.{tokens-append, take-front, until-front}
 use Rattle.protox_grammar.proofs.Main as main
 use Rattle.protox_grammar.proofs.Holding.{Holds, any-holds, holds-any}
-use Rattle.protox_grammar.proofs.Braced.{file-braced}
+use Rattle.protox_grammar.proofs.NotedFiles.{file-marks}
 use Rattle.protox_grammar.proofs.Insides.{IsIn, IsStringAt, counts, tells, past-string, past-deep, string-front}
 use Rattle.protox_grammar.proofs.Numbers.{numbered-length, shapes-append, shapes-numbered, shapes-length}
 use Rattle.protox_grammar.proofs.PassedOver as passed
@@ -116,7 +116,7 @@ module _ (lexemes : List Lexeme) where
       let l = steps 31 f in
       let count = counts 0 (take n all_shapes ++ go.more) l [] (sym (file-tokens n f go) ∙ sym (append-nil (tokens l))) in
       let zero-plus : 0 + n ≡ n = omega arith in
-      let it = tells l false 0 (aggregates f) 0 n None [] count tt (file-placed n f go) (file-braced 31 f (main.may-of 0 31 f go.spells.1)) (same.1 ∙ d) in
+      let it = tells l false 0 (aggregates f) 0 n None [] count tt (file-placed n f go) (file-marks f (main.may-of 0 31 f go.spells.1)).0 (same.1 ∙ d) in
       (λ h. subst (λ m. Holds (IsIn m) (aggregates f)) zero-plus (it.0 (sym same.0 ∙ h)), λ h. same.0 ∙ it.1 (subst (λ m. Holds (IsIn m) (aggregates f)) (sym zero-plus) h))
 
   -- ---- a file that goes on where reading got

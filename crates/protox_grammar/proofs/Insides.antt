@@ -11,7 +11,7 @@ use Rattle.protox_grammar.proofs.Laws.{head-same}
 use Rattle.protox_grammar.proofs.StepLists.{until-note}
 use Rattle.protox_grammar.proofs.Holding.{Holds}
 use Rattle.protox_grammar.proofs.Placing.{event_end, IsPlaced, ArePlaced}
-use Rattle.protox_grammar.proofs.Braced.{brace_notes, brace_pairs}
+use Rattle.protox_grammar.proofs.Notes.{brace_notes, brace_pairs}
 
 -- the rows are marked with their numbers, from here on
 abbrev pub Counts : ℕ → Steps ℕ → Type 0

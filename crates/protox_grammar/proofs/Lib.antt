@@ -29,9 +29,9 @@ pub mod Ties
 pub mod Messages
 pub mod Levels
 pub mod Depths
-pub mod Mute
+pub mod Notes
 pub mod Braced
-pub mod Said
+pub mod Told
 pub mod Holding
 pub mod NotedFiles
 pub mod Located

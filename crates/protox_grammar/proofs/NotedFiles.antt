@@ -3,16 +3,16 @@ use Rattle.std.proofs.Common.{◌≡◌, List, [], ◌∷◌, ◌++◌, map, Opt
 use Rattle.std.specs.List.{flat_map}
 use Rattle.protox_ast.specs.Tree as t
 use Rattle.protox_ast.specs.Keywords as k
+use Rattle.protox_ast.specs.Aggregates as a
 use Rattle.protox_ast.specs.CheckedNodes as c
 use Rattle.protox_ast.specs.CheckedNodes.{CheckedNode, APackageAgain}
 use Rattle.protox_grammar.specs.Rule.{Rule}
 use Rattle.protox_grammar.specs.Rules as r
 use Rattle.protox_grammar.specs.Bodies as rule
-use Rattle.protox_grammar.specs.Steps.{APackage, Note, Steps, steps_of_many}
+use Rattle.protox_grammar.specs.Steps.{APackage, Note, Steps, steps_of_many, steps_of_option}
 use Rattle.protox_grammar.specs.Noted.{noted_nodes, steps}
-use Rattle.protox_grammar.proofs.Mute as mute
-use Rattle.protox_grammar.proofs.Mute.{past-mute}
-use Rattle.protox_grammar.proofs.Said.{Says, SaysBody, says-mute, syntax-says, import-says, enum-says, extend-says, message-says, body-says}
+use Rattle.protox_grammar.proofs.Braced as braced
+use Rattle.protox_grammar.proofs.Told.{Says, TellsBody, Marks, past, marks-both, tells-braced, syntax-tells, import-tells, enum-tells, extend-tells, message-tells, statements-mark, body-tells}
 use Rattle.protox_grammar.proofs.Holding.{Holds, holds-left, holds-right, holds-either}
 
 -- the package statements behind a first one, or behind none
@@ -58,7 +58,7 @@ module _ {M : Type 0} (Q : CheckedNode M → Type 0) where
       back (inr (inl h)) = inl h
       back (inr (inr h)) = inr (s.1 (inr h))
 
-  module _ (b : Rule M (t.Mbody M)) (P : t.Mbody M → Type 0) (f : (x : t.Mbody M) → P x → SaysBody 1 x (b.steps x)) where
+  module _ (b : Rule M (t.Mbody M)) (P : t.Mbody M → Type 0) (f : (x : t.Mbody M) → P x → TellsBody (Unit {0}) 1 x (b.steps x)) where
     abbrev many_steps : List (t.Statement M) → Steps M
     many_steps xs = steps_of_many (rule.statement b).steps xs
 
@@ -77,7 +77,7 @@ module _ {M : Type 0} (Q : CheckedNode M → Type 0) where
     package-past : (p : Option (t.Package M)) (w : M) (x : t.Package M) (xs : List (t.Statement M)) → noted_nodes p w (many_steps (t.a_package x ∷ xs)) ≡ noted_nodes p w (Note (APackage x) ∷ many_steps xs)
     unfolding rule.statement
     package-past p w x xs =
-        ap (λ u. noted_nodes p w u) (append_assoc (r.«package».steps x) (Note (APackage x) ∷ []) (many_steps xs)) ∙ past-mute p w (r.«package».steps x) (Note (APackage x) ∷ many_steps xs) (mute.package-mute x)
+        ap (λ u. noted_nodes p w u) (append_assoc (r.«package».steps x) (Note (APackage x) ∷ []) (many_steps xs)) ∙ past p w (r.«package».steps x) (Note (APackage x) ∷ many_steps xs) [] (braced.package-braced x)
 
     statements-noted : (xs : List (t.Statement M)) → k.Each (rule.StatementHas P) xs → (p : Option (t.Package M)) (w : M) → Goal p w xs
     unfolding rule.statement
@@ -89,12 +89,12 @@ module _ {M : Type 0} (Q : CheckedNode M → Type 0) where
         subst (λ (u : List (CheckedNode M)). Same u (flat_map c.statement_nodes xs) (APackageAgain y x ∷ again (Some y) (c.packages_in xs))) (sym (package-past (Some y) w x xs))
         (one-again (APackageAgain y x) (noted_nodes (Some y) w (many_steps xs)) (flat_map c.statement_nodes xs) (again (Some y) (c.packages_in xs)) (statements-noted xs h.1 (Some y) w))
     statements-noted (t.an_empty m ∷ xs) h p w = other p w (t.an_empty m) xs [] (λ q v. (v, λ j. refl)) refl refl (λ v. statements-noted xs h.1 p v)
-    statements-noted (t.an_import x ∷ xs) h p w = other p w (t.an_import x) xs _ (import-says x) refl refl (λ v. statements-noted xs h.1 p v)
-    statements-noted (t.an_option x ∷ xs) h p w = other p w (t.an_option x) xs [] (says-mute (r.option.steps x) (mute.option-mute x)) refl refl (λ v. statements-noted xs h.1 p v)
-    statements-noted (t.an_extend x ∷ xs) h p w = other p w (t.an_extend x) xs _ (extend-says b P 1 f x h.0) refl refl (λ v. statements-noted xs h.1 p v)
-    statements-noted (t.a_message x ∷ xs) h p w = other p w (t.a_message x) xs _ (message-says b P 1 f x h.0) refl refl (λ v. statements-noted xs h.1 p v)
-    statements-noted (t.an_enum x ∷ xs) h p w = other p w (t.an_enum x) xs _ (enum-says x) refl refl (λ v. statements-noted xs h.1 p v)
-    statements-noted (t.a_service x ∷ xs) h p w = other p w (t.a_service x) xs [] (says-mute (r.service.steps x) (mute.service-mute x)) refl refl (λ v. statements-noted xs h.1 p v)
+    statements-noted (t.an_import x ∷ xs) h p w = other p w (t.an_import x) xs _ (import-tells (Unit {0}) x).0 refl refl (λ v. statements-noted xs h.1 p v)
+    statements-noted (t.an_option x ∷ xs) h p w = other p w (t.an_option x) xs [] (tells-braced (Unit {0}) (r.option.steps x) (a.of_option x) (braced.option-braced x)).0 refl refl (λ v. statements-noted xs h.1 p v)
+    statements-noted (t.an_extend x ∷ xs) h p w = other p w (t.an_extend x) xs _ (extend-tells (Unit {0}) b P 1 f x h.0).0 refl refl (λ v. statements-noted xs h.1 p v)
+    statements-noted (t.a_message x ∷ xs) h p w = other p w (t.a_message x) xs _ (message-tells (Unit {0}) b P 1 f x h.0).0 refl refl (λ v. statements-noted xs h.1 p v)
+    statements-noted (t.an_enum x ∷ xs) h p w = other p w (t.an_enum x) xs _ (enum-tells (Unit {0}) x).0 refl refl (λ v. statements-noted xs h.1 p v)
+    statements-noted (t.a_service x ∷ xs) h p w = other p w (t.a_service x) xs [] (tells-braced (Unit {0}) (r.service.steps x) (a.of_service x) (braced.service-braced x)).0 refl refl (λ v. statements-noted xs h.1 p v)
 
   abbrev Alone : List (CheckedNode M) → List (CheckedNode M) → Type 0
   Alone ns ms = (Holds Q ns → Holds Q ms) × (Holds Q ms → Holds Q ns)
@@ -112,9 +112,9 @@ module _ {M : Type 0} (Q : CheckedNode M → Type 0) where
   pub file-noted : (w : M) (f : t.File M) → k.Each (rule.StatementHas k.KeepsMbody) f.statements → Alone (noted_nodes None w (steps 31 f)) (c.checked_nodes f)
   unfolding rule.file
   file-noted w f h =
-      let a = syntax-says f.syntax None w in
-      let s = statements-noted (rule.mbody_at 31) k.KeepsMbody (body-says 31 1 refl) f.statements h None a.0 in
-      subst (λ (u : List (CheckedNode M)). Alone u (c.checked_nodes f)) (sym (a.1 (steps_of_many (rule.statement (rule.mbody_at 31)).steps f.statements)))
+      let o = (syntax-tells (Unit {0}) f.syntax).0 None w in
+      let s = statements-noted (rule.mbody_at 31) k.KeepsMbody (body-tells (Unit {0}) 31 1 refl) f.statements h None o.0 in
+      subst (λ (u : List (CheckedNode M)). Alone u (c.checked_nodes f)) (sym (o.1 (steps_of_many (rule.statement (rule.mbody_at 31)).steps f.statements)))
       (joined-before (c.syntax_nodes f.syntax) _ _ (joined _ (flat_map c.statement_nodes f.statements) (c.package_nodes (c.packages_in f.statements)) s))
     where
       joined-before : (ms ns xs : List (CheckedNode M)) → Alone ns xs → Alone (ms ++ ns) (ms ++ xs)
@@ -128,3 +128,10 @@ module _ {M : Type 0} (Q : CheckedNode M → Type 0) where
           | inr a ↦ holds-right Q ms ns (s.1 a)
         ],
       )
+
+-- the braces that are noted are those of the file's aggregates, and of bodies that are too deep first one of level 32 is
+pub file-marks : {M : Type 0} (f : t.File M) → k.Each (rule.StatementHas k.KeepsMbody) f.statements → Marks (Unit {0}) (steps 31 f) (a.aggregates f)
+unfolding rule.file
+file-marks f h =
+    marks-both (Unit {0}) (steps_of_option r.syntax.steps f.syntax) (steps_of_many (rule.statement (rule.mbody_at 31)).steps f.statements) [] (a.aggregates f) (syntax-tells (Unit {0}) f.syntax).1
+    (statements-mark (Unit {0}) (rule.mbody_at 31) k.KeepsMbody 1 (body-tells (Unit {0}) 31 1 refl) f.statements h)

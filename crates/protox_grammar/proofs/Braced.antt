@@ -116,10 +116,6 @@ module _ {M : Type 0} where
   label-braced (t.required m) = refl
   label-braced (t.repeated m) = refl
 
-  -- a number, options if any, and what is bare or not
-  pub numbered-braced : (i : t.Int M) (o : Option (t.OptionList M)) (j : Steps M) (ys : Braces M) → Braced j ys → Braced (r.int.steps i ++ (steps_of_option r.list.steps o ++ j)) (a.of_list o ++ ys)
-  numbered-braced i o j ys h = second (r.int.steps i) (steps_of_option r.list.steps o ++ j) (a.of_list o ++ ys) (int-braced i) (both (steps_of_option r.list.steps o) j (a.of_list o) ys (options-braced o) h)
-
   pub ended-braced : (i : t.Int M) (o : Option (t.OptionList M)) (m : M) → Braced (r.int.steps i ++ (steps_of_option r.list.steps o ++ (r.sign s.semicolon).steps m)) (a.of_list o)
   ended-braced i o m = second (r.int.steps i) (steps_of_option r.list.steps o ++ (r.sign s.semicolon).steps m) (a.of_list o) (int-braced i) (first (steps_of_option r.list.steps o) ((r.sign s.semicolon).steps m) (a.of_list o) (options-braced o) refl)
 

@@ -5,7 +5,7 @@ use Rattle.protox_grammar.specs.Class.{only, none}
 use Rattle.protox_grammar.specs.Reader.{Reader, Refusal, Unexpected, Deep, is_token, is_string}
 use Rattle.protox_grammar.specs.Steps.{Event, ADeepBody, ADeeperBody, Token, Note, Steps, tokens, plainly, until, has_deep, is_too_deep}
 use Rattle.protox_grammar.proofs.StepLists.{Quiet, until-quiet, until-note, tokens-plainly}
-use Rattle.protox_grammar.proofs.Tracing.{Halts, IsTraced}
+use Rattle.protox_grammar.proofs.Tracing.{IsLeft, Halts, IsTraced}
 use Rattle.protox_grammar.proofs.Reading.{failed, chosen, err-ok, true-false}
 use Rattle.protox_grammar.specs.Reader as reader
 use Rattle.protox_grammar.proofs.Words.{mark-back, mark-exact}
@@ -68,9 +68,6 @@ module _ {M : Type 0} (m : M) where
 
   -- ---- the steps of what is too deep
 
-  opened_at : (o : M) → Row M
-  opened_at o = row (Mark s.open_brace) o
-
   -- they begin with the brace and the note
   abbrev BeginsDeep : (M → Event M) → Steps M → t.Mbody M → Type 0
   BeginsDeep note l x = (k : Steps M) × (l ≡ Token (row (Mark s.open_brace) (rule.opening x)) ∷ (Note (note (rule.opening x)) ∷ k))
@@ -79,9 +76,6 @@ module _ {M : Type 0} (m : M) where
   behind-rows e [] = refl
   behind-rows e (Token r ∷ l) = refl
   behind-rows e (Note d ∷ l) = refl
-
-  some_body_at : M → t.Mbody M
-  some_body_at o = t.mbody_of o t.no_elements m
 
   not-both : (n d : ℕ) → Unexpected n ≡ Deep d → ⊥
   not-both n d k = absurd cc
@@ -121,7 +115,7 @@ module _ {M : Type 0} (m : M) where
 
     deep-halts : (xs : Rows M) (e : Refusal) → rule.deep_read xs ≡ Err e → Halts deep_rule xs e
     unfolding rule.deep_read reader.too_deep rule.deep_trace
-    deep-halts [] e h = record { rest = []; parts = refl; placed = tt; tree = t.mbody_of m t.no_elements m; tree_may = some_may m; later = steps (t.mbody_of m t.no_elements m); goes_on = refl; deep = λ n k. absurd (not-both 0 n (deep-of _ _ h ∙ k)) }
+    deep-halts [] e h = record { rest = []; parts = refl; left_is = subst (λ u. IsLeft u 0) (deep-of _ _ h) refl; placed = tt; tree = t.mbody_of m t.no_elements m; tree_may = some_may m; later = steps (t.mbody_of m t.no_elements m); goes_on = refl; deep = λ n k. absurd (not-both 0 n (deep-of _ _ h ∙ k)) }
     deep-halts (r ∷ rs) e h = elim (chosen (is_token (Mark s.open_brace) r.shape) (failed (t.Mbody M × Rows M) (Deep (length (r ∷ rs)))) (failed (t.Mbody M × Rows M) (Unexpected (length (r ∷ rs)))) (Err e) h) [
       | inl c ↦
           let g = trace-on r rs c.0 in
@@ -130,6 +124,7 @@ module _ {M : Type 0} (m : M) where
           record {
             rest = rs;
             parts = ap (λ u. tokens u ++ rs) (sym g);
+            left_is = subst (λ u. IsLeft u (length rs)) (deep-of _ _ c.1) refl;
             placed = subst (λ u. ArePlaced None u rs) (sym g) (placed-here r rs (ap (λ (u : Row M). is_string u.shape) o));
             tree = t.mbody_of r.at t.no_elements m;
             tree_may = some_may r.at;
@@ -142,6 +137,7 @@ module _ {M : Type 0} (m : M) where
           record {
             rest = r ∷ rs;
             parts = ap (λ u. tokens u ++ (r ∷ rs)) (sym g);
+            left_is = subst (λ u. IsLeft u (length (r ∷ rs))) (deep-of _ _ c.1) refl;
             placed = subst (λ u. ArePlaced None u (r ∷ rs)) (sym g) tt;
             tree = t.mbody_of m t.no_elements m;
             tree_may = some_may m;
@@ -210,14 +206,14 @@ module _ {M : Type 0} (m : M) where
   unfolding At rule.deep_read rule.mbody
   level-laws zero = record {
     spelled = record { starts = λ x z h. empty-starts x z; follow = λ x z h w. h; ahead = λ x v y z h. h; once = zero-once };
-    read = too_deep-read (Mark s.open_brace) (mark-back s.open_brace) (level 0) some_body refl (mark-exact s.open_brace) body-begins (λ o. (t.mbody_of o t.no_elements m, refl, row (Mark s.close_brace) m ∷ [], refl));
+    read = too_deep-read (Mark s.open_brace) (mark-back s.open_brace) (level 0) some_body refl body-begins;
     traced = deep-traced ADeeperBody (λ o. refl) (λ o. refl) (λ o. refl) (At 0) (rule.deep_steps ADeeperBody 0) (flat-begins ADeeperBody (λ o. refl) (λ o. refl)) (flat-rows ADeeperBody (λ o. refl) (λ o. refl)) (λ x z h. flat-placed ADeeperBody (λ o. refl) (λ o. refl) x z) (λ o. refl);
   }
   level-laws (suc n) =
       let l = sealed-spelled (mbody-laws m (At n) (λ x. ⊥) rule.deep_read (rule.deep_steps ADeeperBody 0) (rule.deep_trace ADeeperBody) (level-laws n)).spelled in
       record {
         spelled = record { starts = l.starts; follow = l.follow; ahead = l.ahead; once = l.once };
-        read = too_deep-read (Mark s.open_brace) (mark-back s.open_brace) (level (suc n)) some_body tt (mark-exact s.open_brace) body-begins (λ o. (t.mbody_of o t.no_elements m, tt, row (Mark s.close_brace) m ∷ [], refl));
+        read = too_deep-read (Mark s.open_brace) (mark-back s.open_brace) (level (suc n)) some_body tt body-begins;
         traced = deep-traced ADeeperBody (λ o. refl) (λ o. refl) (λ o. refl) (At (suc n)) (rule.deep_steps ADeeperBody 0) (flat-begins ADeeperBody (λ o. refl) (λ o. refl)) (flat-rows ADeeperBody (λ o. refl) (λ o. refl)) (λ x z h. flat-placed ADeeperBody (λ o. refl) (λ o. refl) x z) (λ o. tt);
       }
 
@@ -249,7 +245,7 @@ module _ {M : Type 0} (m : M) where
     unfolding rule.deep_read
     unread-laws steps begin rows placed = record {
       spelled = any-spelled (λ x. ⊥) rule.deep_read steps (rule.deep_trace note);
-      read = too_deep-read (Mark s.open_brace) (mark-back s.open_brace) (unread note steps) some_body tt (mark-exact s.open_brace) body-begins (λ o. (t.mbody_of o t.no_elements m, tt, row (Mark s.close_brace) m ∷ [], refl));
+      read = too_deep-read (Mark s.open_brace) (mark-back s.open_brace) (unread note steps) some_body tt body-begins;
       traced = deep-traced note is-deep is-at no-run k.KeepsMbody steps begin rows placed (λ o. tt);
     }
 

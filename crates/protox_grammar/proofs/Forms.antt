@@ -9,14 +9,14 @@ use Rattle.protox_grammar.specs.Rule.{Rule, Stops, Starts, fixed, seq, on_sum, n
 use Rattle.protox_grammar.proofs.Words.{word-exact, word-back, mark-exact, mark-back}
 use Rattle.protox_grammar.proofs.Sets.{gated, apart-at}
 use Rattle.protox_grammar.proofs.Laws.{IsSpelled, fixed-spelled, seq-spelled, either-spelled, nothing-spelled, mapped-spelled, star-spelled, unstarted-spelled, wider}
-use Rattle.protox_grammar.proofs.Reading.{Concerns, Opens, IsRead, Took, Begins, seq-read, mapped-read, nothing-read}
-use Rattle.protox_grammar.proofs.ReadingTokens.{fixed-read}
+use Rattle.protox_grammar.proofs.Reading.{Concerns, IsRead, Took, seq-read, mapped-read, nothing-read}
+use Rattle.protox_grammar.proofs.ReadingTokens.{fixed-read, fixed-deep}
 use Rattle.protox_grammar.proofs.Choosing.{either-read, unstarted-read}
 use Rattle.protox_grammar.proofs.Repeat.{star-read}
 use Rattle.protox_grammar.specs.Steps.{Event, Steps, tokens, until, steps_of_option}
 use Rattle.protox_grammar.proofs.Blind.{fixed-blind}
 use Rattle.protox_grammar.proofs.StepLists.{Quiet}
-use Rattle.protox_grammar.proofs.Tracing.{Alike, IsTraced}
+use Rattle.protox_grammar.proofs.Tracing.{Alike, IsTraced, viable-of}
 use Rattle.protox_grammar.proofs.TracingPairs.{seq-traced, mapped-traced, nothing-traced}
 use Rattle.protox_grammar.proofs.TracingChoices.{either-traced, unstarted-traced}
 use Rattle.protox_grammar.proofs.TracingNotes.{noting-traced, plain-traced}
@@ -33,7 +33,7 @@ pub fixed-laws : {M : Type 0} (m : M) (w : Shape) (i : ℕ) → only i (class w)
 fixed-laws m w i h back exact =
     let l = fixed-spelled w (only i) h in
     let rd = fixed-read m w back exact in
-    record { spelled = l; read = rd; traced = plain-traced (fixed w) false (only i) none l rd (λ t h. tt) (λ t. refl) (λ xs. refl) (fixed-blind w) }
+    record { spelled = l; read = rd; traced = plain-traced (fixed w) false (only i) none l rd (fixed-deep m w back exact) (λ t. refl) (λ xs. refl) (fixed-blind w) }
 
 pub word-laws : {M : Type 0} (m : M) (w : List ℕ) (i : ℕ) → only i (place keywords w) ≡ true → Lawful {M = M} (fixed (Ident w)) false (only i) none
 word-laws m w i h = fixed-laws m (Ident w) i h (word-back w) (word-exact w)
@@ -44,14 +44,17 @@ mark-laws m s i h = fixed-laws m (Mark s) i h (mark-back s) (mark-exact s)
 pub seq-laws : {M A B : Type 0} {a : Rule M A} {b : Rule M B} {ea eb : Bool} {fa ga fb gb : Set} → Lawful a ea fa ga → Lawful b eb fb gb → apart fb ga ≡ true → Lawful (seq a b) (ea && eb) (union fa (gated ea fb)) (union gb (gated eb ga))
 seq-laws {a = a} {b = b} {ea = ea} {eb = eb} {fa = fa} {ga = ga} {fb = fb} {gb = gb} la lb d = record {
   spelled = seq-spelled a b ea eb fa ga fb gb la.spelled lb.spelled d;
-  read = seq-read a b ea fa ga la.spelled la.read lb.read;
-  traced = seq-traced a b ea fa ga la.spelled la.read la.traced eb fb gb lb.spelled lb.read lb.traced;
+  read = seq-read a b ea fa ga la.spelled la.read lb.read (viable-of (seq a b) traced);
+  traced = traced;
 }
+  where
+    traced : IsTraced (seq a b)
+    traced = seq-traced a b ea fa ga la.spelled la.read la.traced eb fb gb lb.spelled lb.read lb.traced
 
 pub mapped-laws : {M A B : Type 0} {b : Rule M B} {e : Bool} {f g : Set} (to : B → A) (from : A → B) → ((t : A) → to (from t) ≡ t) → ((t : B) → from (to t) ≡ t) → Lawful b e f g → Lawful (mapped to from b) e f g
 mapped-laws {b = b} {e = e} {f = f} {g = g} to from back there l = record {
   spelled = mapped-spelled to from b e f g back l.spelled;
-  read = mapped-read to from b back there l.read;
+  read = mapped-read to from b back there l.read (viable-of (mapped to from b) (mapped-traced to from b there l.traced));
   traced = mapped-traced to from b there l.traced;
 }
 
@@ -59,9 +62,12 @@ mapped-laws {b = b} {e = e} {f = f} {g = g} to from back there l = record {
 pub unless-laws : {M A B : Type 0} {a : Rule M A} {b : Rule M B} {eb : Bool} {fa ga fb gb : Set} (P : Set) → Lawful a false fa ga → within fa P ≡ true → Lawful b eb fb gb → (some : B) → b.may some → Stops P (b.spell some) → Lawful (unless P a b) eb (union fa fb) (union ga (union gb (gated eb P)))
 unless-laws {a = a} {b = b} {eb = eb} {fa = fa} {ga = ga} {fb = fb} {gb = gb} P la w lb some m s = record {
   spelled = either-spelled (in_set P) P a b eb fa ga fb gb la.spelled lb.spelled w;
-  read = either-read (in_set P) P a b (λ s. refl) fa ga la.spelled w la.read lb.read some m s;
-  traced = either-traced (in_set P) P a b (λ s. refl) fa ga la.spelled w la.read la.traced eb fb gb lb.spelled lb.read lb.traced some m s;
+  read = either-read (in_set P) P a b (λ s. refl) fa ga la.spelled w la.read lb.read some m s (viable-of (unless P a b) traced);
+  traced = traced;
 }
+  where
+    traced : IsTraced (unless P a b)
+    traced = either-traced (in_set P) P a b (λ s. refl) fa ga la.spelled w la.read la.traced eb fb gb lb.spelled lb.read lb.traced some m s
 
 -- a rule that says the same otherwise
 module _ {M A : Type 0} {r : Rule M A} {e : Bool} {f g : Set} (spell : A → Rows M) (may fits : A → Type 0) (ends : A → Rows M → Type 0) (steps : A → Steps M)
@@ -76,15 +82,22 @@ module _ {M A : Type 0} {r : Rule M A} {e : Bool} {f g : Set} (spell : A → Row
   took : (xs : Rows M) (x : A × Rows M) → Took r xs x → Took again_said xs x
   took xs x k = record { parts = k.parts ∙ ap (λ u. u ++ x.1) (sym (spelled x.0)); fits = fits_allows x.0 k.fits; ends = ends_allows x.0 x.1 k.ends }
 
-  begins : (xs : Rows M) (n : ℕ) → Begins r xs n → Begins again_said xs n
-  begins xs n v = record { front = v.front; rest = v.rest; parts = v.parts; left_is = v.left_is; tree = v.tree; tree_may = allows v.tree v.tree_may; more = v.more; goes_on = spelled v.tree ∙ v.goes_on }
-
-  said-opens : (xs : Rows M) (n : ℕ) → Opens r xs n → Opens again_said xs n
-  said-opens xs n v = record { front = v.front; here = v.here; rest = v.rest; parts = v.parts; left_is = v.left_is; tree = v.tree; tree_may = allows v.tree v.tree_may; more = v.more; goes_on = spelled v.tree ∙ v.goes_on }
-
   said-concerned : (d : Refusal) (t : A) → Concerns again_said d t → Concerns r d t
   said-concerned (Unexpected n) t c = tt
   said-concerned (Deep n) t c = fits_obeys t c
+
+  said-traced : IsTraced again_said
+  said-traced = record {
+    rows = λ t. ap tokens (stepped t) ∙ l.traced.rows t ∙ sym (spelled t);
+    quiet = λ t. subst Quiet (sym (stepped t)) (l.traced.quiet t);
+    placed = λ t z h. subst (λ u. ArePlaced None u z) (sym (stepped t)) (l.traced.placed t z (ends_obeys t z h));
+    blind = l.traced.blind;
+    ok = λ xs x h. l.traced.ok xs x h ∙ sym (stepped x.0);
+    halts = λ xs e h.
+        let v = l.traced.halts xs e h in
+        record { rest = v.rest; parts = v.parts; left_is = v.left_is; placed = v.placed; tree = v.tree; tree_may = allows v.tree v.tree_may; later = v.later; goes_on = stepped v.tree ∙ v.goes_on; deep = v.deep };
+    agrees = λ front rest t z more h q alike. l.traced.agrees front rest t z more (ends_obeys t z h) (ap (λ v. v ++ z) (sym (spelled t)) ∙ q) alike ∙ ap (λ u. until (length front) u) (sym (stepped t));
+  }
 
   pub said-laws : Lawful again_said e f g
   said-laws = record {
@@ -100,22 +113,11 @@ module _ {M A : Type 0} {r : Rule M A} {e : Bool} {f g : Set} (spell : A → Row
       within = λ t h. allows t (l.read.within t (fits_obeys t h));
       takes = λ xs x h. took xs x (l.read.takes xs x h);
       again = λ t z h k. rw (spelled t) (l.read.again t z (fits_obeys t h) (ends_obeys t z k));
-      viable = λ xs h k. begins xs _ (l.read.viable xs h k);
-      opens = λ n xs h. said-opens xs n (l.read.opens n xs h);
+      viable = viable-of again_said said-traced;
       tight = λ d front s rest n h t z more c k j. l.read.tight d front s rest n h t z more (said-concerned d t c) (ends_obeys t z k) (ap (λ v. v ++ z) (sym (spelled t)) ∙ j);
       short = λ xs h t z k j. l.read.short xs h t z (ends_obeys t z k) (ap (λ v. v ++ z) (sym (spelled t)) ∙ j);
     };
-    traced = record {
-      rows = λ t. ap tokens (stepped t) ∙ l.traced.rows t ∙ sym (spelled t);
-      quiet = λ t. subst Quiet (sym (stepped t)) (l.traced.quiet t);
-      placed = λ t z h. subst (λ u. ArePlaced None u z) (sym (stepped t)) (l.traced.placed t z (ends_obeys t z h));
-      blind = l.traced.blind;
-      ok = λ xs x h. l.traced.ok xs x h ∙ sym (stepped x.0);
-      halts = λ xs e h.
-          let v = l.traced.halts xs e h in
-          record { rest = v.rest; parts = v.parts; placed = v.placed; tree = v.tree; tree_may = allows v.tree v.tree_may; later = v.later; goes_on = stepped v.tree ∙ v.goes_on; deep = v.deep };
-      agrees = λ front rest t z more h q alike. l.traced.agrees front rest t z more (ends_obeys t z h) (ap (λ v. v ++ z) (sym (spelled t)) ∙ q) alike ∙ ap (λ u. until (length front) u) (sym (stepped t));
-    };
+    traced = said-traced;
   }
 
 -- under a plain spelling and plain conditions
@@ -238,9 +240,12 @@ stops-none (z ∷ zs) = refl
 pub unstarted-laws : {M B : Type 0} {b : Rule M B} {eb : Bool} {fb gb : Set} (P : Set) → Lawful b eb fb gb → (some : B) → b.may some → Stops P (b.spell some) → Lawful (unstarted P b) eb fb (union gb (gated eb P))
 unstarted-laws {b = b} {eb = eb} {fb = fb} {gb = gb} P l some m s = record {
   spelled = unstarted-spelled P b eb fb gb l.spelled;
-  read = unstarted-read P b eb fb gb l.spelled l.read some m s;
-  traced = unstarted-traced P b eb fb gb l.spelled l.read l.traced some m s;
+  read = unstarted-read P b eb fb gb l.spelled l.read some m s (viable-of (unstarted P b) traced);
+  traced = traced;
 }
+  where
+    traced : IsTraced (unstarted P b)
+    traced = unstarted-traced P b eb fb gb l.spelled l.read l.traced some m s
 
 -- what is noted behind a rule of which all trees can be read
 pub noting-laws : {M A : Type 0} {a : Rule M A} {f g : Set} (note : A → Event M) → Lawful a false f g → ((t : A) → a.may t → a.fits t)
@@ -254,8 +259,7 @@ noting-laws {M} {A} {a = a} {f = f} {g = g} note l whole prompt nonempty placed 
     within = l.read.within;
     takes = λ xs x h. let k = l.read.takes xs x h in record { parts = k.parts; fits = k.fits; ends = k.ends };
     again = l.read.again;
-    viable = λ xs h k. let v = l.read.viable xs h k in record { front = v.front; rest = v.rest; parts = v.parts; left_is = v.left_is; tree = v.tree; tree_may = v.tree_may; more = v.more; goes_on = v.goes_on };
-    opens = λ n xs h. let v = l.read.opens n xs h in record { front = v.front; here = v.here; rest = v.rest; parts = v.parts; left_is = v.left_is; tree = v.tree; tree_may = v.tree_may; more = v.more; goes_on = v.goes_on };
+    viable = viable-of (noting note a) (noting-traced note a f g l.spelled l.read l.traced whole prompt nonempty placed);
     tight = λ d front s rest n h t z more c k j. l.read.tight d front s rest n h t z more (noted-concerned d t c) k j;
     short = l.read.short;
   };

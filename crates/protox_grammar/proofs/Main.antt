@@ -16,6 +16,7 @@ use Rattle.protox_grammar.specs.Reads.{read}
 use Rattle.protox_grammar.specs.Grammar.{IsUnexpected, OneTree, AcceptsIff, TightUnexpected, TightDeep, TightEnd}
 use Rattle.protox_grammar.proofs.Takes.{bind_ok, ok_is}
 use Rattle.protox_grammar.proofs.Reading.{Begins, bind_err, ok-err}
+use Rattle.protox_grammar.proofs.Tracing.{opens-of}
 use Rattle.protox_grammar.proofs.Forms.{Lawful}
 use Rattle.protox_grammar.proofs.Messages.{file-laws}
 use Rattle.protox_grammar.proofs.Levels.{statements-into, statements-keeps, statements-deep}
@@ -120,7 +121,7 @@ module _ {M : Type 0} (m : M) where
 
   pub deep : TightDeep M
   deep n left rows h =
-      let v = (laws n).read.opens (suc left) rows (failed-so n rows _ h) in
+      let v = opens-of (file_at n) (laws n).traced (suc left) rows (failed-so n rows _ h) in
       let h' : (file_at n).read (v.front ++ (v.here ∷ v.rest)) ≡ Err (Deep (suc left)) = ap (file_at n).read (sym v.parts) ∙ failed-so n rows _ h in
       record {
         front = v.front;

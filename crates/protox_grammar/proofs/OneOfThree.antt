@@ -11,6 +11,7 @@ use Rattle.protox_grammar.specs.Reads.{read}
 use Rattle.protox_grammar.specs.Grammar.{IsTooDeep}
 use Rattle.protox_grammar.specs.OneOfThree.{IsSpelling, HasUnexpected, OneOfThree}
 use Rattle.protox_grammar.proofs.StepLists.{apart-of}
+use Rattle.protox_grammar.proofs.Tracing.{opens-of}
 use Rattle.protox_grammar.proofs.Main as main
 
 -- of two fronts of one list the longer goes on with what the shorter has
@@ -60,7 +61,7 @@ module _ {M : Type 0} (m : M) where
   one_at turns n rows few (Ok f) h = inl (f, ((main.accepts_iff m n rows f).0 h).0)
   one_at turns n rows few (Err (Unexpected zero)) h = inr (inl (main.ended m n rows h))
   one_at turns n rows few (Err (Unexpected (suc left))) h = inr (inr (suc left, main.unexpected m n left rows h))
-  one_at turns n rows few (Err (Deep zero)) h = absurd (omega (arith, ((main.laws m n).read.opens 0 rows (main.failed-so m n rows (Deep 0) h)).left_is))
+  one_at turns n rows few (Err (Deep zero)) h = absurd (omega (arith, (opens-of (main.file_at m n) (main.laws m n).traced 0 rows (main.failed-so m n rows (Deep 0) h)).left_is))
   one_at zero n rows few (Err (Deep (suc left))) h = absurd (omega (arith, few left h))
   one_at (suc turns) n rows few (Err (Deep (suc left))) h =
       let v = main.deep m n left rows h in

@@ -1,25 +1,31 @@
 -- The laws of steps: those of reading are those of the tree, also where only the front of the rows is the same.
-use Rattle.std.proofs.Common.{◌≡◌, ℕ, zero, suc, ◌+◌, ◌≤◌, Bool, true, [], ◌∷◌, ◌++◌, length, None, Result, Ok, Err, refl, sym, ap, subst, ◌∙◌, append_assoc, arith, inl, inr, ◌⊎◌}
+use Rattle.std.proofs.Common.{◌≡◌, ℕ, zero, suc, ◌+◌, ◌≤◌, Bool, true, false, [], ◌∷◌, ◌++◌, length, None, Result, Ok, Err, refl, sym, ap, subst, ◌∙◌, append_assoc, arith, inl, inr, ◌⊎◌}
 use Rattle.std.proofs.lemmas.List.{append-nil, length-append}
 use Rattle.protox_lex.specs.Shapes.{Row, Rows}
 use Rattle.protox_grammar.specs.Class.{Set}
 use Rattle.protox_grammar.specs.Reader.{Refusal, Unexpected, Deep, head_in, is_string}
 use Rattle.protox_grammar.specs.Rule.{Rule}
-use Rattle.protox_grammar.specs.Steps.{Steps, tokens, until, has_deep, then_steps}
+use Rattle.protox_grammar.specs.Steps.{Token, Note, Steps, tokens, until, has_deep, then_steps}
 use Rattle.protox_grammar.proofs.Laws.{IsSpelled}
-use Rattle.protox_grammar.proofs.Reading.{IsRead, Begins}
+use Rattle.protox_grammar.proofs.Reading.{IsRead, Begins, Viable}
 use Rattle.protox_grammar.proofs.Blind.{IsBlind}
-use Rattle.protox_grammar.proofs.StepLists.{Quiet, quiet-front, until-past, until-same, deep-until, deep-or, until-fewer, apart-of}
+use Rattle.protox_grammar.proofs.StepLists.{Quiet, quiet-front, tokens-append, until-past, until-same, deep-until, deep-or, until-fewer, apart-of}
 use Rattle.protox_grammar.proofs.Placing.{last_row, is_string_row, ArePlaced, last-past}
 
 -- behind a string either both lists begin with a string or none
 abbrev pub Alike : {M : Type 0} → Rows M → Rows M → Rows M → Type 0
 Alike front rest more = is_string_row (last_row None front) ≡ true → head_in is_string rest ≡ head_in is_string more
 
+-- so many rows are left where reading stopped: the one that doesn't fit is among them, and one that opens what is too deep was taken
+abbrev pub IsLeft : Refusal → ℕ → Type 0
+IsLeft (Unexpected n) left = n ≡ left
+IsLeft (Deep n) left = n ≡ suc left
+
 -- what was read goes on as a tree does, with the same steps
 pub record Halts {M A : Type 0} (r : Rule M A) (xs : Rows M) (e : Refusal) : Type 0 where
   pub rest : Rows M
   pub parts : xs ≡ tokens (r.trace xs) ++ rest
+  pub left_is : IsLeft e (length rest)
   pub placed : ArePlaced None (r.trace xs) rest
   pub tree : A
   pub tree_may : r.may tree
@@ -37,6 +43,61 @@ pub record IsTraced {M A : Type 0} (r : Rule M A) : Type 0 where
   -- the steps up to the end of a front depend on the front alone, but for a run of strings, which the next row ends
   pub agrees : (front rest : Rows M) (t : A) (z more : Rows M) → r.ends t z → r.spell t ++ z ≡ front ++ more → Alike front rest more
       → until (length front) (r.trace (front ++ rest)) ≡ until (length front) (r.steps t)
+
+-- ---- where reading stops, some tree goes on
+
+-- the rows up to the one that opens what is too deep, and this row, begin a tree
+pub record Opens {M A : Type 0} (r : Rule M A) (xs : Rows M) (left : ℕ) : Type 0 where
+  pub front : Rows M
+  pub here : Row M
+  pub rest : Rows M
+  pub parts : xs ≡ front ++ (here ∷ rest)
+  pub left_is : left ≡ suc (length rest)
+  pub tree : A
+  pub tree_may : r.may tree
+  pub more : Rows M
+  pub goes_on : r.spell tree ≡ front ++ (here ∷ more)
+
+module _ {M A : Type 0} (r : Rule M A) (t : IsTraced r) where
+  spelled : (xs : Rows M) (e : Refusal) (v : Halts r xs e) → r.spell v.tree ≡ tokens (r.trace xs) ++ tokens v.later
+  spelled xs e v = sym (t.rows v.tree) ∙ ap tokens v.goes_on ∙ tokens-append (r.trace xs) v.later
+
+  last-of : (s : Row M) (ys : Rows M) → (front : Rows M) × (here : Row M) × (s ∷ ys ≡ front ++ (here ∷ []))
+  last-of s [] = ([], s, refl)
+  last-of s (y ∷ ys) = let c = last-of y ys in (s ∷ c.0, c.1, ap (λ u. s ∷ u) c.2)
+
+  not-true : false ≡ true → ⊥
+  not-true e = absurd cc
+
+  -- the last row that was taken is the one that opens
+  opens-at : (n : ℕ) (xs : Rows M) (v : Halts r xs (Deep n)) (l : Steps M) → r.trace xs ≡ l → Opens r xs n
+  opens-at n xs v [] e = absurd (not-true (ap has_deep (sym e) ∙ v.deep n refl))
+  opens-at n xs v (Note d ∷ l) e = absurd (subst Quiet (v.goes_on ∙ ap (λ u. u ++ v.later) e) (t.quiet v.tree))
+  opens-at n xs v (Token s ∷ l) e =
+      let c = last-of s (tokens l) in
+      let all : tokens (r.trace xs) ≡ c.0 ++ (c.1 ∷ []) = ap tokens e ∙ c.2 in
+      record {
+        front = c.0;
+        here = c.1;
+        rest = v.rest;
+        parts = v.parts ∙ ap (λ u. u ++ v.rest) all ∙ append_assoc c.0 (c.1 ∷ []) v.rest;
+        left_is = v.left_is;
+        tree = v.tree;
+        tree_may = v.tree_may;
+        more = tokens v.later;
+        goes_on = spelled xs (Deep n) v ∙ ap (λ u. u ++ tokens v.later) all ∙ append_assoc c.0 (c.1 ∷ []) (tokens v.later);
+      }
+
+  pub opens-of : (n : ℕ) (xs : Rows M) → r.read xs ≡ Err (Deep n) → Opens r xs n
+  opens-of n xs h = opens-at n xs (t.halts xs (Deep n) h) (r.trace xs) refl
+
+  pub viable-of : Viable r
+  viable-of xs (Unexpected n) h =
+      let v = t.halts xs (Unexpected n) h in
+      record { front = tokens (r.trace xs); rest = v.rest; parts = v.parts; left_is = v.left_is; tree = v.tree; tree_may = v.tree_may; more = tokens v.later; goes_on = spelled xs (Unexpected n) v }
+  viable-of xs (Deep n) h =
+      let v = opens-of n xs h in
+      record { front = v.front; rest = v.here ∷ v.rest; parts = v.parts; left_is = v.left_is; tree = v.tree; tree_may = v.tree_may; more = v.here ∷ v.more; goes_on = v.goes_on }
 
 -- ---- lists
 
@@ -71,9 +132,9 @@ module _ {M A : Type 0} (r : Rule M A) (e : Bool) (f g : Set) (l : IsSpelled r e
   goes t y xs h q = goes-at t y xs h q (r.read xs) refl
 
   -- where all trees can be read nothing is too deep
-  pub never-deep : ((t : A) → r.may t → r.fits t) → (n : ℕ) (xs : Rows M) → r.read xs ≡ Err (Deep n) → ⊥
-  never-deep whole n xs h =
-      let v = rd.opens n xs h in
+  pub never-deep : IsTraced r → ((t : A) → r.may t → r.fits t) → (n : ℕ) (xs : Rows M) → r.read xs ≡ Err (Deep n) → ⊥
+  never-deep traced whole n xs h =
+      let v = opens-of r traced n xs h in
       rd.tight (Deep n) v.front v.here v.rest v.left_is (ap r.read (sym v.parts) ∙ h) v.tree [] v.more (whole v.tree v.tree_may) (l.follow v.tree [] v.tree_may tt) (append-nil (r.spell v.tree) ∙ v.goes_on)
 
   -- a tree that ends in the front is read there

@@ -1,6 +1,6 @@
 -- The laws of steps for rules that are told apart by the next row.
-use Rattle.std.proofs.Common.{◌≡◌, ℕ, Bool, true, false, cond, [], ◌∷◌, ◌++◌, length, None, Result, Ok, Err, refl, sym, ap, subst, ◌∙◌, inl, inr, ◌⊎◌}
-use Rattle.protox_lex.specs.Shapes.{Shape, Row, Rows}
+use Rattle.std.proofs.Common.{◌≡◌, ℕ, Bool, true, false, cond, [], ◌∷◌, ◌++◌, length, None, Ok, Err, refl, sym, ap, subst, ◌∙◌, inl, inr, ◌⊎◌}
+use Rattle.protox_lex.specs.Shapes.{Shape, Rows}
 use Rattle.protox_grammar.specs.Class.{Set, class, within, in_set}
 use Rattle.protox_grammar.specs.Reader as reader
 use Rattle.protox_grammar.specs.Reader.{Refusal, Unexpected, Deep, head_in}
@@ -9,11 +9,17 @@ use Rattle.protox_grammar.specs.Steps.{Token, Note, Steps, tokens, until, has_de
 use Rattle.protox_grammar.proofs.Takes.{bind_ok, ok_is}
 use Rattle.protox_grammar.proofs.Sets.{starts-within}
 use Rattle.protox_grammar.proofs.Laws.{IsSpelled}
-use Rattle.protox_grammar.proofs.Reading.{IsRead, err-ok, failed, chosen, map_err, head-starts, head-stops}
+use Rattle.protox_grammar.proofs.Reading.{IsRead, err-ok, failed, chosen, map_err, head-starts, head-stops, ok-err}
 use Rattle.protox_grammar.proofs.Blind.{mapped-blind, peek-blind, either-blind, unstarted-blind}
 use Rattle.protox_grammar.proofs.StepLists.{Quiet, until-quiet}
-use Rattle.protox_grammar.proofs.Tracing.{Alike, Halts, IsTraced, silent}
+use Rattle.protox_grammar.proofs.Tracing.{Alike, IsLeft, Halts, IsTraced, silent}
 use Rattle.protox_grammar.proofs.Placing.{ArePlaced}
+
+same-refusal : (A : Type 0) (d e : Refusal) → failed A d ≡ failed A e → d ≡ e
+same-refusal A d e h = cc
+
+never-both : (n d : ℕ) → Unexpected n ≡ Deep d → ⊥
+never-both n d k = absurd cc
 
 -- ---- the first or the second
 
@@ -40,6 +46,7 @@ module _ {M A B : Type 0} (p : Shape → Bool) (P : Set) (a : Rule M A) (b : Rul
       record {
         rest = v.rest;
         parts = v.parts ∙ ap (λ u. tokens u ++ v.rest) (sym h);
+        left_is = v.left_is;
         placed = subst (λ u. ArePlaced None u v.rest) (sym h) v.placed;
         tree = inl v.tree;
         tree_may = v.tree_may;
@@ -65,6 +72,7 @@ module _ {M A B : Type 0} (p : Shape → Bool) (P : Set) (a : Rule M A) (b : Rul
       record {
         rest = v.rest;
         parts = v.parts ∙ ap (λ u. tokens u ++ v.rest) (sym h);
+        left_is = v.left_is;
         placed = subst (λ u. ArePlaced None u v.rest) (sym h) v.placed;
         tree = inr u.0;
         tree_may = u.1;
@@ -113,16 +121,14 @@ module _ {M A B : Type 0} (p : Shape → Bool) (P : Set) (a : Rule M A) (b : Rul
 
 -- ---- a test of the next row
 
-module _ {M : Type 0} (G : Set) (rd : IsRead {M = M} (peek G)) where
-  peek-halts : (xs : Rows M) (e : Refusal) → (res : Result (Unit {0} × Rows M) Refusal) → reader.peek (in_set G) xs ≡ res → res ≡ Err e → Halts (peek G) xs e
-  peek-halts xs e res k h = record { rest = xs; parts = refl; placed = tt; tree = tt; tree_may = tt; later = []; goes_on = refl; deep = λ n d. absurd (deepest n xs (k ∙ h ∙ ap Err d)) }
-    where
-      deepest : (n : ℕ) (xs : Rows M) → reader.peek (in_set G) xs ≡ Err (Deep n) → ⊥
-      deepest n xs h = let v = rd.opens n xs h in nothing-more v.front v.here v.more v.goes_on
-        where
-          nothing-more : (fs : Rows M) (f : Row M) (more : Rows M) → [] ≡ fs ++ (f ∷ more) → ⊥
-          nothing-more [] f more h = absurd cc
-          nothing-more (g ∷ fs) f more h = absurd cc
+module _ {M : Type 0} (G : Set) where
+  -- it fails at the first of the rows alone
+  pub peek-fails : (xs : Rows M) (e : Refusal) → reader.peek (in_set G) xs ≡ Err e → Unexpected (length xs) ≡ e
+  peek-fails [] e h = absurd (ok-err _ e h)
+  peek-fails (r ∷ rs) e h = elim (chosen (in_set G r.shape) (Ok (tt, r ∷ rs)) (failed (Unit {0} × Rows M) (Unexpected (length (r ∷ rs)))) (Err e) h) [
+    | inl k ↦ absurd (ok-err _ e k.1)
+    | inr k ↦ same-refusal (Unit {0} × Rows M) (Unexpected (length (r ∷ rs))) e k.1
+  ]
 
   pub peek-traced : IsTraced {M = M} (peek G)
   peek-traced = record {
@@ -131,7 +137,9 @@ module _ {M : Type 0} (G : Set) (rd : IsRead {M = M} (peek G)) where
     placed = λ t z h. tt;
     blind = peek-blind (in_set G);
     ok = λ xs x h. refl;
-    halts = λ xs e h. peek-halts xs e (Err e) h refl;
+    halts = λ xs e h.
+        let same = peek-fails xs e h in
+        record { rest = xs; parts = refl; left_is = subst (λ u. IsLeft u (length xs)) same refl; placed = tt; tree = tt; tree_may = tt; later = []; goes_on = refl; deep = λ n k. absurd (never-both (length xs) n (same ∙ k)) };
     agrees = λ front rest t z more h q alike. refl;
   }
 
@@ -147,12 +155,6 @@ module _ {M B : Type 0} (P : Set) (b : Rule M B) (eb : Bool) (fb gb : Set) (lb :
   on-barred : (xs : Rows M) → head_in (in_set P) xs ≡ true → barred.trace xs ≡ []
   on-barred xs h = ap (λ v. cond v [] (b.trace xs)) h
 
-  unexpected-here : (n : ℕ) (e : Refusal) → failed (B × Rows M) (Unexpected n) ≡ Err e → (d : ℕ) → e ≡ Deep d → ⊥
-  unexpected-here n e h d k = let same : Unexpected n ≡ e = cc in differ n d (same ∙ k)
-    where
-      differ : (n d : ℕ) → Unexpected n ≡ Deep d → ⊥
-      differ n d k = absurd cc
-
   pub unstarted-traced : IsTraced (unstarted P b)
   unstarted-traced = record {
     rows = tb.rows;
@@ -166,15 +168,17 @@ module _ {M B : Type 0} (P : Set) (b : Rule M B) (eb : Bool) (fb gb : Set) (lb :
     halts = λ xs e h. elim (chosen (head_in (in_set P) xs) (failed (B × Rows M) (Unexpected (length xs))) (b.read xs) (Err e) h) [
       | inl c ↦
           let g = on-barred xs c.0 in
+          let same = same-refusal (B × Rows M) (Unexpected (length xs)) e c.1 in
           record {
             rest = xs;
             parts = ap (λ u. tokens u ++ xs) (sym g);
+            left_is = subst (λ u. IsLeft u (length xs)) same refl;
             placed = subst (λ u. ArePlaced None u xs) (sym g) tt;
             tree = some;
             tree_may = (some_may, some_stops);
             later = b.steps some;
             goes_on = ap (λ u. u ++ b.steps some) (sym g);
-            deep = λ n k. absurd (unexpected-here (length xs) e c.1 n k);
+            deep = λ n k. absurd (never-both (length xs) n (same ∙ k));
           }
       | inr c ↦
           let g = on-other xs c.0 in
@@ -183,6 +187,7 @@ module _ {M B : Type 0} (P : Set) (b : Rule M B) (eb : Bool) (fb gb : Set) (lb :
           record {
             rest = v.rest;
             parts = v.parts ∙ ap (λ u. tokens u ++ v.rest) (sym g);
+            left_is = v.left_is;
             placed = subst (λ u. ArePlaced None u v.rest) (sym g) v.placed;
             tree = u.0;
             tree_may = u.1;

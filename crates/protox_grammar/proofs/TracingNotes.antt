@@ -23,9 +23,6 @@ module _ {M A : Type 0} (note : A → Event M) (a : Rule M A) (fa ga : Set) (la 
   abbrev noted : A × Rows M → Steps M
   noted x = Note (note x.0) ∷ []
 
-  alike-back : (front rest more : Rows M) → Alike front rest more → Alike front more rest
-  alike-back front rest more h g = sym (h g)
-
   noted-trace : (xs : Rows M) (x : A × Rows M) → a.read xs ≡ Ok x → (noting note a).trace xs ≡ a.steps x.0 ++ noted x
   noted-trace xs x h = λ i. ta.ok xs x h i ++ then-of (a.read xs) x noted h i
 
@@ -38,7 +35,7 @@ module _ {M A : Type 0} (note : A → Event M) (a : Rule M A) (fa ga : Set) (la 
       let ends : a.ends t rest = prompt t more rest (subst (a.ends t) zs h) (λ g. sym (alike (ap (λ v. is_string_row (last_row None v)) (sym p) ∙ g))) in
       elim (goes a false fa ga la ra t rest (front ++ rest) ends (ap (λ v. v ++ rest) (sym p))) [
         | inl k ↦ noted-trace (front ++ rest) (t, rest) k
-        | inr k ↦ absurd (never-deep a false fa ga la ra whole k.0 (front ++ rest) k.1)
+        | inr k ↦ absurd (never-deep a false fa ga la ra ta whole k.0 (front ++ rest) k.1)
       ]
 
   noted-past : (front rest : Rows M) (t : A) (z more : Rows M) → a.ends t z → a.spell t ++ z ≡ front ++ more → Alike front rest more → length front < length (a.spell t) → (x : A × Rows M) → a.read (front ++ rest) ≡ Ok x
@@ -86,6 +83,7 @@ module _ {M A : Type 0} (note : A → Event M) (a : Rule M A) (fa ga : Set) (la 
         record {
           rest = v.rest;
           parts = v.parts ∙ ap (λ u. tokens u ++ v.rest) (sym g);
+          left_is = v.left_is;
           placed = subst (λ u. ArePlaced None u v.rest) (sym g) v.placed;
           tree = v.tree;
           tree_may = v.tree_may;
@@ -106,7 +104,7 @@ module _ {M A : Type 0} (note : A → Event M) (a : Rule M A) (fa ga : Set) (la 
 
 -- ---- a rule without notes
 
-module _ {M A : Type 0} (r : Rule M A) (e : Bool) (f g : Set) (l : IsSpelled r e f g) (rd : IsRead r) (whole : (t : A) → r.may t → r.fits t)
+module _ {M A : Type 0} (r : Rule M A) (e : Bool) (f g : Set) (l : IsSpelled r e f g) (rd : IsRead r) (never : (n : ℕ) (xs : Rows M) → r.read xs ≡ Err (Deep n) → ⊥)
     (steps-are : (t : A) → r.steps t ≡ plainly (r.spell t)) (trace-is : (xs : Rows M) → r.trace xs ≡ plain_trace r.read xs) (blind : IsBlind r.read) where
   took-front : (xs ys rest : Rows M) (n : ℕ) → xs ≡ ys ++ rest → n ≡ length rest → take (length xs - n) xs ≡ ys
   took-front xs ys rest n p q =
@@ -128,6 +126,7 @@ module _ {M A : Type 0} (r : Rule M A) (e : Bool) (f g : Set) (l : IsSpelled r e
       record {
         rest = v.rest;
         parts = v.parts ∙ ap (λ u. u ++ v.rest) (sym (tokens-plainly v.front)) ∙ ap (λ u. tokens u ++ v.rest) (sym same);
+        left_is = v.left_is;
         placed = subst (λ u. ArePlaced None u v.rest) (sym same) (placed-plainly None v.front v.rest);
         tree = v.tree;
         tree_may = v.tree_may;
@@ -135,7 +134,7 @@ module _ {M A : Type 0} (r : Rule M A) (e : Bool) (f g : Set) (l : IsSpelled r e
         goes_on = steps-are v.tree ∙ ap plainly v.goes_on ∙ plainly-append v.front v.more ∙ ap (λ u. u ++ plainly v.more) (sym same);
         deep = λ d k. absurd (not-deep n d k);
       }
-  plain-halts xs (Deep n) h = absurd (never-deep r e f g l rd whole n xs h)
+  plain-halts xs (Deep n) h = absurd (never n xs h)
 
   until-plainly : (ys z fs more : Rows M) → ys ++ z ≡ fs ++ more → length fs ≤ length ys → until (length fs) (plainly ys) ≡ plainly fs
   until-plainly ys z [] more q w = until-quiet (plainly ys) (plainly-quiet ys)
@@ -149,7 +148,7 @@ module _ {M A : Type 0} (r : Rule M A) (e : Bool) (f g : Set) (l : IsSpelled r e
   outside-plain front rest t z more h q w (Ok x) k =
       let took = rd.takes (front ++ rest) x k in
       ap (λ u. until (length front) u) (plain-ok (front ++ rest) x k) ∙ until-plainly (r.spell x.0) x.1 front rest (sym took.parts) (not-inside r e f g l rd front rest t z more h q w x k)
-  outside-plain front rest t z more h q w (Err (Deep n)) k = absurd (never-deep r e f g l rd whole n (front ++ rest) k)
+  outside-plain front rest t z more h q w (Err (Deep n)) k = absurd (never n (front ++ rest) k)
   outside-plain front rest t z more h q w (Err (Unexpected n)) k =
       let v = rd.viable (front ++ rest) (Unexpected n) k in
       ap (λ u. until (length front) u) (plain-err (front ++ rest) n k v) ∙ until-plainly v.front v.rest front rest (sym v.parts) (elim (apart-of v.front v.rest front rest (sym v.parts)) [
@@ -170,7 +169,7 @@ module _ {M A : Type 0} (r : Rule M A) (e : Bool) (f g : Set) (l : IsSpelled r e
         let ends : r.ends t ((c.0 ∷ c.1) ++ rest) = l.ahead t c.0 (c.1 ++ more) (c.1 ++ rest) (subst (r.ends t) c.3 h) in
         elim (goes r e f g l rd t ((c.0 ∷ c.1) ++ rest) (front ++ rest) ends xs-is) [
           | inl k ↦ ap (λ u. until (length front) u) (plain-ok (front ++ rest) (t, (c.0 ∷ c.1) ++ rest) k ∙ sym (steps-are t))
-          | inr k ↦ absurd (never-deep r e f g l rd whole k.0 (front ++ rest) k.1)
+          | inr k ↦ absurd (never k.0 (front ++ rest) k.1)
         ]
     | inr c ↦
         let w : length front ≤ length (r.spell t) = elim c [

@@ -49,6 +49,7 @@ module _ {M A B : Type 0} (a : Rule M A) (b : Rule M B) (ea : Bool) (fa ga : Set
       record {
         rest = v.rest;
         parts = v.parts ∙ ap (λ u. tokens u ++ v.rest) (sym same);
+        left_is = v.left_is;
         placed = subst (λ u. ArePlaced None u v.rest) (sym same) v.placed;
         tree = (v.tree, some);
         tree_may = d v.tree v.tree_may;
@@ -66,6 +67,7 @@ module _ {M A B : Type 0} (a : Rule M A) (b : Rule M B) (ea : Bool) (fa ga : Set
       record {
         rest = v.rest;
         parts = took.parts ∙ ap (λ u. a.spell x.0 ++ u) v.parts ∙ sym (append_assoc (a.spell x.0) (tokens (b.trace x.1)) v.rest) ∙ ap (λ u. u ++ v.rest) (sym toks) ∙ ap (λ u. tokens u ++ v.rest) (sym same);
+        left_is = v.left_is;
         placed = subst (λ u. ArePlaced None u v.rest) (sym same) (placed-append None (a.steps x.0) (b.trace x.1) v.rest (ta.placed x.0 (tokens (b.trace x.1) ++ v.rest) (subst (a.ends x.0) v.parts took.ends)) (silent b eb fb gb lb rb tb x.1) v.placed);
         tree = (x.0, tree);
         tree_may = d;
@@ -148,6 +150,7 @@ module _ {M A B : Type 0} (to : B → A) (from : A → B) (b : Rule M B) (there 
         record {
           rest = v.rest;
           parts = v.parts;
+          left_is = v.left_is;
           placed = v.placed;
           tree = to v.tree;
           tree_may = subst b.may (sym (there v.tree)) v.tree_may;

@@ -16,15 +16,12 @@ use Rattle.protox_grammar.proofs.Reading.{IsRead, Took, bind_err, ok-err, err-ok
 use Rattle.protox_grammar.proofs.Repeat.{some-rows}
 use Rattle.protox_grammar.proofs.Blind.{star-blind}
 use Rattle.protox_grammar.proofs.StepLists.{Quiet, until-quiet, quiet-append, tokens-append, has_deep-first}
-use Rattle.protox_grammar.proofs.Tracing.{Alike, IsTraced, then-of, then-none, silent, sequel}
+use Rattle.protox_grammar.proofs.Tracing.{Alike, IsLeft, IsTraced, then-of, then-none, silent, sequel}
 use Rattle.protox_grammar.proofs.Placing.{ArePlaced, placed-append}
 
 -- ---- again and again
 
 module _ {M A : Type 0} (p : Shape → Bool) (P : Set) (a : Rule M A) (same : (s : Shape) → p s ≡ P (class s)) (fa ga : Set) (la : IsSpelled a false fa ga) (w : within fa P ≡ true) (ra : IsRead a) (ta : IsTraced a) where
-  abbrev many_of : Rule M (List A)
-  many_of = star p P a
-
   abbrev turns : ℕ → Rows M → Steps M
   turns n xs = star_trace p a.read a.trace n xs
 
@@ -88,6 +85,7 @@ module _ {M A : Type 0} (p : Shape → Bool) (P : Set) (a : Rule M A) (same : (s
   record Halts_at (n : ℕ) (xs : Rows M) (e : Refusal) : Type 0 where
     pub rest : Rows M
     pub parts : xs ≡ tokens (turns n xs) ++ rest
+    pub left_is : IsLeft e (length rest)
     pub placed : ArePlaced None (turns n xs) rest
     pub tree : List A
     pub tree_may : Each a.may tree
@@ -102,6 +100,7 @@ module _ {M A : Type 0} (p : Shape → Bool) (P : Set) (a : Rule M A) (same : (s
       record {
         rest = v.rest;
         parts = v.parts ∙ ap (λ u. tokens u ++ v.rest) (sym g);
+        left_is = v.left_is;
         placed = subst (λ u. ArePlaced None u v.rest) (sym g) v.placed;
         tree = v.tree ∷ [];
         tree_may = (v.tree_may, tt);
@@ -118,6 +117,7 @@ module _ {M A : Type 0} (p : Shape → Bool) (P : Set) (a : Rule M A) (same : (s
       record {
         rest = v.rest;
         parts = took.parts ∙ ap (λ u. a.spell x.0 ++ u) v.parts ∙ sym (append_assoc (a.spell x.0) (tokens (turns n x.1)) v.rest) ∙ ap (λ u. u ++ v.rest) (sym toks) ∙ ap (λ u. tokens u ++ v.rest) (sym g);
+        left_is = v.left_is;
         placed = subst (λ u. ArePlaced None u v.rest) (sym g) (placed-append None (a.steps x.0) (turns n x.1) v.rest (ta.placed x.0 (tokens (turns n x.1) ++ v.rest) (subst (a.ends x.0) v.parts took.ends)) (turn-silent n x.1) v.placed);
         tree = x.0 ∷ v.tree;
         tree_may = (ra.within x.0 took.fits, v.tree_may);
@@ -169,6 +169,6 @@ module _ {M A : Type 0} (p : Shape → Bool) (P : Set) (a : Rule M A) (same : (s
     ok = λ xs x e. ok_at (suc (length xs)) xs x e;
     halts = λ xs e h.
         let v = halts_at (suc (length xs)) xs e (omega arith) h in
-        record { rest = v.rest; parts = v.parts; placed = v.placed; tree = v.tree; tree_may = v.tree_may; later = v.later; goes_on = v.goes_on; deep = v.deep };
+        record { rest = v.rest; parts = v.parts; left_is = v.left_is; placed = v.placed; tree = v.tree; tree_may = v.tree_may; later = v.later; goes_on = v.goes_on; deep = v.deep };
     agrees = λ front rest ts z more h q alike. agrees_at (suc (length (front ++ rest))) front rest ts z more (omega arith) h q alike;
   }

@@ -1,11 +1,13 @@
 -- The laws of what is noted while the tokens of a source are read. A check that is noted is true, and none is passed over; and what is
 -- noted of braces tells where a place is inside an aggregate. What is true is said by files that go on, as in protox_ast's Fronts and Truth.
 use Rattle.std.specs.Prelude.{◌≡◌, ◌≤◌, ◌⊎◌, ℕ, Bool, true, false, List, length, None, Any}
+use Rattle.protox_lex.specs.Faults.{Span}
 use Rattle.protox_lex.specs.Lexemes.{Lexeme}
 use Rattle.protox_lex.specs.Shapes.{Rows}
 use Rattle.protox_lex.specs.Table.{rows_of}
 use Rattle.protox_lex.specs.declared.error.ParseErrorKind.{ParseErrorKind}
-use Rattle.protox_ast.specs.CheckedNodes.{CheckedNode, ATooDeep}
+use Rattle.protox_lex.specs.declared.error.ParseErrorKind.TheVariants.{MessageNestingTooDeep}
+use Rattle.protox_ast.specs.CheckedNodes.{CheckedNode}
 use Rattle.protox_ast.specs.Checks.{WrongCheckedNode}
 use Rattle.protox_ast.specs.Fronts.{Inside, numbered, shapes}
 use Rattle.protox_ast.specs.Truth.{IsTrueOf, IsWrongBefore, IsWrongBehind, token_span}
@@ -52,13 +54,9 @@ NoneIsPassedOver = (lexemes : List Lexeme) (n : ℕ) (wrong : ParseErrorKind)
     → IsWrongBehind lexemes n wrong
     → Any (IsWrongBefore lexemes n wrong) (noted_by lexemes n) ⊎ (is_too_deep_by lexemes n ≡ true)
 
-abbrev pub IsTooDeepNode : {M : Type 0} → CheckedNode M → Type 0
-IsTooDeepNode (ATooDeep keyword open_at) = Unit {0}
-IsTooDeepNode _ = ⊥
-
--- where reading ended so, a node that is too deep is noted
+-- where reading ended so, it is noted that something is too deep
 abbrev pub TooDeepIsNoted : Type 0
-TooDeepIsNoted = (lexemes : List Lexeme) (n : ℕ) → is_too_deep_by lexemes n ≡ true → Any IsTooDeepNode (noted_by lexemes n)
+TooDeepIsNoted = (lexemes : List Lexeme) (n : ℕ) → is_too_deep_by lexemes n ≡ true → (span : Span) × IsNotedBy lexemes n (MessageNestingTooDeep span)
 
 -- ---- aggregates
 

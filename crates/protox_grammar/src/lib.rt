@@ -60,7 +60,7 @@ pub fn none_is_passed_over()
     ensures { checks.NoneIsPassedOver }
 {}
 
-/// Where a body that is too deep was opened, this is noted.
+/// Where a body that is too deep was opened, its fault is noted.
 pub fn too_deep_is_noted()
     ensures { checks.TooDeepIsNoted }
 {}

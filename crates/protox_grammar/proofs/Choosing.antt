@@ -1,5 +1,5 @@
 -- The laws of reading one of two rules, by the next row.
-use Rattle.std.proofs.Common.{◌≡◌, suc, Bool, true, false, [], ◌∷◌, ◌++◌, length, ℕ, Ok, Err, refl, sym, ap, subst, ◌∙◌, inl, inr, ◌⊎◌}
+use Rattle.std.proofs.Common.{◌≡◌, suc, Bool, true, false, ◌∷◌, ◌++◌, length, Ok, Err, refl, ap, subst, ◌∙◌, inl, inr, ◌⊎◌}
 use Rattle.protox_grammar.specs.Reader.{Refusal, Unexpected, Deep}
 use Rattle.protox_lex.specs.Shapes.{Shape, Row, Rows}
 use Rattle.protox_grammar.specs.Class.{Set, class, within, in_set}
@@ -9,7 +9,7 @@ use Rattle.protox_grammar.specs.Rule.{Rule, Stops, Starts, on_sum, either, unsta
 use Rattle.protox_grammar.proofs.Takes.{bind_ok, ok_is}
 use Rattle.protox_grammar.proofs.Laws.{IsSpelled}
 use Rattle.protox_grammar.proofs.Sets.{stops-front, starts-within}
-use Rattle.protox_grammar.proofs.Reading.{left_of, Concerns, Opens, unexpected-deep, Begins, Took, IsRead, failed, at_once, err-left, err-ok, map_err, stops-head, head-stops, head-starts, chosen, true-false, same-head}
+use Rattle.protox_grammar.proofs.Reading.{left_of, Concerns, Viable, Took, IsRead, failed, err-ok, map_err, stops-head, head-stops, head-starts, chosen, true-false, same-head}
 
 -- ---- one or the other
 
@@ -35,63 +35,6 @@ module _ {M A B : Type 0} (p : Shape → Bool) (P : Set) (a : Rule M A) (b : Rul
       → reader.either p (reader.mapped inl a.read) (reader.mapped inr b.read) (on_sum a.spell b.spell t ++ z) ≡ Ok (t, z)
   either-again (inl t) z h k = rw (head-starts p P same (a.spell t) z (starts-in t z k), ra.again t z h k) refl
   either-again (inr t) z h k = rw (head-stops p P same (b.spell t ++ z) k.1, rb.again t z h.0 k.0) refl
-
-  either-begins-left : (xs : Rows M) (n : ℕ) → Begins a xs n → Begins (either p P a b) xs n
-  either-begins-left xs n v = record { front = v.front; rest = v.rest; parts = v.parts; left_is = v.left_is; tree = inl v.tree; tree_may = v.tree_may; more = v.more; goes_on = v.goes_on }
-
-  stops-same : (f : Row M) (fs rest more : Rows M) (xs : Rows M) → xs ≡ (f ∷ fs) ++ rest → head_in p xs ≡ false → (ys : Rows M) → ys ≡ (f ∷ fs) ++ more → Stops P ys
-  stops-same f fs rest more xs e closed ys k = subst (Stops P) (sym k) (subst (λ v. head_in p v ≡ false → P (class f.shape) ≡ false) (sym e) (λ h. sym (same f.shape) ∙ h) closed)
-
-  either-begins-right : (xs : Rows M) (n : ℕ) → head_in p xs ≡ false → (v : Begins b xs n) (front : Rows M) → v.front ≡ front → Begins (either p P a b) xs n
-  either-begins-right xs n closed v [] k = record {
-    front = [];
-    rest = v.rest;
-    parts = v.parts ∙ ap (λ u. u ++ v.rest) k;
-    left_is = v.left_is;
-    tree = inr some;
-    tree_may = (some_may, some_stops);
-    more = b.spell some;
-    goes_on = refl;
-  }
-  either-begins-right xs n closed v (f ∷ fs) k = record {
-    front = v.front;
-    rest = v.rest;
-    parts = v.parts;
-    left_is = v.left_is;
-    tree = inr v.tree;
-    tree_may = (v.tree_may, stops-same f fs v.rest v.more xs (v.parts ∙ ap (λ u. u ++ v.rest) k) closed (b.spell v.tree) (v.goes_on ∙ ap (λ u. u ++ v.more) k));
-    more = v.more;
-    goes_on = v.goes_on;
-  }
-
-  either-viable : (xs : Rows M) (e : Refusal) → reader.either p (reader.mapped inl a.read) (reader.mapped inr b.read) xs ≡ Err e → Begins (either p P a b) xs (left_of e)
-  either-viable xs e h = elim (chosen (head_in p xs) (reader.mapped inl a.read xs) (reader.mapped inr b.read xs) (Err e) h) [
-    | inl k ↦ either-begins-left xs (left_of e) (ra.viable xs e (map_err inl (a.read xs) e k.1))
-    | inr k ↦ let v = rb.viable xs e (map_err inr (b.read xs) e k.1) in either-begins-right xs (left_of e) k.0 v v.front refl
-  ]
-
-  stops-as : (xs ys front : Rows M) (here : Row M) (rest more : Rows M) → xs ≡ front ++ (here ∷ rest) → ys ≡ front ++ (here ∷ more) → head_in p xs ≡ false → Stops P ys
-  stops-as xs ys front here rest more e f closed = stops-head p P same ys (ap (head_in p) f ∙ same-head p front here more rest ∙ sym (ap (head_in p) e) ∙ closed)
-
-  either-opens : (n : ℕ) (xs : Rows M) → reader.either p (reader.mapped inl a.read) (reader.mapped inr b.read) xs ≡ Err (Deep n) → Opens (either p P a b) xs n
-  either-opens n xs h = elim (chosen (head_in p xs) (reader.mapped inl a.read xs) (reader.mapped inr b.read xs) (Err (Deep n)) h) [
-    | inl k ↦
-        let v = ra.opens n xs (map_err inl (a.read xs) (Deep n) k.1) in
-        record { front = v.front; here = v.here; rest = v.rest; parts = v.parts; left_is = v.left_is; tree = inl v.tree; tree_may = v.tree_may; more = v.more; goes_on = v.goes_on }
-    | inr k ↦
-        let v = rb.opens n xs (map_err inr (b.read xs) (Deep n) k.1) in
-        record {
-          front = v.front;
-          here = v.here;
-          rest = v.rest;
-          parts = v.parts;
-          left_is = v.left_is;
-          tree = inr v.tree;
-          tree_may = (v.tree_may, stops-as xs (b.spell v.tree) v.front v.here v.rest v.more v.parts v.goes_on k.0);
-          more = v.more;
-          goes_on = v.goes_on;
-        }
-  ]
 
   first-concerned : (e : Refusal) (t : A) → Concerns (either p P a b) e (inl t) → Concerns a e t
   first-concerned (Unexpected n) t c = tt
@@ -123,15 +66,14 @@ module _ {M A B : Type 0} (p : Shape → Bool) (P : Set) (a : Rule M A) (b : Rul
     | inr c ↦ rb.short xs (map_err inr (b.read xs) _ c.1) t z k.0 e
   ]
 
-  pub either-read : IsRead (either p P a b)
-  either-read = record {
+  pub either-read : Viable (either p P a b) → IsRead (either p P a b)
+  either-read viable = record {
     some = inr some;
     some_may = (some_may, some_stops);
     within = either-within;
     takes = either-takes;
     again = either-again;
-    viable = either-viable;
-    opens = either-opens;
+    viable = viable;
     tight = either-tight;
     short = either-short;
   }
@@ -160,55 +102,6 @@ module _ {M B : Type 0} (P : Set) (b : Rule M B) (eb : Bool) (fb gb : Set) (lb :
   unstarted-again : (t : B) (z : Rows M) → b.fits t → b.ends t z → Stops P (b.spell t ++ z) → reader.unstarted test b.read (b.spell t ++ z) ≡ Ok (t, z)
   unstarted-again t z f e s = rw (head-stops test P (λ s. refl) (b.spell t ++ z) s, rb.again t z f e) refl
 
-  begins-same : (f : Row M) (fs rest more : Rows M) (xs : Rows M) → xs ≡ (f ∷ fs) ++ rest → head_in test xs ≡ false → (ys : Rows M) → ys ≡ (f ∷ fs) ++ more → Stops P ys
-  begins-same f fs rest more xs e closed ys k = subst (Stops P) (sym k) (subst (λ v. head_in test v ≡ false → P (class f.shape) ≡ false) (sym e) (λ h. h) closed)
-
-  unstarted-begins : (xs : Rows M) (n : ℕ) → head_in test xs ≡ false → (v : Begins b xs n) (front : Rows M) → v.front ≡ front → Begins (unstarted P b) xs n
-  unstarted-begins xs n closed v [] k = record {
-    front = [];
-    rest = v.rest;
-    parts = v.parts ∙ ap (λ u. u ++ v.rest) k;
-    left_is = v.left_is;
-    tree = some;
-    tree_may = (some_may, some_stops);
-    more = b.spell some;
-    goes_on = refl;
-  }
-  unstarted-begins xs n closed v (f ∷ fs) k = record {
-    front = v.front;
-    rest = v.rest;
-    parts = v.parts;
-    left_is = v.left_is;
-    tree = v.tree;
-    tree_may = (v.tree_may, begins-same f fs v.rest v.more xs (v.parts ∙ ap (λ u. u ++ v.rest) k) closed (b.spell v.tree) (v.goes_on ∙ ap (λ u. u ++ v.more) k));
-    more = v.more;
-    goes_on = v.goes_on;
-  }
-
-  unstarted-viable : (xs : Rows M) (e : Refusal) → reader.unstarted test b.read xs ≡ Err e → Begins (unstarted P b) xs (left_of e)
-  unstarted-viable xs e h = elim (chosen (head_in test xs) (failed (B × Rows M) (Unexpected (length xs))) (b.read xs) (Err e) h) [
-    | inl k ↦ at_once (unstarted P b) xs some (some_may, some_stops) (left_of e) (err-left {A = B × Rows M} (length xs) e k.1)
-    | inr k ↦ let v = rb.viable xs e k.1 in unstarted-begins xs (left_of e) k.0 v v.front refl
-  ]
-
-  unstarted-opens : (n : ℕ) (xs : Rows M) → reader.unstarted test b.read xs ≡ Err (Deep n) → Opens (unstarted P b) xs n
-  unstarted-opens n xs h = elim (chosen (head_in test xs) (failed (B × Rows M) (Unexpected (length xs))) (b.read xs) (Err (Deep n)) h) [
-    | inl k ↦ absurd (unexpected-deep {A = B × Rows M} (length xs) n k.1)
-    | inr k ↦
-        let v = rb.opens n xs k.1 in
-        record {
-          front = v.front;
-          here = v.here;
-          rest = v.rest;
-          parts = v.parts;
-          left_is = v.left_is;
-          tree = v.tree;
-          tree_may = (v.tree_may, stops-head test P (λ s. refl) (b.spell v.tree) (ap (head_in test) v.goes_on ∙ same-head test v.front v.here v.more v.rest ∙ sym (ap (head_in test) v.parts) ∙ k.0));
-          more = v.more;
-          goes_on = v.goes_on;
-        }
-  ]
-
   unstarted-concerned : (e : Refusal) (t : B) → Concerns (unstarted P b) e t → Concerns b e t
   unstarted-concerned (Unexpected n) t c = tt
   unstarted-concerned (Deep n) t c = c.0
@@ -226,15 +119,14 @@ module _ {M B : Type 0} (P : Set) (b : Rule M B) (eb : Bool) (fb gb : Set) (lb :
     | inr c ↦ rb.short xs c.1 t z k.0 e
   ]
 
-  pub unstarted-read : IsRead (unstarted P b)
-  unstarted-read = record {
+  pub unstarted-read : Viable (unstarted P b) → IsRead (unstarted P b)
+  unstarted-read viable = record {
     some = some;
     some_may = (some_may, some_stops);
     within = λ t h. (rb.within t h.0, h.1);
     takes = unstarted-takes;
     again = λ t z f k. unstarted-again t z f.0 k.0 k.1;
-    viable = unstarted-viable;
-    opens = unstarted-opens;
+    viable = viable;
     tight = unstarted-tight;
     short = unstarted-short;
   }

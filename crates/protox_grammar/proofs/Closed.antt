@@ -250,6 +250,22 @@ closes r rs h = rw (close-is r.shape h) refl
 abbrev close : {M : Type 0} → Rows M × Rows M → Result ((Rows M × M) × Rows M) Refusal
 close v = reader.fixed (Mark close_brace) v.1 >>= λ y. Ok ((v.0, y.0), y.1)
 
+never : {M : Type 0} (xs : Rows M) (v : Rows M × Rows M) (e : Refusal) → balanced_at 0 xs ≡ Ok v → reader.fixed (Mark close_brace) v.1 ≡ Err e → ⊥
+never xs v e n h = let f = found 0 xs v n in ok-err (f.last.at, f.rest) e (sym (closes f.last f.rest f.shuts) ∙ ap (reader.fixed (Mark close_brace)) (sym f.next) ∙ h)
+
+-- the reading fails only between the braces
+inside : {M : Type 0} (xs : Rows M) (e : Refusal) → reader.seq (balanced_at 0) (reader.fixed (Mark close_brace)) xs ≡ Err e → balanced_at 0 xs ≡ Err e
+inside xs e h = elim (bind_err (balanced_at 0 xs) close e h) [
+  | inl n ↦ n
+  | inr v ↦ elim (bind_err (reader.fixed (Mark close_brace) v.0.1) (λ y. Ok ((v.0.0, y.0), y.1)) e v.2) [
+    | inl n ↦ absurd (never xs v.0 e v.1 n)
+    | inr n ↦ absurd (ok-err _ e n.2)
+  ]
+]
+
+pub closed-deep : {M : Type 0} (n : ℕ) (xs : Rows M) → reader.seq (balanced_at 0) (reader.fixed (Mark close_brace)) xs ≡ Err (Deep n) → ⊥
+closed-deep n xs h = never-deep 0 n xs (inside xs (Deep n) h)
+
 pub closed-read : {M : Type 0} → M → IsRead {M = M} closed
 closed-read {M = M} m = record {
   some = ([], m);
@@ -258,7 +274,6 @@ closed-read {M = M} m = record {
   takes = took;
   again = λ t z h n. rw (append_assoc t.0 (shut t.1 ∷ []) z, again 0 t.0 t.1 z (matches t.0 h), closes (shut t.1) z refl) refl;
   viable = viable;
-  opens = λ n xs h. absurd (never-deep 0 n xs (inside xs (Deep n) h));
   tight = λ d front s rest l h t z more c n e. stuck d front s rest l h t z more n e;
   short = λ xs h t z n e. complete xs h t z n e;
 }
@@ -277,19 +292,6 @@ closed-read {M = M} m = record {
           fits = fits;
           ends = fits;
         })
-
-    never : (xs : Rows M) (v : Rows M × Rows M) (e : Refusal) → balanced_at 0 xs ≡ Ok v → reader.fixed (Mark close_brace) v.1 ≡ Err e → ⊥
-    never xs v e n h = let f = found 0 xs v n in ok-err (f.last.at, f.rest) e (sym (closes f.last f.rest f.shuts) ∙ ap (reader.fixed (Mark close_brace)) (sym f.next) ∙ h)
-
-    -- the reading fails only between the braces
-    inside : (xs : Rows M) (e : Refusal) → reader.seq (balanced_at 0) (reader.fixed (Mark close_brace)) xs ≡ Err e → balanced_at 0 xs ≡ Err e
-    inside xs e h = elim (bind_err (balanced_at 0 xs) close e h) [
-      | inl n ↦ n
-      | inr v ↦ elim (bind_err (reader.fixed (Mark close_brace) v.0.1) (λ y. Ok ((v.0.0, y.0), y.1)) e v.2) [
-        | inl n ↦ absurd (never xs v.0 e v.1 n)
-        | inr n ↦ absurd (ok-err _ e n.2)
-      ]
-    ]
 
     viable : (xs : Rows M) (e : Refusal) → reader.seq (balanced_at 0) (reader.fixed (Mark close_brace)) xs ≡ Err e → Begins closed xs (left_of e)
     viable xs e h =

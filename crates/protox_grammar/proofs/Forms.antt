@@ -1,26 +1,39 @@
 -- The laws of the forms that the grammar is written in.
-use Rattle.std.proofs.Common.{◌≡◌, ℕ, ◌+◌, Bool, true, false, ◌&&◌, List, [], ◌∷◌, ◌++◌, Option, Some, None, refl, sym, ap, ◌∙◌, inl, inr, ◌⊎◌}
+use Rattle.std.proofs.Common.{◌≡◌, ◌<◌, ℕ, ◌+◌, length, subst, Bool, true, false, ◌&&◌, List, [], ◌∷◌, ◌++◌, Option, Some, None, refl, sym, ap, ◌∙◌, inl, inr, ◌⊎◌}
 use Rattle.protox_grammar.specs.Reader.{Refusal, Unexpected, Deep, is_token}
 use Rattle.protox_lex.specs.Shapes.{Shape, Ident, Mark, Rows}
 use Rattle.protox_grammar.specs.Class.{Set, class, keywords, place, marks, byte_place, apart, within, union, none, only, in_set}
 use Rattle.protox_ast.specs.Spelling.{maybe}
 use Rattle.protox_ast.specs.Keywords.{Given}
-use Rattle.protox_grammar.specs.Rule.{Rule, Stops, Starts, fixed, seq, on_sum, nothing, mapped, unless, choice, Closes, to_option, optional, times, named, named_fits, unstarted}
+use Rattle.protox_grammar.specs.Rule.{Rule, Stops, Starts, fixed, seq, on_sum, nothing, mapped, unless, choice, Closes, to_option, optional, times, named, named_fits, unstarted, noting}
 use Rattle.protox_grammar.proofs.Words.{word-exact, word-back, mark-exact, mark-back}
 use Rattle.protox_grammar.proofs.Sets.{gated, apart-at}
 use Rattle.protox_grammar.proofs.Laws.{IsSpelled, fixed-spelled, seq-spelled, either-spelled, nothing-spelled, mapped-spelled, star-spelled, unstarted-spelled, wider}
-use Rattle.protox_grammar.proofs.Reading.{Concerns, Opens, IsRead, Took, Begins, seq-read, mapped-read, nothing-read}
-use Rattle.protox_grammar.proofs.ReadingTokens.{fixed-read}
+use Rattle.protox_grammar.proofs.Reading.{Concerns, IsRead, Took, seq-read, mapped-read, nothing-read}
+use Rattle.protox_grammar.proofs.ReadingTokens.{fixed-read, fixed-deep}
 use Rattle.protox_grammar.proofs.Choosing.{either-read, unstarted-read}
 use Rattle.protox_grammar.proofs.Repeat.{star-read}
+use Rattle.protox_grammar.specs.Steps.{Event, Steps, tokens, until, steps_of_option}
+use Rattle.protox_grammar.proofs.Blind.{fixed-blind}
+use Rattle.protox_grammar.proofs.StepLists.{Quiet}
+use Rattle.protox_grammar.proofs.Tracing.{Alike, IsTraced, viable-of}
+use Rattle.protox_grammar.proofs.TracingPairs.{seq-traced, mapped-traced, nothing-traced}
+use Rattle.protox_grammar.proofs.TracingChoices.{either-traced, unstarted-traced}
+use Rattle.protox_grammar.proofs.TracingNotes.{noting-traced, plain-traced}
+use Rattle.protox_grammar.proofs.TracingRepeat.{star-traced}
+use Rattle.protox_grammar.proofs.Placing.{last_row, IsPlaced, ArePlaced}
 
 -- both kinds of laws
 pub record Lawful {M A : Type 0} (r : Rule M A) (e : Bool) (f g : Set) : Type 0 where
   pub spelled : IsSpelled r e f g
   pub read : IsRead r
+  pub traced : IsTraced r
 
 pub fixed-laws : {M : Type 0} (m : M) (w : Shape) (i : ℕ) → only i (class w) ≡ true → is_token w w ≡ true → ((s : Shape) → is_token w s ≡ true → s ≡ w) → Lawful {M = M} (fixed w) false (only i) none
-fixed-laws m w i h back exact = record { spelled = fixed-spelled w (only i) h; read = fixed-read m w back exact }
+fixed-laws m w i h back exact =
+    let l = fixed-spelled w (only i) h in
+    let rd = fixed-read m w back exact in
+    record { spelled = l; read = rd; traced = plain-traced (fixed w) false (only i) none l rd (fixed-deep m w back exact) (λ t. refl) (λ xs. refl) (fixed-blind w) }
 
 pub word-laws : {M : Type 0} (m : M) (w : List ℕ) (i : ℕ) → only i (place keywords w) ≡ true → Lawful {M = M} (fixed (Ident w)) false (only i) none
 word-laws m w i h = fixed-laws m (Ident w) i h (word-back w) (word-exact w)
@@ -31,43 +44,60 @@ mark-laws m s i h = fixed-laws m (Mark s) i h (mark-back s) (mark-exact s)
 pub seq-laws : {M A B : Type 0} {a : Rule M A} {b : Rule M B} {ea eb : Bool} {fa ga fb gb : Set} → Lawful a ea fa ga → Lawful b eb fb gb → apart fb ga ≡ true → Lawful (seq a b) (ea && eb) (union fa (gated ea fb)) (union gb (gated eb ga))
 seq-laws {a = a} {b = b} {ea = ea} {eb = eb} {fa = fa} {ga = ga} {fb = fb} {gb = gb} la lb d = record {
   spelled = seq-spelled a b ea eb fa ga fb gb la.spelled lb.spelled d;
-  read = seq-read a b ea fa ga la.spelled la.read lb.read;
+  read = seq-read a b ea fa ga la.spelled la.read lb.read (viable-of (seq a b) traced);
+  traced = traced;
 }
+  where
+    traced : IsTraced (seq a b)
+    traced = seq-traced a b ea fa ga la.spelled la.read la.traced eb fb gb lb.spelled lb.read lb.traced
 
 pub mapped-laws : {M A B : Type 0} {b : Rule M B} {e : Bool} {f g : Set} (to : B → A) (from : A → B) → ((t : A) → to (from t) ≡ t) → ((t : B) → from (to t) ≡ t) → Lawful b e f g → Lawful (mapped to from b) e f g
 mapped-laws {b = b} {e = e} {f = f} {g = g} to from back there l = record {
   spelled = mapped-spelled to from b e f g back l.spelled;
-  read = mapped-read to from b back there l.read;
+  read = mapped-read to from b back there l.read (viable-of (mapped to from b) (mapped-traced to from b there l.traced));
+  traced = mapped-traced to from b there l.traced;
 }
 
 -- the second may begin as the first does: some tree of it doesn't
 pub unless-laws : {M A B : Type 0} {a : Rule M A} {b : Rule M B} {eb : Bool} {fa ga fb gb : Set} (P : Set) → Lawful a false fa ga → within fa P ≡ true → Lawful b eb fb gb → (some : B) → b.may some → Stops P (b.spell some) → Lawful (unless P a b) eb (union fa fb) (union ga (union gb (gated eb P)))
 unless-laws {a = a} {b = b} {eb = eb} {fa = fa} {ga = ga} {fb = fb} {gb = gb} P la w lb some m s = record {
   spelled = either-spelled (in_set P) P a b eb fa ga fb gb la.spelled lb.spelled w;
-  read = either-read (in_set P) P a b (λ s. refl) fa ga la.spelled w la.read lb.read some m s;
+  read = either-read (in_set P) P a b (λ s. refl) fa ga la.spelled w la.read lb.read some m s (viable-of (unless P a b) traced);
+  traced = traced;
 }
+  where
+    traced : IsTraced (unless P a b)
+    traced = either-traced (in_set P) P a b (λ s. refl) fa ga la.spelled w la.read la.traced eb fb gb lb.spelled lb.read lb.traced some m s
 
 -- a rule that says the same otherwise
-module _ {M A : Type 0} {r : Rule M A} {e : Bool} {f g : Set} (spell : A → Rows M) (may fits : A → Type 0) (ends : A → Rows M → Type 0)
+module _ {M A : Type 0} {r : Rule M A} {e : Bool} {f g : Set} (spell : A → Rows M) (may fits : A → Type 0) (ends : A → Rows M → Type 0) (steps : A → Steps M)
     (spelled : (t : A) → spell t ≡ r.spell t) (obeys : (t : A) → may t → r.may t) (allows : (t : A) → r.may t → may t)
     (fits_obeys : (t : A) → fits t → r.fits t) (fits_allows : (t : A) → r.fits t → fits t)
     (ends_obeys : (t : A) (z : Rows M) → ends t z → r.ends t z) (ends_allows : (t : A) (z : Rows M) → r.ends t z → ends t z)
+    (stepped : (t : A) → steps t ≡ r.steps t)
     (l : Lawful r e f g) where
   abbrev again_said : Rule M A
-  again_said = record { spell = spell; may = may; fits = fits; ends = ends; read = r.read }
+  again_said = record { spell = spell; may = may; fits = fits; ends = ends; read = r.read; steps = steps; trace = r.trace }
 
   took : (xs : Rows M) (x : A × Rows M) → Took r xs x → Took again_said xs x
   took xs x k = record { parts = k.parts ∙ ap (λ u. u ++ x.1) (sym (spelled x.0)); fits = fits_allows x.0 k.fits; ends = ends_allows x.0 x.1 k.ends }
 
-  begins : (xs : Rows M) (n : ℕ) → Begins r xs n → Begins again_said xs n
-  begins xs n v = record { front = v.front; rest = v.rest; parts = v.parts; left_is = v.left_is; tree = v.tree; tree_may = allows v.tree v.tree_may; more = v.more; goes_on = spelled v.tree ∙ v.goes_on }
-
-  said-opens : (xs : Rows M) (n : ℕ) → Opens r xs n → Opens again_said xs n
-  said-opens xs n v = record { front = v.front; here = v.here; rest = v.rest; parts = v.parts; left_is = v.left_is; tree = v.tree; tree_may = allows v.tree v.tree_may; more = v.more; goes_on = spelled v.tree ∙ v.goes_on }
-
   said-concerned : (d : Refusal) (t : A) → Concerns again_said d t → Concerns r d t
   said-concerned (Unexpected n) t c = tt
   said-concerned (Deep n) t c = fits_obeys t c
+
+  said-traced : IsTraced again_said
+  said-traced = record {
+    rows = λ t. ap tokens (stepped t) ∙ l.traced.rows t ∙ sym (spelled t);
+    quiet = λ t. subst Quiet (sym (stepped t)) (l.traced.quiet t);
+    placed = λ t z h. subst (λ u. ArePlaced None u z) (sym (stepped t)) (l.traced.placed t z (ends_obeys t z h));
+    blind = l.traced.blind;
+    ok = λ xs x h. l.traced.ok xs x h ∙ sym (stepped x.0);
+    halts = λ xs e h.
+        let v = l.traced.halts xs e h in
+        record { rest = v.rest; parts = v.parts; left_is = v.left_is; placed = v.placed; tree = v.tree; tree_may = allows v.tree v.tree_may; later = v.later; goes_on = stepped v.tree ∙ v.goes_on; deep = v.deep };
+    agrees = λ front rest t z more h q alike. l.traced.agrees front rest t z more (ends_obeys t z h) (ap (λ v. v ++ z) (sym (spelled t)) ∙ q) alike ∙ ap (λ u. until (length front) u) (sym (stepped t));
+  }
 
   pub said-laws : Lawful again_said e f g
   said-laws = record {
@@ -83,11 +113,11 @@ module _ {M A : Type 0} {r : Rule M A} {e : Bool} {f g : Set} (spell : A → Row
       within = λ t h. allows t (l.read.within t (fits_obeys t h));
       takes = λ xs x h. took xs x (l.read.takes xs x h);
       again = λ t z h k. rw (spelled t) (l.read.again t z (fits_obeys t h) (ends_obeys t z k));
-      viable = λ xs h k. begins xs _ (l.read.viable xs h k);
-      opens = λ n xs h. said-opens xs n (l.read.opens n xs h);
+      viable = viable-of again_said said-traced;
       tight = λ d front s rest n h t z more c k j. l.read.tight d front s rest n h t z more (said-concerned d t c) (ends_obeys t z k) (ap (λ v. v ++ z) (sym (spelled t)) ∙ j);
       short = λ xs h t z k j. l.read.short xs h t z (ends_obeys t z k) (ap (λ v. v ++ z) (sym (spelled t)) ∙ j);
     };
+    traced = said-traced;
   }
 
 -- under a plain spelling and plain conditions
@@ -97,7 +127,7 @@ pub named_fits-laws : {M A B : Type 0} {b : Rule M B} {e : Bool} {f g : Set} (sp
     → ((t : A) → fits t → b.fits (from t)) → ((t : A) → b.fits (from t) → fits t)
     → Lawful b e f g → Lawful (named_fits spell keeps fits to from b) e f g
 named_fits-laws {b = b} spell keeps fits to from back there spelled obeys allows fits_obeys fits_allows l =
-    said-laws spell keeps fits (λ t z. b.ends (from t) z) spelled obeys allows fits_obeys fits_allows (λ t z h. h) (λ t z h. h) (mapped-laws to from back there l)
+    said-laws spell keeps fits (λ t z. b.ends (from t) z) (λ t. b.steps (from t)) spelled obeys allows fits_obeys fits_allows (λ t z h. h) (λ t z h. h) (λ t. refl) (mapped-laws to from back there l)
 
 -- and where all that may be can be read
 pub named-laws : {M A B : Type 0} {b : Rule M B} {e : Bool} {f g : Set} (spell : A → Rows M) (keeps : A → Type 0) (to : B → A) (from : A → B)
@@ -117,8 +147,8 @@ never-begins {b = b} {eb = eb} {fb = fb} P d lb t h = stops-of eb fb P d (b.spel
 
 pub choice-laws : {M A B : Type 0} {a : Rule M A} {b : Rule M B} {eb : Bool} {fa ga fb gb : Set} (P : Set) → Lawful a false fa ga → within fa P ≡ true → Lawful b eb fb gb → apart fb P ≡ true → Lawful (choice P a b) eb (union fa fb) (union ga (union gb (gated eb P)))
 choice-laws {M} {A} {B} {a = a} {b = b} P la w lb d =
-    said-laws {r = unless P a b} (on_sum a.spell b.spell) (on_sum a.may b.may) (on_sum a.fits b.fits) (on_sum a.ends (λ t z. b.ends t z × Stops P (b.spell t ++ z)))
-    (λ t. refl) obeys allows fits_obeys fits_allows (λ t z h. h) (λ t z h. h)
+    said-laws {r = unless P a b} (on_sum a.spell b.spell) (on_sum a.may b.may) (on_sum a.fits b.fits) (on_sum a.ends (λ t z. b.ends t z × Stops P (b.spell t ++ z))) (on_sum a.steps b.steps)
+    (λ t. refl) obeys allows fits_obeys fits_allows (λ t z h. h) (λ t z h. h) (λ t. refl)
     (unless-laws P la w lb lb.read.some lb.read.some_may (never-begins P d lb lb.read.some lb.read.some_may))
   where
     obeys : (t : A ⊎ B) → on_sum a.may b.may t → on_sum a.may (λ u. b.may u × Stops P (b.spell u)) t
@@ -138,7 +168,7 @@ choice-laws {M} {A} {B} {a = a} {b = b} P la w lb d =
     fits_allows (inr t) h = h.0
 
 pub nothing-laws : {M : Type 0} → Lawful {M = M} nothing true none none
-nothing-laws = record { spelled = nothing-spelled; read = nothing-read }
+nothing-laws = record { spelled = nothing-spelled; read = nothing-read; traced = nothing-traced }
 
 of_option : {A : Type 0} → Option A → A ⊎ Unit {0}
 of_option (Some a) = inl a
@@ -157,12 +187,16 @@ option-there (inr u) = refl
 pub optional-laws : {M A : Type 0} {a : Rule M A} {fa ga : Set} (P : Set) → Lawful a false fa ga → within fa P ≡ true → Lawful (optional P a) true (union fa none) (union ga (union none (gated true P)))
 unfolding of_option
 optional-laws {M} {A} {a = a} P la w =
-    said-laws {r = mapped to_option of_option (unless P a nothing)} (maybe a.spell) (Given a.may) (Given a.fits) (Closes a.ends P) spelled obeys allows fits_obeys fits_allows ends_obeys ends_allows
+    said-laws {r = mapped to_option of_option (unless P a nothing)} (maybe a.spell) (Given a.may) (Given a.fits) (Closes a.ends P) (steps_of_option a.steps) spelled obeys allows fits_obeys fits_allows ends_obeys ends_allows stepped
     (mapped-laws to_option of_option option-back option-there (unless-laws P la w nothing-laws tt tt tt))
   where
     spelled : (t : Option A) → maybe a.spell t ≡ on_sum a.spell nothing.spell (of_option t)
     spelled (Some t) = refl
     spelled None = refl
+
+    stepped : (t : Option A) → steps_of_option a.steps t ≡ on_sum a.steps nothing.steps (of_option t)
+    stepped (Some t) = refl
+    stepped None = refl
 
     obeys : (t : Option A) → Given a.may t → (unless P a nothing).may (of_option t)
     obeys (Some t) h = h
@@ -192,10 +226,11 @@ pub times-laws : {M A : Type 0} {a : Rule M A} {fa ga : Set} (P : Set) → Lawfu
 times-laws {a = a} {fa = fa} {ga = ga} P la w d = record {
   spelled = star-spelled (in_set P) P a fa ga la.spelled w d;
   read = star-read (in_set P) P a (λ s. refl) fa ga la.spelled w la.read;
+  traced = star-traced (in_set P) P a (λ s. refl) fa ga la.spelled w la.read la.traced;
 }
 
 pub wide : {M A : Type 0} {r : Rule M A} {e : Bool} {f g : Set} (f' g' : Set) → Lawful r e f g → within f f' ≡ true → within g g' ≡ true → Lawful r e f' g'
-wide {r = r} {e = e} {f = f} {g = g} f' g' l wf wg = record { spelled = wider r e f g f' g' wf wg l.spelled; read = l.read }
+wide {r = r} {e = e} {f = f} {g = g} f' g' l wf wg = record { spelled = wider r e f g f' g' wf wg l.spelled; read = l.read; traced = l.traced }
 
 pub stops-none : {M : Type 0} (z : Rows M) → Stops none z
 stops-none [] = tt
@@ -205,5 +240,32 @@ stops-none (z ∷ zs) = refl
 pub unstarted-laws : {M B : Type 0} {b : Rule M B} {eb : Bool} {fb gb : Set} (P : Set) → Lawful b eb fb gb → (some : B) → b.may some → Stops P (b.spell some) → Lawful (unstarted P b) eb fb (union gb (gated eb P))
 unstarted-laws {b = b} {eb = eb} {fb = fb} {gb = gb} P l some m s = record {
   spelled = unstarted-spelled P b eb fb gb l.spelled;
-  read = unstarted-read P b eb fb gb l.spelled l.read some m s;
+  read = unstarted-read P b eb fb gb l.spelled l.read some m s (viable-of (unstarted P b) traced);
+  traced = traced;
 }
+  where
+    traced : IsTraced (unstarted P b)
+    traced = unstarted-traced P b eb fb gb l.spelled l.read l.traced some m s
+
+-- what is noted behind a rule of which all trees can be read
+pub noting-laws : {M A : Type 0} {a : Rule M A} {f g : Set} (note : A → Event M) → Lawful a false f g → ((t : A) → a.may t → a.fits t)
+    → ((t : A) (y z : Rows M) → a.ends t y → Alike (a.spell t) y z → a.ends t z) → ((t : A) → 0 < length (a.spell t))
+    → ((t : A) (z : Rows M) → a.ends t z → IsPlaced (last_row None (a.spell t)) (note t) z) → Lawful (noting note a) false f g
+noting-laws {M} {A} {a = a} {f = f} {g = g} note l whole prompt nonempty placed = record {
+  spelled = record { starts = l.spelled.starts; follow = l.spelled.follow; ahead = l.spelled.ahead; once = l.spelled.once };
+  read = record {
+    some = l.read.some;
+    some_may = l.read.some_may;
+    within = l.read.within;
+    takes = λ xs x h. let k = l.read.takes xs x h in record { parts = k.parts; fits = k.fits; ends = k.ends };
+    again = l.read.again;
+    viable = viable-of (noting note a) (noting-traced note a f g l.spelled l.read l.traced whole prompt nonempty placed);
+    tight = λ d front s rest n h t z more c k j. l.read.tight d front s rest n h t z more (noted-concerned d t c) k j;
+    short = l.read.short;
+  };
+  traced = noting-traced note a f g l.spelled l.read l.traced whole prompt nonempty placed;
+}
+  where
+    noted-concerned : (d : Refusal) (t : A) → Concerns (noting note a) d t → Concerns a d t
+    noted-concerned (Unexpected n) t c = tt
+    noted-concerned (Deep n) t c = c

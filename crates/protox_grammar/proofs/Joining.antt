@@ -1,5 +1,5 @@
 -- The laws of a test of the next row, of parts on a condition, and of a rule that anything may follow.
-use Rattle.std.proofs.Common.{◌≡◌, ℕ, suc, Bool, true, false, not, ◌&&◌, cond, [], ◌∷◌, ◌++◌, length, Result, Ok, Err, refl, sym, ap, subst, ◌∙◌, append_assoc, arith, inl, inr}
+use Rattle.std.proofs.Common.{◌≡◌, suc, Bool, true, false, not, ◌&&◌, cond, [], ◌∷◌, ◌++◌, length, Result, Ok, Err, refl, sym, subst, ◌∙◌, append_assoc, arith}
 use Rattle.std.proofs.lemmas.List.{length-append}
 use Rattle.protox_grammar.specs.Reader.{Refusal, Unexpected, Deep}
 use Rattle.protox_lex.specs.Shapes.{Row, Rows}
@@ -10,7 +10,10 @@ use Rattle.protox_grammar.specs.Rule.{Rule, Stops, seq, joined, peek}
 use Rattle.protox_grammar.proofs.Takes.{ok_is}
 use Rattle.protox_grammar.proofs.Sets.{gated, starts-then}
 use Rattle.protox_grammar.proofs.Laws.{IsSpelled, ahead-past}
-use Rattle.protox_grammar.proofs.Reading.{Concerns, Opens, chosen, failed, unexpected-deep, IsRead, Took, Begins, left_of, bind_err, ok-err, err-ok, err-left, seq-read}
+use Rattle.protox_grammar.proofs.Reading.{Concerns, IsRead, Took, Begins, left_of, ok-err, err-ok, err-left, seq-read}
+use Rattle.protox_grammar.proofs.TracingChoices.{peek-traced}
+use Rattle.protox_grammar.proofs.TracingPairs.{seq-traced, joined-traced}
+use Rattle.protox_grammar.proofs.Tracing.{IsTraced, viable-of}
 use Rattle.protox_grammar.proofs.Forms.{Lawful, stops-none}
 
 -- ---- the next row is in a set
@@ -58,27 +61,23 @@ module _ {M : Type 0} (G : Set) where
   peek-short [] h = ok-err _ _ h
   peek-short (r ∷ rs) h = let n = (peek-fault r rs (in_set G r.shape) _ h).1 in omega (arith, n)
 
-  peek-deep : (n : ℕ) (xs : Rows M) → reader.peek (in_set G) xs ≡ Err (Deep n) → ⊥
-  peek-deep n [] h = ok-err _ _ h
-  peek-deep n (r ∷ rs) h = elim (chosen (in_set G r.shape) (Ok (tt, r ∷ rs)) (failed (Unit {0} × Rows M) (Unexpected (length (r ∷ rs)))) (Err (Deep n)) h) [
-    | inl k ↦ ok-err _ _ k.1
-    | inr k ↦ unexpected-deep {A = Unit {0} × Rows M} (length (r ∷ rs)) n k.1
-  ]
+  peek-read : IsRead {M = M} (peek G)
+  peek-read = record {
+    some = tt;
+    some_may = tt;
+    within = λ t h. tt;
+    takes = peek-takes;
+    again = λ t z h k. peek-again z k;
+    viable = peek-viable;
+    tight = λ d front s rest l h t z more c k e. peek-tight d front s rest l h z more k e;
+    short = λ xs h t z k e. peek-short xs h;
+  }
 
   pub peek-laws : Lawful {M = M} (peek G) true none (λ k. not (G k))
   peek-laws = record {
     spelled = record { starts = λ t z e. refl; follow = λ t z m s. s; ahead = λ t s y z e. e; once = λ t u y z p q e. (refl, e) };
-    read = record {
-      some = tt;
-      some_may = tt;
-      within = λ t h. tt;
-      takes = peek-takes;
-      again = λ t z h k. peek-again z k;
-      viable = peek-viable;
-      opens = λ n xs h. absurd (peek-deep n xs h);
-      tight = λ d front s rest l h t z more c k e. peek-tight d front s rest l h z more k e;
-      short = λ xs h t z k e. peek-short xs h;
-    };
+    read = peek-read;
+    traced = peek-traced G;
   }
 
 -- ---- one after another, on a condition
@@ -88,7 +87,10 @@ module _ {M A B : Type 0} (C : A → B → Type 0) (a : Rule M A) (b : Rule M B)
     (met : (t : A) (u : B) (z : Rows M) → a.ends t (b.spell u ++ z) → b.ends u z → C t u)
     (some : B) (some_may : b.may some) (free : (t : A) → C t some) where
   plain-read : IsRead (seq a b)
-  plain-read = seq-read a b ea fa ga la.spelled la.read lb.read
+  plain-read = seq-read a b ea fa ga la.spelled la.read lb.read (viable-of (seq a b) (seq-traced a b ea fa ga la.spelled la.read la.traced eb fb gb lb.spelled lb.read lb.traced))
+
+  traced : IsTraced (joined C a b)
+  traced = joined-traced a b ea fa ga la.spelled la.read la.traced eb fb gb lb.spelled lb.read lb.traced C met some some_may free
 
   pair-same : (t u : A × B) → t.0 ≡ u.0 → t.1 ≡ u.1 → t ≡ u
   pair-same t u x m = λ i. (x i, m i)
@@ -103,91 +105,6 @@ module _ {M A B : Type 0} (C : A → B → Type 0) (a : Rule M A) (b : Rule M B)
         let k = lb.spelled.once t.1 u.1 y z p.1 q.1 h.1 in
         (pair-same t u h.0 k.0, k.1);
   }
-
-  begins-first : (xs : Rows M) (n : ℕ) → Begins a xs n → Begins (joined C a b) xs n
-  begins-first xs n v = record {
-    front = v.front;
-    rest = v.rest;
-    parts = v.parts;
-    left_is = v.left_is;
-    tree = (v.tree, some);
-    tree_may = (free v.tree, v.tree_may, some_may);
-    more = v.more ++ b.spell some;
-    goes_on = ap (λ u. u ++ b.spell some) v.goes_on ∙ append_assoc v.front v.more (b.spell some);
-  }
-
-  begins-second : (xs : Rows M) (x : A × Rows M) (n : ℕ) → Took a xs x → (v : Begins b x.1 n) (front : Rows M) → v.front ≡ front → Begins (joined C a b) xs n
-  begins-second xs x n ta v [] e = record {
-    front = a.spell x.0;
-    rest = v.rest;
-    parts = ta.parts ∙ ap (λ u. a.spell x.0 ++ u) (v.parts ∙ ap (λ u. u ++ v.rest) e);
-    left_is = v.left_is;
-    tree = (x.0, some);
-    tree_may = (free x.0, la.read.within x.0 ta.fits, some_may);
-    more = b.spell some;
-    goes_on = refl;
-  }
-  begins-second xs x n ta v (f ∷ fs) e =
-      let on : a.ends x.0 (f ∷ (fs ++ v.rest)) = subst (a.ends x.0) (v.parts ∙ ap (λ u. u ++ v.rest) e) ta.ends in
-      let is : (f ∷ (fs ++ (v.more ++ []))) ≡ b.spell v.tree ++ [] = sym (ap (λ u. u ++ []) (v.goes_on ∙ ap (λ u. u ++ v.more) e) ∙ append_assoc (f ∷ fs) v.more []) in
-      let near : a.ends x.0 (b.spell v.tree ++ []) = subst (a.ends x.0) is (la.spelled.ahead x.0 f _ (fs ++ (v.more ++ [])) on) in
-      record {
-        front = a.spell x.0 ++ v.front;
-        rest = v.rest;
-        parts = ta.parts ∙ ap (λ u. a.spell x.0 ++ u) v.parts ∙ sym (append_assoc (a.spell x.0) v.front v.rest);
-        left_is = v.left_is;
-        tree = (x.0, v.tree);
-        tree_may = (met x.0 v.tree [] near (lb.spelled.follow v.tree [] v.tree_may tt), la.read.within x.0 ta.fits, v.tree_may);
-        more = v.more;
-        goes_on = ap (λ u. a.spell x.0 ++ u) v.goes_on ∙ sym (append_assoc (a.spell x.0) v.front v.more);
-      }
-
-  joined-viable : (xs : Rows M) (e : Refusal) → reader.seq a.read b.read xs ≡ Err e → Begins (joined C a b) xs (left_of e)
-  joined-viable xs e h = elim (bind_err (a.read xs) (λ v. b.read v.1 >>= λ y. Ok ((v.0, y.0), y.1)) e h) [
-    | inl k ↦ begins-first xs (left_of e) (la.read.viable xs e k)
-    | inr p ↦ elim (bind_err (b.read p.0.1) (λ y. Ok ((p.0.0, y.0), y.1)) e p.2) [
-      | inl k ↦ let v = lb.read.viable p.0.1 e k in begins-second xs p.0 (left_of e) (la.read.takes xs p.0 p.1) v v.front refl
-      | inr q ↦ absurd (ok-err _ e q.2)
-    ]
-  ]
-
-  opens-first : (xs : Rows M) (n : ℕ) → Opens a xs n → Opens (joined C a b) xs n
-  opens-first xs n v = record {
-    front = v.front;
-    here = v.here;
-    rest = v.rest;
-    parts = v.parts;
-    left_is = v.left_is;
-    tree = (v.tree, some);
-    tree_may = (free v.tree, v.tree_may, some_may);
-    more = v.more ++ b.spell some;
-    goes_on = ap (λ u. u ++ b.spell some) v.goes_on ∙ append_assoc v.front (v.here ∷ v.more) (b.spell some);
-  }
-
-  opens-second : (xs : Rows M) (x : A × Rows M) (n : ℕ) → Took a xs x → Opens b x.1 n → Opens (joined C a b) xs n
-  opens-second xs x n ta v =
-      let is : v.front ++ (v.here ∷ (v.more ++ [])) ≡ b.spell v.tree ++ [] = sym (ap (λ u. u ++ []) v.goes_on ∙ append_assoc v.front (v.here ∷ v.more) []) in
-      let near : a.ends x.0 (b.spell v.tree ++ []) = subst (a.ends x.0) is (ahead-past la.spelled x.0 v.front v.here v.rest (v.more ++ []) (subst (a.ends x.0) v.parts ta.ends)) in
-      record {
-        front = a.spell x.0 ++ v.front;
-        here = v.here;
-        rest = v.rest;
-        parts = ta.parts ∙ ap (λ u. a.spell x.0 ++ u) v.parts ∙ sym (append_assoc (a.spell x.0) v.front (v.here ∷ v.rest));
-        left_is = v.left_is;
-        tree = (x.0, v.tree);
-        tree_may = (met x.0 v.tree [] near (lb.spelled.follow v.tree [] v.tree_may tt), la.read.within x.0 ta.fits, v.tree_may);
-        more = v.more;
-        goes_on = ap (λ u. a.spell x.0 ++ u) v.goes_on ∙ sym (append_assoc (a.spell x.0) v.front (v.here ∷ v.more));
-      }
-
-  joined-opens : (n : ℕ) (xs : Rows M) → reader.seq a.read b.read xs ≡ Err (Deep n) → Opens (joined C a b) xs n
-  joined-opens n xs h = elim (bind_err (a.read xs) (λ v. b.read v.1 >>= λ y. Ok ((v.0, y.0), y.1)) (Deep n) h) [
-    | inl k ↦ opens-first xs n (la.read.opens n xs k)
-    | inr p ↦ elim (bind_err (b.read p.0.1) (λ y. Ok ((p.0.0, y.0), y.1)) (Deep n) p.2) [
-      | inl k ↦ opens-second xs p.0 n (la.read.takes xs p.0 p.1) (lb.read.opens n p.0.1 k)
-      | inr q ↦ absurd (ok-err _ _ q.2)
-    ]
-  ]
 
   joined-takes : (xs : Rows M) (x : (A × B) × Rows M) → reader.seq a.read b.read xs ≡ Ok x → Took (joined C a b) xs x
   joined-takes xs x e = let k = plain-read.takes xs x e in record { parts = k.parts; fits = (met x.0.0 x.0.1 x.1 k.ends.0 k.ends.1, k.fits.0, k.fits.1); ends = k.ends }
@@ -205,16 +122,16 @@ module _ {M A B : Type 0} (C : A → B → Type 0) (a : Rule M A) (b : Rule M B)
       within = λ t h. (h.0, la.read.within t.0 h.1, lb.read.within t.1 h.2);
       takes = joined-takes;
       again = λ t z h k. plain-read.again t z (h.1, h.2) k;
-      viable = joined-viable;
-      opens = joined-opens;
+      viable = viable-of (joined C a b) traced;
       tight = λ d front s rest l h t z more c. plain-read.tight d front s rest l h t z more (plain-concerned d t c);
       short = plain-read.short;
     };
+    traced = traced;
   }
 
 -- ---- a rule that anything may follow
 
-pub sealed-spelled : {M A : Type 0} {r : Rule M A} {e : Bool} {f : Set} → IsSpelled r e f none → IsSpelled (record { spell = r.spell; may = r.may; fits = r.fits; ends = λ t z. r.may t; read = r.read }) e f none
+pub sealed-spelled : {M A : Type 0} {r : Rule M A} {e : Bool} {f : Set} → IsSpelled r e f none → IsSpelled (record { spell = r.spell; may = r.may; fits = r.fits; ends = λ t z. r.may t; read = r.read; steps = r.steps; trace = r.trace }) e f none
 sealed-spelled l = record {
   starts = λ t z h. l.starts t z (l.follow t z h (stops-none z));
   follow = λ t z m s. m;
@@ -222,19 +139,29 @@ sealed-spelled l = record {
   once = λ t u y z p q h. l.once t u y z (l.follow t y p (stops-none y)) (l.follow u z q (stops-none z)) h;
 }
 
-pub sealed-read : {M A : Type 0} {r : Rule M A} {e : Bool} {f : Set} → Lawful r e f none → IsRead (record { spell = r.spell; may = r.may; fits = r.fits; ends = λ t z. r.may t; read = r.read })
+pub sealed-traced : {M A : Type 0} {r : Rule M A} {e : Bool} {f : Set} → Lawful r e f none → IsTraced (record { spell = r.spell; may = r.may; fits = r.fits; ends = λ t z. r.may t; read = r.read; steps = r.steps; trace = r.trace })
+sealed-traced l = record {
+  rows = l.traced.rows;
+  quiet = l.traced.quiet;
+  placed = λ t z h. l.traced.placed t z (l.spelled.follow t z h (stops-none z));
+  blind = l.traced.blind;
+  ok = l.traced.ok;
+  halts = λ xs e h. let v = l.traced.halts xs e h in record { rest = v.rest; parts = v.parts; left_is = v.left_is; placed = v.placed; tree = v.tree; tree_may = v.tree_may; later = v.later; goes_on = v.goes_on; deep = v.deep };
+  agrees = λ front rest t z more h q alike. l.traced.agrees front rest t z more (l.spelled.follow t z h (stops-none z)) q alike;
+}
+
+pub sealed-read : {M A : Type 0} {r : Rule M A} {e : Bool} {f : Set} → Lawful r e f none → IsRead (record { spell = r.spell; may = r.may; fits = r.fits; ends = λ t z. r.may t; read = r.read; steps = r.steps; trace = r.trace })
 sealed-read {M} {A} {r = r} l = record {
   some = l.read.some;
   some_may = l.read.some_may;
   within = l.read.within;
   takes = λ xs x h. let k = l.read.takes xs x h in record { parts = k.parts; fits = k.fits; ends = l.read.within x.0 k.fits };
   again = λ t z h k. l.read.again t z h (l.spelled.follow t z k (stops-none z));
-  viable = λ xs h k. let v = l.read.viable xs h k in record { front = v.front; rest = v.rest; parts = v.parts; left_is = v.left_is; tree = v.tree; tree_may = v.tree_may; more = v.more; goes_on = v.goes_on };
-  opens = λ n xs h. let v = l.read.opens n xs h in record { front = v.front; here = v.here; rest = v.rest; parts = v.parts; left_is = v.left_is; tree = v.tree; tree_may = v.tree_may; more = v.more; goes_on = v.goes_on };
+  viable = viable-of (record { spell = r.spell; may = r.may; fits = r.fits; ends = λ t z. r.may t; read = r.read; steps = r.steps; trace = r.trace }) (sealed-traced l);
   tight = λ d front s rest n h t z more c k j. l.read.tight d front s rest n h t z more (sealed-concerned d t c) (l.spelled.follow t z k (stops-none z)) j;
   short = λ xs h t z k j. l.read.short xs h t z (l.spelled.follow t z k (stops-none z)) j;
 }
   where
-    sealed-concerned : (d : Refusal) (t : A) → Concerns (record { spell = r.spell; may = r.may; fits = r.fits; ends = λ t z. r.may t; read = r.read }) d t → Concerns r d t
+    sealed-concerned : (d : Refusal) (t : A) → Concerns (record { spell = r.spell; may = r.may; fits = r.fits; ends = λ t z. r.may t; read = r.read; steps = r.steps; trace = r.trace }) d t → Concerns r d t
     sealed-concerned (Unexpected n) t c = tt
     sealed-concerned (Deep n) t c = c

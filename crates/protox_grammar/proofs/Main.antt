@@ -16,6 +16,7 @@ use Rattle.protox_grammar.specs.Reads.{read}
 use Rattle.protox_grammar.specs.Grammar.{IsUnexpected, OneTree, AcceptsIff, TightUnexpected, TightDeep, TightEnd}
 use Rattle.protox_grammar.proofs.Takes.{bind_ok, ok_is}
 use Rattle.protox_grammar.proofs.Reading.{Begins, bind_err, ok-err}
+use Rattle.protox_grammar.proofs.Tracing.{opens-of}
 use Rattle.protox_grammar.proofs.Forms.{Lawful}
 use Rattle.protox_grammar.proofs.Messages.{file-laws}
 use Rattle.protox_grammar.proofs.Levels.{statements-into, statements-keeps, statements-deep}
@@ -30,17 +31,17 @@ no-more [] h = refl
 no-more (z ∷ zs) h = absurd cc
 
 module _ {M : Type 0} (m : M) where
-  abbrev file_at : ℕ → Rule M (t.File M)
+  abbrev pub file_at : ℕ → Rule M (t.File M)
   file_at n = rule.file (rule.mbody_at n)
 
-  laws : (n : ℕ) → Lawful (file_at n) true (among (0 ∷ 56 ∷ 2 ∷ 1 ∷ 6 ∷ 11 ∷ 12 ∷ 5 ∷ 7 ∷ [])) all
-  laws n = file-laws m k.KeepsMbody (rule.FitsMbody n) (rule.read_mbody n) (body-laws m n)
+  pub laws : (n : ℕ) → Lawful (file_at n) true (among (0 ∷ 56 ∷ 2 ∷ 1 ∷ 6 ∷ 11 ∷ 12 ∷ 5 ∷ 7 ∷ [])) all
+  laws n = file-laws m k.KeepsMbody (rule.FitsMbody n) (rule.unsealed n).read (rule.unsealed n).steps (rule.unsealed n).trace (body-laws m n)
 
-  may-of : (n : ℕ) (f : t.File M) → k.KeepsKeywords f → (file_at n).may f
+  pub may-of : (n : ℕ) (f : t.File M) → k.KeepsKeywords f → (file_at n).may f
   unfolding rule.file
   may-of n f h = statements-into k.KeepsMbody (d.statements_depth f.statements) (λ y g w. g) f.statements h (omega arith)
 
-  of-may : (n : ℕ) (f : t.File M) → (file_at n).may f → k.KeepsKeywords f
+  pub of-may : (n : ℕ) (f : t.File M) → (file_at n).may f → k.KeepsKeywords f
   unfolding rule.file
   of-may n f h = statements-keeps k.KeepsMbody (λ y g. g) f.statements h
 
@@ -48,18 +49,18 @@ module _ {M : Type 0} (m : M) where
   unfolding rule.file
   fits-of n f h w = statements-into (rule.FitsMbody n) n (λ y g w. (g, w)) f.statements h w
 
-  of-fits : (n : ℕ) (f : t.File M) → (file_at n).fits f → k.KeepsKeywords f × (d.depth f ≤ n)
+  pub of-fits : (n : ℕ) (f : t.File M) → (file_at n).fits f → k.KeepsKeywords f × (d.depth f ≤ n)
   unfolding rule.file
   of-fits n f h = (statements-keeps (rule.FitsMbody n) (λ y g. g.0) f.statements h, statements-deep (rule.FitsMbody n) n (λ y g. g.1) f.statements h)
 
-  spelling : (n : ℕ) (f : t.File M) → (file_at n).spell f ≡ s.spell f
+  pub spelling : (n : ℕ) (f : t.File M) → (file_at n).spell f ≡ s.spell f
   unfolding rule.file
   spelling n f = refl
 
-  ends-of : (n : ℕ) (f : t.File M) → k.KeepsKeywords f → (file_at n).ends f []
+  pub ends-of : (n : ℕ) (f : t.File M) → k.KeepsKeywords f → (file_at n).ends f []
   ends-of n f h = (laws n).spelled.follow f [] (may-of n f h) tt
 
-  nothing-left : (n : ℕ) (f : t.File M) (z : Rows M) → (file_at n).ends f z → z ≡ []
+  pub nothing-left : (n : ℕ) (f : t.File M) (z : Rows M) → (file_at n).ends f z → z ≡ []
   unfolding rule.file
   nothing-left n f z h = no-more z (ends-stop (rule.statement (rule.mbody_at n)).spell (rule.statement (rule.mbody_at n)).ends all f.statements z h.1)
 
@@ -88,7 +89,7 @@ module _ {M : Type 0} (m : M) where
   pub accepts_iff : AcceptsIff M
   accepts_iff n rows f = (to-tree n rows f, to-read n rows f)
 
-  failed-so : (n : ℕ) (rows : Rows M) (e : Refusal) → read n rows ≡ Err e → (file_at n).read rows ≡ Err e
+  pub failed-so : (n : ℕ) (rows : Rows M) (e : Refusal) → read n rows ≡ Err e → (file_at n).read rows ≡ Err e
   unfolding read
   failed-so n rows e h = elim (bind_err ((file_at n).read rows) (λ x. Ok x.0) e h) [
     | inl q ↦ q
@@ -120,7 +121,7 @@ module _ {M : Type 0} (m : M) where
 
   pub deep : TightDeep M
   deep n left rows h =
-      let v = (laws n).read.opens (suc left) rows (failed-so n rows _ h) in
+      let v = opens-of (file_at n) (laws n).traced (suc left) rows (failed-so n rows _ h) in
       let h' : (file_at n).read (v.front ++ (v.here ∷ v.rest)) ≡ Err (Deep (suc left)) = ap (file_at n).read (sym v.parts) ∙ failed-so n rows _ h in
       record {
         front = v.front;

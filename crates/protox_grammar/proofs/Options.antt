@@ -1,19 +1,32 @@
 -- The laws of options.
-use Rattle.std.proofs.Common.{◌≡◌, false, [], ◌∷◌, Option, codes, refl, inl, inr, ◌⊎◌}
-use Rattle.protox_lex.specs.Shapes.{Rows}
+use Rattle.std.proofs.Common.{◌≡◌, false, [], ◌∷◌, Option, None, codes, refl, sym, subst, arith, inl, inr, ◌⊎◌}
+use Rattle.protox_lex.specs.Shapes.{Mark, Rows}
+use Rattle.std.proofs.lemmas.List.{length-append}
+use Rattle.protox_grammar.specs.Steps.{AnOpenBrace, ACloseBrace}
 use Rattle.protox_grammar.specs.Class.{all, none, only, words, union, among}
-use Rattle.protox_grammar.specs.Rule.{seq, choice, optional}
+use Rattle.protox_grammar.specs.Rule.{row, seq, choice, optional, noting}
 use Rattle.protox_ast.specs.Tree as t
 use Rattle.protox_ast.specs.Spelling as s
 use Rattle.protox_ast.specs.Keywords as k
 use Rattle.protox_grammar.specs.Rules as r
-use Rattle.protox_grammar.proofs.Closed.{closed-spelled, closed-read}
-use Rattle.protox_grammar.proofs.Forms.{Lawful, word-laws, mark-laws, seq-laws, choice-laws, optional-laws, times-laws, named-laws, wide}
+use Rattle.protox_grammar.specs.Reader.{fixed}
+use Rattle.protox_grammar.proofs.Blind.{seq-blind, balanced-blind, fixed-blind}
+use Rattle.protox_grammar.proofs.TracingNotes.{plain-traced}
+use Rattle.protox_grammar.proofs.Closed.{closed-spelled, closed-read, closed-deep}
+use Rattle.protox_grammar.proofs.Forms.{Lawful, word-laws, mark-laws, seq-laws, choice-laws, optional-laws, times-laws, named-laws, wide, noting-laws}
 use Rattle.protox_grammar.proofs.Parts as parts
+use Rattle.protox_grammar.proofs.Placing.{IsPlaced, last-past}
 
 module _ {M : Type 0} (m : M) where
   closed-laws : Lawful {M = M} r.closed false all none
-  closed-laws = record { spelled = closed-spelled; read = closed-read m }
+  closed-laws = record { spelled = closed-spelled; read = closed-read m; traced = plain-traced r.closed false all none closed-spelled (closed-read m) closed-deep (λ t. refl) (λ xs. refl) (seq-blind (r.balanced_at 0) (fixed (Mark s.close_brace)) (balanced-blind 0) (fixed-blind (Mark s.close_brace))) }
+
+  opened-laws : Lawful {M = M} (noting AnOpenBrace (r.sign s.open_brace)) false (only 47) none
+  opened-laws = noting-laws AnOpenBrace (mark-laws m s.open_brace 47 refl) (λ x h. tt) (λ x y z h a. tt) (λ x. omega arith) (λ x z h. (refl, refl, λ g. absurd cc))
+
+  noted_closed-laws : Lawful {M = M} (noting (λ x. ACloseBrace x.1) r.closed) false all none
+  noted_closed-laws = noting-laws (λ x. ACloseBrace x.1) closed-laws (λ x h. h) (λ x y z h a. h) (λ x. omega (arith, length-append x.0 (row (Mark s.close_brace) x.1 ∷ [])))
+      (λ x z h. subst (λ u. IsPlaced u (ACloseBrace x.1) z) (sym (last-past None x.0 (row (Mark s.close_brace) x.1) [])) (refl, refl, λ g. absurd cc))
 
   part-back : (x : t.Part M) → r.to_part (r.from_part x) ≡ x
   part-back (t.plain_part a) = refl
@@ -110,7 +123,7 @@ module _ {M : Type 0} (m : M) where
   unfolding r.value r.constant r.strings
   value-laws = wide _ _ (named-laws s.value k.KeepsValue _ _ value-back value-there value-is
       value-obeys value-allows (λ x h. h)
-      (choice-laws (union words (among (39 ∷ 40 ∷ 43 ∷ []))) (seq-laws (optional-laws (only 43) (mark-laws m s.minus 43 refl) refl) constant-laws refl) refl (choice-laws (only 41) (parts.strings-laws m) refl (seq-laws (mark-laws m s.open_brace 47 refl) closed-laws refl) refl) refl)) refl refl
+      (choice-laws (union words (among (39 ∷ 40 ∷ 43 ∷ []))) (seq-laws (optional-laws (only 43) (mark-laws m s.minus 43 refl) refl) constant-laws refl) refl (choice-laws (only 41) (parts.strings-laws m) refl (seq-laws opened-laws noted_closed-laws refl) refl) refl)) refl refl
 
   pub body-laws : Lawful {M = M} r.body false (union words (only 45)) (only 41)
   unfolding r.body r.part r.value

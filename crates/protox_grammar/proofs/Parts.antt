@@ -1,13 +1,13 @@
 -- The laws of tokens, strings, syntax, imports, packages, names, numbers, types and labels.
-use Rattle.std.proofs.Common.{◌≡◌, ℕ, true, false, List, [], ◌∷◌, Option, Some, None, codes, refl, ap, ◌∙◌, arith, inl, inr, ◌⊎◌}
+use Rattle.std.proofs.Common.{◌≡◌, ℕ, true, false, List, [], ◌∷◌, ◌++◌, Option, Some, None, codes, refl, sym, ap, subst, ◌∙◌, arith, inl, inr, ◌⊎◌}
 use Rattle.std.proofs.lemmas.Slice.Eq.{bytes_eq-Decides}
 use Rattle.std.proofs.lemmas.Bool.{lt-ltb}
 use Rattle.std.specs.Str.{bytes_eq}
 use Rattle.protox_lex.specs.Shapes as shape
-use Rattle.protox_lex.specs.Shapes.{Shape, Ident, Str}
-use Rattle.protox_grammar.specs.Reader.{see_word, see_integer, see_float, see_text}
+use Rattle.protox_lex.specs.Shapes.{Shape, Ident, Str, Row, Rows}
+use Rattle.protox_grammar.specs.Reader.{head_in, is_string, see_word, see_integer, see_float, see_text}
 use Rattle.protox_grammar.specs.Class.{class, place, keywords, none, only, words, union, among}
-use Rattle.protox_grammar.specs.Rule.{unless, choice}
+use Rattle.protox_grammar.specs.Rule.{Stops, Ends, row, unless, choice, noting}
 use Rattle.protox_ast.specs.Tree as t
 use Rattle.protox_ast.specs.Spelling as s
 use Rattle.protox_ast.specs.Keywords as k
@@ -15,9 +15,17 @@ use Rattle.protox_grammar.specs.Rules as r
 use Rattle.protox_grammar.proofs.Sets.{place-le}
 use Rattle.protox_grammar.proofs.Laws.{leaf-spelled}
 use Rattle.protox_grammar.proofs.Reading.{chosen}
-use Rattle.protox_grammar.proofs.ReadingTokens.{leaf-read}
+use Rattle.protox_grammar.proofs.ReadingTokens.{leaf-read, leaf-deep}
+use Rattle.protox_grammar.proofs.Blind.{leaf-blind}
+use Rattle.protox_grammar.proofs.TracingNotes.{plain-traced}
+use Rattle.protox_grammar.proofs.Tracing.{Alike}
+use Rattle.protox_grammar.specs.Steps.{ANode, APackage}
+use Rattle.protox_ast.specs.CheckedNodes.{CheckedNode, ASyntax, AnImport, run_end, last_string, node_end}
+use Rattle.protox_ast.specs.Truth.{is_run}
+use Rattle.std.proofs.lemmas.Bool.{ne_eqb}
 use Rattle.protox_grammar.proofs.Begin.{name-stops, stops-name}
-use Rattle.protox_grammar.proofs.Forms.{Lawful, word-laws, mark-laws, seq-laws, unless-laws, choice-laws, optional-laws, times-laws, named-laws, wide}
+use Rattle.protox_grammar.proofs.Forms.{Lawful, word-laws, mark-laws, seq-laws, unless-laws, choice-laws, optional-laws, times-laws, named-laws, wide, noting-laws, stops-none}
+use Rattle.protox_grammar.proofs.Placing.{last-past, IsPlaced, last_row, is_string_row}
 
 pub each-all : {A : Type 0} (P : A → Type 0) → ((x : A) → P x) → (xs : List A) → k.Each P xs
 each-all P f [] = tt
@@ -46,28 +54,40 @@ module _ {M : Type 0} (m : M) where
   words-at t = lt-ltb _ 39 (omega (arith, place-le keywords t))
 
   pub ident-laws : Lawful {M = M} r.ident false words none
-  ident-laws = record { spelled = leaf-spelled see_word Ident words words-at (λ x. refl); read = leaf-read ([], m) see_word Ident (λ x. refl) exact }
+  ident-laws =
+      let l = leaf-spelled see_word Ident words words-at (λ x. refl) in
+      let rd = leaf-read ([], m) see_word Ident (λ x. refl) exact in
+      record { spelled = l; read = rd; traced = plain-traced r.ident false words none l rd (leaf-deep ([], m) see_word Ident (λ x. refl) exact) (λ t. refl) (λ xs. refl) (leaf-blind see_word) }
     where
       exact : (s : Shape) (x : List ℕ) → see_word s ≡ Some x → s ≡ Ident x
       exact (Ident t) x e = cc
       exact _ x e = absurd cc
 
   pub integer-laws : Lawful {M = M} r.integer false (only 39) none
-  integer-laws = record { spelled = leaf-spelled see_integer shape.Int (only 39) (λ x. refl) (λ x. refl); read = leaf-read (0, m) see_integer shape.Int (λ x. refl) exact }
+  integer-laws =
+      let l = leaf-spelled see_integer shape.Int (only 39) (λ x. refl) (λ x. refl) in
+      let rd = leaf-read (0, m) see_integer shape.Int (λ x. refl) exact in
+      record { spelled = l; read = rd; traced = plain-traced r.integer false (only 39) none l rd (leaf-deep (0, m) see_integer shape.Int (λ x. refl) exact) (λ t. refl) (λ xs. refl) (leaf-blind see_integer) }
     where
       exact : (s : Shape) (x : ℕ) → see_integer s ≡ Some x → s ≡ shape.Int x
       exact (shape.Int t) x e = cc
       exact _ x e = absurd cc
 
   pub float-laws : Lawful {M = M} r.float false (only 40) none
-  float-laws = record { spelled = leaf-spelled see_float shape.Float (only 40) (λ x. refl) (λ x. refl); read = leaf-read ([], m) see_float shape.Float (λ x. refl) exact }
+  float-laws =
+      let l = leaf-spelled see_float shape.Float (only 40) (λ x. refl) (λ x. refl) in
+      let rd = leaf-read ([], m) see_float shape.Float (λ x. refl) exact in
+      record { spelled = l; read = rd; traced = plain-traced r.float false (only 40) none l rd (leaf-deep ([], m) see_float shape.Float (λ x. refl) exact) (λ t. refl) (λ xs. refl) (leaf-blind see_float) }
     where
       exact : (s : Shape) (x : List ℕ) → see_float s ≡ Some x → s ≡ shape.Float x
       exact (shape.Float t) x e = cc
       exact _ x e = absurd cc
 
   pub string-laws : Lawful {M = M} r.string false (only 41) none
-  string-laws = record { spelled = leaf-spelled see_text Str (only 41) (λ x. refl) (λ x. refl); read = leaf-read ([], m) see_text Str (λ x. refl) exact }
+  string-laws =
+      let l = leaf-spelled see_text Str (only 41) (λ x. refl) (λ x. refl) in
+      let rd = leaf-read ([], m) see_text Str (λ x. refl) exact in
+      record { spelled = l; read = rd; traced = plain-traced r.string false (only 41) none l rd (leaf-deep ([], m) see_text Str (λ x. refl) exact) (λ t. refl) (λ xs. refl) (leaf-blind see_text) }
     where
       exact : (s : Shape) (x : List ℕ) → see_text s ≡ Some x → s ≡ Str x
       exact (Str t) x e = cc
@@ -108,7 +128,10 @@ module _ {M : Type 0} (m : M) where
   scalar-back t.bytes = refl
 
   pub scalar-laws : Lawful {M = M} r.scalar false r.scalar_set none
-  scalar-laws = record { spelled = leaf-spelled r.see_scalar r.scalar_shape r.scalar_set scalar-in scalar-back; read = leaf-read (t.double, m) r.see_scalar r.scalar_shape scalar-back exact }
+  scalar-laws =
+      let l = leaf-spelled r.see_scalar r.scalar_shape r.scalar_set scalar-in scalar-back in
+      let rd = leaf-read (t.double, m) r.see_scalar r.scalar_shape scalar-back exact in
+      record { spelled = l; read = rd; traced = plain-traced r.scalar false r.scalar_set none l rd (leaf-deep (t.double, m) r.see_scalar r.scalar_shape scalar-back exact) (λ t. refl) (λ xs. refl) (leaf-blind r.see_scalar) }
     where
       exact : (s : Shape) (x : t.Scalar) → r.see_scalar s ≡ Some x → s ≡ r.scalar_shape x
       exact (Ident w) x e = ap Ident (find-exact r.all_scalars w x e)
@@ -120,11 +143,62 @@ module _ {M : Type 0} (m : M) where
       (λ x h. (tt, each-all _ (λ y. tt) x.others)) (λ x h. tt) (λ x h. h)
       (seq-laws string-laws (times-laws (only 41) string-laws refl refl) refl)) refl refl
 
+  last-text : (o : Option (Row M)) (x : t.Text M) (xs : List (t.Text M)) → (w : List ℕ) × (last_row o (s.string x ++ s.many s.string xs) ≡ Some (row (Str w) (last_string x.1 xs)))
+  last-text o x [] = (x.0, refl)
+  last-text o x (y ∷ ys) = last-text (Some (row (Str x.0) x.1)) y ys
+
+  string-no : (z : Shape) → only 41 (class z) ≡ false → is_string z ≡ false
+  string-no (Str t) h = absurd cc
+  string-no _ h = refl
+
+  no-string : (z : Shape) → is_string z ≡ false → only 41 (class z) ≡ false
+  no-string (Str t) h = absurd cc
+  no-string (Ident t) h = ne_eqb _ 41 (λ e. omega (arith, e, place-le keywords t))
+  no-string (shape.Mark b) h = ne_eqb _ 41 (λ e. omega (arith, e))
+  no-string (shape.Int n) h = refl
+  no-string (shape.Float n) h = refl
+  no-string (shape.LineComment n) h = refl
+  no-string (shape.BlockComment n) h = refl
+  no-string shape.Newline h = refl
+  no-string shape.Invalid h = refl
+
+  stop-head : (z : Rows M) → Stops (only 41) z → head_in is_string z ≡ false
+  stop-head [] h = refl
+  stop-head (z ∷ zs) h = string-no z.shape h
+
+  head-stop : (z : Rows M) → head_in is_string z ≡ false → Stops (only 41) z
+  head-stop [] h = tt
+  head-stop (z ∷ zs) h = no-string z.shape h
+
+  texts-stop : (xs : List (t.Text M)) (z : Rows M) → Ends {M = M} r.string.spell r.string.ends (only 41) xs z → Stops (only 41) z
+  texts-stop [] z h = h
+  texts-stop (x ∷ xs) z h = texts-stop xs z h.1
+
+  stop-texts : (xs : List (t.Text M)) (z : Rows M) → Stops (only 41) z → Ends {M = M} r.string.spell r.string.ends (only 41) xs z
+  stop-texts [] z h = h
+  stop-texts (x ∷ xs) z h = (tt, stop-texts xs z h)
+
+  run-prompt : (x : t.Strings M) (y z : Rows M) → r.strings.ends x y → Alike (s.strings x) y z → r.strings.ends x z
+  unfolding r.strings
+  run-prompt x y z h a =
+      let l = last-text None x.first x.others in
+      (tt, stop-texts x.others z (head-stop z (sym (a (ap is_string_row l.1)) ∙ stop-head y (texts-stop x.others y h.1))))
+
+  run-placed : (node : t.Strings M → CheckedNode M) → ((x : t.Strings M) → run_end x ≡ node_end (node x)) → ((x : t.Strings M) → true ≡ is_run (node x)) → (x : t.Strings M) (z : Rows M) → r.strings.ends x z → IsPlaced (last_row None (s.strings x)) (ANode (node x)) z
+  unfolding r.strings
+  run-placed node e run x z h =
+      let l = last-text None x.first x.others in
+      subst (λ u. IsPlaced u (ANode (node x)) z) (sym l.1) (e x, run x, λ g. stop-head z (texts-stop x.others z h.1))
+
+  pub noted_strings-laws : (node : t.Strings M → CheckedNode M) → ((x : t.Strings M) → run_end x ≡ node_end (node x)) → ((x : t.Strings M) → true ≡ is_run (node x)) → Lawful {M = M} (r.noted_strings node) false (only 41) (only 41)
+  unfolding r.strings
+  noted_strings-laws node e run = noting-laws (λ x. ANode (node x)) strings-laws (λ x h. h) run-prompt (λ x. omega arith) (run-placed node e run)
+
   pub syntax-laws : Lawful {M = M} r.syntax false (only 0) none
   unfolding r.syntax r.strings
   syntax-laws = wide _ _ (named-laws s.syntax r.free _ _ (λ x. refl) (λ x. refl) (λ x. refl)
       (λ x h. (tt, (tt, (tt, tt)))) (λ x h. tt) (λ x h. h)
-      (seq-laws (word-laws m (codes "syntax") 0 refl) (seq-laws (mark-laws m s.equals 54 refl) (seq-laws strings-laws (mark-laws m s.semicolon 56 refl) refl) refl) refl)) refl refl
+      (seq-laws (word-laws m (codes "syntax") 0 refl) (seq-laws (mark-laws m s.equals 54 refl) (seq-laws (noted_strings-laws ASyntax (λ x. refl) (λ x. refl)) (mark-laws m s.semicolon 56 refl) refl) refl) refl)) refl refl
 
   import_kind-back : (x : t.ImportKind M) → r.to_import_kind (r.from_import_kind x) ≡ x
   import_kind-back (t.weak a) = refl
@@ -159,7 +233,7 @@ module _ {M : Type 0} (m : M) where
   unfolding r.«import» r.strings r.import_kind
   import-laws = wide _ _ (named-laws s.«import» r.free _ _ (λ x. refl) (λ x. refl) (λ x. refl)
       (λ x h. (tt, (given-all _ (λ y. tt) x.kind, (tt, tt)))) (λ x h. tt) (λ x h. h)
-      (seq-laws (word-laws m (codes "import") 2 refl) (seq-laws (optional-laws (among (3 ∷ 4 ∷ [])) import_kind-laws refl) (seq-laws strings-laws (mark-laws m s.semicolon 56 refl) refl) refl) refl)) refl refl
+      (seq-laws (word-laws m (codes "import") 2 refl) (seq-laws (optional-laws (among (3 ∷ 4 ∷ [])) import_kind-laws refl) (seq-laws (noted_strings-laws AnImport (λ x. refl) (λ x. refl)) (mark-laws m s.semicolon 56 refl) refl) refl) refl)) refl refl
 
   pub fullident-laws : Lawful {M = M} r.fullident false words (only 42)
   unfolding r.fullident
@@ -172,6 +246,11 @@ module _ {M : Type 0} (m : M) where
   package-laws = wide _ _ (named-laws s.«package» r.free _ _ (λ x. refl) (λ x. refl) (λ x. refl)
       (λ x h. (tt, (tt, tt))) (λ x h. tt) (λ x h. h)
       (seq-laws (word-laws m (codes "package") 1 refl) (seq-laws fullident-laws (mark-laws m s.semicolon 56 refl) refl) refl)) refl refl
+
+  pub noted_package-laws : Lawful {M = M} (noting APackage r.«package») false (only 1) none
+  unfolding r.«package» r.fullident
+  noted_package-laws = noting-laws APackage package-laws (λ x h. tt) (λ x y z h a. package-laws.spelled.follow x z tt (stops-none z)) (λ x. omega arith)
+      (λ x z h. subst (λ u. IsPlaced u (APackage x) z) (sym (last-past (Some (row (Ident (codes "package")) x.keyword)) (s.fullident x.name) (row (shape.Mark s.semicolon) x.end) [])) (refl, refl, λ g. absurd cc))
 
   pub typename-laws : Lawful {M = M} r.typename false (union (only 42) words) (only 42)
   unfolding r.typename r.fullident

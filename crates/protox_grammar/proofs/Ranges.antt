@@ -7,6 +7,7 @@ use Rattle.protox_ast.specs.Tree as t
 use Rattle.protox_ast.specs.Spelling as s
 use Rattle.protox_ast.specs.Keywords as k
 use Rattle.protox_grammar.specs.Rules as r
+use Rattle.protox_ast.specs.CheckedNodes.{AReservedName}
 use Rattle.protox_grammar.proofs.Joining.{peek-laws, joined-laws}
 use Rattle.protox_grammar.proofs.Forms.{Lawful, word-laws, mark-laws, seq-laws, choice-laws, optional-laws, times-laws, named-laws, wide, stops-none}
 use Rattle.protox_grammar.proofs.Parts as parts
@@ -76,11 +77,14 @@ module _ {M : Type 0} (m : M) where
       (λ x h. (tt, parts.each-all _ (λ y. (tt, tt)) x.others)) (λ x h. tt) (λ x h. h)
       (seq-laws range-laws (times-laws (only 53) (seq-laws (mark-laws m s.comma 53 refl) range-laws refl) refl refl) refl)) refl refl
 
+  name-laws : Lawful {M = M} (r.noted_strings AReservedName) false (only 41) (only 41)
+  name-laws = parts.noted_strings-laws m AReservedName (λ x. refl) (λ x. refl)
+
   pub names-laws : Lawful {M = M} r.names false (only 41) (among (41 ∷ 53 ∷ []))
   unfolding r.names r.strings
   names-laws = wide _ _ (named-laws s.names r.free _ _ (λ x. refl) (λ x. refl) (λ x. refl)
       (λ x h. (tt, parts.each-all _ (λ y. (tt, tt)) x.others)) (λ x h. tt) (λ x h. h)
-      (seq-laws (parts.strings-laws m) (times-laws (only 53) (seq-laws (mark-laws m s.comma 53 refl) (parts.strings-laws m) refl) refl refl) refl)) refl refl
+      (seq-laws name-laws (times-laws (only 53) (seq-laws (mark-laws m s.comma 53 refl) name-laws refl) refl refl) refl)) refl refl
 
   reserved_kind-back : (x : t.ReservedKind M) → r.to_reserved_kind (r.from_reserved_kind x) ≡ x
   reserved_kind-back (t.ranges a) = refl

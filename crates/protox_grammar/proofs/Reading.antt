@@ -26,17 +26,9 @@ pub record Begins {M A : Type 0} (r : Rule M A) (xs : Rows M) (left : ℕ) : Typ
   pub more : Rows M
   pub goes_on : r.spell tree ≡ front ++ more
 
--- the rows up to the one that opens what is too deep, and this row, begin a tree
-pub record Opens {M A : Type 0} (r : Rule M A) (xs : Rows M) (left : ℕ) : Type 0 where
-  pub front : Rows M
-  pub here : Row M
-  pub rest : Rows M
-  pub parts : xs ≡ front ++ (here ∷ rest)
-  pub left_is : left ≡ suc (length rest)
-  pub tree : A
-  pub tree_may : r.may tree
-  pub more : Rows M
-  pub goes_on : r.spell tree ≡ front ++ (here ∷ more)
+-- so they do, wherever reading stops
+abbrev pub Viable : {M A : Type 0} → Rule M A → Type 0
+Viable {M} r = (xs : Rows M) (e : Refusal) → r.read xs ≡ Err e → Begins r xs (left_of e)
 
 -- what was read
 pub record Took {M A : Type 0} (r : Rule M A) (xs : Rows M) (x : A × Rows M) : Type 0 where
@@ -55,8 +47,7 @@ pub record IsRead {M A : Type 0} (r : Rule M A) : Type 0 where
   pub within : (t : A) → r.fits t → r.may t
   pub takes : (xs : Rows M) (x : A × Rows M) → r.read xs ≡ Ok x → Took r xs x
   pub again : (t : A) (z : Rows M) → r.fits t → r.ends t z → r.read (r.spell t ++ z) ≡ Ok (t, z)
-  pub viable : (xs : Rows M) (e : Refusal) → r.read xs ≡ Err e → Begins r xs (left_of e)
-  pub opens : (n : ℕ) (xs : Rows M) → r.read xs ≡ Err (Deep n) → Opens r xs n
+  pub viable : Viable r
   -- no tree goes on with a row that was not expected, and none that can be read with one that opens what is too deep
   pub tight : (e : Refusal) (front : Rows M) (s : Row M) (rest : Rows M) → left_of e ≡ suc (length rest) → r.read (front ++ (s ∷ rest)) ≡ Err e
       → (t : A) (z more : Rows M) → Concerns r e t → r.ends t z → r.spell t ++ z ≡ front ++ (s ∷ more) → ⊥
@@ -124,74 +115,6 @@ module _ {M A B : Type 0} (a : Rule M A) (b : Rule M B) (ea : Bool) (fa ga : Set
   seq-again : (t : A × B) (z : Rows M) → a.fits t.0 × b.fits t.1 → a.ends t.0 (b.spell t.1 ++ z) × b.ends t.1 z → reader.seq a.read b.read ((a.spell t.0 ++ b.spell t.1) ++ z) ≡ Ok (t, z)
   seq-again t z f e = rw (append_assoc (a.spell t.0) (b.spell t.1) z, ra.again t.0 (b.spell t.1 ++ z) f.0 e.0, rb.again t.1 z f.1 e.1) refl
 
-  seq-begins-first : (xs : Rows M) (n : ℕ) → Begins a xs n → Begins (seq a b) xs n
-  seq-begins-first xs n v = record {
-    front = v.front;
-    rest = v.rest;
-    parts = v.parts;
-    left_is = v.left_is;
-    tree = (v.tree, rb.some);
-    tree_may = (v.tree_may, rb.some_may);
-    more = v.more ++ b.spell rb.some;
-    goes_on = ap (λ u. u ++ b.spell rb.some) v.goes_on ∙ append_assoc v.front v.more (b.spell rb.some);
-  }
-
-  seq-begins-second : (xs : Rows M) (x : A × Rows M) (n : ℕ) → Took a xs x → Begins b x.1 n → Begins (seq a b) xs n
-  seq-begins-second xs x n ta v = record {
-    front = a.spell x.0 ++ v.front;
-    rest = v.rest;
-    parts = ta.parts ∙ ap (λ u. a.spell x.0 ++ u) v.parts ∙ sym (append_assoc (a.spell x.0) v.front v.rest);
-    left_is = v.left_is;
-    tree = (x.0, v.tree);
-    tree_may = (ra.within x.0 ta.fits, v.tree_may);
-    more = v.more;
-    goes_on = ap (λ u. a.spell x.0 ++ u) v.goes_on ∙ sym (append_assoc (a.spell x.0) v.front v.more);
-  }
-
-  seq-viable : (xs : Rows M) (e : Refusal) → reader.seq a.read b.read xs ≡ Err e → Begins (seq a b) xs (left_of e)
-  seq-viable xs e h = elim (bind_err (a.read xs) (λ v. b.read v.1 >>= λ y. Ok ((v.0, y.0), y.1)) e h) [
-    | inl k ↦ seq-begins-first xs (left_of e) (ra.viable xs e k)
-    | inr p ↦ elim (bind_err (b.read p.0.1) (λ y. Ok ((p.0.0, y.0), y.1)) e p.2) [
-      | inl k ↦ seq-begins-second xs p.0 (left_of e) (ra.takes xs p.0 p.1) (rb.viable p.0.1 e k)
-      | inr q ↦ absurd (ok-err _ e q.2)
-    ]
-  ]
-
-  seq-opens-first : (xs : Rows M) (n : ℕ) → Opens a xs n → Opens (seq a b) xs n
-  seq-opens-first xs n v = record {
-    front = v.front;
-    here = v.here;
-    rest = v.rest;
-    parts = v.parts;
-    left_is = v.left_is;
-    tree = (v.tree, rb.some);
-    tree_may = (v.tree_may, rb.some_may);
-    more = v.more ++ b.spell rb.some;
-    goes_on = ap (λ u. u ++ b.spell rb.some) v.goes_on ∙ append_assoc v.front (v.here ∷ v.more) (b.spell rb.some);
-  }
-
-  seq-opens-second : (xs : Rows M) (x : A × Rows M) (n : ℕ) → Took a xs x → Opens b x.1 n → Opens (seq a b) xs n
-  seq-opens-second xs x n ta v = record {
-    front = a.spell x.0 ++ v.front;
-    here = v.here;
-    rest = v.rest;
-    parts = ta.parts ∙ ap (λ u. a.spell x.0 ++ u) v.parts ∙ sym (append_assoc (a.spell x.0) v.front (v.here ∷ v.rest));
-    left_is = v.left_is;
-    tree = (x.0, v.tree);
-    tree_may = (ra.within x.0 ta.fits, v.tree_may);
-    more = v.more;
-    goes_on = ap (λ u. a.spell x.0 ++ u) v.goes_on ∙ sym (append_assoc (a.spell x.0) v.front (v.here ∷ v.more));
-  }
-
-  seq-opens : (n : ℕ) (xs : Rows M) → reader.seq a.read b.read xs ≡ Err (Deep n) → Opens (seq a b) xs n
-  seq-opens n xs h = elim (bind_err (a.read xs) (λ v. b.read v.1 >>= λ y. Ok ((v.0, y.0), y.1)) (Deep n) h) [
-    | inl k ↦ seq-opens-first xs n (ra.opens n xs k)
-    | inr p ↦ elim (bind_err (b.read p.0.1) (λ y. Ok ((p.0.0, y.0), y.1)) (Deep n) p.2) [
-      | inl k ↦ seq-opens-second xs p.0 n (ra.takes xs p.0 p.1) (rb.opens n p.0.1 k)
-      | inr q ↦ absurd (ok-err _ _ q.2)
-    ]
-  ]
-
   first-concerned : (e : Refusal) (t : A × B) → Concerns (seq a b) e t → Concerns a e t.0
   first-concerned (Unexpected n) t c = tt
   first-concerned (Deep n) t c = c.0
@@ -234,15 +157,14 @@ module _ {M A B : Type 0} (a : Rule M A) (b : Rule M B) (ea : Bool) (fa ga : Set
     ]
   ]
 
-  pub seq-read : IsRead (seq a b)
-  seq-read = record {
+  pub seq-read : Viable (seq a b) → IsRead (seq a b)
+  seq-read viable = record {
     some = (ra.some, rb.some);
     some_may = (ra.some_may, rb.some_may);
     within = λ t h. (ra.within t.0 h.0, rb.within t.1 h.1);
     takes = seq-takes;
     again = seq-again;
-    viable = seq-viable;
-    opens = seq-opens;
+    viable = viable;
     tight = seq-tight;
     short = seq-short;
   }
@@ -254,31 +176,6 @@ took-mapped to from b there xs x k = record {
   parts = k.parts ∙ ap (λ u. b.spell u ++ x.1) (sym (there x.0));
   fits = subst b.fits (sym (there x.0)) k.fits;
   ends = subst (λ u. b.ends u x.1) (sym (there x.0)) k.ends;
-}
-
-begins-mapped : {M A B : Type 0} (to : B → A) (from : A → B) (b : Rule M B) (there : (t : B) → from (to t) ≡ t) (xs : Rows M) (n : ℕ) → Begins b xs n → Begins (mapped to from b) xs n
-begins-mapped to from b there xs n v = record {
-  front = v.front;
-  rest = v.rest;
-  parts = v.parts;
-  left_is = v.left_is;
-  tree = to v.tree;
-  tree_may = subst b.may (sym (there v.tree)) v.tree_may;
-  more = v.more;
-  goes_on = ap b.spell (there v.tree) ∙ v.goes_on;
-}
-
-opens-mapped : {M A B : Type 0} (to : B → A) (from : A → B) (b : Rule M B) (there : (t : B) → from (to t) ≡ t) (xs : Rows M) (n : ℕ) → Opens b xs n → Opens (mapped to from b) xs n
-opens-mapped to from b there xs n v = record {
-  front = v.front;
-  here = v.here;
-  rest = v.rest;
-  parts = v.parts;
-  left_is = v.left_is;
-  tree = to v.tree;
-  tree_may = subst b.may (sym (there v.tree)) v.tree_may;
-  more = v.more;
-  goes_on = ap b.spell (there v.tree) ∙ v.goes_on;
 }
 
 abbrev pub renamed : {M A B : Type 0} → (B → A) → B × Rows M → Result (A × Rows M) Refusal
@@ -301,15 +198,14 @@ module _ {M A B : Type 0} (to : B → A) (from : A → B) (b : Rule M B) (back :
   from-concerned (Unexpected n) t c = tt
   from-concerned (Deep n) t c = c
 
-  pub mapped-read : IsRead (mapped to from b)
-  mapped-read = record {
+  pub mapped-read : Viable (mapped to from b) → IsRead (mapped to from b)
+  mapped-read viable = record {
     some = to rb.some;
     some_may = subst b.may (sym (there rb.some)) rb.some_may;
     within = λ t h. rb.within (from t) h;
     takes = mapped-takes;
     again = λ t z h k. rw (rb.again (from t) z h k, back t) refl;
-    viable = λ xs e h. begins-mapped to from b there xs (left_of e) (rb.viable xs e (map_err to (b.read xs) e h));
-    opens = λ n xs h. opens-mapped to from b there xs n (rb.opens n xs (map_err to (b.read xs) (Deep n) h));
+    viable = viable;
     tight = λ d front s rest l h t z more c k e. rb.tight d front s rest l (map_err to (b.read (front ++ (s ∷ rest))) d h) (from t) z more (from-concerned d t c) k e;
     short = λ xs h t z k e. rb.short xs (map_err to (b.read xs) (Unexpected 0) h) (from t) z k e;
   }
@@ -324,7 +220,6 @@ nothing-read {M = M} = record {
   takes = λ xs x e. nothing-took xs x e;
   again = λ t z h k. refl;
   viable = λ xs e h. absurd (ok-err _ e h);
-  opens = λ n xs h. absurd (ok-err _ _ h);
   tight = λ d front s rest l h t z more c k e. ok-err _ _ h;
   short = λ xs h t z k e. ok-err _ _ h;
 }

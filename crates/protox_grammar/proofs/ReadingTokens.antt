@@ -8,7 +8,7 @@ use Rattle.protox_grammar.specs.Reader.{is_token}
 use Rattle.protox_grammar.specs.Rule.{Rule, row, fixed, leaf, too_deep}
 use Rattle.protox_grammar.proofs.Takes.{ok_is}
 use Rattle.protox_grammar.proofs.Laws.{head-same}
-use Rattle.protox_grammar.proofs.Reading.{left_of, Begins, Opens, Took, Concerns, IsRead, failed, at_once, err-left, ok-err, err-ok, chosen, unexpected-deep, true-false}
+use Rattle.protox_grammar.proofs.Reading.{left_of, Begins, Took, Concerns, IsRead, failed, at_once, err-left, ok-err, err-ok, chosen, unexpected-deep, true-false}
 
 module _ {M : Type 0} (m0 : M) (w : Shape) (back : is_token w w ≡ true) (exact : (s : Shape) → is_token w s ≡ true → s ≡ w) where
   fixed-took : (r : Row M) (rs : Rows M) (b : Bool) (x : M × Rows M) (f : Refusal) → is_token w r.shape ≡ b → cond b (Ok (r.at, rs)) (Err f) ≡ Ok x → Took (fixed w) (r ∷ rs) x
@@ -60,7 +60,7 @@ module _ {M : Type 0} (m0 : M) (w : Shape) (back : is_token w w ≡ true) (exact
   fixed-short [] h t z e = absurd cc
   fixed-short (r ∷ rs) h t z e = let n = fixed-fault r rs (is_token w r.shape) (Unexpected 0) h in omega (arith, n)
 
-  fixed-deep : (n : ℕ) (xs : Rows M) → reader.fixed w xs ≡ Err (Deep n) → ⊥
+  pub fixed-deep : (n : ℕ) (xs : Rows M) → reader.fixed w xs ≡ Err (Deep n) → ⊥
   unfolding reader.fixed
   fixed-deep n [] h = unexpected-deep {A = M × Rows M} 0 n h
   fixed-deep n (r ∷ rs) h = elim (chosen (is_token w r.shape) (Ok (r.at, rs)) (failed (M × Rows M) (Unexpected (length (r ∷ rs)))) (failed (M × Rows M) (Deep n)) h) [
@@ -76,7 +76,6 @@ module _ {M : Type 0} (m0 : M) (w : Shape) (back : is_token w w ≡ true) (exact
     takes = fixed-takes;
     again = λ t z h k. fixed-again t z;
     viable = fixed-viable;
-    opens = λ n xs h. absurd (fixed-deep n xs h);
     tight = λ d front s rest l h t z more c k e. fixed-tight d front s rest l h t z more e;
     short = λ xs h t z k e. fixed-short xs h t z e;
   }
@@ -124,7 +123,7 @@ module _ {M X : Type 0} (some : X × M) (see : Shape → Option X) (shape : X �
   seen-deep r rs (Some v) n h = ok-err ((v, r.at), rs) (Deep n) h
   seen-deep r rs None n h = unexpected-deep {A = (X × M) × Rows M} (length (r ∷ rs)) n h
 
-  leaf-deep : (n : ℕ) (xs : Rows M) → reader.leaf see xs ≡ Err (Deep n) → ⊥
+  pub leaf-deep : (n : ℕ) (xs : Rows M) → reader.leaf see xs ≡ Err (Deep n) → ⊥
   unfolding reader.leaf
   leaf-deep n [] h = unexpected-deep {A = (X × M) × Rows M} 0 n h
   leaf-deep n (r ∷ rs) h = seen-deep r rs (see r.shape) n h
@@ -137,16 +136,13 @@ module _ {M X : Type 0} (some : X × M) (see : Shape → Option X) (shape : X �
     takes = leaf-takes;
     again = λ t z h k. leaf-again t z;
     viable = leaf-viable;
-    opens = λ n xs h. absurd (leaf-deep n xs h);
     tight = λ d front s rest l h t z more c k e. leaf-tight d front s rest l h t z more e;
     short = λ xs h t z k e. leaf-short xs h t z e;
   }
 
 -- ---- what is too deep
 
-module _ {M A : Type 0} (w : Shape) (back : is_token w w ≡ true) (a : Rule M A) (some : A) (some_may : a.may some)
-    (exact : (s : Shape) → is_token w s ≡ true → s ≡ w) (begins : (t : A) → (m : M) × (more : Rows M) × (a.spell t ≡ row w m ∷ more))
-    (some_at : (m : M) → (t : A) × a.may t × (more : Rows M) × (a.spell t ≡ row w m ∷ more)) where
+module _ {M A : Type 0} (w : Shape) (back : is_token w w ≡ true) (a : Rule M A) (some : A) (some_may : a.may some) (begins : (t : A) → (m : M) × (more : Rows M) × (a.spell t ≡ row w m ∷ more)) where
   never-read : (xs : Rows M) (x : A × Rows M) → reader.too_deep w xs ≡ Ok x → ⊥
   unfolding reader.too_deep
   never-read [] x e = err-ok x _ e
@@ -164,26 +160,6 @@ module _ {M A : Type 0} (w : Shape) (back : is_token w w ≡ true) (a : Rule M A
   too_deep-left (r ∷ rs) e h = elim (chosen (is_token w r.shape) (failed (A × Rows M) (Deep (length (r ∷ rs)))) (failed (A × Rows M) (Unexpected (length (r ∷ rs)))) (Err e) h) [
     | inl k ↦ deep-left (length (r ∷ rs)) e k.1
     | inr k ↦ err-left {A = A × Rows M} (length (r ∷ rs)) e k.1
-  ]
-
-  too_deep-opens : (n : ℕ) (xs : Rows M) → reader.too_deep {A = A} w xs ≡ Err (Deep n) → Opens (too_deep w a) xs n
-  unfolding reader.too_deep
-  too_deep-opens n [] h = absurd (unexpected-deep {A = A × Rows M} 0 n h)
-  too_deep-opens n (r ∷ rs) h = elim (chosen (is_token w r.shape) (failed (A × Rows M) (Deep (length (r ∷ rs)))) (failed (A × Rows M) (Unexpected (length (r ∷ rs)))) (Err (Deep n)) h) [
-    | inl k ↦
-        let t = some_at r.at in
-        record {
-          front = [];
-          here = r;
-          rest = rs;
-          parts = refl;
-          left_is = deep-left (length (r ∷ rs)) (Deep n) k.1;
-          tree = t.0;
-          tree_may = t.1;
-          more = t.2;
-          goes_on = t.3 ∙ ap (λ v. row v r.at ∷ t.2) (sym (exact r.shape k.0));
-        }
-    | inr k ↦ absurd (unexpected-deep {A = A × Rows M} (length (r ∷ rs)) n k.1)
   ]
 
   not-deep : (m n : ℕ) → failed (A × Rows M) (Deep m) ≡ failed (A × Rows M) (Unexpected n) → ⊥
@@ -221,7 +197,6 @@ module _ {M A : Type 0} (w : Shape) (back : is_token w w ≡ true) (a : Rule M A
     takes = λ xs x e. absurd (never-read xs x e);
     again = λ t z h k. absurd h;
     viable = λ xs e h. at_once (too_deep w a) xs some some_may (left_of e) (too_deep-left xs e h);
-    opens = too_deep-opens;
     tight = λ e front s rest l h t z more c k j. too_deep-tight e front s rest l h t z more c j;
     short = λ xs h t z k e. too_deep-short xs h t z e;
   }

@@ -12,7 +12,7 @@ use Rattle.protox_ast.specs.Keywords.{Each}
 use Rattle.protox_grammar.proofs.Takes.{bind_ok, ok_is}
 use Rattle.protox_grammar.proofs.Laws.{IsSpelled, ahead-past}
 use Rattle.protox_grammar.proofs.Sets.{starts-within}
-use Rattle.protox_grammar.proofs.Reading.{left_of, Concerns, Opens, unexpected-deep, Begins, Took, IsRead, bind_err, cut-same, ok-err, err-ok, chosen, true-false, same-head, head-starts, head-stops, stops-head}
+use Rattle.protox_grammar.proofs.Reading.{left_of, Concerns, Begins, Took, IsRead, bind_err, cut-same, ok-err, err-ok, chosen, true-false, same-head, head-starts, head-stops, stops-head}
 
 pub some-rows : {M : Type 0} (f : Set) (ys : Rows M) → Starts false f ys → 0 < length ys
 some-rows f [] h = absurd cc
@@ -90,36 +90,6 @@ module _ {M A : Type 0} (p : Shape → Bool) (P : Set) (a : Rule M A) (same : (s
     | inr c ↦ absurd (ok-err _ e c.1)
   ]
 
-  opens-here : (xs : Rows M) (n : ℕ) → Opens a xs n → Opens rule xs n
-  opens-here xs n v = record { front = v.front; here = v.here; rest = v.rest; parts = v.parts; left_is = v.left_is; tree = v.tree ∷ []; tree_may = (v.tree_may, tt); more = v.more; goes_on = append-nil (a.spell v.tree) ∙ v.goes_on }
-
-  opens-later : (xs : Rows M) (x : A × Rows M) (n : ℕ) → Took a xs x → Opens rule x.1 n → Opens rule xs n
-  opens-later xs x n k v = record {
-    front = a.spell x.0 ++ v.front;
-    here = v.here;
-    rest = v.rest;
-    parts = k.parts ∙ ap (λ u. a.spell x.0 ++ u) v.parts ∙ sym (append_assoc (a.spell x.0) v.front (v.here ∷ v.rest));
-    left_is = v.left_is;
-    tree = x.0 ∷ v.tree;
-    tree_may = (ra.within x.0 k.fits, v.tree_may);
-    more = v.more;
-    goes_on = ap (λ u. a.spell x.0 ++ u) v.goes_on ∙ sym (append_assoc (a.spell x.0) v.front (v.here ∷ v.more));
-  }
-
-  opens_at : (n d : ℕ) (xs : Rows M) → star_at p a.read n xs ≡ Err (Deep d) → Opens rule xs d
-  unfolding star_at
-  opens_at zero d xs h = absurd (unexpected-deep {A = List A × Rows M} (length xs) d h)
-  opens_at (suc n) d xs h = elim (chosen (head_in p xs) (a.read xs >>= again_at n) (Ok ([], xs)) (Err (Deep d)) h) [
-    | inl c ↦ elim (bind_err (a.read xs) (again_at n) (Deep d) c.1) [
-      | inl k ↦ opens-here xs d (ra.opens d xs k)
-      | inr v ↦ elim (bind_err (star_at p a.read n v.0.1) (turn_at v.0.0) (Deep d) v.2) [
-        | inl q ↦ opens-later xs v.0 d (ra.takes xs v.0 v.1) (opens_at n d v.0.1 q)
-        | inr q ↦ absurd (ok-err _ _ q.2)
-      ]
-    ]
-    | inr c ↦ absurd (ok-err _ _ c.1)
-  ]
-
   first-concerned : (e : Refusal) (t : A) (ts : List A) → Concerns rule e (t ∷ ts) → Concerns a e t
   first-concerned (Unexpected n) t ts c = tt
   first-concerned (Deep n) t ts c = c.0
@@ -190,7 +160,6 @@ module _ {M A : Type 0} (p : Shape → Bool) (P : Set) (a : Rule M A) (same : (s
     takes = λ xs x e. takes_at (suc (length xs)) xs x e;
     again = λ ts z f e. again_all (suc (length (many a.spell ts ++ z))) ts z f e (omega arith);
     viable = λ xs e h. viable_at (suc (length xs)) xs e (omega arith) h;
-    opens = λ d xs h. opens_at (suc (length xs)) d xs h;
     tight = λ d front s rest f h ts z more g e k. tight_at (suc (length (front ++ (s ∷ rest)))) d front s rest (omega arith) f h ts z more g e k;
     short = λ xs h ts z e k. short_at (suc (length xs)) xs (omega arith) h ts z e k;
   }

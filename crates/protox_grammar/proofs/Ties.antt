@@ -1,6 +1,8 @@
 -- Each rule that has messages in it is its plain form, whatever is said of the bodies in it.
 use Rattle.std.proofs.Common.{◌≡◌, ℕ, true, false, List, [], ◌∷◌, ◌++◌, Option, Some, None, codes, refl, ap, inl, inr, ◌⊎◌}
 use Rattle.protox_grammar.specs.Class.{apart, place, keywords, only, among, but}
+use Rattle.protox_lex.specs.Shapes.{Rows}
+use Rattle.protox_grammar.specs.Steps.{Steps}
 use Rattle.protox_grammar.specs.Reader.{Reader}
 use Rattle.protox_grammar.specs.Rule.{Rule, Stops, seq, unless, choice, optional, times}
 use Rattle.protox_ast.specs.Tree as t
@@ -73,9 +75,9 @@ type-rest a c ks (t.named x) h = undotted-rest a c ks x.leading_dot x.name.first
 
 -- ---- each rule is its plain form, whatever is said of the bodies in it
 
-module _ {M : Type 0} (m : M) (read : Reader M (t.Mbody M)) (Q : t.Mbody M → Type 0) where
+module _ {M : Type 0} (m : M) (read : Reader M (t.Mbody M)) (steps : t.Mbody M → Steps M) (trace : Rows M → Steps M) (Q : t.Mbody M → Type 0) where
   abbrev bodies : Rule M (t.Mbody M)
-  bodies = rule.sealed Q Q read
+  bodies = rule.sealed Q Q read steps trace
 
   pub group-is : (x : t.Group M) → s.group x ≡ (seq (r.the (codes "group")) (seq r.ident (seq (r.sign s.equals) (seq r.int (seq (optional (only 49) r.list) bodies))))).spell (rule.from_group x)
   unfolding rule.group r.int r.list

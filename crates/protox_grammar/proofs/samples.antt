@@ -7,3 +7,4 @@ pub mod Checked
 pub mod Sources
 pub mod True
 pub mod Everywhere
+pub mod Noted

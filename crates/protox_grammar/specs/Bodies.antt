@@ -1,7 +1,7 @@
 -- MACHINERY. The rules of the grammar that hold messages or stand in them, over the rule of a body, and the rule of files.
-use Rattle.std.specs.Prelude.{◌≤◌, ℕ, zero, suc, List, [], ◌∷◌, Option, Some, None, ◌⊎◌, codes}
+use Rattle.std.specs.Prelude.{◌≤◌, ℕ, zero, suc, if◌then◌else◌, List, [], ◌∷◌, Option, Some, None, ◌⊎◌, codes}
 use Rattle.std.proofs.Common.{inl, inr}
-use Rattle.protox_lex.specs.Shapes.{Mark}
+use Rattle.protox_lex.specs.Shapes.{Mark, Rows}
 use Rattle.protox_grammar.specs.Class.{only, all, but, among}
 use Rattle.protox_ast.specs.Tree as t
 use Rattle.protox_ast.specs.Spelling as s
@@ -9,7 +9,9 @@ use Rattle.protox_ast.specs.Keywords as k
 use Rattle.protox_ast.specs.Depth as d
 use Rattle.protox_grammar.specs.Reader as reader
 use Rattle.protox_grammar.specs.Reader.{Reader}
-use Rattle.protox_grammar.specs.Rule.{Rule, seq, named_fits, unless, choice, optional, times}
+use Rattle.protox_grammar.specs.Steps.{Event, ADeepBody, ADeeperBody, AKeyword, ANode, APackage, Token, Note, Steps, plainly}
+use Rattle.protox_ast.specs.CheckedNodes.{AGroupName}
+use Rattle.protox_grammar.specs.Rule.{Rule, seq, named_fits, unless, choice, optional, times, noting}
 use Rattle.protox_grammar.specs.Rules.{the, sign, ident, int, list, label, map, normal, option, typename, enum, reserved, extensions, syntax, «import», «package», service}
 
 -- ---- what may stand in a message, over what is said of the bodies in it
@@ -83,9 +85,9 @@ module _ {M : Type 0} (P : t.Mbody M → Type 0) where
   abbrev pub FileHas : t.File M → Type 0
   FileHas x = k.Each StatementHas x.statements
 
--- a body, read so, after which anything may come
-abbrev pub sealed : {M : Type 0} → (t.Mbody M → Type 0) → (t.Mbody M → Type 0) → Reader M (t.Mbody M) → Rule M (t.Mbody M)
-sealed P F read = record { spell = s.mbody; may = P; fits = F; ends = λ x z. P x; read = read }
+-- a body, read and noted so, after which anything may come
+abbrev pub sealed : {M : Type 0} → (t.Mbody M → Type 0) → (t.Mbody M → Type 0) → Reader M (t.Mbody M) → (t.Mbody M → Steps M) → (Rows M → Steps M) → Rule M (t.Mbody M)
+sealed P F read steps trace = record { spell = s.mbody; may = P; fits = F; ends = λ x z. P x; read = read; steps = steps; trace = trace }
 
 -- ---- rules of messages, over the rule of a body
 
@@ -97,7 +99,7 @@ from_group (t.group_of m n e i l b) = (m, (n, (e, (i, (l, b)))))
 
 unfoldable pub group : {M : Type 0} → Rule M (t.Mbody M) → Rule M (t.Group M)
 group b = named_fits s.group (GroupHas b.may) (GroupHas b.fits) to_group from_group
-    (seq (the (codes "group")) (seq ident (seq (sign s.equals) (seq int (seq (optional (only 49) list) b)))))
+    (seq (noting AKeyword (the (codes "group"))) (seq (noting (λ x. ANode (AGroupName x)) ident) (seq (sign s.equals) (seq int (seq (optional (only 49) list) b)))))
 
 abbrev pub to_field_kind : {M : Type 0} → (t.Map M ⊎ t.Group M) ⊎ t.Normal M → t.FieldKind M
 to_field_kind (inl (inl x)) = t.map x
@@ -201,7 +203,7 @@ from_message (t.message_of m n b) = (m, (n, b))
 
 unfoldable pub message : {M : Type 0} → Rule M (t.Mbody M) → Rule M (t.Message M)
 message b = named_fits s.message (MessageHas b.may) (MessageHas b.fits) to_message from_message
-    (seq (the (codes "message")) (seq ident b))
+    (seq (noting AKeyword (the (codes "message"))) (seq ident b))
 
 -- what begins with a Ident of its own in a message
 abbrev pub Special : Type 0 → Type 0
@@ -260,16 +262,40 @@ mbody b = named_fits s.mbody (MbodyHas b.may) (MbodyHas b.fits) to_mbody from_mb
 
 -- ---- levels
 
+-- a body of at most n levels
 abbrev pub FitsMbody : {M : Type 0} → ℕ → t.Mbody M → Type 0
 FitsMbody n b = k.KeepsMbody b × (suc (d.mbody_depth b) ≤ n)
 
-unfoldable pub read_mbody : {M : Type 0} → ℕ → Reader M (t.Mbody M)
-read_mbody zero xs = reader.too_deep (Mark s.open_brace) xs
-read_mbody (suc n) xs = (mbody (sealed k.KeepsMbody (FitsMbody n) (read_mbody n))).read xs
+-- the `{` of a body
+abbrev pub opening : {M : Type 0} → t.Mbody M → M
+opening (t.mbody_of o es c) = o
 
--- a body of at most n levels
+-- a note behind the first row
+abbrev pub behind_first : {M : Type 0} → Event M → Steps M → Steps M
+behind_first e [] = Note e ∷ []
+behind_first e (x ∷ l) = x ∷ (Note e ∷ l)
+
+-- a body that is too deep is read up to its `{`
+unfoldable pub deep_read : {M : Type 0} → Reader M (t.Mbody M)
+deep_read xs = reader.too_deep (Mark s.open_brace) xs
+
+unfoldable pub deep_trace : {M : Type 0} → (M → Event M) → Rows M → Steps M
+deep_trace note [] = []
+deep_trace note (r ∷ rs) = if reader.is_token (Mark s.open_brace) r.shape then Token r ∷ (Note (note r.at) ∷ []) else []
+
+-- The steps of a body that is too deep go on, with what is noted in it down to n levels, so that no checked node of a file is lost.
+unfoldable pub deep_steps : {M : Type 0} → (M → Event M) → ℕ → t.Mbody M → Steps M
+deep_steps note zero b = behind_first (note (opening b)) (plainly (s.mbody b))
+deep_steps note (suc n) b = behind_first (note (opening b)) ((mbody (sealed k.KeepsMbody (λ x. ⊥) deep_read (deep_steps ADeeperBody n) (deep_trace ADeeperBody))).steps b)
+
+-- a body, of which at most n levels can be read
+unfoldable pub unsealed : {M : Type 0} → ℕ → Rule M (t.Mbody M)
+unsealed zero = sealed k.KeepsMbody (FitsMbody 0) deep_read (λ b. deep_steps ADeepBody (suc (d.mbody_depth b)) b) (deep_trace ADeepBody)
+unsealed (suc n) = mbody (sealed k.KeepsMbody (FitsMbody n) (unsealed n).read (unsealed n).steps (unsealed n).trace)
+
+-- the same, after which anything may come
 abbrev pub mbody_at : {M : Type 0} → ℕ → Rule M (t.Mbody M)
-mbody_at n = sealed k.KeepsMbody (FitsMbody n) (read_mbody n)
+mbody_at n = sealed k.KeepsMbody (FitsMbody n) (unsealed n).read (unsealed n).steps (unsealed n).trace
 
 -- ---- files
 
@@ -298,7 +324,7 @@ from_statement (t.a_service x) = inr (inr (inr (inr (inr (inr (inr x))))))
 
 unfoldable pub statement : {M : Type 0} → Rule M (t.Mbody M) → Rule M (t.Statement M)
 statement b = named_fits s.statement (StatementHas b.may) (StatementHas b.fits) to_statement from_statement
-    (choice (only 56) (sign s.semicolon) (choice (only 2) «import» (choice (only 1) «package» (choice (only 6) option (choice (only 11) (extend b) (choice (only 12) (message b) (choice (only 5) enum service)))))))
+    (choice (only 56) (sign s.semicolon) (choice (only 2) «import» (choice (only 1) (noting APackage «package») (choice (only 6) option (choice (only 11) (extend b) (choice (only 12) (message b) (choice (only 5) enum service)))))))
 
 unfoldable pub file : {M : Type 0} → Rule M (t.Mbody M) → Rule M (t.File M)
 file b = named_fits s.spell (FileHas b.may) (FileHas b.fits) (λ x. record { syntax = x.0; statements = x.1 }) (λ x. (x.syntax, x.statements))

@@ -1,9 +1,13 @@
 pub mod Class
 pub mod Reader
+pub mod Steps
 pub mod Rule
 pub mod Rules
 pub mod Bodies
 pub mod Reads
+pub mod Noted
+pub mod CheckLaws
 pub mod Grammar
+pub mod OneOfThree
 pub mod TruthLaws
 pub mod part

@@ -1,12 +1,13 @@
--- MACHINERY. Rules of a grammar: what spells a tree, which trees there may be, what may follow one, and how it is read.
-use Rattle.std.specs.Prelude.{◌≡◌, List, [], ◌∷◌, ◌++◌, Bool, true, false, not, Option, Some, None, ◌⊎◌}
+-- MACHINERY. Rules of a grammar: what spells a tree, which trees there may be, what may follow one, how it is read, and what is noted.
+use Rattle.std.specs.Prelude.{◌≡◌, suc, List, [], ◌∷◌, ◌++◌, length, Bool, true, false, not, if◌then◌else◌, Option, Some, None, ◌⊎◌}
 use Rattle.std.proofs.Common.{inl, inr}
 use Rattle.protox_lex.specs.Shapes.{Shape, Row, Rows}
 use Rattle.protox_grammar.specs.Class.{class, Set, in_set}
 use Rattle.protox_ast.specs.Spelling.{maybe, many}
 use Rattle.protox_ast.specs.Keywords.{Given, Each}
 use Rattle.protox_grammar.specs.Reader as reader
-use Rattle.protox_grammar.specs.Reader.{Reader}
+use Rattle.protox_grammar.specs.Reader.{Reader, head_in}
+use Rattle.protox_grammar.specs.Steps.{Event, Note, Steps, plainly, plain_trace, star_trace, then_steps, steps_of_many, steps_of_option}
 
 -- no row of the set comes first
 abbrev pub Stops : {M : Type 0} → Set → Rows M → Type 0
@@ -27,6 +28,10 @@ pub record Rule (M A : Type 0) : Type 1 where
   -- these rows may come after it
   pub ends : A → Rows M → Type 0
   pub read : Reader M A
+  -- the rows of a tree, with what is to be noted among them
+  pub steps : A → Steps M
+  -- the rows that the reader takes, with what is noted among them
+  pub trace : Rows M → Steps M
 
 abbrev pub row : {M : Type 0} → Shape → M → Row M
 row s m = record { shape = s; at = m }
@@ -38,6 +43,8 @@ fixed w = record {
   fits = λ m. Unit {0};
   ends = λ m z. Unit {0};
   read = reader.fixed w;
+  steps = λ m. plainly (row w m ∷ []);
+  trace = plain_trace (reader.fixed w);
 }
 
 abbrev pub leaf : {M X : Type 0} → (Shape → Option X) → (X → Shape) → Rule M (X × M)
@@ -47,6 +54,8 @@ leaf see shape = record {
   fits = λ x. Unit {0};
   ends = λ x z. Unit {0};
   read = reader.leaf see;
+  steps = λ x. plainly (row (shape x.0) x.1 ∷ []);
+  trace = plain_trace (reader.leaf see);
 }
 
 abbrev pub seq : {M A B : Type 0} → Rule M A → Rule M B → Rule M (A × B)
@@ -56,6 +65,8 @@ seq a b = record {
   fits = λ t. a.fits t.0 × b.fits t.1;
   ends = λ t z. a.ends t.0 (b.spell t.1 ++ z) × b.ends t.1 z;
   read = reader.seq a.read b.read;
+  steps = λ t. a.steps t.0 ++ b.steps t.1;
+  trace = λ xs. a.trace xs ++ then_steps (a.read xs) (λ x. b.trace x.1);
 }
 
 abbrev pub on_sum {ℓ} : {A B : Type 0} {C : Type ℓ} → (A → C) → (B → C) → A ⊎ B → C
@@ -70,6 +81,8 @@ either p P a b = record {
   fits = on_sum a.fits (λ t. b.fits t × Stops P (b.spell t));
   ends = on_sum a.ends (λ t z. b.ends t z × Stops P (b.spell t ++ z));
   read = reader.either p (reader.mapped inl a.read) (reader.mapped inr b.read);
+  steps = on_sum a.steps b.steps;
+  trace = λ xs. if head_in p xs then a.trace xs else b.trace xs;
 }
 
 abbrev pub nothing : {M : Type 0} → Rule M (Unit {0})
@@ -79,6 +92,8 @@ nothing = record {
   fits = λ t. Unit {0};
   ends = λ t z. Unit {0};
   read = reader.nothing;
+  steps = λ t. [];
+  trace = λ xs. [];
 }
 
 -- a rule under other names
@@ -89,6 +104,8 @@ mapped to from b = record {
   fits = λ t. b.fits (from t);
   ends = λ t z. b.ends (from t) z;
   read = reader.mapped to b.read;
+  steps = λ t. b.steps (from t);
+  trace = b.trace;
 }
 
 abbrev pub Ends : {M A : Type 0} → (A → Rows M) → (A → Rows M → Type 0) → Set → List A → Rows M → Type 0
@@ -102,6 +119,8 @@ star p P a = record {
   fits = Each a.fits;
   ends = Ends a.spell a.ends P;
   read = reader.star p a.read;
+  steps = steps_of_many a.steps;
+  trace = λ xs. star_trace p a.read a.trace (suc (length xs)) xs;
 }
 
 -- a rule that is too deep to be read, which begins with this token
@@ -112,6 +131,8 @@ too_deep w a = record {
   fits = λ t. ⊥;
   ends = a.ends;
   read = reader.too_deep w;
+  steps = a.steps;
+  trace = a.trace;
 }
 
 -- ---- the forms that the grammar is written in
@@ -128,6 +149,8 @@ choice P a b = record {
   fits = on_sum a.fits b.fits;
   ends = on_sum a.ends (λ t z. b.ends t z × Stops P (b.spell t ++ z));
   read = reader.either (in_set P) (reader.mapped inl a.read) (reader.mapped inr b.read);
+  steps = on_sum a.steps b.steps;
+  trace = λ xs. if head_in (in_set P) xs then a.trace xs else b.trace xs;
 }
 
 -- ends of what may be absent
@@ -147,6 +170,8 @@ optional P a = record {
   fits = Given a.fits;
   ends = Closes a.ends P;
   read = reader.mapped to_option (reader.either (in_set P) (reader.mapped inl a.read) (reader.mapped inr reader.nothing));
+  steps = steps_of_option a.steps;
+  trace = λ xs. if head_in (in_set P) xs then a.trace xs else [];
 }
 
 -- `*`
@@ -161,6 +186,8 @@ named spell keeps to from b = record {
   fits = keeps;
   ends = λ t z. b.ends (from t) z;
   read = reader.mapped to b.read;
+  steps = λ t. b.steps (from t);
+  trace = b.trace;
 }
 
 -- the same where what can be read is less
@@ -171,6 +198,8 @@ named_fits spell keeps fits to from b = record {
   fits = fits;
   ends = λ t z. b.ends (from t) z;
   read = reader.mapped to b.read;
+  steps = λ t. b.steps (from t);
+  trace = b.trace;
 }
 
 -- a part on a condition, under which the second part may come after the first
@@ -181,6 +210,8 @@ joined C a b = record {
   fits = λ t. C t.0 t.1 × a.fits t.0 × b.fits t.1;
   ends = λ t z. a.ends t.0 (b.spell t.1 ++ z) × b.ends t.1 z;
   read = reader.seq a.read b.read;
+  steps = λ t. a.steps t.0 ++ b.steps t.1;
+  trace = λ xs. a.trace xs ++ then_steps (a.read xs) (λ x. b.trace x.1);
 }
 
 -- no row: the next one is in the set
@@ -191,6 +222,8 @@ peek G = record {
   fits = λ t. Unit {0};
   ends = λ t z. Stops (λ k. not (G k)) z;
   read = reader.peek (in_set G);
+  steps = λ t. [];
+  trace = λ xs. [];
 }
 
 -- one that doesn't begin with a token of the set: a keyword rule
@@ -201,4 +234,18 @@ unstarted P a = record {
   fits = λ t. a.fits t × Stops P (a.spell t);
   ends = λ t z. a.ends t z × Stops P (a.spell t ++ z);
   read = reader.unstarted (in_set P) a.read;
+  steps = a.steps;
+  trace = λ xs. if head_in (in_set P) xs then [] else a.trace xs;
+}
+
+-- the same rule with a note, once its tree was read
+abbrev pub noting : {M A : Type 0} → (A → Event M) → Rule M A → Rule M A
+noting note a = record {
+  spell = a.spell;
+  may = a.may;
+  fits = a.fits;
+  ends = a.ends;
+  read = a.read;
+  steps = λ t. a.steps t ++ (Note (note t) ∷ []);
+  trace = λ xs. a.trace xs ++ then_steps (a.read xs) (λ x. Note (note x.0) ∷ []);
 }

@@ -10,7 +10,9 @@ use Rattle.protox_ast.specs.Spelling as s
 use Rattle.protox_ast.specs.Keywords as k
 use Rattle.protox_grammar.specs.Reader as reader
 use Rattle.protox_grammar.specs.Reader.{Reader, Unexpected, ◌>>=◌, see_word, see_integer, see_float, see_text}
-use Rattle.protox_grammar.specs.Rule.{Rule, row, fixed, leaf, seq, named, unless, choice, optional, times, joined, peek}
+use Rattle.protox_grammar.specs.Steps.{plainly, plain_trace, ANode, AnOpenBrace, ACloseBrace}
+use Rattle.protox_ast.specs.CheckedNodes.{CheckedNode, ASyntax, AnImport, AReservedName}
+use Rattle.protox_grammar.specs.Rule.{Rule, row, fixed, leaf, seq, named, unless, choice, optional, times, joined, peek, noting}
 
 -- up to the brace that closes: the rows before it, which are tokens
 unfoldable pub balanced_at : {M : Type 0} → ℕ → Reader M (Rows M)
@@ -29,6 +31,8 @@ closed = record {
   fits = λ t. k.BracesMatch t.0 × k.Each k.IsSignificant t.0;
   ends = λ t z. k.BracesMatch t.0 × k.Each k.IsSignificant t.0;
   read = reader.seq (balanced_at 0) (reader.fixed (Mark s.close_brace));
+  steps = λ t. plainly (t.0 ++ (row (Mark s.close_brace) t.1 ∷ []));
+  trace = plain_trace (reader.seq (balanced_at 0) (reader.fixed (Mark s.close_brace)));
 }
 
 abbrev pub free : {A : Type 0} → A → Type 0
@@ -76,9 +80,13 @@ unfoldable pub strings : {M : Type 0} → Rule M (t.Strings M)
 strings = named s.strings free (λ x. record { first = x.0; others = x.1 }) (λ x. (x.first, x.others))
     (seq string (times (only 41) string))
 
+-- strings that are checked
+abbrev pub noted_strings : {M : Type 0} → (t.Strings M → CheckedNode M) → Rule M (t.Strings M)
+noted_strings node = noting (λ x. ANode (node x)) strings
+
 unfoldable pub syntax : {M : Type 0} → Rule M (t.Syntax M)
 syntax = named s.syntax free (λ x. record { keyword = x.0; equals_sign = x.1.0; value = x.1.1.0; end = x.1.1.1 }) (λ x. (x.keyword, (x.equals_sign, (x.value, x.end))))
-    (seq (the (codes "syntax")) (seq (sign s.equals) (seq strings (sign s.semicolon))))
+    (seq (the (codes "syntax")) (seq (sign s.equals) (seq (noted_strings ASyntax) (sign s.semicolon))))
 
 abbrev pub to_import_kind : {M : Type 0} → M ⊎ M → t.ImportKind M
 to_import_kind (inl x) = t.weak x
@@ -94,7 +102,7 @@ import_kind = named s.import_kind free to_import_kind from_import_kind
 
 unfoldable pub «import» : {M : Type 0} → Rule M (t.Import M)
 «import» = named s.«import» free (λ x. record { keyword = x.0; kind = x.1.0; value = x.1.1.0; end = x.1.1.1 }) (λ x. (x.keyword, (x.kind, (x.value, x.end))))
-    (seq (the (codes "import")) (seq (optional (among (3 ∷ 4 ∷ [])) import_kind) (seq strings (sign s.semicolon))))
+    (seq (the (codes "import")) (seq (optional (among (3 ∷ 4 ∷ [])) import_kind) (seq (noted_strings AnImport) (sign s.semicolon))))
 
 unfoldable pub fullident : {M : Type 0} → Rule M (t.FullIdent M)
 fullident = named s.fullident free (λ x. record { first = x.0; others = x.1 }) (λ x. (x.first, x.others))
@@ -146,7 +154,7 @@ from_value (t.aggregate a b c) = inr (inr ((a, (b, c))))
 
 unfoldable pub value : {M : Type 0} → Rule M (t.Value M)
 value = named s.value k.KeepsValue to_value from_value
-    (choice (union words (among (39 ∷ 40 ∷ 43 ∷ []))) (seq (optional (only 43) (sign s.minus)) constant) (choice (only 41) strings (seq (sign s.open_brace) closed)))
+    (choice (union words (among (39 ∷ 40 ∷ 43 ∷ []))) (seq (optional (only 43) (sign s.minus)) constant) (choice (only 41) strings (seq (noting AnOpenBrace (sign s.open_brace)) (noting (λ x. ACloseBrace x.1) closed))))
 
 unfoldable pub body : {M : Type 0} → Rule M (t.Body M)
 body = named s.body k.KeepsBody (λ x. record { first = x.0; others = x.1.0; equals_sign = x.1.1.0; value = x.1.1.1 }) (λ x. (x.first, (x.others, (x.equals_sign, x.value))))
@@ -235,7 +243,7 @@ ranges = named s.ranges free (λ x. record { first = x.0; others = x.1 }) (λ x.
 
 unfoldable pub names : {M : Type 0} → Rule M (t.Names M)
 names = named s.names free (λ x. record { first = x.0; others = x.1 }) (λ x. (x.first, x.others))
-    (seq strings (times (only 53) (seq (sign s.comma) strings)))
+    (seq (noted_strings AReservedName) (times (only 53) (seq (sign s.comma) (noted_strings AReservedName))))
 
 abbrev pub to_reserved_kind : {M : Type 0} → t.Ranges M ⊎ t.Names M → t.ReservedKind M
 to_reserved_kind (inl x) = t.ranges x

@@ -3,11 +3,18 @@
 #![tactic(auto)]
 
 ghost use Rattle.protox_grammar.specs.Grammar as grammar;
+ghost use Rattle.protox_grammar.specs.OneOfThree as three;
 ghost use Rattle.protox_grammar.specs.TruthLaws as truth;
+ghost use Rattle.protox_grammar.specs.CheckLaws as checks;
 
 /// No rows are the spelling of two trees that keep the keyword rules.
 pub fn one_tree<M>(_mark: &M)
     ensures { grammar.OneTree M }
+{}
+
+/// Rows spell a file, or end too soon, or one of them is unexpected: just one of the three, and just one row.
+pub fn one_of_three<M>(_mark: &M)
+    ensures { three.OneOfThree M }
 {}
 
 /// What is read is the tree that the rows spell, if it is at most so deep.
@@ -40,4 +47,26 @@ pub fn stops_are_true()
 pub fn spelled_is_expected()
     ensures token { truth.NoneIsUnexpected }
     ensures end { truth.NoneIsEnded }
+{}
+
+/// A wrong node that is noted while the tokens of a source are read is one of a file that goes on there, and its fault is true of the source.
+pub fn noted_is_true()
+    ensures node { checks.NotedIsTrue }
+    ensures fault { checks.NotedIsTrueOf }
+{}
+
+/// A wrong node of a file that goes on behind some tokens is noted by then, unless a body that is too deep was opened before.
+pub fn none_is_passed_over()
+    ensures { checks.NoneIsPassedOver }
+{}
+
+/// Where a body that is too deep was opened, its fault is noted.
+pub fn too_deep_is_noted()
+    ensures { checks.TooDeepIsNoted }
+{}
+
+/// Some file goes on inside an aggregate just where the last brace of an aggregate that was noted opens it.
+pub fn insides_are_open()
+    ensures inside { checks.InsideIsOpen }
+    ensures open { checks.OpenIsInside }
 {}

@@ -44,5 +44,5 @@ record AreAll : Type 0 where
   braces : aggregates (made everywhere) ≡ (3, 7) ∷ (15, 16) ∷ (29, 30) ∷ (45, 46) ∷ (56, 57) ∷ (63, 64) ∷ (73, 74) ∷ (83, 84) ∷ (94, 95) ∷ (103, 104) ∷ (119, 120) ∷ (131, 132) ∷ (141, 142) ∷ (152, 153) ∷ (168, 169) ∷ (183, 184) ∷ (194, 195) ∷ []
 
 are_all : AreAll
-unfolding read r.strings r.syntax r.import_kind r.«import» r.fullident r.«package» r.typename r.part r.constant r.value r.body r.option r.list r.int r.type r.label r.normal r.map r.range_end r.range r.ranges r.names r.reserved_kind r.reserved r.extensions r.evalue r.enum_element r.enum r.rpc_type r.rpc_element r.rpc_end r.rpc r.service_element r.service rule.group rule.field_kind rule.field rule.oneof_element rule.oneof_elements rule.oneof rule.extend_element rule.extend_elements rule.extend rule.message rule.element rule.elements rule.mbody rule.read_mbody rule.statement rule.file reader.fixed reader.too_deep reader.leaf reader.star_at reader.star r.balanced_at
+unfolding read r.strings r.syntax r.import_kind r.«import» r.fullident r.«package» r.typename r.part r.constant r.value r.body r.option r.list r.int r.type r.label r.normal r.map r.range_end r.range r.ranges r.names r.reserved_kind r.reserved r.extensions r.evalue r.enum_element r.enum r.rpc_type r.rpc_element r.rpc_end r.rpc r.service_element r.service rule.group rule.field_kind rule.field rule.oneof_element rule.oneof_elements rule.oneof rule.extend_element rule.extend_elements rule.extend rule.message rule.element rule.elements rule.mbody rule.unsealed rule.deep_read rule.statement rule.file reader.fixed reader.too_deep reader.leaf reader.star_at reader.star r.balanced_at
 are_all = record { is_made = refl; braces = refl }

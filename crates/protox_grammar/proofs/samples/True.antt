@@ -61,7 +61,7 @@ record AreMade : Type 0 where
   message_ends : read 31 (rows_of x.unclosed) ≡ Err (Unexpected 0)
 
 are_made : AreMade
-unfolding read r.strings r.syntax r.import_kind r.«import» r.fullident r.«package» r.typename r.part r.constant r.value r.body r.option r.list r.int r.type r.label r.normal r.map r.range_end r.range r.ranges r.names r.reserved_kind r.reserved r.extensions r.evalue r.enum_element r.enum r.rpc_type r.rpc_element r.rpc_end r.rpc r.service_element r.service rule.group rule.field_kind rule.field rule.oneof_element rule.oneof_elements rule.oneof rule.extend_element rule.extend_elements rule.extend rule.message rule.element rule.elements rule.mbody rule.read_mbody rule.statement rule.file reader.fixed reader.too_deep reader.leaf reader.star_at reader.star r.balanced_at
+unfolding read r.strings r.syntax r.import_kind r.«import» r.fullident r.«package» r.typename r.part r.constant r.value r.body r.option r.list r.int r.type r.label r.normal r.map r.range_end r.range r.ranges r.names r.reserved_kind r.reserved r.extensions r.evalue r.enum_element r.enum r.rpc_type r.rpc_element r.rpc_end r.rpc r.service_element r.service rule.group rule.field_kind rule.field rule.oneof_element rule.oneof_elements rule.oneof rule.extend_element rule.extend_elements rule.extend rule.message rule.element rule.elements rule.mbody rule.unsealed rule.deep_read rule.statement rule.file reader.fixed reader.too_deep reader.leaf reader.star_at reader.star r.balanced_at
 are_made = record {
   option_made = refl;
   braces = refl;

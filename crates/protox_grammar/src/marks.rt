@@ -1,17 +1,20 @@
 //! The laws at the marks that are used: none, and places.
 ghost use Rattle.protox_grammar.specs.Grammar as grammar;
+ghost use Rattle.protox_grammar.specs.OneOfThree as three;
 ghost use Rattle.protox_lex.specs.Faults.{Span};
 
-use crate::{accepts, ended, one_tree, too_deep, unexpected};
+use crate::{accepts, ended, one_of_three, one_tree, too_deep, unexpected};
 
 fn without_marks()
     ensures one_tree { grammar.OneTree (Unit {0}) }
+    ensures one_of_three { three.OneOfThree (Unit {0}) }
     ensures accepts { grammar.AcceptsIff (Unit {0}) }
     ensures unexpected { grammar.TightUnexpected (Unit {0}) }
     ensures too_deep { grammar.TightDeep (Unit {0}) }
     ensures ended { grammar.TightEnd (Unit {0}) }
 {
     one_tree(&());
+    one_of_three(&());
     accepts(&());
     unexpected(&());
     too_deep(&());
@@ -20,6 +23,7 @@ fn without_marks()
 
 fn with_places()
     ensures one_tree { grammar.OneTree Span }
+    ensures one_of_three { three.OneOfThree Span }
     ensures accepts { grammar.AcceptsIff Span }
     ensures unexpected { grammar.TightUnexpected Span }
     ensures too_deep { grammar.TightDeep Span }
@@ -27,6 +31,7 @@ fn with_places()
 {
     let place = 0usize..0;
     one_tree(&place);
+    one_of_three(&place);
     accepts(&place);
     unexpected(&place);
     too_deep(&place);

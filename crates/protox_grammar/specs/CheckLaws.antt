@@ -40,7 +40,7 @@ IsNotedBy lexemes n wrong = Any (λ node. WrongCheckedNode (token_span (rows_of 
 
 -- ---- checks
 
--- the fault of a node that is noted is, at that node's end, one of a file that goes on there
+-- the fault of a node that is noted by then is that of a node of a file that goes on, at a place up to there
 abbrev pub NotedIsTrue : Type 0
 NotedIsTrue = (lexemes : List Lexeme) (n : ℕ) (wrong : ParseErrorKind) → IsNotedBy lexemes n wrong → (k : ℕ) × (k ≤ n) × IsWrongBehind lexemes k wrong
 
@@ -48,7 +48,7 @@ NotedIsTrue = (lexemes : List Lexeme) (n : ℕ) (wrong : ParseErrorKind) → IsN
 abbrev pub NotedIsTrueOf : Type 0
 NotedIsTrueOf = (lexemes : List Lexeme) (n : ℕ) (wrong : ParseErrorKind) → IsNotedBy lexemes n wrong → IsTrueOf lexemes wrong
 
--- where a file that goes on has a wrong node that ends there, such a node is noted by then, unless reading ended before
+-- where a file that goes on has a wrong node that ends there, a node with this end and this fault is noted by then, unless reading ended before
 abbrev pub NoneIsPassedOver : Type 0
 NoneIsPassedOver = (lexemes : List Lexeme) (n : ℕ) (wrong : ParseErrorKind)
     → IsWrongBehind lexemes n wrong

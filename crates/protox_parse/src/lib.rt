@@ -22,7 +22,7 @@ pub use protox_descriptor::{case, descriptor, tag, values};
 pub use protox_generate::generate;
 use protox_generate::generate::generate_file;
 pub use protox_lex::error::ParseErrorKind;
-pub use protox_lex::{error, lex};
+pub use protox_lex::{comments, error, lex};
 pub use protox_syntax::parse as syntax;
 use protox_syntax::parse::parse_file;
 use std::alloc::Global;

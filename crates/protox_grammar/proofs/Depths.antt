@@ -1,6 +1,6 @@
 -- How bodies are spelled at any depth, and read up to some depth.
 use Rattle.std.proofs.Common.{◌≡◌, ℕ, zero, suc, ◌+◌, ◌≤◌, false, [], ◌∷◌, ◌++◌, refl, sym, ap, ◌∙◌, arith}
-use Rattle.protox_lex.specs.Shapes.{Mark, Rows}
+use Rattle.protox_lexeme.specs.Shapes.{Mark, Rows}
 use Rattle.protox_grammar.specs.Class.{only, none}
 use Rattle.protox_grammar.specs.Reader.{Reader}
 use Rattle.protox_grammar.specs.Reader as reader

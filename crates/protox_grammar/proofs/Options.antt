@@ -1,6 +1,6 @@
 -- The laws of options.
 use Rattle.std.proofs.Common.{◌≡◌, false, [], ◌∷◌, Option, codes, refl, inl, inr, ◌⊎◌}
-use Rattle.protox_lex.specs.Shapes.{Rows}
+use Rattle.protox_lexeme.specs.Shapes.{Rows}
 use Rattle.protox_grammar.specs.Class.{all, none, only, words, union, among}
 use Rattle.protox_grammar.specs.Rule.{seq, choice, optional}
 use Rattle.protox_ast.specs.Tree as t

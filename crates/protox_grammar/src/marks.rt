@@ -1,6 +1,6 @@
 //! The laws at the marks that are used: none, and places.
 ghost use Rattle.protox_grammar.specs.Grammar as grammar;
-ghost use Rattle.protox_lex.specs.Faults.{Span};
+ghost use Rattle.protox_fault.specs.Faults.{Span};
 
 use crate::{accepts, ended, one_tree, too_deep, unexpected};
 

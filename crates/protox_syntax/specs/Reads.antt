@@ -1,7 +1,7 @@
 -- MACHINERY. Each rule, read into the syntax tree by the code's steps.
 use Rattle.std.specs.Prelude.{ℕ, List, [], ◌∷◌, ◌++◌, codes, Bool, true, not, Option, Some, None, is_some, Ok}
-use Rattle.protox_lex.specs.Faults.{Span}
-use Rattle.protox_lex.specs.Shapes.{Shape, Ident, Mark, Rows}
+use Rattle.protox_fault.specs.Faults.{Span}
+use Rattle.protox_lexeme.specs.Shapes.{Shape, Ident, Mark, Rows}
 use Rattle.protox_grammar.specs.Reader.{Reader, is_token, is_word_of, is_string, fixed, leaf, seq, mapped, either, optional, star, unstarted, gathered, folded, ◌>>=◌, see_word, see_integer, see_text}
 use Rattle.protox_grammar.specs.Rules.{see_scalar}
 use Rattle.protox_grammar.specs.part.Rules.{barred_words}

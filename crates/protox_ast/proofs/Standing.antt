@@ -1,10 +1,10 @@
 -- Rows with their places that stand between two offsets of a source, one behind the other.
 use Rattle.std.proofs.Common.{◌≡◌, ℕ, suc, ◌≤◌, ◌+◌, Bool, true, false, List, [], ◌∷◌, ◌++◌, length, refl, sym, ap, subst, arith}
 use Rattle.std.specs.Str.{IsUtf8}
-use Rattle.protox_lex.specs.Faults.{Span}
-use Rattle.protox_lex.specs.Lexemes.{cut}
-use Rattle.protox_lex.specs.Shapes.{Shape, Rows}
-use Rattle.protox_lex.specs.Table.{StandBetween, table_of, rows_of, gaps_of}
+use Rattle.protox_fault.specs.Faults.{Span}
+use Rattle.protox_lexeme.specs.Lexemes.{cut}
+use Rattle.protox_lexeme.specs.Shapes.{Shape, Rows}
+use Rattle.protox_lexeme.specs.Table.{StandBetween, table_of, rows_of, gaps_of}
 use Rattle.protox_lex.proofs.Places.{stand}
 use Rattle.protox_ast.specs.Places.{Place, later_gaps, placed_from, placed}
 

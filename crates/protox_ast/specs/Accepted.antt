@@ -1,12 +1,12 @@
 -- When a source is accepted, and which syntax tree it gives.
 use Rattle.std.specs.Prelude.{◌≡◌, ◌≢◌, ◌≤◌, ℕ, nat_le, Bool, ◌&&◌, List, [], length}
 use Rattle.std.specs.List.{list_any}
-use Rattle.protox_lex.specs.Faults.{LiesIn, faults_in}
-use Rattle.protox_lex.specs.declared.error.SyntaxFailure.{SyntaxFailure}
-use Rattle.protox_lex.specs.declared.error.SyntaxFailure.TheVariants.{Faults, OutOfMemory}
-use Rattle.protox_lex.specs.Shapes.{Invalid}
-use Rattle.protox_lex.specs.Lexemes.{Lexeme, cut}
-use Rattle.protox_lex.specs.Table.{table_of}
+use Rattle.protox_fault.specs.Faults.{LiesIn, faults_in}
+use Rattle.protox_fault.specs.declared.error.SyntaxFailure.{SyntaxFailure}
+use Rattle.protox_fault.specs.declared.error.SyntaxFailure.TheVariants.{Faults, OutOfMemory}
+use Rattle.protox_lexeme.specs.Shapes.{Invalid}
+use Rattle.protox_lexeme.specs.Lexemes.{Lexeme, cut}
+use Rattle.protox_lexeme.specs.Table.{table_of}
 use Rattle.protox_ast.specs.Places.{Place, placed}
 use Rattle.protox_ast.specs.Tree as t
 use Rattle.protox_ast.specs.Keywords.{Each}

@@ -3,7 +3,7 @@
 -- with braces, and how a string is cut into literals.
 use Rattle.std.specs.Prelude.{ℕ, List, [], ◌∷◌, Option, Some, None, option_map}
 use Rattle.std.specs.List.{filter_map}
-use Rattle.protox_lex.specs.Faults.{Span}
+use Rattle.protox_fault.specs.Faults.{Span}
 use Rattle.protox_ast.specs.declared.ast.Comments.{Comments}
 use Rattle.protox_ast.specs.declared.ast.Option as option_type
 use Rattle.protox_ast.specs.declared.ast.Package as package_type

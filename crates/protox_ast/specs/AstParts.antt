@@ -3,9 +3,9 @@
 use Rattle.std.specs.Prelude.{ℕ, if◌then◌else◌, List, [], ◌∷◌, ◌++◌, map, Option, Some, None, option_map, is_some, codes, encode_utf8_all}
 use Rattle.std.specs.Str.{bytes_eq}
 use Rattle.bstr.specs.Utf8.{lossy_chars}
-use Rattle.protox_lex.specs.Faults.{Span}
-use Rattle.protox_lex.specs.Shapes.{Row, Rows}
-use Rattle.protox_lex.specs.Printed.{printed}
+use Rattle.protox_fault.specs.Faults.{Span}
+use Rattle.protox_lexeme.specs.Shapes.{Row, Rows}
+use Rattle.protox_lexeme.specs.Printed.{printed}
 use Rattle.protox_ast.specs.declared.ast.Ident.{Ident}
 use Rattle.protox_ast.specs.declared.ast.TypeName.{TypeName}
 use Rattle.protox_ast.specs.declared.ast.Int.{Int}

@@ -1,9 +1,9 @@
 -- The first tokens of a source, and the files that begin with them: what stands inside an aggregate there, and which lexemes are clean.
 use Rattle.std.specs.Prelude.{◌≡◌, ◌≢◌, ◌<◌, ◌≤◌, ℕ, suc, true, if◌then◌else◌, List, [], ◌∷◌, ◌++◌, map, length, take, Any}
-use Rattle.protox_lex.specs.Faults.{faults_in}
-use Rattle.protox_lex.specs.Lexemes.{Lexeme}
-use Rattle.protox_lex.specs.Shapes.{Shape, Invalid, Rows}
-use Rattle.protox_lex.specs.Table.{is_gap, rows_of}
+use Rattle.protox_fault.specs.Faults.{faults_in}
+use Rattle.protox_lexeme.specs.Lexemes.{Lexeme}
+use Rattle.protox_lexeme.specs.Shapes.{Shape, Invalid, Rows}
+use Rattle.protox_lexeme.specs.Table.{is_gap, rows_of}
 use Rattle.protox_ast.specs.Aggregates.{aggregates}
 use Rattle.protox_ast.specs.Spells.{Spells}
 use Rattle.protox_ast.specs.Tree as t

@@ -1,6 +1,6 @@
 -- Where a word that is a keyword may stand as a name: the keyword rules, and the trees that keep them everywhere.
 use Rattle.std.specs.Prelude.{◌≡◌, ℕ, suc, ◌-◌, List, [], ◌∷◌, Option, Some, None, Bool, true, false, if◌then◌else◌, ◌==◌, codes}
-use Rattle.protox_lex.specs.Shapes.{Shape, Mark, LineComment, BlockComment, Newline, Invalid, Row, Rows}
+use Rattle.protox_lexeme.specs.Shapes.{Shape, Mark, LineComment, BlockComment, Newline, Invalid, Row, Rows}
 use Rattle.protox_ast.specs.Tree as t
 use Rattle.protox_ast.specs.Spelling.{open_brace, close_brace}
 

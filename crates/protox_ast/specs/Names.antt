@@ -1,6 +1,6 @@
 -- Where names stand and what they say.
 use Rattle.std.specs.Prelude.{ℕ, List, [], ◌∷◌, ◌++◌, flat_map, Some, None}
-use Rattle.protox_lex.specs.Faults.{Span}
+use Rattle.protox_fault.specs.Faults.{Span}
 use Rattle.protox_ast.specs.declared.ast.Ident.{Ident}
 use Rattle.protox_ast.specs.declared.ast.TypeName.{TypeName}
 

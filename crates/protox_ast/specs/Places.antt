@@ -1,9 +1,9 @@
 -- Where tokens stand in a source, and the comments around them.
 use Rattle.std.specs.Prelude.{ℕ, Bool, true, false, List, [], ◌∷◌, Option, Some, None}
-use Rattle.protox_lex.specs.Faults.{Span}
-use Rattle.protox_lex.specs.Shapes.{Shape, Row, Rows}
-use Rattle.protox_lex.specs.Gaps.{attribution}
-use Rattle.protox_lex.specs.Table.{Table}
+use Rattle.protox_fault.specs.Faults.{Span}
+use Rattle.protox_lexeme.specs.Shapes.{Shape, Row, Rows}
+use Rattle.protox_lexeme.specs.Gaps.{attribution}
+use Rattle.protox_lexeme.specs.Table.{Table}
 
 -- The span of a token. A declaration that begins with the token has the detached comments and the leading one,
 -- and one that ends or opens its body with it has the trailing one.

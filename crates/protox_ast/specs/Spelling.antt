@@ -1,7 +1,7 @@
 -- The rows of a tree: one equation a rule of the grammar, each the rows of its parts in their order.
 use Rattle.std.specs.Prelude.{ℕ, List, [], ◌∷◌, ◌++◌, Option, Some, None, codes}
-use Rattle.protox_lex.specs.Shapes as shape
-use Rattle.protox_lex.specs.Shapes.{Shape, Ident, Str, Mark, Row, Rows}
+use Rattle.protox_lexeme.specs.Shapes as shape
+use Rattle.protox_lexeme.specs.Shapes.{Shape, Ident, Str, Mark, Row, Rows}
 use Rattle.protox_ast.specs.Tree as t
 
 -- one after another, bracketed to the right

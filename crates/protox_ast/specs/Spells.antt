@@ -1,6 +1,6 @@
 -- What a list of rows is, by the rules of the grammar.
 use Rattle.std.specs.Prelude.{◌≡◌, ℕ, suc, [], ◌∷◌, ◌++◌, length}
-use Rattle.protox_lex.specs.Shapes.{Row, Rows}
+use Rattle.protox_lexeme.specs.Shapes.{Row, Rows}
 use Rattle.protox_ast.specs.Tree.{File}
 use Rattle.protox_ast.specs.Spelling.{spell}
 use Rattle.protox_ast.specs.Keywords.{KeepsKeywords}

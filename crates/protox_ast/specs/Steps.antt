@@ -1,7 +1,7 @@
 -- A function of whole trees, by what each level gives of what the levels in it give.
 use Rattle.std.specs.Prelude.{◌≡◌, map}
 use Rattle.std.proofs.Common.{ap, sym, ◌∙◌}
-use Rattle.protox_lex.specs.Faults.{Span}
+use Rattle.protox_fault.specs.Faults.{Span}
 use Rattle.protox_ast.specs.declared.ast.Enum.{Enum}
 use Rattle.protox_ast.specs.declared.ast.Ty.{Ty}
 use Rattle.protox_ast.specs.declared.ast.Message.{Message, out-Message}

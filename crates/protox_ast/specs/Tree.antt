@@ -2,7 +2,7 @@
 -- or nothing. A rule stands behind the rules that it names. The grammar is that of the Protocol Buffers language specifications of proto2
 -- and proto3 in one. Nothing is dropped: each string of a run, each token of an aggregate and each empty statement is kept.
 use Rattle.std.specs.Prelude.{ℕ, List, Option}
-use Rattle.protox_lex.specs.Shapes.{Rows}
+use Rattle.protox_lexeme.specs.Shapes.{Rows}
 
 -- ---- tokens that have a value
 

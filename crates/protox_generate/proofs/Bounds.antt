@@ -3,12 +3,12 @@ use Rattle.std.proofs.Common.{◌≡◌, ℕ, ◌+◌, ◌≤◌, max, Bool, tru
 use Rattle.std.specs.Prelude.{◌≢◌, option_map, IfErr, MatchResult}
 use Rattle.std.specs.List.{filter_map}
 use Rattle.std.specs.Str.{IsUtf8}
-use Rattle.protox_lex.specs.Faults.{Span, SpanLiesIn, LiesIn}
-use Rattle.protox_lex.specs.Shapes.{Row, Rows}
+use Rattle.protox_fault.specs.Faults.{Span, SpanLiesIn, LiesIn}
+use Rattle.protox_lexeme.specs.Shapes.{Row, Rows}
 use Rattle.protox_ast.proofs.Standing.{Stand, in-order, stand-after, stand-front, count-fits, tokens-stand}
-use Rattle.protox_lex.specs.declared.error.ParseErrorKind.TheVariants.{InvalidMessageNumber}
-use Rattle.protox_lex.specs.declared.error.SyntaxFailure.{SyntaxFailure}
-use Rattle.protox_lex.specs.declared.error.SyntaxFailure.TheVariants.{Faults, OutOfMemory}
+use Rattle.protox_fault.specs.declared.error.ParseErrorKind.TheVariants.{InvalidMessageNumber}
+use Rattle.protox_fault.specs.declared.error.SyntaxFailure.{SyntaxFailure}
+use Rattle.protox_fault.specs.declared.error.SyntaxFailure.TheVariants.{Faults, OutOfMemory}
 use Rattle.protox_ast.specs.part.Tree as tree
 use Rattle.protox_ast.specs.part.Spelling as s
 use Rattle.protox_ast.specs.part.Ast as ast

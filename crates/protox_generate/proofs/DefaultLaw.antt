@@ -1,7 +1,7 @@
 -- A default value has no text exactly where something is wrong with it.
 use Rattle.std.proofs.Common.{◌≡◌, Bool, true, false, ◌↔◌, if◌then◌else◌, List, ℕ, ℤ, Option, Some, None, codes, refl, ap, sym, true≢false, is_none}
-use Rattle.protox_lex.specs.declared.error.ParseErrorKind.{ParseErrorKind}
-use Rattle.protox_lex.specs.declared.error.ParseErrorKind.TheVariants as fault
+use Rattle.protox_fault.specs.declared.error.ParseErrorKind.{ParseErrorKind}
+use Rattle.protox_fault.specs.declared.error.ParseErrorKind.TheVariants as fault
 use Rattle.protox_ast.specs.Checks.{is_text}
 use Rattle.protox_ast.specs.Numbers.{signed_value}
 use Rattle.protox_ast.specs.declared.ast.OptionValue.{OptionValue}

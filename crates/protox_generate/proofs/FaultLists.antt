@@ -1,6 +1,6 @@
 -- Faults that come one node at a time.
 use Rattle.std.proofs.Common.{◌≡◌, ℕ, ◌+◌, ◌<◌, List, [], ◌∷◌, ◌++◌, length, map, take, get_or, ap, sym, ◌∙◌, append_assoc, append-nil}
-use Rattle.protox_lex.specs.declared.error.ParseErrorKind.{ParseErrorKind}
+use Rattle.protox_fault.specs.declared.error.ParseErrorKind.{ParseErrorKind}
 use Rattle.protox_generate.specs.part.Checks.{joined, fields_faults}
 use Rattle.protox_generate.specs.declared.checks.Scope.TheVariants as scope
 use Rattle.protox_generate.specs.declared.checks.Scope.{Scope}

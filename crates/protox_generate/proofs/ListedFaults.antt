@@ -1,9 +1,9 @@
 -- Each fault that is listed has its word at the one place. So it is wrong of the file, and each that is wrong is listed.
 use Rattle.std.proofs.Common.{◌≡◌, Bool, true, false, not, List, [], Any, Contains, Option, Some, None, codes, refl, sym, ap, subst, ◌∙◌, is_none}
 use Rattle.std.specs.Prelude.{◌&&◌}
-use Rattle.protox_lex.specs.Faults.{Span}
-use Rattle.protox_lex.specs.declared.error.ParseErrorKind.{ParseErrorKind}
-use Rattle.protox_lex.specs.declared.error.ParseErrorKind.TheVariants as fault
+use Rattle.protox_fault.specs.Faults.{Span}
+use Rattle.protox_fault.specs.declared.error.ParseErrorKind.{ParseErrorKind}
+use Rattle.protox_fault.specs.declared.error.ParseErrorKind.TheVariants as fault
 use Rattle.protox_ast.specs.Checks.{is_text}
 use Rattle.protox_ast.specs.Keywords.{Each}
 use Rattle.protox_ast.specs.declared.ast.FieldLabel.{FieldLabel}

@@ -1,8 +1,8 @@
 -- What the code makes and finds, said of the definitions of the whole language.
 use Rattle.std.proofs.Common.{◌≡◌, ℕ, List, [], Result, Ok, Err, IfOk, MatchResult, sym, subst, ◌∙◌}
 use Rattle.std.specs.Prelude.{◌≢◌, Any, IfErr}
-use Rattle.protox_lex.specs.declared.error.SyntaxFailure.{SyntaxFailure}
-use Rattle.protox_lex.specs.declared.error.SyntaxFailure.TheVariants.{Faults, OutOfMemory}
+use Rattle.protox_fault.specs.declared.error.SyntaxFailure.{SyntaxFailure}
+use Rattle.protox_fault.specs.declared.error.SyntaxFailure.TheVariants.{Faults, OutOfMemory}
 use Rattle.protox_ast.specs.Accepted.{IsFileOf}
 use Rattle.protox_ast.specs.Keywords.{Each}
 use Rattle.protox_ast.specs.declared.ast.File.{File}

@@ -1,7 +1,7 @@
 -- Machinery: how many nodes a tree has, and how far its spans reach. The indices of a path are below the one, and the lines
 -- and columns of a location not above the other.
 use Rattle.std.specs.Prelude.{ℕ, ◌+◌, max, List, [], ◌∷◌, length, map, Option, Some, None}
-use Rattle.protox_lex.specs.Faults.{Span}
+use Rattle.protox_fault.specs.Faults.{Span}
 use Rattle.protox_ast.specs.Steps.{Steps, of_message}
 use Rattle.protox_ast.specs.declared.ast.FieldKind.TheOpen.{MessageItem-F, FieldKind-F}
 use Rattle.protox_ast.specs.declared.ast.Comments.{Comments}

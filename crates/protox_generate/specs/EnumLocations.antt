@@ -1,6 +1,6 @@
 -- Where the parts of an enum stand, from its path on.
 use Rattle.std.specs.Prelude.{List, [], ◌∷◌, ◌++◌, length, ℤ}
-use Rattle.protox_lex.specs.Faults.{Span}
+use Rattle.protox_fault.specs.Faults.{Span}
 use Rattle.protox_ast.specs.declared.ast.Enum.{Enum}
 use Rattle.protox_ast.specs.declared.ast.EnumValue.{EnumValue}
 use Rattle.protox_descriptor.specs.declared.descriptor.source_code_info.Location.{Location}

@@ -1,10 +1,10 @@
 -- What is wrong with a file that its syntax allows: a relation, without order. What the parser checks stands elsewhere.
 use Rattle.std.specs.Prelude.{ℕ, ◌≡◌, ◌≢◌, false, List, [], Any}
 use Rattle.std.specs.Borrow.{Bor}
-use Rattle.protox_lex.specs.declared.error.ParseErrorKind.{ParseErrorKind}
-use Rattle.protox_lex.specs.declared.error.ParseErrorKind.TheVariants as fault
-use Rattle.protox_lex.specs.declared.error.SyntaxFailure.{SyntaxFailure}
-use Rattle.protox_lex.specs.declared.error.SyntaxFailure.TheVariants as failure
+use Rattle.protox_fault.specs.declared.error.ParseErrorKind.{ParseErrorKind}
+use Rattle.protox_fault.specs.declared.error.ParseErrorKind.TheVariants as fault
+use Rattle.protox_fault.specs.declared.error.SyntaxFailure.{SyntaxFailure}
+use Rattle.protox_fault.specs.declared.error.SyntaxFailure.TheVariants as failure
 use Rattle.protox_ast.specs.Keywords.{Each}
 use Rattle.protox_ast.specs.declared.ast.File.{File}
 use Rattle.protox_ast.specs.declared.ast.Syntax.{Syntax}

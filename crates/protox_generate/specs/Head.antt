@@ -1,6 +1,6 @@
 -- What stands at the head of a file: its syntax, its package, and which of its imports are public or weak.
 use Rattle.std.specs.Prelude.{ℕ, Bool, true, false, List, Option, Some, None, codes}
-use Rattle.protox_lex.specs.Faults.{Span}
+use Rattle.protox_fault.specs.Faults.{Span}
 use Rattle.protox_ast.specs.Names.{name_text}
 use Rattle.protox_ast.specs.declared.ast.Import.{Import}
 use Rattle.protox_ast.specs.declared.ast.ImportKind.{ImportKind}

@@ -1,6 +1,6 @@
 -- Lines and columns, both from 0, of an offset in a source.
 use Rattle.std.specs.Prelude.{ℕ, ◌+◌, ◌-◌, ◌<◌, ◌≤◌, ◌==◌, nat_le, if◌then◌else◌, List, [], ◌∷◌, take, length, slice_index, ⊤, ℤ, pos}
-use Rattle.protox_lex.specs.Faults.{Span}
+use Rattle.protox_fault.specs.Faults.{Span}
 
 -- how many newlines there are
 abbrev pub newlines : List ℕ → ℕ

@@ -1,6 +1,6 @@
 -- Paths and locations, and where options and ranges stand, from the path of what they belong to.
 use Rattle.std.specs.Prelude.{ℕ, ◌+◌, List, [], ◌∷◌, ◌++◌, length, Option, Some, None, ℤ, pos}
-use Rattle.protox_lex.specs.Faults.{Span}
+use Rattle.protox_fault.specs.Faults.{Span}
 use Rattle.protox_ast.specs.declared.ast.Comments.{Comments}
 use Rattle.protox_ast.specs.declared.ast.Extensions.{Extensions}
 use Rattle.protox_ast.specs.declared.ast.OptionBody.{OptionBody}

@@ -1,6 +1,6 @@
 -- Where in the source each part of a descriptor stands, by paths of field numbers and places among like siblings.
 use Rattle.std.specs.Prelude.{ℕ, List, [], ◌∷◌, ◌++◌, length, map, Option, Some, None, ℤ}
-use Rattle.protox_lex.specs.Faults.{Span}
+use Rattle.protox_fault.specs.Faults.{Span}
 use Rattle.protox_ast.specs.Steps.{Steps, of_extend, of_message}
 use Rattle.protox_ast.specs.declared.ast.Comments.{Comments}
 use Rattle.protox_ast.specs.declared.ast.FieldKind.TheOpen.{Extend-F, MessageItem-F, Oneof-F}

@@ -1,6 +1,6 @@
 -- The numbers of fields, and those that descriptor.proto gives to labels and types.
 use Rattle.std.specs.Prelude.{Bool, not, ◌&&◌, nat_lt, if◌then◌else◌, Option, Some, None, ℤ, pos}
-use Rattle.protox_lex.specs.Faults.{Span}
+use Rattle.protox_fault.specs.Faults.{Span}
 use Rattle.protox_ast.specs.declared.ast.FieldLabel.{FieldLabel}
 use Rattle.protox_ast.specs.declared.ast.FieldLabel.TheVariants as label
 use Rattle.protox_ast.specs.declared.ast.Int.{Int}

@@ -1,6 +1,6 @@
 -- Where the parts of a service stand, from its path on.
 use Rattle.std.specs.Prelude.{List, [], ◌∷◌, ◌++◌, length, Option, Some, None, ℤ}
-use Rattle.protox_lex.specs.Faults.{Span}
+use Rattle.protox_fault.specs.Faults.{Span}
 use Rattle.protox_ast.specs.Names.{type_name_span}
 use Rattle.protox_ast.specs.declared.ast.Method.{Method}
 use Rattle.protox_ast.specs.declared.ast.Service.{Service}

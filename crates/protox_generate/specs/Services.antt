@@ -1,6 +1,6 @@
 -- The descriptor of a service.
 use Rattle.std.specs.Prelude.{Bool, true, map, Option, Some, None}
-use Rattle.protox_lex.specs.Faults.{Span}
+use Rattle.protox_fault.specs.Faults.{Span}
 use Rattle.protox_ast.specs.Names.{type_name_text}
 use Rattle.protox_ast.specs.declared.ast.Method.{Method}
 use Rattle.protox_ast.specs.declared.ast.Service.{Service}

@@ -1,8 +1,8 @@
 -- What may be wrong with a value: of an option that isn't interpreted, of a `default`, or of a `json_name`.
 use Rattle.std.specs.Prelude.{◌≡◌, ℕ, true, false, List, None, codes}
 use Rattle.std.specs.Fmt.{signed_decimal}
-use Rattle.protox_lex.specs.declared.error.ParseErrorKind.{ParseErrorKind}
-use Rattle.protox_lex.specs.declared.error.ParseErrorKind.TheVariants as fault
+use Rattle.protox_fault.specs.declared.error.ParseErrorKind.{ParseErrorKind}
+use Rattle.protox_fault.specs.declared.error.ParseErrorKind.TheVariants as fault
 use Rattle.protox_ast.specs.Checks.{is_text}
 use Rattle.protox_ast.specs.Printed.{int_text, value_text}
 use Rattle.protox_ast.specs.declared.ast.Int.{Int}

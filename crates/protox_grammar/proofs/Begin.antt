@@ -4,7 +4,7 @@ use Rattle.std.proofs.lemmas.Slice.Eq.{bytes_eq-Decides}
 use Rattle.std.proofs.lemmas.Bool.{eqb-true, eq-eqb, ltb-true}
 use Rattle.std.specs.Prelude.{nat_lt}
 use Rattle.std.specs.Str.{bytes_eq}
-use Rattle.protox_lex.specs.Shapes.{Ident, Rows}
+use Rattle.protox_lexeme.specs.Shapes.{Ident, Rows}
 use Rattle.protox_grammar.specs.Class.{place, keywords, among}
 use Rattle.protox_grammar.specs.Rule.{Stops, row}
 use Rattle.protox_ast.specs.Tree as t

@@ -1,6 +1,6 @@
 -- Reading doesn't depend on the marks of rows.
 use Rattle.std.proofs.Common.{◌≡◌, ℕ, zero, suc, ◌-◌, ◌==◌, Bool, true, false, cond, List, [], ◌∷◌, length, Option, Some, None, Result, Ok, refl, sym, ap, subst, ◌∙◌, inl, inr}
-use Rattle.protox_lex.specs.Shapes.{Shape, Row, Rows}
+use Rattle.protox_lexeme.specs.Shapes.{Shape, Row, Rows}
 use Rattle.protox_ast.specs.Fronts.{shapes}
 use Rattle.protox_ast.specs.Keywords as k
 use Rattle.protox_grammar.specs.Reader as reader

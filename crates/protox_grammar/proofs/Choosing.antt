@@ -1,7 +1,7 @@
 -- The laws of reading one of two rules, by the next row.
 use Rattle.std.proofs.Common.{◌≡◌, suc, Bool, true, false, ◌∷◌, ◌++◌, length, Ok, Err, refl, ap, subst, ◌∙◌, inl, inr, ◌⊎◌}
 use Rattle.protox_grammar.specs.Reader.{Refusal, Unexpected, Deep}
-use Rattle.protox_lex.specs.Shapes.{Shape, Row, Rows}
+use Rattle.protox_lexeme.specs.Shapes.{Shape, Row, Rows}
 use Rattle.protox_grammar.specs.Class.{Set, class, within, in_set}
 use Rattle.protox_grammar.specs.Reader as reader
 use Rattle.protox_grammar.specs.Reader.{◌>>=◌, head_in}

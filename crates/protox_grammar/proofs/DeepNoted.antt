@@ -1,9 +1,9 @@
 -- Where reading ends at a body that is too deep, this is noted.
 use Rattle.std.proofs.Common.{◌≡◌, ℕ, zero, suc, true, false, ◌||◌, cond, List, [], ◌∷◌, Option, Some, None, refl, sym, ap, subst, ◌∙◌, inl, inr}
-use Rattle.protox_lex.specs.Faults.{Span}
-use Rattle.protox_lex.specs.Lexemes.{Lexeme}
-use Rattle.protox_lex.specs.Table.{rows_of}
-use Rattle.protox_lex.specs.declared.error.ParseErrorKind.TheVariants.{MessageNestingTooDeep}
+use Rattle.protox_fault.specs.Faults.{Span}
+use Rattle.protox_lexeme.specs.Lexemes.{Lexeme}
+use Rattle.protox_lexeme.specs.Table.{rows_of}
+use Rattle.protox_fault.specs.declared.error.ParseErrorKind.TheVariants.{MessageNestingTooDeep}
 use Rattle.protox_ast.specs.Tree as t
 use Rattle.protox_ast.specs.CheckedNodes.{CheckedNode, ATooDeep}
 use Rattle.protox_ast.specs.Checks.{WrongCheckedNode}

@@ -1,6 +1,6 @@
 -- How bodies are spelled at any depth, and read up to some depth.
 use Rattle.std.proofs.Common.{◌≡◌, ℕ, zero, suc, ◌+◌, ◌≤◌, Bool, true, false, ◌||◌, cond, [], ◌∷◌, ◌++◌, length, Some, None, Ok, Err, refl, sym, ap, subst, ◌∙◌, arith, inl, inr}
-use Rattle.protox_lex.specs.Shapes.{Mark, Row, Rows}
+use Rattle.protox_lexeme.specs.Shapes.{Mark, Row, Rows}
 use Rattle.protox_grammar.specs.Class.{only, none}
 use Rattle.protox_grammar.specs.Reader.{Reader, Refusal, Unexpected, Deep, is_token, is_string}
 use Rattle.protox_grammar.specs.Steps.{Event, ADeepBody, ADeeperBody, Token, Note, Steps, tokens, plainly, until, has_deep, is_too_deep}

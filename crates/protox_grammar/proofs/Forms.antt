@@ -1,7 +1,7 @@
 -- The laws of the forms that the grammar is written in.
 use Rattle.std.proofs.Common.{◌≡◌, ◌<◌, ℕ, ◌+◌, length, subst, Bool, true, false, ◌&&◌, List, [], ◌∷◌, ◌++◌, Option, Some, None, refl, sym, ap, ◌∙◌, inl, inr, ◌⊎◌}
 use Rattle.protox_grammar.specs.Reader.{Refusal, Unexpected, Deep, is_token}
-use Rattle.protox_lex.specs.Shapes.{Shape, Ident, Mark, Rows}
+use Rattle.protox_lexeme.specs.Shapes.{Shape, Ident, Mark, Rows}
 use Rattle.protox_grammar.specs.Class.{Set, class, keywords, place, marks, byte_place, apart, within, union, none, only, in_set}
 use Rattle.protox_ast.specs.Spelling.{maybe}
 use Rattle.protox_ast.specs.Keywords.{Given}

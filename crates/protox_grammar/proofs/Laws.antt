@@ -1,6 +1,6 @@
 -- The laws of a rule, and of the rules that are made of others.
 use Rattle.std.proofs.Common.{◌≡◌, Bool, true, false, ◌&&◌, List, [], ◌∷◌, ◌++◌, Option, Some, refl, sym, ap, subst, ◌∙◌, append_assoc, inl, inr, ◌⊎◌}
-use Rattle.protox_lex.specs.Shapes.{Shape, Row, Rows}
+use Rattle.protox_lexeme.specs.Shapes.{Shape, Row, Rows}
 use Rattle.protox_grammar.specs.Class.{Set, class, apart, within, union, none}
 use Rattle.protox_grammar.specs.Rule.{Rule, Stops, Starts, row, fixed, leaf, seq, either, nothing, mapped, Ends, star, unstarted}
 use Rattle.protox_ast.specs.Spelling.{many}

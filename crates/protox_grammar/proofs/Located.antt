@@ -1,6 +1,6 @@
 -- Where a node that is noted among steps stands.
 use Rattle.std.proofs.Common.{◌≡◌, ℕ, suc, true, false, ◌||◌, cond, [], ◌∷◌, ◌++◌, length, Option, Some, None, refl, sym, ap, subst, ◌∙◌, inl, inr, ◌⊎◌}
-use Rattle.protox_lex.specs.Shapes.{Row, Rows}
+use Rattle.protox_lexeme.specs.Shapes.{Row, Rows}
 use Rattle.protox_ast.specs.Tree as t
 use Rattle.protox_ast.specs.CheckedNodes.{CheckedNode, APackageAgain, ATooDeep, node_end}
 use Rattle.protox_ast.specs.Truth.{is_run}

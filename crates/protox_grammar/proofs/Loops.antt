@@ -1,6 +1,6 @@
 -- A loop that reads while the next row passes a test.
 use Rattle.std.proofs.Common.{◌≡◌, ℕ, zero, suc, ◌<◌, Bool, true, false, cond, List, [], ◌∷◌, length, Result, Ok, Err, refl, ap, arith}
-use Rattle.protox_lex.specs.Shapes.{Shape, Rows}
+use Rattle.protox_lexeme.specs.Shapes.{Shape, Rows}
 use Rattle.protox_grammar.specs.Reader.{Refusal, Reader, ◌>>=◌, head_in, star_at, star, gathered, Consumes}
 
 -- one turn, whose two outcomes are known

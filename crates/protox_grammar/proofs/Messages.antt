@@ -2,7 +2,7 @@
 use Rattle.std.proofs.Common.{◌≡◌, ℕ, List, true, false, [], ◌∷◌, None, codes, refl, arith}
 use Rattle.protox_grammar.specs.Class.{place, keywords, none, only, words, union, among, all, but}
 use Rattle.protox_grammar.specs.Reader.{Reader}
-use Rattle.protox_lex.specs.Shapes.{Rows}
+use Rattle.protox_lexeme.specs.Shapes.{Rows}
 use Rattle.protox_ast.specs.CheckedNodes.{AGroupName}
 use Rattle.protox_grammar.specs.Steps.{Steps, AKeyword, ANode}
 use Rattle.protox_grammar.specs.Rule.{Rule, noting}

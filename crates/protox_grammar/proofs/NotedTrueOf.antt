@@ -1,8 +1,8 @@
 -- The fault of a wrong node that is noted is true of the source.
 use Rattle.std.proofs.Common.{◌≡◌, ℕ, List, sym, subst, inl, inr}
-use Rattle.protox_lex.specs.Lexemes.{Lexeme}
-use Rattle.protox_lex.specs.Table.{rows_of}
-use Rattle.protox_lex.specs.declared.error.ParseErrorKind.{ParseErrorKind}
+use Rattle.protox_lexeme.specs.Lexemes.{Lexeme}
+use Rattle.protox_lexeme.specs.Table.{rows_of}
+use Rattle.protox_fault.specs.declared.error.ParseErrorKind.{ParseErrorKind}
 use Rattle.protox_ast.specs.CheckedNodes.{CheckedNode, ASyntax, AnImport, AReservedName, AGroupName, APackageAgain, ATooDeep}
 use Rattle.protox_ast.specs.Checks.{WrongCheckedNode}
 use Rattle.protox_ast.specs.Truth.{IsOfNode, IsTrueOf, token_span}

@@ -1,7 +1,7 @@
 -- Tokens that are marked with their numbers.
 use Rattle.std.proofs.Common.{◌≡◌, ◌≤◌, ℕ, zero, suc, ◌+◌, List, [], ◌∷◌, ◌++◌, length, take, drop, refl, ap, ◌∙◌, arith}
-use Rattle.protox_lex.specs.Faults.{Span}
-use Rattle.protox_lex.specs.Shapes.{Shape, Ident, Int, Float, Str, Mark, LineComment, BlockComment, Newline, Invalid, Row, Rows}
+use Rattle.protox_fault.specs.Faults.{Span}
+use Rattle.protox_lexeme.specs.Shapes.{Shape, Ident, Int, Float, Str, Mark, LineComment, BlockComment, Newline, Invalid, Row, Rows}
 use Rattle.protox_ast.specs.Fronts.{numbered, shapes}
 use Rattle.protox_ast.specs.Truth as truth
 use Rattle.protox_grammar.specs.Reader.{head_in, is_string}

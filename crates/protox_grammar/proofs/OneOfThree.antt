@@ -2,7 +2,7 @@
 use Rattle.std.proofs.Common.{◌≡◌, ◌≤◌, ◌<◌, ℕ, zero, suc, List, [], ◌∷◌, ◌++◌, length, Result, Ok, Err, refl, sym, ap, subst, ◌∙◌, append_assoc, arith, inl, inr, ◌⊎◌}
 use Rattle.std.proofs.lemmas.List.{append-nil, length-append}
 use Rattle.std.proofs.lemmas.Bool.{cases_lt}
-use Rattle.protox_lex.specs.Shapes.{Row, Rows}
+use Rattle.protox_lexeme.specs.Shapes.{Row, Rows}
 use Rattle.protox_ast.specs.Tree as t
 use Rattle.protox_ast.specs.Depth as d
 use Rattle.protox_ast.specs.Spells.{Spells, BeginsFile, IsUnexpected, IsEnded}

@@ -1,6 +1,6 @@
 -- The laws of options.
 use Rattle.std.proofs.Common.{◌≡◌, false, [], ◌∷◌, Option, None, codes, refl, sym, subst, arith, inl, inr, ◌⊎◌}
-use Rattle.protox_lex.specs.Shapes.{Mark, Rows}
+use Rattle.protox_lexeme.specs.Shapes.{Mark, Rows}
 use Rattle.std.proofs.lemmas.List.{length-append}
 use Rattle.protox_grammar.specs.Steps.{AnOpenBrace, ACloseBrace}
 use Rattle.protox_grammar.specs.Class.{all, none, only, words, union, among}

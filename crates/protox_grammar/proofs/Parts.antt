@@ -3,8 +3,8 @@ use Rattle.std.proofs.Common.{◌≡◌, ℕ, true, false, List, [], ◌∷◌, 
 use Rattle.std.proofs.lemmas.Slice.Eq.{bytes_eq-Decides}
 use Rattle.std.proofs.lemmas.Bool.{lt-ltb}
 use Rattle.std.specs.Str.{bytes_eq}
-use Rattle.protox_lex.specs.Shapes as shape
-use Rattle.protox_lex.specs.Shapes.{Shape, Ident, Str, Row, Rows}
+use Rattle.protox_lexeme.specs.Shapes as shape
+use Rattle.protox_lexeme.specs.Shapes.{Shape, Ident, Str, Row, Rows}
 use Rattle.protox_grammar.specs.Reader.{head_in, is_string, see_word, see_integer, see_float, see_text}
 use Rattle.protox_grammar.specs.Class.{class, place, keywords, none, only, words, union, among}
 use Rattle.protox_grammar.specs.Rule.{Stops, Ends, row, unless, choice, noting}

@@ -1,7 +1,7 @@
 -- Where notes stand among steps: each right behind the last row of what is noted.
 use Rattle.std.proofs.Common.{◌≡◌, Bool, true, false, [], ◌∷◌, ◌++◌, Option, Some, None, refl, sym, ap, subst, ◌∙◌, append_assoc}
 use Rattle.std.proofs.lemmas.List.{append-nil}
-use Rattle.protox_lex.specs.Shapes.{Row, Rows}
+use Rattle.protox_lexeme.specs.Shapes.{Row, Rows}
 use Rattle.protox_ast.specs.CheckedNodes.{node_end}
 use Rattle.protox_ast.specs.Truth.{is_run}
 use Rattle.protox_grammar.specs.Reader.{head_in, is_string}

@@ -1,6 +1,6 @@
 -- The laws of ranges, reserved names and extensions.
 use Rattle.std.proofs.Common.{◌≡◌, false, not, List, [], ◌∷◌, ◌++◌, Option, Some, None, codes, refl, inl, inr, ◌⊎◌}
-use Rattle.protox_lex.specs.Shapes.{Mark, Rows}
+use Rattle.protox_lexeme.specs.Shapes.{Mark, Rows}
 use Rattle.protox_grammar.specs.Class.{Set, none, only, among, but}
 use Rattle.protox_grammar.specs.Rule.{Rule, Stops, Ends, row, seq, choice, optional, peek}
 use Rattle.protox_ast.specs.Tree as t

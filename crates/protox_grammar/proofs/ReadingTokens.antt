@@ -2,7 +2,7 @@
 use Rattle.std.proofs.Common.{◌≡◌, ℕ, suc, Bool, true, false, cond, [], ◌∷◌, ◌++◌, length, Option, Some, None, Result, Ok, Err, refl, sym, ap, subst, ◌∙◌, arith, inl, inr}
 use Rattle.std.proofs.lemmas.List.{length-append}
 use Rattle.protox_grammar.specs.Reader.{Refusal, Unexpected, Deep}
-use Rattle.protox_lex.specs.Shapes.{Shape, Row, Rows}
+use Rattle.protox_lexeme.specs.Shapes.{Shape, Row, Rows}
 use Rattle.protox_grammar.specs.Reader as reader
 use Rattle.protox_grammar.specs.Reader.{is_token}
 use Rattle.protox_grammar.specs.Rule.{Rule, row, fixed, leaf, too_deep}

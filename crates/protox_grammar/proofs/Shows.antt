@@ -1,7 +1,7 @@
 -- What the code reads is what the rules read, seen as the tree of the file.
 use Rattle.std.proofs.Common.{◌≡◌, ℕ, zero, suc, Bool, true, false, cond, List, [], ◌∷◌, map, length, Some, None, option_map, Result, Ok, Err, refl, sym, ap, ◌∙◌, inl, inr, ◌⊎◌, arith}
 use Rattle.std.proofs.lemmas.List.{length-append}
-use Rattle.protox_lex.specs.Shapes.{Shape, Rows}
+use Rattle.protox_lexeme.specs.Shapes.{Shape, Rows}
 use Rattle.protox_grammar.specs.Reader.{Refusal, Reader, ◌>>=◌, Consumes, refuse, head_in, seq, mapped, either, optional, unstarted, nothing, star, star_at}
 use Rattle.protox_grammar.specs.Class.{Set}
 use Rattle.protox_grammar.specs.Rule.{Rule, on_sum, to_option}

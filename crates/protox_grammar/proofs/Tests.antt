@@ -4,7 +4,7 @@ use Rattle.std.proofs.lemmas.Slice.Eq.{bytes_eq-Decides}
 use Rattle.std.proofs.lemmas.Bool.{eqb-true, eq-eqb, ne_eqb, ltb-true}
 use Rattle.std.specs.Prelude.{nat_lt}
 use Rattle.std.specs.Str.{bytes_eq}
-use Rattle.protox_lex.specs.Shapes.{Shape, Ident, Int, Float, Str, Mark, LineComment, BlockComment, Newline, Invalid}
+use Rattle.protox_lexeme.specs.Shapes.{Shape, Ident, Int, Float, Str, Mark, LineComment, BlockComment, Newline, Invalid}
 use Rattle.protox_grammar.specs.Class.{class, place, keywords, marks, byte_place, only, among}
 use Rattle.protox_grammar.specs.Reader.{is_token, any_word, is_word_of, is_string}
 use Rattle.protox_grammar.specs.Rules.{find_scalar, all_scalars, see_scalar, scalar_set}

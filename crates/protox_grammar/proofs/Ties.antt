@@ -1,7 +1,7 @@
 -- Each rule that has messages in it is its plain form, whatever is said of the bodies in it.
 use Rattle.std.proofs.Common.{◌≡◌, ℕ, true, false, List, [], ◌∷◌, ◌++◌, Option, Some, None, codes, refl, ap, inl, inr, ◌⊎◌}
 use Rattle.protox_grammar.specs.Class.{apart, place, keywords, only, among, but}
-use Rattle.protox_lex.specs.Shapes.{Rows}
+use Rattle.protox_lexeme.specs.Shapes.{Rows}
 use Rattle.protox_grammar.specs.Steps.{Steps}
 use Rattle.protox_grammar.specs.Reader.{Reader}
 use Rattle.protox_grammar.specs.Rule.{Rule, Stops, seq, unless, choice, optional, times}

@@ -1,7 +1,7 @@
 -- The laws of steps: those of reading are those of the tree, also where only the front of the rows is the same.
 use Rattle.std.proofs.Common.{◌≡◌, ℕ, zero, suc, ◌+◌, ◌≤◌, Bool, true, false, [], ◌∷◌, ◌++◌, length, None, Result, Ok, Err, refl, sym, ap, subst, ◌∙◌, append_assoc, arith, inl, inr, ◌⊎◌}
 use Rattle.std.proofs.lemmas.List.{append-nil, length-append}
-use Rattle.protox_lex.specs.Shapes.{Row, Rows}
+use Rattle.protox_lexeme.specs.Shapes.{Row, Rows}
 use Rattle.protox_grammar.specs.Class.{Set}
 use Rattle.protox_grammar.specs.Reader.{Refusal, Unexpected, Deep, head_in, is_string}
 use Rattle.protox_grammar.specs.Rule.{Rule}

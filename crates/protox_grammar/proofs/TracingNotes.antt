@@ -1,7 +1,7 @@
 -- The laws of steps for a rule with a note behind it, and for one without notes.
 use Rattle.std.proofs.Common.{◌≡◌, ℕ, ◌-◌, ◌<◌, ◌≤◌, Bool, false, [], ◌∷◌, ◌++◌, length, take, None, Result, Ok, Err, refl, sym, ap, subst, ◌∙◌, append_assoc, arith, inl, inr}
 use Rattle.std.proofs.lemmas.List.{append-nil, length-append}
-use Rattle.protox_lex.specs.Shapes.{Rows}
+use Rattle.protox_lexeme.specs.Shapes.{Rows}
 use Rattle.protox_grammar.specs.Class.{Set}
 use Rattle.protox_grammar.specs.Reader.{Refusal, Unexpected, Deep}
 use Rattle.protox_grammar.specs.Rule.{Rule, noting}

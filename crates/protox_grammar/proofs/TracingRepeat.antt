@@ -1,7 +1,7 @@
 -- The laws of steps for any number of trees of a rule.
 use Rattle.std.proofs.Common.{◌≡◌, ℕ, zero, suc, ◌<◌, Bool, true, false, cond, List, [], ◌∷◌, ◌++◌, length, None, Result, Ok, Err, refl, sym, ap, subst, ◌∙◌, append_assoc, arith, inl, inr}
 use Rattle.std.proofs.lemmas.List.{append-nil, length-append}
-use Rattle.protox_lex.specs.Shapes.{Shape, Rows}
+use Rattle.protox_lexeme.specs.Shapes.{Shape, Rows}
 use Rattle.protox_grammar.specs.Class.{Set, class, within}
 use Rattle.protox_grammar.specs.Reader as reader
 use Rattle.protox_grammar.specs.Reader.{Refusal, Deep, ◌>>=◌, head_in, star_at}

@@ -1,9 +1,9 @@
 -- Where the reader of the grammar stops, the fault there is true; of tokens that spell a file none is.
 use Rattle.std.proofs.Common.{◌≡◌, inl, inr, suc, true, List, [], ◌∷◌, ◌++◌, length, sym, ap, subst, ◌∙◌, arith, append_assoc, true≢false, slice_index_or}
 use Rattle.std.proofs.lemmas.List.{length-append}
-use Rattle.protox_lex.specs.Faults.{span_from}
-use Rattle.protox_lex.specs.Printed.{printed}
-use Rattle.protox_lex.specs.Table.{rows_of}
+use Rattle.protox_fault.specs.Faults.{span_from}
+use Rattle.protox_lexeme.specs.Printed.{printed}
+use Rattle.protox_lexeme.specs.Table.{rows_of}
 use Rattle.protox_ast.specs.Keywords.{is_significant}
 use Rattle.protox_ast.specs.Spells.{Spells}
 use Rattle.protox_grammar.specs.TruthLaws.{StopIsTrue, EndIsTrue, NoneIsUnexpected, NoneIsEnded}

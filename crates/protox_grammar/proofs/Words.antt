@@ -2,7 +2,7 @@
 use Rattle.std.proofs.Common.{◌≡◌, ℕ, true, List, refl, ap}
 use Rattle.std.proofs.lemmas.Slice.Eq.{bytes_eq-Decides}
 use Rattle.std.proofs.lemmas.Bool.{eqb-true, eq-eqb}
-use Rattle.protox_lex.specs.Shapes.{Shape, Ident, Mark}
+use Rattle.protox_lexeme.specs.Shapes.{Shape, Ident, Mark}
 use Rattle.protox_grammar.specs.Reader.{is_token}
 
 pub word-exact : (w : List ℕ) (s : Shape) → is_token (Ident w) s ≡ true → s ≡ Ident w

@@ -1,7 +1,7 @@
 -- MACHINERY. The rules of the grammar that hold messages or stand in them, over the rule of a body, and the rule of files.
 use Rattle.std.specs.Prelude.{◌≤◌, ℕ, zero, suc, if◌then◌else◌, List, [], ◌∷◌, Option, Some, None, ◌⊎◌, codes}
 use Rattle.std.proofs.Common.{inl, inr}
-use Rattle.protox_lex.specs.Shapes.{Mark, Rows}
+use Rattle.protox_lexeme.specs.Shapes.{Mark, Rows}
 use Rattle.protox_grammar.specs.Class.{only, all, but, among}
 use Rattle.protox_ast.specs.Tree as t
 use Rattle.protox_ast.specs.Spelling as s

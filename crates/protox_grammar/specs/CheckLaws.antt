@@ -1,12 +1,12 @@
 -- The laws of what is noted while the tokens of a source are read. A check that is noted is true, and none is passed over; and what is
 -- noted of braces tells where a place is inside an aggregate. What is true is said by files that go on, as in protox_ast's Fronts and Truth.
 use Rattle.std.specs.Prelude.{◌≡◌, ◌≤◌, ◌⊎◌, ℕ, Bool, true, false, List, length, None, Any}
-use Rattle.protox_lex.specs.Faults.{Span}
-use Rattle.protox_lex.specs.Lexemes.{Lexeme}
-use Rattle.protox_lex.specs.Shapes.{Rows}
-use Rattle.protox_lex.specs.Table.{rows_of}
-use Rattle.protox_lex.specs.declared.error.ParseErrorKind.{ParseErrorKind}
-use Rattle.protox_lex.specs.declared.error.ParseErrorKind.TheVariants.{MessageNestingTooDeep}
+use Rattle.protox_fault.specs.Faults.{Span}
+use Rattle.protox_lexeme.specs.Lexemes.{Lexeme}
+use Rattle.protox_lexeme.specs.Shapes.{Rows}
+use Rattle.protox_lexeme.specs.Table.{rows_of}
+use Rattle.protox_fault.specs.declared.error.ParseErrorKind.{ParseErrorKind}
+use Rattle.protox_fault.specs.declared.error.ParseErrorKind.TheVariants.{MessageNestingTooDeep}
 use Rattle.protox_ast.specs.CheckedNodes.{CheckedNode}
 use Rattle.protox_ast.specs.Checks.{WrongCheckedNode}
 use Rattle.protox_ast.specs.Fronts.{Inside, numbered, shapes}

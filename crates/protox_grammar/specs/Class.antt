@@ -1,7 +1,7 @@
 -- MACHINERY. Kinds of tokens, finitely many, so that sets of them are compared by computing.
 use Rattle.std.specs.Prelude.{ℕ, zero, suc, ◌+◌, List, [], ◌∷◌, Bool, true, false, not, ◌&&◌, ◌||◌, if◌then◌else◌, ◌==◌, nat_lt, codes}
 use Rattle.std.specs.Str.{bytes_eq}
-use Rattle.protox_lex.specs.Shapes.{Shape, Ident, Int, Float, Str, Mark, LineComment, BlockComment, Newline, Invalid}
+use Rattle.protox_lexeme.specs.Shapes.{Shape, Ident, Int, Float, Str, Mark, LineComment, BlockComment, Newline, Invalid}
 
 abbrev pub keywords : List (List ℕ)
 keywords = codes "syntax" ∷ codes "package" ∷ codes "import" ∷ codes "weak" ∷ codes "public" ∷ codes "enum" ∷ codes "option" ∷ codes "service" ∷ codes "rpc" ∷ codes "stream"

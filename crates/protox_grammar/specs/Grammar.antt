@@ -1,6 +1,6 @@
 -- The laws of the grammar: what a list of rows is, and what the reader of the grammar finds.
 use Rattle.std.specs.Prelude.{◌≡◌, ◌↔◌, ◌<◌, ◌≤◌, ℕ, suc, [], ◌∷◌, ◌++◌, length, Ok, Err}
-use Rattle.protox_lex.specs.Shapes.{Row, Rows}
+use Rattle.protox_lexeme.specs.Shapes.{Row, Rows}
 use Rattle.protox_ast.specs.Tree.{File}
 use Rattle.protox_ast.specs.Depth.{depth}
 pub use Rattle.protox_ast.specs.Spells.{Spells, BeginsFile, IsUnexpected, IsEnded}

@@ -1,6 +1,6 @@
 -- What each list of rows is, in the words of the grammar's definitions alone: just one of three things.
 use Rattle.std.specs.Prelude.{◌≡◌, ◌⊎◌, ℕ}
-use Rattle.protox_lex.specs.Shapes.{Rows}
+use Rattle.protox_lexeme.specs.Shapes.{Rows}
 use Rattle.protox_ast.specs.Spells.{Spells, IsUnexpected, IsEnded}
 use Rattle.protox_ast.specs.Tree.{File}
 

@@ -1,7 +1,7 @@
 -- MACHINERY. Reading rows from left to right, up to the first row that doesn't fit.
 use Rattle.std.specs.Prelude.{◌≡◌, ◌<◌, ℕ, zero, suc, List, [], ◌∷◌, length, Bool, true, false, ◌||◌, if◌then◌else◌, ◌==◌, Option, Some, None, Result, Ok, Err}
 use Rattle.std.specs.Str.{bytes_eq}
-use Rattle.protox_lex.specs.Shapes.{Shape, Ident, Int, Float, Str, Mark, Row, Rows}
+use Rattle.protox_lexeme.specs.Shapes.{Shape, Ident, Int, Float, Str, Mark, Row, Rows}
 
 -- why rows are not read: the first of so many that are left doesn't fit, or opens a body that is too deep
 pub data Refusal : Type 0 where

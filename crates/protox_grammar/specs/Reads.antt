@@ -1,6 +1,6 @@
 -- MACHINERY. The reader of a file whose messages and groups are at most n deep.
 use Rattle.std.specs.Prelude.{ℕ, Result, Ok}
-use Rattle.protox_lex.specs.Shapes.{Rows}
+use Rattle.protox_lexeme.specs.Shapes.{Rows}
 use Rattle.protox_grammar.specs.Reader.{Refusal, ◌>>=◌}
 use Rattle.protox_ast.specs.Tree as t
 use Rattle.protox_grammar.specs.Bodies as r

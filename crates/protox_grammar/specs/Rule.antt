@@ -1,7 +1,7 @@
 -- MACHINERY. Rules of a grammar: what spells a tree, which trees there may be, what may follow one, how it is read, and what is noted.
 use Rattle.std.specs.Prelude.{◌≡◌, suc, List, [], ◌∷◌, ◌++◌, length, Bool, true, false, not, if◌then◌else◌, Option, Some, None, ◌⊎◌}
 use Rattle.std.proofs.Common.{inl, inr}
-use Rattle.protox_lex.specs.Shapes.{Shape, Row, Rows}
+use Rattle.protox_lexeme.specs.Shapes.{Shape, Row, Rows}
 use Rattle.protox_grammar.specs.Class.{class, Set, in_set}
 use Rattle.protox_ast.specs.Spelling.{maybe, many}
 use Rattle.protox_ast.specs.Keywords.{Given, Each}

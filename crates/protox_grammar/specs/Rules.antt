@@ -2,8 +2,8 @@
 use Rattle.std.specs.Prelude.{ℕ, suc, ◌-◌, List, [], ◌∷◌, ◌++◌, if◌then◌else◌, ◌==◌, Ok, Err, Option, Some, None, ◌⊎◌, codes}
 use Rattle.std.proofs.Common.{inl, inr}
 use Rattle.std.specs.Str.{bytes_eq}
-use Rattle.protox_lex.specs.Shapes as shape
-use Rattle.protox_lex.specs.Shapes.{Shape, Ident, Str, Mark, Rows}
+use Rattle.protox_lexeme.specs.Shapes as shape
+use Rattle.protox_lexeme.specs.Shapes.{Shape, Ident, Str, Mark, Rows}
 use Rattle.protox_grammar.specs.Class.{Set, only, but, words, among, union}
 use Rattle.protox_ast.specs.Tree as t
 use Rattle.protox_ast.specs.Spelling as s

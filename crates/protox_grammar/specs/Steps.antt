@@ -1,6 +1,6 @@
 -- MACHINERY. What reading does, step by step: it takes rows, and notes what is checked by itself or says how rows behind are to be seen.
 use Rattle.std.specs.Prelude.{ℕ, zero, suc, ◌-◌, Bool, true, false, ◌||◌, List, [], ◌∷◌, ◌++◌, length, take, if◌then◌else◌, Option, Some, None, Result, Ok, Err}
-use Rattle.protox_lex.specs.Shapes.{Shape, Row, Rows}
+use Rattle.protox_lexeme.specs.Shapes.{Shape, Row, Rows}
 use Rattle.protox_ast.specs.Tree as t
 use Rattle.protox_ast.specs.CheckedNodes.{CheckedNode}
 use Rattle.protox_grammar.specs.Reader.{Reader, Refusal, Unexpected, Deep, head_in}

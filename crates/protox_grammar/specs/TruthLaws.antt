@@ -1,11 +1,11 @@
 -- The laws of the grammar as laws on faults: where its reader stops, the fault there is true of the source; and none is true of tokens that spell a file.
 use Rattle.std.specs.Prelude.{◌≡◌, ℕ, suc, true, false, List, ◌∷◌, ◌++◌, length, Err}
-use Rattle.protox_lex.specs.Faults.{Span}
-use Rattle.protox_lex.specs.Lexemes.{Lexeme}
-use Rattle.protox_lex.specs.Printed.{printed}
-use Rattle.protox_lex.specs.Shapes.{Row, Rows}
-use Rattle.protox_lex.specs.Table.{rows_of}
-use Rattle.protox_lex.specs.declared.error.ParseErrorKind.TheVariants.{UnexpectedToken, UnexpectedEof}
+use Rattle.protox_fault.specs.Faults.{Span}
+use Rattle.protox_lexeme.specs.Lexemes.{Lexeme}
+use Rattle.protox_lexeme.specs.Printed.{printed}
+use Rattle.protox_lexeme.specs.Shapes.{Row, Rows}
+use Rattle.protox_lexeme.specs.Table.{rows_of}
+use Rattle.protox_fault.specs.declared.error.ParseErrorKind.TheVariants.{UnexpectedToken, UnexpectedEof}
 use Rattle.protox_ast.specs.Keywords.{is_significant}
 use Rattle.protox_ast.specs.Spells.{Spells}
 use Rattle.protox_ast.specs.Tree.{File}

@@ -9,18 +9,18 @@ use Rattle.std.specs.Char.{is_ascii_hexdigit, len_utf8}
 use Rattle.std.specs.Str.{IsUtf8, IsCharBoundary, chars}
 use Rattle.std.specs.Str.Parse.{digits_value}
 use Rattle.std.specs.Prelude.{encode_utf8_all, min}
-use Rattle.protox_lex.specs.declared.scan.Kind.{Kind}
-use Rattle.protox_lex.specs.declared.scan.Kind.TheVariants.{Identifier, Integer, Float, String, Mark, LineComment, BlockComment, Newline}
-use Rattle.protox_lex.specs.BlockComments.{marks_of, ending, len_to}
-use Rattle.protox_lex.specs.Lexemes.{Lexeme, lexeme, string, block_comment, invalid, IsLexeme}
-use Rattle.protox_lex.specs.Lexicon.{pattern, is_x, is_octal, is_quote}
-use Rattle.protox_lex.specs.Pattern.{Fits, IsLongest}
-use Rattle.protox_lex.specs.Strings as spec
-use Rattle.protox_lex.proofs.Boundaries.{longest_utf8, last_boundary, char_boundary}
-use Rattle.protox_lex.proofs.Cut.{fits_some}
-use Rattle.protox_lex.proofs.Fitting.{first_passes, fits_within}
-use Rattle.protox_lex.proofs.BlockExtent.{len_bounds, len_utf8_after}
-use Rattle.protox_lex.proofs.Literal.{piece_some}
+use Rattle.protox_lexeme.specs.declared.scan.Kind.{Kind}
+use Rattle.protox_lexeme.specs.declared.scan.Kind.TheVariants.{Identifier, Integer, Float, String, Mark, LineComment, BlockComment, Newline}
+use Rattle.protox_lexeme.specs.BlockComments.{marks_of, ending, len_to}
+use Rattle.protox_lexeme.specs.Lexemes.{Lexeme, lexeme, string, block_comment, invalid, IsLexeme}
+use Rattle.protox_lexeme.specs.Lexicon.{pattern, is_x, is_octal, is_quote}
+use Rattle.protox_lexeme.specs.Pattern.{Fits, IsLongest}
+use Rattle.protox_lexeme.specs.Strings as spec
+use Rattle.protox_lexeme.proofs.Boundaries.{longest_utf8, last_boundary, char_boundary}
+use Rattle.protox_lexeme.proofs.Cut.{fits_some}
+use Rattle.protox_lexeme.proofs.Fitting.{first_passes, fits_within}
+use Rattle.protox_lexeme.proofs.BlockExtent.{len_bounds, len_utf8_after}
+use Rattle.protox_lexeme.proofs.Literal.{piece_some}
 
 -- ---- pieces of a string
 

@@ -5,20 +5,20 @@ use Rattle.std.proofs.lemmas.Bool.Decides.{nat_tests}
 use Rattle.std.proofs.lemmas.List.Sums.{prefix_len-le-length}
 use Rattle.std.specs.Prelude.{if◌then◌else◌}
 use Rattle.std.specs.Char.{is_ascii_alphabetic}
-use Rattle.protox_lex.specs.declared.error.ParseErrorKind.{ParseErrorKind}
-use Rattle.protox_lex.specs.declared.error.ParseErrorKind.TheVariants.{IntegerOutOfRange}
-use Rattle.protox_lex.specs.declared.scan.Kind.{Kind}
-use Rattle.protox_lex.specs.declared.scan.Kind.TheVariants.{Identifier, Integer, Float, String, Mark, LineComment, BlockComment, Newline}
-use Rattle.protox_lex.specs.Faults.{LiesIn, span_from}
-use Rattle.protox_lex.specs.Lexemes.{Lexeme, IsLexeme, lexeme, prefix_of, value_fits, has_suffix, space_faults, range_faults, suffix_faults, hash_faults}
-use Rattle.protox_lex.specs.Lexicon.{pattern, is_letter, is_x}
-use Rattle.protox_lex.specs.Pattern.{Fits}
-use Rattle.protox_lex.specs.BlockComments.{Mark as CommentMark, opens, closes, Ending, ending, marks_of, nested_faults, faults_to}
-use Rattle.protox_lex.specs.Strings as spec
-use Rattle.protox_lex.proofs.BlockExtent.{Lies, EndLies, ending_lies, marks_lie}
-use Rattle.protox_lex.proofs.Each.{Every, every_append}
+use Rattle.protox_fault.specs.declared.error.ParseErrorKind.{ParseErrorKind}
+use Rattle.protox_fault.specs.declared.error.ParseErrorKind.TheVariants.{IntegerOutOfRange}
+use Rattle.protox_lexeme.specs.declared.scan.Kind.{Kind}
+use Rattle.protox_lexeme.specs.declared.scan.Kind.TheVariants.{Identifier, Integer, Float, String, Mark, LineComment, BlockComment, Newline}
+use Rattle.protox_fault.specs.Faults.{LiesIn, span_from}
+use Rattle.protox_lexeme.specs.Lexemes.{Lexeme, IsLexeme, lexeme, prefix_of, value_fits, has_suffix, space_faults, range_faults, suffix_faults, hash_faults}
+use Rattle.protox_lexeme.specs.Lexicon.{pattern, is_letter, is_x}
+use Rattle.protox_lexeme.specs.Pattern.{Fits}
+use Rattle.protox_lexeme.specs.BlockComments.{Mark as CommentMark, opens, closes, Ending, ending, marks_of, nested_faults, faults_to}
+use Rattle.protox_lexeme.specs.Strings as spec
+use Rattle.protox_lexeme.proofs.BlockExtent.{Lies, EndLies, ending_lies, marks_lie}
+use Rattle.protox_lexeme.proofs.Each.{Every, every_append}
 use Rattle.protox_lex.proofs.Extents.{Stands}
-use Rattle.protox_lex.proofs.Fitting.{fits_within}
+use Rattle.protox_lexeme.proofs.Fitting.{fits_within}
 
 -- ---- numbers and comments
 

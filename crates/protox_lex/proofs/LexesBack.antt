@@ -4,16 +4,16 @@ use Rattle.std.proofs.lemmas.Bool.{true≢false, false≢true, and_parts}
 use Rattle.std.proofs.lemmas.Bool.Decides.{nat_tests}
 use Rattle.std.specs.List.{prefix_len, list_all}
 use Rattle.std.specs.Char.{is_ascii_digit}
-use Rattle.protox_lex.specs.declared.scan.Kind.{Kind}
-use Rattle.protox_lex.specs.declared.scan.Kind.TheVariants as kind
-use Rattle.protox_lex.specs.Lexemes.{lexeme, first_lexeme}
-use Rattle.protox_lex.specs.Lexicon.{pattern, is_letter, is_word, is_mark, is_blank}
-use Rattle.protox_lex.specs.Scanning.{scan}
-use Rattle.protox_lex.specs.Shapes.{Shape, Ident, Mark}
+use Rattle.protox_lexeme.specs.declared.scan.Kind.{Kind}
+use Rattle.protox_lexeme.specs.declared.scan.Kind.TheVariants as kind
+use Rattle.protox_lexeme.specs.Lexemes.{lexeme, first_lexeme}
+use Rattle.protox_lexeme.specs.Lexicon.{pattern, is_letter, is_word, is_mark, is_blank}
+use Rattle.protox_lexeme.specs.Scanning.{scan}
+use Rattle.protox_lexeme.specs.Shapes.{Shape, Ident, Mark}
 use Rattle.protox_lex.specs.Words.{IsWordOf}
-use Rattle.protox_lex.proofs.Margins.{AllPass, head_passes}
-use Rattle.protox_lex.proofs.OneKind.{mark_apart}
-use Rattle.protox_lex.proofs.ScanMatch as scanned
+use Rattle.protox_lexeme.proofs.Margins.{AllPass, head_passes}
+use Rattle.protox_lexeme.proofs.OneKind.{mark_apart}
+use Rattle.protox_lexeme.proofs.ScanMatch as scanned
 
 -- ---- what stands behind a shape
 

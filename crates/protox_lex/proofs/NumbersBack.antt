@@ -9,22 +9,22 @@ use Rattle.std.specs.Fmt.{decimal}
 use Rattle.std.specs.List.{prefix_len}
 use Rattle.std.specs.Char.{is_ascii_digit, is_ascii_hexdigit}
 use Rattle.std.specs.Option.{MatchOption}
-use Rattle.protox_lex.specs.declared.scan.Kind.{Kind}
-use Rattle.protox_lex.specs.declared.scan.Kind.TheVariants as kind
-use Rattle.protox_lex.specs.Lexemes.{lexeme, prefix_of, integer_value, value_fits, space_faults, range_faults, has_suffix, is_whole, float_text, suffix_faults}
-use Rattle.protox_lex.specs.Lexicon.{pattern, is_letter, is_octal, is_nonzero, is_e, is_sign, is_f, is_x, is_blank, digits}
-use Rattle.protox_lex.specs.Pattern.{Pattern, one, many, ◌⋅◌, maybe, Fits, IsLongest}
-use Rattle.protox_lex.specs.Scanning.{first, digits_len, exponent_len, zero_number, number, fraction_len, scan}
-use Rattle.protox_lex.specs.Shapes.{Int, Float}
+use Rattle.protox_lexeme.specs.declared.scan.Kind.{Kind}
+use Rattle.protox_lexeme.specs.declared.scan.Kind.TheVariants as kind
+use Rattle.protox_lexeme.specs.Lexemes.{lexeme, prefix_of, integer_value, value_fits, space_faults, range_faults, has_suffix, is_whole, float_text, suffix_faults}
+use Rattle.protox_lexeme.specs.Lexicon.{pattern, is_letter, is_octal, is_nonzero, is_e, is_sign, is_f, is_x, is_blank, digits}
+use Rattle.protox_lexeme.specs.Pattern.{Pattern, one, many, ◌⋅◌, maybe, Fits, IsLongest}
+use Rattle.protox_lexeme.specs.Scanning.{first, digits_len, exponent_len, zero_number, number, fraction_len, scan}
+use Rattle.protox_lexeme.specs.Shapes.{Int, Float}
 use Rattle.protox_lex.specs.Words.{IsWordOf}
-use Rattle.protox_lex.proofs.Cut.{fits_some}
-use Rattle.protox_lex.proofs.Fitting.{first_passes, no_run, In, OnlyIn, only_bound}
+use Rattle.protox_lexeme.proofs.Cut.{fits_some}
+use Rattle.protox_lexeme.proofs.Fitting.{first_passes, no_run, In, OnlyIn, only_bound}
 use Rattle.protox_lex.proofs.LexesBack.{AtEnd, LexesAs, ends_run, run_to, front_is, rest_is, at_rest, by_scan}
-use Rattle.protox_lex.proofs.Margins.{AllPass, head_passes}
-use Rattle.protox_lex.proofs.NumberMatch as numbers
-use Rattle.protox_lex.proofs.Numbers.{no_exponent}
-use Rattle.protox_lex.proofs.OneKind.{one_kind}
-use Rattle.protox_lex.proofs.ScanMatch as scanned
+use Rattle.protox_lexeme.proofs.Margins.{AllPass, head_passes}
+use Rattle.protox_lexeme.proofs.NumberMatch as numbers
+use Rattle.protox_lexeme.proofs.Numbers.{no_exponent}
+use Rattle.protox_lexeme.proofs.OneKind.{one_kind}
+use Rattle.protox_lexeme.proofs.ScanMatch as scanned
 use Rattle.protox_lex.proofs.WordsOf.{word_fits}
 
 pass_more : (p : ℕ → Bool) (xs ys : List ℕ) → AllPass p xs → AllPass p ys → AllPass p (xs ++ ys)

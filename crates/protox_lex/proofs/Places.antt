@@ -3,15 +3,15 @@ use Rattle.std.proofs.Common.{◌≡◌, ℕ, ◌+◌, ◌-◌, ◌<◌, ◌≤�
 use Rattle.std.proofs.lemmas.Bool.{cases_Bool}
 use Rattle.std.specs.List.{All}
 use Rattle.std.specs.Str.{IsUtf8}
-use Rattle.protox_lex.specs.declared.error.ParseErrorKind.{ParseErrorKind}
-use Rattle.protox_lex.specs.Faults.{LiesIn, SpanLiesIn, Span, span_from}
-use Rattle.protox_lex.specs.Shapes.{Shape, Invalid}
-use Rattle.protox_lex.specs.Lexemes.{Lexeme, IsCut, cut, blanks}
-use Rattle.protox_lex.specs.Table.{is_gap, in_front, rows_of, faults_of, invalid_faults, StandBetween}
-use Rattle.protox_lex.proofs.Boundaries.{blanks_boundary}
-use Rattle.protox_lex.proofs.Cut.{cut_is_cut}
+use Rattle.protox_fault.specs.declared.error.ParseErrorKind.{ParseErrorKind}
+use Rattle.protox_fault.specs.Faults.{LiesIn, SpanLiesIn, Span, span_from}
+use Rattle.protox_lexeme.specs.Shapes.{Shape, Invalid}
+use Rattle.protox_lexeme.specs.Lexemes.{Lexeme, IsCut, cut, blanks}
+use Rattle.protox_lexeme.specs.Table.{is_gap, in_front, rows_of, faults_of, invalid_faults, StandBetween}
+use Rattle.protox_lexeme.proofs.Boundaries.{blanks_boundary}
+use Rattle.protox_lexeme.proofs.Cut.{cut_is_cut}
 use Rattle.protox_lex.proofs.Extents.{Stands, lexeme_stands}
-use Rattle.protox_lex.proofs.Each.{Every, every_append, all_every}
+use Rattle.protox_lexeme.proofs.Each.{Every, every_append, all_every}
 use Rattle.protox_lex.proofs.FaultPlaces.{lexeme_lie}
 use Rattle.std.proofs.lemmas.Str.{IsUtf8-drop}
 

@@ -8,22 +8,22 @@ use Rattle.std.specs.Prelude.{if◌then◌else◌, nat_lt, min}
 use Rattle.std.specs.Str.Parse.{digits_value}
 use Rattle.std.specs.List.{prefix_len, list_all, All}
 use Rattle.std.specs.Char.{is_ascii_digit}
-use Rattle.protox_lex.specs.declared.scan.Kind.{Kind}
-use Rattle.protox_lex.specs.declared.scan.Kind.TheVariants as kind
-use Rattle.protox_lex.specs.Faults.{Span}
+use Rattle.protox_lexeme.specs.declared.scan.Kind.{Kind}
+use Rattle.protox_lexeme.specs.declared.scan.Kind.TheVariants as kind
+use Rattle.protox_fault.specs.Faults.{Span}
 use Rattle.protox_lex.specs.LexesBack.{AreBytes, IsPrintable}
-use Rattle.protox_lex.specs.Lexemes.{Lexeme, IsLexeme, IsCut, lexeme, blanks, cut, integer_value, value_fits, has_suffix, body_of, is_whole, float_text}
-use Rattle.protox_lex.specs.Lexicon.{pattern, is_octal, is_nonzero, is_e, is_sign, is_f, is_x, is_quote, is_mark, byte, digits, any_digits, exponent, suffix}
-use Rattle.protox_lex.specs.Pattern.{◌⋅◌, maybe, Fits}
-use Rattle.protox_lex.specs.Shapes.{Shape, Float, Invalid, Row}
-use Rattle.protox_lex.specs.Strings as spec
-use Rattle.protox_lex.specs.Table.{is_gap, rows_of}
+use Rattle.protox_lexeme.specs.Lexemes.{Lexeme, IsLexeme, IsCut, lexeme, blanks, cut, integer_value, value_fits, has_suffix, body_of, is_whole, float_text}
+use Rattle.protox_lexeme.specs.Lexicon.{pattern, is_octal, is_nonzero, is_e, is_sign, is_f, is_x, is_quote, is_mark, byte, digits, any_digits, exponent, suffix}
+use Rattle.protox_lexeme.specs.Pattern.{◌⋅◌, maybe, Fits}
+use Rattle.protox_lexeme.specs.Shapes.{Shape, Float, Invalid, Row}
+use Rattle.protox_lexeme.specs.Strings as spec
+use Rattle.protox_lexeme.specs.Table.{is_gap, rows_of}
 use Rattle.protox_lex.specs.Words.{IsWordOf}
-use Rattle.protox_lex.proofs.Cut.{cut_is_cut}
-use Rattle.protox_lex.proofs.Each.{Every, all_every}
-use Rattle.protox_lex.proofs.Fitting.{first_passes, In, OnlyIn}
+use Rattle.protox_lexeme.proofs.Cut.{cut_is_cut}
+use Rattle.protox_lexeme.proofs.Each.{Every, all_every}
+use Rattle.protox_lexeme.proofs.Fitting.{first_passes, In, OnlyIn}
 use Rattle.protox_lex.proofs.LexesBack.{front_is, at_rest}
-use Rattle.protox_lex.proofs.Margins.{AllPass, head_passes, rest_passes}
+use Rattle.protox_lexeme.proofs.Margins.{AllPass, head_passes, rest_passes}
 use Rattle.protox_lex.proofs.NumbersBack.{digits_word, word_passes}
 use Rattle.protox_lex.proofs.WordsOf.{fits_word}
 

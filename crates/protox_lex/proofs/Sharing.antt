@@ -12,12 +12,12 @@ use Rattle.std.proofs.lemmas.List.Elements.{All-push}
 use Rattle.std.specs.Prelude.{slice_get, slice_index_or}
 use Rattle.protox_lex.specs.declared.shared_rows.KeptToken.{KeptToken}
 use Rattle.protox_lex.specs.declared.shared_rows.NumberedRow.{NumberedRow}
-use Rattle.protox_lex.specs.declared.token.Token.{Token}
-use Rattle.protox_lex.specs.Faults.{Span, span_from}
-use Rattle.protox_lex.specs.Shapes.{Shape, Mark, Newline, Row}
+use Rattle.protox_lexeme.specs.declared.token.Token.{Token}
+use Rattle.protox_fault.specs.Faults.{Span, span_from}
+use Rattle.protox_lexeme.specs.Shapes.{Shape, Mark, Newline, Row}
 use Rattle.protox_lex.specs.Sharing.{kept_at, shape_at, len_at, row_by, rows_by, AreKept, AreMarks, AreShared, AreLines, AreThere, gap_at}
 use Rattle.protox_lex.specs.TableView.{shapes_of_lent}
-use Rattle.protox_lex.specs.Tokens.{shape_of, shape_of_result}
+use Rattle.protox_lexeme.specs.Tokens.{shape_of, shape_of_result}
 
 -- what is kept stays
 kept_stays : (tokens more : List KeptToken) (number : ℕ) → number < length tokens → kept_at (tokens ++ more) number ≡ kept_at tokens number

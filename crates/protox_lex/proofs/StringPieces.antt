@@ -7,15 +7,15 @@ use Rattle.std.proofs.lemmas.Grind.{get_or_after_one}
 use Rattle.std.specs.Prelude.{if◌then◌else◌, min}
 use Rattle.std.specs.List.{prefix_len}
 use Rattle.std.specs.Char.{is_ascii_hexdigit}
-use Rattle.protox_lex.specs.Lexicon.{is_octal, is_x, is_quote, byte}
-use Rattle.protox_lex.specs.Pattern.{Pattern, one, ◌⋅◌, some, times, up_to, Fits, IsLongest}
+use Rattle.protox_lexeme.specs.Lexicon.{is_octal, is_x, is_quote, byte}
+use Rattle.protox_lexeme.specs.Pattern.{Pattern, one, ◌⋅◌, some, times, up_to, Fits, IsLongest}
 use Rattle.protox_lex.specs.StringPieces.{PieceKind, Run, Close, OtherQuote, Hex, Octal, Simple, ShortChar, LongChar, is_simple, hex_digit, octal_digit, piece_pattern, piece_as, unmatched, IsPiece, IsPieces, begins_wrong, all_wrong}
-use Rattle.protox_lex.specs.Strings as spec
+use Rattle.protox_lexeme.specs.Strings as spec
 use Rattle.std.specs.Option.{is_some}
-use Rattle.protox_lex.specs.Faults.{span_from}
-use Rattle.protox_lex.specs.declared.error.ParseErrorKind.TheVariants.{InvalidStringEscape, InvalidStringCharacters}
-use Rattle.protox_lex.proofs.Literal.{piece_some, pieces_end, pieces_turn, pieces_last, pieces_more}
-use Rattle.protox_lex.proofs.Fitting.{first_passes, passes_first, some_bounds, some_fits, one_then, one_then_rest, then_one_rest, run_more}
+use Rattle.protox_fault.specs.Faults.{span_from}
+use Rattle.protox_fault.specs.declared.error.ParseErrorKind.TheVariants.{InvalidStringEscape, InvalidStringCharacters}
+use Rattle.protox_lexeme.proofs.Literal.{piece_some, pieces_end, pieces_turn, pieces_last, pieces_more}
+use Rattle.protox_lexeme.proofs.Fitting.{first_passes, passes_first, some_bounds, some_fits, one_then, one_then_rest, then_one_rest, run_more}
 
 not_true : (b : Bool) → not b ≡ true → b ≡ false
 not_true true h = absurd (false≢true h)

@@ -8,16 +8,16 @@ use Rattle.std.specs.Prelude.{min, nat_lt}
 use Rattle.std.specs.List.{prefix_len, list_all}
 use Rattle.std.specs.Char.{is_ascii_hexdigit, digit_char, digit_value}
 use Rattle.std.specs.Int.{is_in_range}
-use Rattle.protox_lex.specs.declared.scan.Kind.TheVariants as kind
+use Rattle.protox_lexeme.specs.declared.scan.Kind.TheVariants as kind
 use Rattle.protox_lex.specs.LexesBack.{AreBytes}
-use Rattle.protox_lex.specs.Printed.{hex_pair, printed_byte}
-use Rattle.protox_lex.specs.Scanning.{scan}
-use Rattle.protox_lex.specs.Shapes.{Str}
-use Rattle.protox_lex.specs.Strings as spec
-use Rattle.protox_lex.proofs.Fitting.{no_run, run_more}
+use Rattle.protox_lexeme.specs.Printed.{hex_pair, printed_byte}
+use Rattle.protox_lexeme.specs.Scanning.{scan}
+use Rattle.protox_lexeme.specs.Shapes.{Str}
+use Rattle.protox_lexeme.specs.Strings as spec
+use Rattle.protox_lexeme.proofs.Fitting.{no_run, run_more}
 use Rattle.protox_lex.proofs.LexesBack.{LexesAs, rest_is, by_scan}
-use Rattle.protox_lex.proofs.Literal.{pieces_last, pieces_more}
-use Rattle.protox_lex.proofs.ScanMatch as scanned
+use Rattle.protox_lexeme.proofs.Literal.{pieces_last, pieces_more}
+use Rattle.protox_lexeme.proofs.ScanMatch as scanned
 
 -- the pieces of a literal's text in double quotes: their value, their length, and no fault
 record Reads (text bytes : List ℕ) (n : ℕ) : Type 0 where

@@ -4,15 +4,15 @@ use Rattle.std.proofs.lemmas.Bool.{cases_Bool}
 use Rattle.std.specs.Borrow.{Bor}
 use Rattle.std.specs.Option.{option_map}
 use Rattle.std.specs.Prelude.{slice_get, IfSome, map}
-use Rattle.protox_lex.specs.declared.token.Token.{Token}
-use Rattle.protox_lex.specs.Tokens.{shape_of}
-use Rattle.protox_lex.specs.declared.error.ParseErrorKind.{ParseErrorKind}
+use Rattle.protox_lexeme.specs.declared.token.Token.{Token}
+use Rattle.protox_lexeme.specs.Tokens.{shape_of}
+use Rattle.protox_fault.specs.declared.error.ParseErrorKind.{ParseErrorKind}
 use Rattle.protox_lex.specs.declared.table_draft.TableDraft.{TableDraft}
-use Rattle.protox_lex.specs.Faults.{faults_in}
-use Rattle.protox_lex.specs.Gaps.{IsGap, HoldGaps}
-use Rattle.protox_lex.specs.Lexemes.{Lexeme}
-use Rattle.protox_lex.specs.Shapes.{Shape}
-use Rattle.protox_lex.specs.Table.{is_gap, in_front, rows_of, gaps_of, faults_of, table_of}
+use Rattle.protox_fault.specs.Faults.{faults_in}
+use Rattle.protox_lexeme.specs.Gaps.{IsGap, HoldGaps}
+use Rattle.protox_lexeme.specs.Lexemes.{Lexeme}
+use Rattle.protox_lexeme.specs.Shapes.{Shape}
+use Rattle.protox_lexeme.specs.Table.{is_gap, in_front, rows_of, gaps_of, faults_of, table_of}
 use Rattle.protox_lex.specs.TableView.{finished, shapes_of_lent}
 
 in_front_nil : {T : Type 0} (xss : List (List T)) → in_front [] xss ≡ xss

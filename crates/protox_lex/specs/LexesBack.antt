@@ -1,11 +1,11 @@
 -- Shapes that are cut again from what they print.
 use Rattle.std.specs.Prelude.{◌≡◌, ℕ, ◌^◌, ◌<◌, true, false, nat_lt, List, [], ◌∷◌, ◌++◌}
 use Rattle.std.specs.List.{list_all}
-use Rattle.protox_lex.specs.declared.scan.Kind.TheVariants as kind
-use Rattle.protox_lex.specs.Lexemes.{has_suffix, is_whole}
-use Rattle.protox_lex.specs.Lexicon.{pattern, is_mark}
-use Rattle.protox_lex.specs.Printed.{printed}
-use Rattle.protox_lex.specs.Shapes.{Shape, Ident, Int, Float, Str, Mark}
+use Rattle.protox_lexeme.specs.declared.scan.Kind.TheVariants as kind
+use Rattle.protox_lexeme.specs.Lexemes.{has_suffix, is_whole}
+use Rattle.protox_lexeme.specs.Lexicon.{pattern, is_mark}
+use Rattle.protox_lexeme.specs.Printed.{printed}
+use Rattle.protox_lexeme.specs.Shapes.{Shape, Ident, Int, Float, Str, Mark}
 use Rattle.protox_lex.specs.Words.{IsWordOf}
 
 abbrev pub AreBytes : List ℕ → Type 0

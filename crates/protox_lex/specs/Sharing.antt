@@ -3,11 +3,11 @@ use Rattle.std.specs.Prelude.{◌≡◌, ◌<◌, ◌+◌, ◌-◌, ◌++◌, �
 use Rattle.std.specs.List.{All}
 use Rattle.protox_lex.specs.declared.shared_rows.KeptToken.{KeptToken}
 use Rattle.protox_lex.specs.declared.shared_rows.NumberedRow.{NumberedRow}
-use Rattle.protox_lex.specs.declared.token.Token.{Token}
-use Rattle.protox_lex.specs.Faults.{Span, span_from}
+use Rattle.protox_lexeme.specs.declared.token.Token.{Token}
+use Rattle.protox_fault.specs.Faults.{Span, span_from}
 use Rattle.protox_lex.specs.Grouping.{Grouped}
-use Rattle.protox_lex.specs.Shapes.{Shape, Mark, Newline, Row, Rows}
-use Rattle.protox_lex.specs.Tokens.{shape_of, shape_of_result}
+use Rattle.protox_lexeme.specs.Shapes.{Shape, Mark, Newline, Row, Rows}
+use Rattle.protox_lexeme.specs.Tokens.{shape_of, shape_of_result}
 
 -- what is kept by that number
 abbrev pub kept_at : List KeptToken → ℕ → KeptToken

@@ -3,9 +3,9 @@ use Rattle.std.specs.Prelude.{◌≡◌, ℕ, ◌<◌, Bool, true, false, not, �
 use Rattle.std.specs.Char.{is_ascii_hexdigit}
 use Rattle.std.specs.Option.{is_some}
 use Rattle.std.specs.Str.Parse.{digits_value}
-use Rattle.protox_lex.specs.Lexicon.{is_octal, is_x, is_quote, byte}
-use Rattle.protox_lex.specs.Pattern.{Pattern, one, ◌⋅◌, some, times, up_to, Fits, IsLongest}
-use Rattle.protox_lex.specs.Strings.{Piece, run, adds, wrong, ends, breaks, is_plain, simple_escape, byte_piece, char_piece, simple_piece, piece_len, is_last}
+use Rattle.protox_lexeme.specs.Lexicon.{is_octal, is_x, is_quote, byte}
+use Rattle.protox_lexeme.specs.Pattern.{Pattern, one, ◌⋅◌, some, times, up_to, Fits, IsLongest}
+use Rattle.protox_lexeme.specs.Strings.{Piece, run, adds, wrong, ends, breaks, is_plain, simple_escape, byte_piece, char_piece, simple_piece, piece_len, is_last}
 
 -- A run; the quote that opened the literal; the other quote; escapes: by hex digits, by octal digits, by a letter, and of a character by 4 or 8 hex digits.
 pub data PieceKind : Type 0 where

@@ -1,13 +1,13 @@
 -- What a clause sees of a table and of its tokens.
 use Rattle.std.specs.Borrow.{Bor}
 use Rattle.std.specs.Prelude.{List, map, ◌++◌, Result, Ok, Err}
-use Rattle.protox_lex.specs.declared.token.Token.{Token}
+use Rattle.protox_lexeme.specs.declared.token.Token.{Token}
 use Rattle.protox_lex.specs.declared.table_draft.TableDraft.{TableDraft}
 use Rattle.protox_lex.specs.declared.token_table.TokenTable.TheInside.{Inside}
-use Rattle.protox_lex.specs.Lexemes.{Lexeme}
-use Rattle.protox_lex.specs.Shapes.{Shape, Invalid}
-use Rattle.protox_lex.specs.Table.{Table, in_front, rows_of, gaps_of, faults_of}
-use Rattle.protox_lex.specs.Tokens.{shape_of}
+use Rattle.protox_lexeme.specs.Lexemes.{Lexeme}
+use Rattle.protox_lexeme.specs.Shapes.{Shape, Invalid}
+use Rattle.protox_lexeme.specs.Table.{Table, in_front, rows_of, gaps_of, faults_of}
+use Rattle.protox_lexeme.specs.Tokens.{shape_of}
 
 -- the shape of a token that is lent, or of an invalid one
 abbrev pub shape_of_lent : Result (Bor Token) (Unit {0}) → Shape

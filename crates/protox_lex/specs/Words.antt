@@ -1,7 +1,7 @@
 -- Patterns as sets of words.
 use Rattle.std.specs.Prelude.{◌≡◌, ℕ, true, List, [], ◌∷◌, ◌++◌, ◌⊎◌}
 use Rattle.std.specs.List.{list_all}
-use Rattle.protox_lex.specs.Pattern.{Pattern, one, many, ◌⋅◌, ◌∣◌, maybe}
+use Rattle.protox_lexeme.specs.Pattern.{Pattern, one, many, ◌⋅◌, ◌∣◌, maybe}
 
 -- The word is of the pattern.
 abbrev pub IsWordOf : Pattern → List ℕ → Type 0

@@ -5,27 +5,27 @@ ghost use Rattle.std.specs.Cow.{cow_str_bytes};
 ghost use Rattle.std.specs.List.{All};
 ghost use Rattle.std.specs.Option.{option_map};
 ghost use Rattle.std.specs.Str.{IsUtf8};
-ghost use Rattle.protox_lex.specs.declared.error.ParseErrorKind.TheVariants.{InvalidStringCharacters, InvalidStringEscape};
-ghost use Rattle.protox_lex.specs.Faults.{LiesIn, span_from};
-ghost use Rattle.protox_lex.specs.Lexemes as spec;
+ghost use Rattle.protox_fault.specs.declared.error.ParseErrorKind.TheVariants.{InvalidStringCharacters, InvalidStringEscape};
+ghost use Rattle.protox_fault.specs.Faults.{LiesIn, span_from};
+ghost use Rattle.protox_lexeme.specs.Lexemes as spec;
 ghost use Rattle.protox_lex.specs.LexesBack.{AreBytes, IsPrintable, ArePrintable, spaced};
-ghost use Rattle.protox_lex.specs.Lexicon.{is_quote};
-ghost use Rattle.protox_lex.specs.Pattern.{Pattern, Fits};
-ghost use Rattle.protox_lex.specs.Printed.{printed};
-ghost use Rattle.protox_lex.specs.Shapes.{Shape, Ident, Int, Float, Str, LineComment, Invalid};
-ghost use Rattle.protox_lex.specs.State.{TakeNone};
+ghost use Rattle.protox_lexeme.specs.Lexicon.{is_quote};
+ghost use Rattle.protox_lexeme.specs.Pattern.{Pattern, Fits};
+ghost use Rattle.protox_lexeme.specs.Printed.{printed};
+ghost use Rattle.protox_lexeme.specs.Shapes.{Shape, Ident, Int, Float, Str, LineComment, Invalid};
+ghost use Rattle.protox_lexeme.specs.State.{TakeNone};
 ghost use Rattle.protox_lex.specs.StringPieces.{IsPieces, all_wrong, begins_wrong};
-ghost use Rattle.protox_lex.specs.Strings.{Piece, wrong, len_of, pieces, faults_of as string_faults};
-ghost use Rattle.protox_lex.specs.Table.{rows_of, gaps_of, faults_of, StandBetween};
-ghost use Rattle.protox_lex.specs.Tokens.{shape_of, shape_of_result};
+ghost use Rattle.protox_lexeme.specs.Strings.{Piece, wrong, len_of, pieces, faults_of as string_faults};
+ghost use Rattle.protox_lexeme.specs.Table.{rows_of, gaps_of, faults_of, StandBetween};
+ghost use Rattle.protox_lexeme.specs.Tokens.{shape_of, shape_of_result};
 ghost use Rattle.protox_lex.specs.Words.{IsWordOf};
 
-use crate::lexer::Lexer;
-use crate::token::{EqFloat, Token};
+use protox_lexeme::lexer::Lexer;
+use protox_lexeme::token::{EqFloat, Token};
 use std::alloc::Global;
 
 /// Each text has one cut into lexemes, and `cut` is it.
-#[tactic(auto, using(crate::proofs::Cut::cut_is_cut, crate::proofs::Cut::only_cut))]
+#[tactic(auto, using(protox_lexeme::proofs::Cut::cut_is_cut, protox_lexeme::proofs::Cut::only_cut))]
 pub fn one_cut()
     ensures is { (source : List ℕ) → spec.IsCut 0 source (spec.cut 0 source) }
     ensures only { (source : List ℕ) (lexemes : List spec.Lexeme) → spec.IsCut 0 source lexemes → lexemes ≡ spec.cut 0 source }
@@ -104,7 +104,7 @@ pub fn tokens_are_equal_by_shape(a: &Token<'_>, b: &Token<'_>) -> bool
 pub fn floats_are_equal_by_text(a: &EqFloat<'_>, b: &EqFloat<'_>) -> bool
     ensures { IsTrue result ↔ (cow_str_bytes a.now.0 ≡ cow_str_bytes b.now.0) }
 {
-    a == b
+    *a == *b
 }
 
 // The next of lexemes that take no memory.

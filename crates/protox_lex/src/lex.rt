@@ -1,9 +1,9 @@
 //! Tokens, and the words that the grammar of Protocol Buffers names: each constant is its own name
 //! in small letters.
 
-pub use crate::lexer::Lexer;
-pub use crate::token::{EqFloat, Token};
 pub use crate::token_table::TokenTable;
+pub use protox_lexeme::lexer::Lexer;
+pub use protox_lexeme::token::{EqFloat, Token};
 
 pub const SYNTAX: &str = "syntax";
 

@@ -1,13 +1,13 @@
 //! The gaps between rows, in little memory.
 ghost use Rattle.std.specs.Prelude.{◌≡◌, ◌++◌, ◌∷◌, [], map, replicate, slice_get, IfOk, OnOk};
 ghost use Rattle.std.specs.Option.{option_map};
-ghost use Rattle.protox_lex.specs.Shapes.{Newline};
+ghost use Rattle.protox_lexeme.specs.Shapes.{Newline};
 ghost use Rattle.protox_lex.specs.Sharing.{AreLines};
 ghost use Rattle.protox_lex.specs.TableView.{shapes_of_lent};
-ghost use Rattle.protox_lex.specs.Tokens.{shape_of};
+ghost use Rattle.protox_lexeme.specs.Tokens.{shape_of};
 
 use crate::groups::Groups;
-use crate::token::Token;
+use protox_lexeme::token::Token;
 use std::alloc::{AllocError, Global};
 use std::marker::Model;
 
@@ -26,7 +26,7 @@ pub(crate) struct SharedGaps<'a> {
 
 impl<'a> Model for SharedGaps<'a> {
     ghost use Rattle.protox_lex.specs.Grouping.{Grouped};
-    ghost use Rattle.protox_lex.specs.Shapes.{Shape};
+    ghost use Rattle.protox_lexeme.specs.Shapes.{Shape};
     ghost use Rattle.protox_lex.specs.Sharing.{gaps_by, AreGaps};
 
     ghost Value = { Grouped Shape };

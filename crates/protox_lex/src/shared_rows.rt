@@ -1,16 +1,16 @@
 //! The rows of a table, in little memory.
 ghost use Rattle.std.specs.Prelude.{◌≡◌, ◌<◌, ◌+◌, ◌++◌, ◌∷◌, [], true, length, slice_get, OnOk, OnErr, IfOk, IfSome};
 ghost use Rattle.std.specs.Option.{option_map};
-ghost use Rattle.protox_lex.specs.Faults.{span_from};
-ghost use Rattle.protox_lex.specs.Lexicon.{is_mark};
-ghost use Rattle.protox_lex.specs.Shapes.{Mark};
+ghost use Rattle.protox_fault.specs.Faults.{span_from};
+ghost use Rattle.protox_lexeme.specs.Lexicon.{is_mark};
+ghost use Rattle.protox_lexeme.specs.Shapes.{Mark};
 ghost use Rattle.protox_lex.specs.Sharing.{shape_at, len_at, AreMarks};
 ghost use Rattle.protox_lex.specs.TableView.{shape_of_lent};
-ghost use Rattle.protox_lex.specs.Tokens.{shape_of, shape_of_result};
+ghost use Rattle.protox_lexeme.specs.Tokens.{shape_of, shape_of_result};
 
-use crate::bytes::byte_at;
-use crate::error::Span;
-use crate::token::{Token, mark_of};
+use protox_fault::error::Span;
+use protox_lexeme::bytes::byte_at;
+use protox_lexeme::token::{Token, mark_of};
 use std::alloc::{AllocError, Global};
 use std::marker::Model;
 
@@ -41,8 +41,8 @@ pub(crate) struct SharedRows<'a> {
 }
 
 impl<'a> Model for SharedRows<'a> {
-    ghost use Rattle.protox_lex.specs.Faults.{Span};
-    ghost use Rattle.protox_lex.specs.Shapes.{Rows};
+    ghost use Rattle.protox_fault.specs.Faults.{Span};
+    ghost use Rattle.protox_lexeme.specs.Shapes.{Rows};
     ghost use Rattle.protox_lex.specs.Sharing.{rows_by, AreShared};
 
     ghost Value = { Rows Span };

@@ -1,24 +1,24 @@
 //! The table of a source as far as that has been cut.
 ghost use Rattle.std.specs.Prelude.{◌≡◌, ◌<◌, ◌≤◌, ◌+◌, ◌-◌, ◌^◌, ◌∷◌, ◌++◌, [], List, length, slice_index, true, false, Some, OnOk, IfOk};
 ghost use Rattle.std.specs.Str.{IsCharBoundary};
-ghost use Rattle.protox_lex.specs.Faults.{span_from};
-ghost use Rattle.protox_lex.specs.Found.{lexeme_of};
-ghost use Rattle.protox_lex.specs.Lexemes as spec;
-ghost use Rattle.protox_lex.specs.Lexicon.{is_mark, is_quote, IsLineOpener};
-ghost use Rattle.protox_lex.specs.Scanning as scanned;
-ghost use Rattle.protox_lex.specs.Shapes.{Mark, Newline};
-ghost use Rattle.protox_lex.specs.Table.{is_gap, table_of, invalid_faults};
+ghost use Rattle.protox_fault.specs.Faults.{span_from};
+ghost use Rattle.protox_lexeme.specs.Found.{lexeme_of};
+ghost use Rattle.protox_lexeme.specs.Lexemes as spec;
+ghost use Rattle.protox_lexeme.specs.Lexicon.{is_mark, is_quote, IsLineOpener};
+ghost use Rattle.protox_lexeme.specs.Scanning as scanned;
+ghost use Rattle.protox_lexeme.specs.Shapes.{Mark, Newline};
+ghost use Rattle.protox_lexeme.specs.Table.{is_gap, table_of, invalid_faults};
 ghost use Rattle.protox_lex.specs.TableView.{finished, ended_table};
-ghost use Rattle.protox_lex.specs.Tokens.{shape_of, shape_of_result};
+ghost use Rattle.protox_lexeme.specs.Tokens.{shape_of, shape_of_result};
 
-use crate::bytes::skip_blanks;
-use crate::found::{Found, invalid, plain_token, read_kind};
 use crate::late_groups::LateGroups;
-use crate::lexeme_fault::{FaultKind, LexemeFault};
-use crate::scan::{Kind, scan};
 use crate::shared_gaps::SharedGaps;
 use crate::shared_rows::{SharedRows, slot_of};
-use crate::token::Token;
+use protox_lexeme::bytes::skip_blanks;
+use protox_lexeme::found::{Found, invalid, plain_token, read_kind};
+use protox_lexeme::lexeme_fault::LexemeFault;
+use protox_lexeme::scan::{Kind, scan};
+use protox_lexeme::token::Token;
 use std::alloc::{AllocError, Global};
 
 /// A table as far as the source has been cut.
@@ -48,10 +48,7 @@ fn add_invalid(
     ensures { OnOk result (faults.new ≡ record faults.old { begun = faults.old.begun ++ invalid_faults (shape_of_result token.now) (span_from start stop) }) }
 {
     if token.is_err() {
-        faults.push(LexemeFault {
-            kind: FaultKind::InvalidToken,
-            span: start..stop,
-        })?;
+        faults.push(LexemeFault::invalid_token(start..stop))?;
     }
     Ok(())
 }
@@ -192,7 +189,7 @@ impl<'a> TableDraft<'a> {
     // The lexeme at the front of a text that begins at `start`. What is frequent stands in the loop that
     // calls this, and the rest is called, so that the loop stays short.
     #[inline(always)]
-    #[tactic(auto, using(crate::proofs::Boundaries::scan_boundary, crate::proofs::Boundaries::scan_mark, crate::proofs::Boundaries::scan_quote, crate::proofs::Boundaries::scan_line, crate::proofs::Boundaries::scan_block), unfolding(crate::specs::Lexemes::first_lexeme))]
+    #[tactic(auto, using(protox_lexeme::proofs::Boundaries::scan_boundary, protox_lexeme::proofs::Boundaries::scan_mark, protox_lexeme::proofs::Boundaries::scan_quote, protox_lexeme::proofs::Boundaries::scan_line, protox_lexeme::proofs::Boundaries::scan_block), unfolding(protox_lexeme::specs::Lexemes::first_lexeme))]
     fn read(&mut self, alloc: Global, text: &'a str, start: usize) -> Result<usize, AllocError>
         requires some { 0 < length text.now }
         requires fits { start + length text.now < 2 ^ 64 }

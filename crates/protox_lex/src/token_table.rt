@@ -1,21 +1,21 @@
 //! The table of a source: its tokens, and the comments and newlines before each.
 ghost use Rattle.std.specs.Prelude.{◌≡◌, ◌++◌, [], length, map, slice_get, slice_index_or, OnOk, OnErr, IfOk, IfSome, IsOk};
 ghost use Rattle.std.specs.Option.{option_map};
-ghost use Rattle.protox_lex.specs.Faults.{faults_in};
-ghost use Rattle.protox_lex.specs.Gaps.{IsGap};
-ghost use Rattle.protox_lex.specs.Lexemes as spec;
-ghost use Rattle.protox_lex.specs.Table.{table_of};
+ghost use Rattle.protox_fault.specs.Faults.{faults_in};
+ghost use Rattle.protox_lexeme.specs.Gaps.{IsGap};
+ghost use Rattle.protox_lexeme.specs.Lexemes as spec;
+ghost use Rattle.protox_lexeme.specs.Table.{table_of};
 ghost use Rattle.protox_lex.specs.TableView.{shape_of_lent, shapes_of_lent};
-ghost use Rattle.protox_lex.specs.Tokens.{shape_of};
+ghost use Rattle.protox_lexeme.specs.Tokens.{shape_of};
 
-use crate::error::{ParseErrorKind, Span};
-use crate::fault_list::tell;
 use crate::late_groups::LateGroups;
-use crate::lexeme_fault::LexemeFault;
 use crate::shared_gaps::SharedGaps;
 use crate::shared_rows::SharedRows;
 use crate::table_draft::{TableDraft, ended_draft};
-use crate::token::Token;
+use protox_fault::error::{ParseErrorKind, Span};
+use protox_lexeme::fault_list::tell;
+use protox_lexeme::lexeme_fault::LexemeFault;
+use protox_lexeme::token::Token;
 use std::alloc::{AllocError, Global};
 use std::marker::Model;
 
@@ -28,7 +28,7 @@ pub struct TokenTable<'a> {
 }
 
 impl<'a> Model for TokenTable<'a> {
-    ghost use Rattle.protox_lex.specs.Table.{Table};
+    ghost use Rattle.protox_lexeme.specs.Table.{Table};
 
     ghost Value = { Table };
 
@@ -36,7 +36,7 @@ impl<'a> Model for TokenTable<'a> {
 
     ghost view = { table_seen };
 
-    ghost use Rattle.protox_lex.specs.Gaps.{HoldGaps};
+    ghost use Rattle.protox_lexeme.specs.Gaps.{HoldGaps};
 
     ghost invariant = { λ t. HoldGaps (table_seen t).gaps };
 }

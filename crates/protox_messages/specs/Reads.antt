@@ -1,7 +1,7 @@
 -- MACHINERY. Fields and messages, read into the syntax tree by the code's steps.
 use Rattle.std.specs.Prelude.{List, [], ◌∷◌, ◌++◌, codes, Bool, not, Option, Some, None, is_some}
-use Rattle.protox_lex.specs.Faults.{Span}
-use Rattle.protox_lex.specs.Shapes.{Shape}
+use Rattle.protox_fault.specs.Faults.{Span}
+use Rattle.protox_lexeme.specs.Shapes.{Shape}
 use Rattle.protox_grammar.specs.Reader.{is_word_of, leaf, seq, mapped, either, star, unstarted, gathered}
 use Rattle.protox_grammar.specs.Rules.{see_scalar}
 use Rattle.protox_grammar.specs.part.Rules.{barred_words}

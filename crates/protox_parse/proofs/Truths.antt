@@ -1,7 +1,7 @@
 -- What is wrong of the syntax tree of a source is true of the source, and so is that it is too large.
 use Rattle.std.proofs.Common.{inl, inr, ℕ, List, [], ◌∷◌, Result, Ok, Err, IfErr, refl, sym, subst}
 use Rattle.std.specs.Prelude.{length}
-use Rattle.protox_lex.specs.declared.error.ParseErrorKind.{ParseErrorKind}
+use Rattle.protox_fault.specs.declared.error.ParseErrorKind.{ParseErrorKind}
 use Rattle.protox_ast.specs.Accepted.{Fits, IsAccepted}
 use Rattle.protox_ast.specs.Ast as ast
 use Rattle.protox_ast.specs.Keywords.{Each}

@@ -1,7 +1,7 @@
 -- When a refusal speaks of a source.
 use Rattle.std.specs.Prelude.{◌≡◌, ◌≢◌, ℕ, List, [], ◌∷◌, length, ◌⊎◌}
-use Rattle.protox_lex.specs.Faults.{LiesIn}
-use Rattle.protox_lex.specs.declared.error.ParseErrorKind.TheVariants.{FileTooLarge}
+use Rattle.protox_fault.specs.Faults.{LiesIn}
+use Rattle.protox_fault.specs.declared.error.ParseErrorKind.TheVariants.{FileTooLarge}
 use Rattle.protox_ast.specs.Accepted.{Fits}
 pub use Rattle.protox_ast.specs.AstParts.{first_of}
 use Rattle.protox_ast.specs.Keywords.{Each}

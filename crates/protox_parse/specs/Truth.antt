@@ -1,10 +1,10 @@
 -- When a fault is true of a source, of every kind: those of its lexemes, its tokens and its nodes (`IsTrueOf`), those of the generator, and that it
 -- is too large.
 use Rattle.std.specs.Prelude.{◌≡◌, ℕ, ◌⊎◌, List, length}
-use Rattle.protox_lex.specs.Lexemes.{cut}
-use Rattle.protox_lex.specs.Table.{table_of}
-use Rattle.protox_lex.specs.declared.error.ParseErrorKind.{ParseErrorKind}
-use Rattle.protox_lex.specs.declared.error.ParseErrorKind.TheVariants.{FileTooLarge}
+use Rattle.protox_lexeme.specs.Lexemes.{cut}
+use Rattle.protox_lexeme.specs.Table.{table_of}
+use Rattle.protox_fault.specs.declared.error.ParseErrorKind.{ParseErrorKind}
+use Rattle.protox_fault.specs.declared.error.ParseErrorKind.TheVariants.{FileTooLarge}
 use Rattle.protox_ast.specs.Accepted.{Fits}
 use Rattle.protox_ast.specs.Ast as ast
 use Rattle.protox_ast.specs.Keywords.{Each}

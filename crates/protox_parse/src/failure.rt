@@ -6,7 +6,7 @@ ghost use Rattle.protox_ast.specs.Accepted.{Fits, FaultsLieIn};
 ghost use Rattle.protox_ast.specs.Keywords.{Each};
 ghost use Rattle.protox_ast.specs.declared.ast.File.{File};
 ghost use Rattle.protox_generate.specs.Faults.{AreWrong, IsFaultless};
-ghost use Rattle.protox_lex.specs.Faults.{LiesIn, span_of};
+ghost use Rattle.protox_fault.specs.Faults.{LiesIn, span_of};
 ghost use Rattle.protox_parse.specs.Failures.{AreWrongOf, IsOutOfMemory, IsRefusalOf, first_of};
 
 use protox_descriptor::values::Text;
@@ -89,7 +89,7 @@ impl ParseError {
 
 impl fmt::Display for ParseError {
     ghost use Rattle.std.specs.Prelude.{option_map};
-    ghost use Rattle.protox_lex.specs.FaultTexts.{text_of};
+    ghost use Rattle.protox_fault.specs.FaultTexts.{text_of};
 
     ghost output = { λ refusal. option_map text_of (first_of refusal.errors) };
 

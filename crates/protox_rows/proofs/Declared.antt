@@ -1,6 +1,6 @@
 -- The comments of a declaration are those around the rows that it is read from.
 use Rattle.std.proofs.Common.{◌≡◌, ◌++◌, Result, Ok, Err, refl, sym, ap, subst, ◌∙◌}
-use Rattle.protox_lex.specs.Shapes.{Rows}
+use Rattle.protox_lexeme.specs.Shapes.{Rows}
 use Rattle.protox_ast.specs.Places.{Place}
 use Rattle.protox_grammar.specs.Reader.{Reader, Refusal, ◌>>=◌, mapped}
 use Rattle.protox_grammar.specs.Rule.{Rule}

@@ -1,13 +1,13 @@
 -- The rows of a table with their places, by number.
 use Rattle.std.proofs.Common.{◌≡◌, ◌<◌, ◌≤◌, ◌+◌, ◌-◌, ℕ, zero, suc, Bool, true, false, List, [], ◌∷◌, drop, length, Option, Some, None, refl, sym, ap, subst, ◌∙◌, eqb, arith}
 use Rattle.std.proofs.lemmas.Bool.{ne_eqb}
-use Rattle.protox_lex.specs.declared.comments.GapComments.{GapComments}
-use Rattle.protox_lex.specs.Attributing.{attribution_of}
+use Rattle.protox_comments.specs.declared.comments.GapComments.{GapComments}
+use Rattle.protox_comments.specs.Attributing.{attribution_of}
 use Rattle.std.specs.Prelude.{slice_get, slice_index_or, option_map, Result, Ok, Err, IfOk}
-use Rattle.protox_lex.specs.Faults.{Span}
-use Rattle.protox_lex.specs.Gaps.{may_lead, Attribution, attribution}
-use Rattle.protox_lex.specs.Shapes.{Shape, Ident, Int, Float, Str, Mark, LineComment, BlockComment, Newline, Invalid, Row, Rows}
-use Rattle.protox_lex.specs.Table.{Table}
+use Rattle.protox_fault.specs.Faults.{Span}
+use Rattle.protox_lexeme.specs.Gaps.{may_lead, Attribution, attribution}
+use Rattle.protox_lexeme.specs.Shapes.{Shape, Ident, Int, Float, Str, Mark, LineComment, BlockComment, Newline, Invalid, Row, Rows}
+use Rattle.protox_lexeme.specs.Table.{Table}
 use Rattle.protox_ast.proofs.Standing.{as-many}
 use Rattle.protox_rows.specs.Rows.{no_row, bare_row, shape_of_row, IsFirst}
 use Rattle.protox_ast.specs.Places.{Place, placed, next_gap, later_gaps, next_shape, place_of, placed_from}

@@ -2,7 +2,7 @@
 use Rattle.std.proofs.Common.{◌≡◌, ◌<◌, Bool, true, false, eqb, [], ◌∷◌, length, Result, Ok, refl, sym, ◌∙◌, arith}
 use Rattle.std.proofs.lemmas.Bool.{eqb-true}
 use Rattle.protox_ast.specs.Places.{Place}
-use Rattle.protox_lex.specs.Shapes.{Shape, Rows}
+use Rattle.protox_lexeme.specs.Shapes.{Shape, Rows}
 use Rattle.protox_grammar.specs.Reader.{Reader, Refusal, head_in, star, gathered, ◌>>=◌, Consumes}
 use Rattle.protox_grammar.proofs.Loops.{goes_on, stops, is_done}
 use Rattle.protox_rows.specs.declared.refused.Refused.{Refused}

@@ -1,7 +1,7 @@
 -- MACHINERY. What is found at nodes while rows are read.
 use Rattle.std.specs.Prelude.{◌≡◌, List, [], ◌∷◌, ◌++◌, length, Bool, true, false, if◌then◌else◌, Result, Ok, Err}
-use Rattle.protox_lex.specs.Shapes.{Shape, Invalid, Rows}
-use Rattle.protox_lex.specs.declared.error.ParseErrorKind.{ParseErrorKind}
+use Rattle.protox_lexeme.specs.Shapes.{Shape, Invalid, Rows}
+use Rattle.protox_fault.specs.declared.error.ParseErrorKind.{ParseErrorKind}
 use Rattle.protox_grammar.specs.Reader.{Refusal, head_in}
 use Rattle.protox_ast.specs.Places.{Place}
 use Rattle.protox_rows.specs.declared.notes.Note.{Note}

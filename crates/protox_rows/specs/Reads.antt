@@ -1,7 +1,7 @@
 -- MACHINERY. Names, numbers and strings, read into the syntax tree by the code's steps.
 use Rattle.std.specs.Prelude.{ℕ, List, [], ◌∷◌, ◌++◌, Bool, true, Option, None, is_some, Ok}
-use Rattle.protox_lex.specs.Faults.{Span}
-use Rattle.protox_lex.specs.Shapes.{Shape, Ident, Mark, Rows}
+use Rattle.protox_fault.specs.Faults.{Span}
+use Rattle.protox_lexeme.specs.Shapes.{Shape, Ident, Mark, Rows}
 use Rattle.protox_grammar.specs.Reader.{Reader, is_token, is_string, fixed, leaf, seq, mapped, optional, star, folded, ◌>>=◌, see_word, see_integer, see_text}
 use Rattle.protox_ast.specs.Spelling.{dot, minus}
 use Rattle.protox_ast.specs.part.Ast.{join, last_place, comments, dotted_start, span_if_any, signed_span}

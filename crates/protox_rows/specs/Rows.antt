@@ -1,7 +1,7 @@
 -- What a clause sees of the rows of a table.
 use Rattle.std.specs.Prelude.{◌≡◌, ℕ, ◌<◌, ◌≤◌, ◌-◌, [], ◌∷◌, drop, length, Option, Some, None, slice_get, slice_index_or, option_map}
-use Rattle.protox_lex.specs.Faults.{Span}
-use Rattle.protox_lex.specs.Shapes.{Shape, Row, Rows, Newline, Invalid}
+use Rattle.protox_fault.specs.Faults.{Span}
+use Rattle.protox_lexeme.specs.Shapes.{Shape, Row, Rows, Newline, Invalid}
 use Rattle.protox_ast.specs.Places.{Place, placed}
 use Rattle.protox_rows.specs.declared.rows.RowAt.TheInside as row_at
 use Rattle.protox_rows.specs.declared.rows.Unread.TheInside as unread

@@ -3,9 +3,9 @@
 ghost use Rattle.std.specs.Prelude.{◌≡◌, length};
 ghost use Rattle.protox_ast.specs.part.Ast.{join};
 ghost use Rattle.protox_grammar.specs.Reader.{is_token, head_in, fixed};
-ghost use Rattle.protox_lex.specs.Shapes.{Ident, Mark};
+ghost use Rattle.protox_lexeme.specs.Shapes.{Ident, Mark};
 ghost use Rattle.protox_lex.specs.TableView.{shape_of_lent};
-ghost use Rattle.protox_lex.specs.Tokens.{shape_of};
+ghost use Rattle.protox_lexeme.specs.Tokens.{shape_of};
 ghost use Rattle.protox_rows.specs.Outcome.{Gives};
 
 use crate::expected::Expected;

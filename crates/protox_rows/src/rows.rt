@@ -2,10 +2,10 @@
 
 ghost use Rattle.std.specs.Prelude.{◌≡◌, ◌==◌, IfOk, [], length, map, slice_index_or};
 ghost use Rattle.protox_ast.specs.Places.{placed};
-ghost use Rattle.protox_lex.specs.Gaps.{IsGap, attribution};
-ghost use Rattle.protox_lex.specs.Attributing.{attribution_of};
+ghost use Rattle.protox_lexeme.specs.Gaps.{IsGap, attribution};
+ghost use Rattle.protox_comments.specs.Attributing.{attribution_of};
 ghost use Rattle.protox_lex.specs.TableView.{shape_of_lent};
-ghost use Rattle.protox_lex.specs.Tokens.{shape_of};
+ghost use Rattle.protox_lexeme.specs.Tokens.{shape_of};
 ghost use Rattle.protox_rows.specs.Rows.{IsFirst, IsSplit, bare_row, shape_of_row};
 ghost use Rattle.protox_ast.specs.part.Ast.{comments};
 ghost use Rattle.protox_rows.specs.Reads.{declared};
@@ -26,7 +26,7 @@ pub struct RowAt<'t, 'a> {
 }
 
 impl<'t, 'a> Model for RowAt<'t, 'a> {
-    ghost use Rattle.protox_lex.specs.Shapes.{Row};
+    ghost use Rattle.protox_lexeme.specs.Shapes.{Row};
     ghost use Rattle.protox_ast.specs.Places.{Place};
     ghost use Rattle.protox_rows.specs.Rows.{the_row, IsRow};
 
@@ -45,7 +45,7 @@ pub struct Unread<'t, 'a> {
 }
 
 impl<'t, 'a> Model for Unread<'t, 'a> {
-    ghost use Rattle.protox_lex.specs.Shapes.{Rows};
+    ghost use Rattle.protox_lexeme.specs.Shapes.{Rows};
     ghost use Rattle.protox_ast.specs.Places.{Place};
     ghost use Rattle.protox_rows.specs.Rows.{rows_left};
 

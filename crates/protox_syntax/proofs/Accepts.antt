@@ -1,11 +1,11 @@
 -- What is judged of the table of a source is what is said of the source.
 use Rattle.std.proofs.Common.{◌≡◌, ℕ, ◌+◌, ◌≤◌, List, [], length, Option, Some, None, option_map, Result, Ok, Err, IfOk, IfErr, MatchResult, refl, sym, ap, subst, ◌∙◌, arith}
 use Rattle.std.specs.Prelude.{filter_map}
-use Rattle.protox_lex.specs.Shapes.{Rows}
-use Rattle.protox_lex.specs.Lexemes.{cut}
-use Rattle.protox_lex.specs.Table.{Table, rows_of, faults_of, table_of}
-use Rattle.protox_lex.specs.declared.error.SyntaxFailure.{SyntaxFailure}
-use Rattle.protox_lex.specs.declared.error.SyntaxFailure.TheVariants.{Faults, OutOfMemory}
+use Rattle.protox_lexeme.specs.Shapes.{Rows}
+use Rattle.protox_lexeme.specs.Lexemes.{cut}
+use Rattle.protox_lexeme.specs.Table.{Table, rows_of, faults_of, table_of}
+use Rattle.protox_fault.specs.declared.error.SyntaxFailure.{SyntaxFailure}
+use Rattle.protox_fault.specs.declared.error.SyntaxFailure.TheVariants.{Faults, OutOfMemory}
 use Rattle.protox_lex.proofs.Tables.{faults_of_length}
 use Rattle.protox_ast.specs.part.Tree as tree
 use Rattle.protox_ast.specs.part.Ast as ast

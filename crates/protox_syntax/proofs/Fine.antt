@@ -1,8 +1,8 @@
 -- Whole files: what the code reads is what the grammar reads, and nothing is noted of a file that is fine.
 use Rattle.std.proofs.Common.{◌≡◌, ◌↔◌, ℕ, zero, suc, Bool, true, false, cond, List, [], ◌∷◌, ◌++◌, length, codes, Option, option_map, Ok, refl, sym, ap, subst, ◌∙◌, inl, inr, ◌⊎◌}
-use Rattle.protox_lex.specs.Faults.{Span}
-use Rattle.protox_lex.specs.Shapes.{Mark, Rows}
-use Rattle.protox_lex.specs.declared.error.ParseErrorKind.{ParseErrorKind}
+use Rattle.protox_fault.specs.Faults.{Span}
+use Rattle.protox_lexeme.specs.Shapes.{Mark, Rows}
+use Rattle.protox_fault.specs.declared.error.ParseErrorKind.{ParseErrorKind}
 use Rattle.protox_ast.specs.part.Tree as tree
 use Rattle.protox_ast.specs.part.Spelling as s
 use Rattle.protox_ast.specs.part.Ast as ast

@@ -1,10 +1,10 @@
 -- The places of what is noted lie in the source that the rows stand in.
 use Rattle.std.proofs.Common.{◌≡◌, ℕ, zero, suc, ◌≤◌, Option, Bool, true, false, cond, List, [], ◌∷◌, ◌++◌, length, codes, Result, Ok, Err, refl, ap, subst, arith}
-use Rattle.protox_lex.specs.Faults.{Span, SpanLiesIn, LiesIn}
-use Rattle.protox_lex.specs.Shapes.{Rows}
+use Rattle.protox_fault.specs.Faults.{Span, SpanLiesIn, LiesIn}
+use Rattle.protox_lexeme.specs.Shapes.{Rows}
 use Rattle.protox_ast.specs.Places.{Place}
-use Rattle.protox_lex.specs.declared.error.ParseErrorKind.{ParseErrorKind}
-use Rattle.protox_lex.specs.declared.error.ParseErrorKind.TheVariants.{InvalidUtf8String, InvalidImport, UnknownSyntax}
+use Rattle.protox_fault.specs.declared.error.ParseErrorKind.{ParseErrorKind}
+use Rattle.protox_fault.specs.declared.error.ParseErrorKind.TheVariants.{InvalidUtf8String, InvalidImport, UnknownSyntax}
 use Rattle.protox_ast.specs.part.Tree as tree
 use Rattle.protox_ast.specs.part.Spelling as s
 use Rattle.protox_ast.specs.part.Ast as ast

@@ -2,10 +2,10 @@
 use Rattle.std.proofs.Common.{◌≡◌, ◌≤◌, ℕ, zero, suc, [], ◌∷◌, length, Some, Ok, Err, refl, sym, ap, subst, ◌∙◌, arith, inl, inr}
 use Rattle.std.specs.Prelude.{slice_get}
 use Rattle.std.proofs.lemmas.List.{length-append}
-use Rattle.protox_lex.specs.Faults.{Span, SpanLiesIn}
-use Rattle.protox_lex.specs.Shapes.{Row, Rows}
+use Rattle.protox_fault.specs.Faults.{Span, SpanLiesIn}
+use Rattle.protox_lexeme.specs.Shapes.{Row, Rows}
 use Rattle.protox_ast.specs.Places.{Place}
-use Rattle.protox_lex.specs.Table.{StandBetween}
+use Rattle.protox_lexeme.specs.Table.{StandBetween}
 use Rattle.protox_grammar.specs.Class.{only, all}
 use Rattle.protox_grammar.specs.Reader.{Reader, Refusal, Unexpected, ◌>>=◌}
 use Rattle.protox_grammar.specs.Rule.{Rule, optional, times}

@@ -1,8 +1,8 @@
 -- Each rule of statements that the code reads is the rule of the grammar, seen as the syntax tree.
 use Rattle.std.proofs.Common.{◌≡◌, List, [], ◌∷◌, ◌++◌, map, option_map, codes, refl, sym, ◌∙◌, append-nil, append_assoc, lit<}
 use Rattle.std.specs.List.{filter_map}
-use Rattle.protox_lex.specs.Faults.{Span}
-use Rattle.protox_lex.specs.Shapes.{Shape}
+use Rattle.protox_fault.specs.Faults.{Span}
+use Rattle.protox_lexeme.specs.Shapes.{Shape}
 use Rattle.protox_ast.specs.part.Tree as tree
 use Rattle.protox_ast.specs.part.Spelling as s
 use Rattle.protox_ast.specs.part.Ast as ast

@@ -1,8 +1,8 @@
 -- The place of all the rows of a table.
 use Rattle.std.proofs.Common.{◌≡◌, ℕ, suc, ◌-◌, ◌≤◌, true, false, nat_eq, List, [], ◌∷◌, length, slice_index_or, refl, ap, sym, ◌∙◌, arith}
 use Rattle.std.proofs.lemmas.Bool.{eqb-true, eqb-false}
-use Rattle.protox_lex.specs.Faults.{Span}
-use Rattle.protox_lex.specs.Shapes.{Shape, Row, Rows}
+use Rattle.protox_fault.specs.Faults.{Span}
+use Rattle.protox_lexeme.specs.Shapes.{Shape, Row, Rows}
 use Rattle.protox_ast.specs.part.Ast.{join, last_place, rows_span}
 use Rattle.protox_ast.specs.Places.{Place, later_gaps, placed_from}
 use Rattle.protox_syntax.specs.Judging.{bare_span}

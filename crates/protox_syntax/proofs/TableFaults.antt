@@ -2,11 +2,11 @@
 use Rattle.std.proofs.Common.{◌≡◌, ◌<◌, ◌+◌, ℕ, zero, suc, Bool, true, false, cond, List, [], ◌∷◌, length, Some, refl, ap, subst, ◌∙◌, arith}
 use Rattle.std.specs.Prelude.{slice_index_or, slice_get}
 use Rattle.std.specs.List.{All}
-use Rattle.protox_lex.specs.Faults.{Span, span_from}
-use Rattle.protox_lex.specs.Shapes.{Shape, Ident, Int, Float, Str, Mark, LineComment, BlockComment, Newline, Invalid, Row, Rows}
-use Rattle.protox_lex.specs.Lexemes.{Lexeme}
-use Rattle.protox_lex.specs.Table.{is_gap, rows_of, faults_of, in_front, row_faults, invalid_faults}
-use Rattle.protox_lex.specs.declared.error.ParseErrorKind.{ParseErrorKind}
+use Rattle.protox_fault.specs.Faults.{Span, span_from}
+use Rattle.protox_lexeme.specs.Shapes.{Shape, Ident, Int, Float, Str, Mark, LineComment, BlockComment, Newline, Invalid, Row, Rows}
+use Rattle.protox_lexeme.specs.Lexemes.{Lexeme}
+use Rattle.protox_lexeme.specs.Table.{is_gap, rows_of, faults_of, in_front, row_faults, invalid_faults}
+use Rattle.protox_fault.specs.declared.error.ParseErrorKind.{ParseErrorKind}
 use Rattle.protox_lex.proofs.Tables.{faults_of_length}
 use Rattle.protox_ast.specs.Keywords.{Each}
 use Rattle.protox_grammar.proofs.part.Accepted.{IsClean}

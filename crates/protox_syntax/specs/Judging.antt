@@ -1,12 +1,12 @@
 -- MACHINERY. What reading a table answers.
 use Rattle.std.specs.Prelude.{◌≡◌, ℕ, ◌+◌, List, [], ◌∷◌, length, Option, Some, None, option_map, Result, Ok, Err}
 use Rattle.std.specs.Str.{IsUtf8}
-use Rattle.protox_lex.specs.Faults.{Span, LiesIn}
-use Rattle.protox_lex.specs.Shapes.{Row, Rows}
-use Rattle.protox_lex.specs.Lexemes.{cut}
-use Rattle.protox_lex.specs.Table.{Table, table_of}
-use Rattle.protox_lex.specs.declared.error.SyntaxFailure.{SyntaxFailure}
-use Rattle.protox_lex.specs.declared.error.SyntaxFailure.TheVariants.{Faults, OutOfMemory}
+use Rattle.protox_fault.specs.Faults.{Span, LiesIn}
+use Rattle.protox_lexeme.specs.Shapes.{Row, Rows}
+use Rattle.protox_lexeme.specs.Lexemes.{cut}
+use Rattle.protox_lexeme.specs.Table.{Table, table_of}
+use Rattle.protox_fault.specs.declared.error.SyntaxFailure.{SyntaxFailure}
+use Rattle.protox_fault.specs.declared.error.SyntaxFailure.TheVariants.{Faults, OutOfMemory}
 use Rattle.protox_ast.specs.Accepted.{Fits}
 use Rattle.protox_ast.specs.Keywords.{Each}
 use Rattle.protox_ast.specs.part.Ast.{join, last_place, rows_span}

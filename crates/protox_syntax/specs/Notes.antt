@@ -1,9 +1,9 @@
 -- MACHINERY. What is found at statements while rows are read.
 use Rattle.std.specs.Prelude.{ℕ, zero, suc, List, [], ◌∷◌, ◌++◌, length, codes, if◌then◌else◌, Option}
-use Rattle.protox_lex.specs.Faults.{Span}
-use Rattle.protox_lex.specs.Shapes.{Rows}
-use Rattle.protox_lex.specs.declared.error.ParseErrorKind.{ParseErrorKind}
-use Rattle.protox_lex.specs.declared.error.ParseErrorKind.TheVariants.{InvalidUtf8String, InvalidImport, UnknownSyntax}
+use Rattle.protox_fault.specs.Faults.{Span}
+use Rattle.protox_lexeme.specs.Shapes.{Rows}
+use Rattle.protox_fault.specs.declared.error.ParseErrorKind.{ParseErrorKind}
+use Rattle.protox_fault.specs.declared.error.ParseErrorKind.TheVariants.{InvalidUtf8String, InvalidImport, UnknownSyntax}
 use Rattle.protox_grammar.specs.Reader.{head_in, seq, optional}
 use Rattle.protox_ast.specs.Spelling.{equals, semicolon}
 use Rattle.protox_ast.specs.part.Ast.{text_of}

@@ -1,7 +1,7 @@
 -- MACHINERY. Statements, read into the syntax tree by the code's steps.
 use Rattle.std.specs.Prelude.{ℕ, List, [], ◌∷◌, ◌++◌, codes, Bool, Option}
-use Rattle.protox_lex.specs.Faults.{Span}
-use Rattle.protox_lex.specs.Shapes.{Shape}
+use Rattle.protox_fault.specs.Faults.{Span}
+use Rattle.protox_lexeme.specs.Shapes.{Shape}
 use Rattle.protox_grammar.specs.Reader.{is_word_of, seq, mapped, either, optional, star, gathered}
 use Rattle.protox_ast.specs.Spelling.{equals, semicolon}
 use Rattle.protox_ast.specs.part.Ast.{join, text_of, syntax_of}

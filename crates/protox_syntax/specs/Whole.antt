@@ -1,7 +1,7 @@
 -- MACHINERY. What reading a whole file gives, and what is noted on the way.
 use Rattle.std.specs.Prelude.{List, ◌++◌, Option, Result, Ok}
-use Rattle.protox_lex.specs.Faults.{Span}
-use Rattle.protox_lex.specs.Shapes.{Rows}
+use Rattle.protox_fault.specs.Faults.{Span}
+use Rattle.protox_lexeme.specs.Shapes.{Rows}
 use Rattle.protox_grammar.specs.Reader.{Refusal, ◌>>=◌}
 use Rattle.protox_ast.specs.Places.{Place}
 use Rattle.protox_ast.specs.declared.ast.Comments.{Comments}

@@ -1,8 +1,8 @@
 //! The list of faults: those of the rows in their order, and among them those that are noted at nodes.
 
 ghost use Rattle.std.specs.Prelude.{◌≡◌, ◌<◌, ◌+◌, ◌++◌, ◌^◌, OnOk, IfOk, Some, option_to_list};
-ghost use Rattle.protox_lex.specs.Printed.{printed};
-ghost use Rattle.protox_lex.specs.Tokens.{shape_of};
+ghost use Rattle.protox_lexeme.specs.Printed.{printed};
+ghost use Rattle.protox_lexeme.specs.Tokens.{shape_of};
 ghost use Rattle.protox_syntax.specs.Weave.{released, progress, read_to, noted_in, play, beginning, weave, refusal, row_at};
 
 use protox_descriptor::values::Text;

@@ -1,7 +1,7 @@
 //! The laws at the marks that are used: none, and places.
 ghost use Rattle.protox_grammar.specs.Grammar as grammar;
 ghost use Rattle.protox_grammar.specs.OneOfThree as three;
-ghost use Rattle.protox_lex.specs.Faults.{Span};
+ghost use Rattle.protox_fault.specs.Faults.{Span};
 
 use protox_grammar::{accepts, ended, one_of_three, one_tree, too_deep, unexpected};
 

@@ -1,7 +1,7 @@
 -- MACHINERY. The syntax tree of what the parser reads today.
 use Rattle.std.specs.Prelude.{ℕ, [], Option, Some, None, option_map}
 use Rattle.std.specs.List.{filter_map}
-use Rattle.protox_lex.specs.Faults.{Span}
+use Rattle.protox_fault.specs.Faults.{Span}
 use Rattle.protox_ast.specs.declared.ast.Comments.{Comments}
 use Rattle.protox_ast.specs.declared.ast.Import as import_type
 use Rattle.protox_ast.specs.declared.ast.Field as field_type

@@ -1,6 +1,6 @@
 -- MACHINERY. The rows of the trees that the parser reads today.
 use Rattle.std.specs.Prelude.{codes}
-use Rattle.protox_lex.specs.Shapes.{Rows}
+use Rattle.protox_lexeme.specs.Shapes.{Rows}
 pub use Rattle.protox_ast.specs.Spelling.{◌⌢◌, dot, minus, open_brace, close_brace, equals, semicolon, token, keyword, sign, ident, integer, string, maybe, many}
 pub use Rattle.protox_ast.specs.Spelling.{strings, syntax, import_kind, «import», dot_ident, fullident, typename, int, scalar_word, type}
 use Rattle.protox_ast.specs.part.Tree as t

@@ -1,6 +1,6 @@
 -- MACHINERY. What a list of rows is, of what the parser reads today.
 use Rattle.std.specs.Prelude.{◌≡◌, ◌++◌}
-use Rattle.protox_lex.specs.Shapes.{Rows}
+use Rattle.protox_lexeme.specs.Shapes.{Rows}
 use Rattle.protox_ast.specs.part.Tree.{File}
 use Rattle.protox_ast.specs.part.Spelling.{spell}
 use Rattle.protox_ast.specs.part.Keywords.{KeepsKeywords}

@@ -2,7 +2,7 @@
 -- whole language.
 use Rattle.std.proofs.Common.{◌≡◌, ℕ, List, [], ◌∷◌, ◌++◌, map, flat_map, Some, None, ap, sym, subst, ◌∙◌, append-nil}
 use Rattle.std.specs.Prelude.{ℤ, length}
-use Rattle.protox_lex.specs.Faults.{Span}
+use Rattle.protox_fault.specs.Faults.{Span}
 use Rattle.protox_ast.specs.Accepted as accepted
 use Rattle.protox_ast.specs.Places.{Place}
 use Rattle.protox_ast.specs.declared.ast.File.{File}

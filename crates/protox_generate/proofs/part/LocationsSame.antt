@@ -1,7 +1,7 @@
 -- The locations of what the parser reads today: the code lists what is defined for the whole language.
 use Rattle.std.proofs.Common.{◌≡◌, ℕ, ◌+◌, List, [], ◌∷◌, ◌++◌, map, refl, ap, sym, ◌∙◌, append-nil, arith}
 use Rattle.std.specs.Prelude.{ℤ}
-use Rattle.protox_lex.specs.Faults.{Span}
+use Rattle.protox_fault.specs.Faults.{Span}
 use Rattle.protox_ast.specs.Places.{Place}
 use Rattle.protox_ast.specs.Steps.{of_message}
 use Rattle.protox_ast.specs.declared.ast.FileItem.{FileItem}

@@ -5,7 +5,7 @@ use Rattle.std.specs.Fmt.{digits}
 use Rattle.std.specs.Char.{encode_utf8}
 use Rattle.std.specs.Str.{is_utf8, chars}
 use Rattle.std.specs.Str.Lossy.{utf8_valid_len}
-use Rattle.protox_lex.specs.Faults.{Span}
+use Rattle.protox_fault.specs.Faults.{Span}
 use Rattle.protox_ast.specs.declared.ast.Enum.{Enum}
 use Rattle.protox_ast.specs.declared.ast.File.{File}
 use Rattle.protox_ast.specs.declared.ast.Int.{Int}
@@ -15,8 +15,8 @@ use Rattle.protox_ast.specs.declared.ast.Service.{Service}
 use Rattle.protox_generate.specs.FieldFaults.{may_be_key}
 use Rattle.protox_generate.specs.Options.{OptionStatement}
 use Rattle.protox_generate.specs.Values.{wanted, a_float, an_integer, a_bool, a_text, some_bytes, anything, signed_32, signed_64, unsigned_32, unsigned_64}
-use Rattle.protox_lex.specs.declared.error.ParseErrorKind.{ParseErrorKind}
-use Rattle.protox_lex.specs.declared.error.ParseErrorKind.TheVariants as fault
+use Rattle.protox_fault.specs.declared.error.ParseErrorKind.{ParseErrorKind}
+use Rattle.protox_fault.specs.declared.error.ParseErrorKind.TheVariants as fault
 use Rattle.protox_ast.specs.declared.ast.FieldLabel.{FieldLabel}
 use Rattle.protox_ast.specs.declared.ast.FileItem.TheVariants as file_item
 use Rattle.protox_ast.specs.declared.ast.OptionList.{OptionList}

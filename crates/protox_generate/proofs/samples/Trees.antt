@@ -1,6 +1,6 @@
 -- Syntax trees that compute: a tree as data, the syntax tree that it makes, and what the levels of that give.
 use Rattle.std.proofs.Common.{◌≡◌, List, [], ◌∷◌, map, Option, refl, ap, ap₂, ◌∙◌}
-use Rattle.protox_lex.specs.Faults.{Span}
+use Rattle.protox_fault.specs.Faults.{Span}
 use Rattle.protox_ast.specs.Steps.{Steps, of_message, of_body, of_item, of_field, of_kind, of_oneof, of_extend, item-field, item-enum, item-message, item-extend, item-oneof, kind-normal, kind-group, kind-map}
 use Rattle.protox_ast.specs.declared.ast.Enum.{Enum}
 use Rattle.protox_ast.specs.declared.ast.Extend.{Extend, roll-Extend}

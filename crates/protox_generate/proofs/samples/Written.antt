@@ -1,7 +1,7 @@
 -- Syntax trees written shortly, and locations as lists of numbers, for examples.
 use Prim.Native.String.{String}
 use Rattle.std.specs.Prelude.{ℕ, ◌+◌, true, false, List, [], ◌∷◌, length, map, Option, Some, None, codes, nat_abs, unwrap_or}
-use Rattle.protox_lex.specs.Faults.{Span}
+use Rattle.protox_fault.specs.Faults.{Span}
 use Rattle.protox_ast.specs.declared.ast.Comments.{Comments}
 use Rattle.protox_ast.specs.declared.ast.Enum.{Enum}
 use Rattle.protox_ast.specs.declared.ast.EnumValue.{EnumValue}

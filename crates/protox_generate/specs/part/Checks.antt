@@ -1,9 +1,9 @@
 -- MACHINERY. The faults of a file as the code finds them, of what the parser reads today: the items in turn, at a field its
 -- number, then its label, then what is in it.
 use Rattle.std.specs.Prelude.{if◌then◌else◌, List, [], ◌∷◌, ◌++◌, map, Option, Some, None}
-use Rattle.protox_lex.specs.Faults.{Span}
-use Rattle.protox_lex.specs.declared.error.ParseErrorKind.{ParseErrorKind}
-use Rattle.protox_lex.specs.declared.error.ParseErrorKind.TheVariants as fault
+use Rattle.protox_fault.specs.Faults.{Span}
+use Rattle.protox_fault.specs.declared.error.ParseErrorKind.{ParseErrorKind}
+use Rattle.protox_fault.specs.declared.error.ParseErrorKind.TheVariants as fault
 use Rattle.protox_ast.specs.Steps.{Steps, of_message}
 use Rattle.protox_ast.specs.declared.ast.FieldKind.TheOpen.{MessageItem-F, FieldKind-F}
 use Rattle.protox_ast.specs.declared.ast.Int.{Int}

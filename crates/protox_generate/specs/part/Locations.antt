@@ -1,6 +1,6 @@
 -- MACHINERY. Where the parts of a descriptor stand, as the code lists them of what the parser reads today.
 use Rattle.std.specs.Prelude.{ℕ, ◌+◌, Bool, true, false, List, [], ◌∷◌, ◌++◌, length, map, Option, Some, None, ℤ}
-use Rattle.protox_lex.specs.Faults.{Span}
+use Rattle.protox_fault.specs.Faults.{Span}
 use Rattle.protox_ast.specs.Steps.{Steps, of_message}
 use Rattle.protox_ast.specs.declared.ast.FieldKind.TheOpen.{MessageItem-F, Field-F, FieldKind-F}
 use Rattle.protox_ast.specs.declared.ast.Ty.{Ty}

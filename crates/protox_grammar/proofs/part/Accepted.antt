@@ -2,10 +2,10 @@
 use Rattle.std.proofs.Common.{◌≡◌, ℕ, ◌≤◌, List, length, refl, sym, ap, subst, ◌∙◌, arith}
 use Rattle.std.specs.Prelude.{[], ◌∷◌, map}
 use Rattle.std.specs.List.{flat_map, list_any}
-use Rattle.protox_lex.specs.Faults.{faults_in}
-use Rattle.protox_lex.specs.Lexemes.{Lexeme, cut}
-use Rattle.protox_lex.specs.Shapes.{Invalid}
-use Rattle.protox_lex.specs.Table.{table_of}
+use Rattle.protox_fault.specs.Faults.{faults_in}
+use Rattle.protox_lexeme.specs.Lexemes.{Lexeme, cut}
+use Rattle.protox_lexeme.specs.Shapes.{Invalid}
+use Rattle.protox_lexeme.specs.Table.{table_of}
 use Rattle.protox_ast.specs.declared.ast.File.{File}
 use Rattle.protox_ast.specs.Accepted as whole
 use Rattle.protox_ast.specs.Accepted.{Fits, is_between}

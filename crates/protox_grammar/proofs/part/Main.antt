@@ -1,7 +1,7 @@
 -- MACHINERY. The laws of a file, of what the parser reads today.
 use Rattle.std.proofs.Common.{◌≡◌, ◌≤◌, ℕ, suc, List, [], ◌∷◌, ◌++◌, length, Ok, Err, refl, sym, ap, subst, ◌∙◌, append_assoc, arith, inl, inr}
 use Rattle.std.proofs.lemmas.List.{append-nil}
-use Rattle.protox_lex.specs.Shapes.{Rows}
+use Rattle.protox_lexeme.specs.Shapes.{Rows}
 use Rattle.protox_grammar.specs.Class.{Set, all}
 use Rattle.protox_grammar.specs.Rule.{Stops, Ends}
 use Rattle.protox_grammar.specs.Reader.{Refusal, Unexpected}

@@ -2,7 +2,7 @@
 use Rattle.std.proofs.Common.{◌≡◌, ℕ, List, [], ◌∷◌, map, Option, Some, None, refl, ap}
 use Rattle.std.specs.List.{filter_map}
 use Rattle.std.specs.Prelude.{option_map}
-use Rattle.protox_lex.specs.Faults.{Span}
+use Rattle.protox_fault.specs.Faults.{Span}
 use Rattle.protox_ast.specs.declared.ast.Field.{roll-Field}
 use Rattle.protox_ast.specs.declared.ast.FieldKind.TheVariants as kind
 use Rattle.protox_ast.specs.declared.ast.MessageItem.TheVariants as item

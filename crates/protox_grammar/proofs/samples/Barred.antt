@@ -1,6 +1,6 @@
 -- For each keyword rule a file that breaks it alone, and words that no rule bars.
 use Rattle.std.proofs.Common.{◌≡◌, ℕ, false, List, [], ◌∷◌, ◌++◌, None, codes, refl}
-use Rattle.protox_lex.specs.Shapes.{Mark, Newline, Invalid}
+use Rattle.protox_lexeme.specs.Shapes.{Mark, Newline, Invalid}
 use Rattle.protox_ast.specs.Tree as t
 use Rattle.protox_ast.specs.Spelling as s
 use Rattle.protox_ast.specs.Keywords as k

@@ -1,7 +1,7 @@
 -- Small trees and rows without marks, written shortly.
 use Prim.Native.String.{String}
 use Rattle.std.specs.Prelude.{ℕ, List, [], ◌∷◌, map, Option, Some, None, codes}
-use Rattle.protox_lex.specs.Shapes.{Shape, Ident, Int, Float, Str, Rows}
+use Rattle.protox_lexeme.specs.Shapes.{Shape, Ident, Int, Float, Str, Rows}
 use Rattle.protox_ast.specs.Tree as t
 
 abbrev pub NoMark : Type 0

@@ -1,9 +1,9 @@
 -- Files that the parser's checks refuse, and neighbours that they don't.
 use Rattle.std.proofs.Common.{◌≡◌, true, false, ℕ, List, [], ◌∷◌, None, codes, length, refl, ap, arith}
 use Rattle.std.proofs.lemmas.List.Elements.{All-nil}
-use Rattle.protox_lex.specs.Lexemes.{Lexeme}
-use Rattle.protox_lex.specs.Shapes.{Shape, Newline, Invalid}
-use Rattle.protox_lex.specs.declared.error.ParseErrorKind.TheVariants.{HashCommentOutsideTextFormat}
+use Rattle.protox_lexeme.specs.Lexemes.{Lexeme}
+use Rattle.protox_lexeme.specs.Shapes.{Shape, Newline, Invalid}
+use Rattle.protox_fault.specs.declared.error.ParseErrorKind.TheVariants.{HashCommentOutsideTextFormat}
 use Rattle.protox_ast.specs.Accepted.{is_in_aggregate, IsClean}
 use Rattle.protox_ast.specs.Places.{Place}
 use Rattle.protox_ast.specs.Tree as t

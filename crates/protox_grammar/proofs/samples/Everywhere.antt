@@ -1,6 +1,6 @@
 -- Aggregates at each place where an option may stand, by computing.
 use Rattle.std.proofs.Common.{◌≡◌, List, [], ◌∷◌, refl}
-use Rattle.protox_lex.specs.Shapes.{Shape, Mark}
+use Rattle.protox_lexeme.specs.Shapes.{Shape, Mark}
 use Rattle.protox_ast.specs.Aggregates.{aggregates}
 use Rattle.protox_ast.specs.Spelling as s
 use Rattle.protox_grammar.specs.Reader as reader

@@ -1,8 +1,8 @@
 -- The syntax trees of two files, by computing. The n-th token, from 0, has the span from n to n + 1, and its number as the text of the comments
 -- before and behind it.
 use Rattle.std.proofs.Common.{◌≡◌, ℕ, suc, List, [], ◌∷◌, Some, None, false, true, codes, refl}
-use Rattle.protox_lex.specs.Faults.{Span}
-use Rattle.protox_lex.specs.Shapes.{Shape, Ident, Str, Mark, Row}
+use Rattle.protox_fault.specs.Faults.{Span}
+use Rattle.protox_lexeme.specs.Shapes.{Shape, Ident, Str, Mark, Row}
 use Rattle.protox_ast.specs.declared.ast.Comments.{Comments}
 use Rattle.protox_ast.specs.declared.ast.Ident as name_type
 use Rattle.protox_ast.specs.declared.ast.Syntax.TheVariants.{Proto2, Proto3}

@@ -1,6 +1,6 @@
 -- Which rows are read, and where the reading of others stops, by computing.
 use Rattle.std.proofs.Common.{◌≡◌, ℕ, List, [], ◌∷◌, Option, Some, None, Result, Ok, Err, refl}
-use Rattle.protox_lex.specs.Shapes.{Shape, Mark, Invalid}
+use Rattle.protox_lexeme.specs.Shapes.{Shape, Mark, Invalid}
 use Rattle.protox_ast.specs.Tree as t
 use Rattle.protox_ast.specs.Spelling as s
 use Rattle.protox_grammar.specs.Reader as reader

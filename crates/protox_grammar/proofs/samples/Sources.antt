@@ -1,11 +1,11 @@
 -- Small sources by their lexemes, and files that go on behind their tokens.
 use Rattle.std.proofs.Common.{◌≡◌, ◌≤◌, ℕ, suc, ◌+◌, zero, true, List, [], ◌∷◌, ◌++◌, take, length, None, Result, Ok, Err, codes}
-use Rattle.protox_lex.specs.Faults.{Span, span_from}
-use Rattle.protox_lex.specs.Lexemes.{Lexeme}
-use Rattle.protox_lex.specs.Shapes.{Shape, Str, LineComment, Mark, Invalid, Row}
-use Rattle.protox_lex.specs.Table.{rows_of}
-use Rattle.protox_lex.specs.declared.error.ParseErrorKind.{ParseErrorKind}
-use Rattle.protox_lex.specs.declared.error.ParseErrorKind.TheVariants as fault
+use Rattle.protox_fault.specs.Faults.{Span, span_from}
+use Rattle.protox_lexeme.specs.Lexemes.{Lexeme}
+use Rattle.protox_lexeme.specs.Shapes.{Shape, Str, LineComment, Mark, Invalid, Row}
+use Rattle.protox_lexeme.specs.Table.{rows_of}
+use Rattle.protox_fault.specs.declared.error.ParseErrorKind.{ParseErrorKind}
+use Rattle.protox_fault.specs.declared.error.ParseErrorKind.TheVariants as fault
 use Rattle.protox_ast.specs.Fronts.{shapes, numbered, GoesOn}
 use Rattle.protox_ast.specs.Spelling as s
 use Rattle.protox_ast.specs.Tree as t

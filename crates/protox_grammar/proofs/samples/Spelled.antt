@@ -1,6 +1,6 @@
 -- Files of each kind, and the rows that spell them.
 use Rattle.std.proofs.Common.{◌≡◌, [], ◌∷◌, Some, None, codes, refl}
-use Rattle.protox_lex.specs.Shapes.{Mark}
+use Rattle.protox_lexeme.specs.Shapes.{Mark}
 use Rattle.protox_ast.specs.Tree as t
 use Rattle.protox_ast.specs.Spelling as s
 use Rattle.protox_ast.specs.Keywords as k

@@ -3,12 +3,12 @@ use Rattle.std.proofs.Common.{◌≡◌, ◌≢◌, ◌<◌, ◌≤◌, inl, inr
 use Rattle.std.proofs.lemmas.List.{length-append}
 use Rattle.std.specs.Str.{is_utf8, chars}
 use Rattle.std.specs.Str.Lossy.{utf8_valid_len}
-use Rattle.protox_lex.specs.Faults.{Span, span_from, faults_in}
-use Rattle.protox_lex.specs.Lexemes.{Lexeme}
-use Rattle.protox_lex.specs.Shapes.{Shape, Int, Mark, Newline, Invalid, Row, Rows}
-use Rattle.protox_lex.specs.Table.{rows_of}
-use Rattle.protox_lex.specs.declared.error.ParseErrorKind.{ParseErrorKind}
-use Rattle.protox_lex.specs.declared.error.ParseErrorKind.TheVariants as fault
+use Rattle.protox_fault.specs.Faults.{Span, span_from, faults_in}
+use Rattle.protox_lexeme.specs.Lexemes.{Lexeme}
+use Rattle.protox_lexeme.specs.Shapes.{Shape, Int, Mark, Newline, Invalid, Row, Rows}
+use Rattle.protox_lexeme.specs.Table.{rows_of}
+use Rattle.protox_fault.specs.declared.error.ParseErrorKind.{ParseErrorKind}
+use Rattle.protox_fault.specs.declared.error.ParseErrorKind.TheVariants as fault
 use Rattle.protox_ast.specs.Aggregates.{aggregates}
 use Rattle.protox_ast.specs.AstParts.{first_of}
 use Rattle.protox_ast.specs.CheckedNodes as node

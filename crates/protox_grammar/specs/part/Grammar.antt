@@ -1,6 +1,6 @@
 -- MACHINERY. The laws of the grammar, of what the parser reads today.
 use Rattle.std.specs.Prelude.{◌≡◌, ◌↔◌, ◌≤◌, ℕ, suc, [], ◌∷◌, ◌++◌, length, Ok, Err}
-use Rattle.protox_lex.specs.Shapes.{Row, Rows}
+use Rattle.protox_lexeme.specs.Shapes.{Row, Rows}
 use Rattle.protox_ast.specs.part.Tree.{File}
 use Rattle.protox_ast.specs.part.Depth.{depth}
 use Rattle.protox_ast.specs.part.Spells.{Spells, BeginsFile}

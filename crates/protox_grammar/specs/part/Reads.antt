@@ -1,6 +1,6 @@
 -- MACHINERY. The reader of a file.
 use Rattle.std.specs.Prelude.{Result, Ok}
-use Rattle.protox_lex.specs.Shapes.{Rows}
+use Rattle.protox_lexeme.specs.Shapes.{Rows}
 use Rattle.protox_grammar.specs.Reader.{Refusal, ◌>>=◌}
 use Rattle.protox_ast.specs.part.Tree as t
 use Rattle.protox_grammar.specs.part.Rules as r

@@ -1,10 +1,10 @@
 use Rattle.std.proofs.Common.{◌≡◌, ℕ, zero, suc, Bool, false, List, [], ◌∷◌, codes, drop, slice_get, Option, refl, sym, ap, ◌∙◌, subst}
 use Rattle.std.specs.Option.{option_map}
-use Rattle.protox_lex.specs.Lexemes.{Lexeme, plain, cut, cut_from, first_lexeme}
-use Rattle.protox_lex.specs.Scanning.{scan, number, zero_number, fraction_len, tail_len, suffix_len, exponent_len, signed_len}
-use Rattle.protox_lex.specs.Shapes.{Shape, Ident, Str, Int, Float, LineComment}
-use Rattle.protox_lex.specs.State.{TakeNone}
-use Rattle.protox_lex.specs.Strings.{pieces, pieces_from, piece}
+use Rattle.protox_lexeme.specs.Lexemes.{Lexeme, plain, cut, cut_from, first_lexeme}
+use Rattle.protox_lexeme.specs.Scanning.{scan, number, zero_number, fraction_len, tail_len, suffix_len, exponent_len, signed_len}
+use Rattle.protox_lexeme.specs.Shapes.{Shape, Ident, Str, Int, Float, LineComment}
+use Rattle.protox_lexeme.specs.State.{TakeNone}
+use Rattle.protox_lexeme.specs.Strings.{pieces, pieces_from, piece}
 use Rattle.protox_lex.proofs.laws.five_lexemes.Goals as goal
 
 abbrev text : List ℕ

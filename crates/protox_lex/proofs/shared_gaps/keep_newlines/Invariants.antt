@@ -1,6 +1,6 @@
 use Rattle.std.proofs.Common.{◌≡◌, ◌++◌, map, replicate}
-use Rattle.protox_lex.specs.Shapes.{Newline}
-use Rattle.protox_lex.specs.Tokens.{shape_of}
+use Rattle.protox_lexeme.specs.Shapes.{Newline}
+use Rattle.protox_lexeme.specs.Tokens.{shape_of}
 use Rattle.protox_lex.proofs.shared_gaps.keep_newlines.Given as goal
 
 abbrev pub invariant-newlines : goal.invariant-newlines

@@ -1,10 +1,10 @@
 use Rattle.std.proofs.Common.{◌≡◌, ◌<◌, ◌+◌, [], length, drop, ap, sym, refl, ◌∙◌, length-drop, arith}
 use Rattle.std.proofs.lemmas.Bool.{eqb-true, eqb-false}
 use Rattle.std.proofs.lemmas.Str.{IsCharBoundary-start}
-use Rattle.protox_lex.specs.Lexemes as spec
+use Rattle.protox_lexeme.specs.Lexemes as spec
 use Rattle.protox_lex.specs.TableView.{finished}
-use Rattle.protox_lex.proofs.Cut.{cut_none}
-use Rattle.protox_lex.proofs.Step.{step_boundary, step_cut}
+use Rattle.protox_lexeme.proofs.Cut.{cut_none}
+use Rattle.protox_lexeme.proofs.Step.{step_boundary, step_cut}
 use Rattle.protox_lex.proofs.Tables.{finished_start}
 use Rattle.protox_lex.proofs.table_draft.draft.Goals as goal
 use Rattle.protox_lex.proofs.table_draft.draft.Goals.{else-lexemes-test, then-lexemes-test+then-is_empty}

@@ -1,7 +1,7 @@
 use Rattle.std.proofs.Common.{◌≡◌, ◌-◌, length, drop}
 use Rattle.std.specs.Str.{IsCharBoundary}
-use Rattle.protox_lex.specs.Lexemes.{cut}
-use Rattle.protox_lex.specs.Table.{table_of}
+use Rattle.protox_lexeme.specs.Lexemes.{cut}
+use Rattle.protox_lexeme.specs.Table.{table_of}
 use Rattle.protox_lex.specs.TableView.{finished}
 use Rattle.protox_lex.proofs.table_draft.draft.Given as goal
 

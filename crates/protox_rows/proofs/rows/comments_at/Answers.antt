@@ -1,7 +1,7 @@
 use Rattle.std.proofs.Common.{◌≡◌, [], sym, ap, subst, ◌∙◌, IfOk}
 use Rattle.std.specs.Prelude.{option_map}
-use Rattle.protox_lex.specs.Attributing.{attribution_of}
-use Rattle.protox_lex.specs.Gaps.{attribution}
+use Rattle.protox_comments.specs.Attributing.{attribution_of}
+use Rattle.protox_lexeme.specs.Gaps.{attribution}
 use Rattle.protox_lex.specs.TableView.{shapes_of_lent}
 use Rattle.protox_rows.specs.Rows.{shape_of_row}
 use Rattle.protox_rows.proofs.PlacedRows.{none-there}

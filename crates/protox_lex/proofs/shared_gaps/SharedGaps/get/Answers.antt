@@ -1,6 +1,6 @@
 use Rattle.std.proofs.Common.{◌≡◌, ◌<◌, ℕ, List, length, map, take, ap, subst, ◌∙◌, Some}
 use Rattle.std.specs.Prelude.{slice_get, slice_index_or}
-use Rattle.protox_lex.specs.Tokens.{shape_of}
+use Rattle.protox_lexeme.specs.Tokens.{shape_of}
 use Rattle.protox_lex.proofs.Sharing.{few_found, many_found}
 use Rattle.protox_lex.proofs.shared_gaps.SharedGaps.get.Goals as goal
 

@@ -1,5 +1,5 @@
 use Rattle.std.proofs.Common.{ap}
-use Rattle.protox_lex.specs.Lexemes as spec
+use Rattle.protox_lexeme.specs.Lexemes as spec
 use Rattle.protox_lex.proofs.Tables.{gaps_held}
 use Rattle.protox_lex.proofs.token_table.TokenTable.new.Goals as goal
 

@@ -1,0 +1,2 @@
+pub mod CommentState
+pub mod Attributing

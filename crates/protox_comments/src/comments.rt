@@ -1,0 +1,339 @@
+//! Comments, and the declarations that they belong to.
+ghost use Rattle.std.specs.Prelude.{◌≡◌, ◌<◌, ◌≤◌, ◌+◌, ℕ, List, [], ◌∷◌, ◌++◌, length, drop, if◌then◌else◌, true, false, Option, None, Some, map, IfOk, IfSome, OnOk, OnErr};
+ghost use Rattle.std.specs.Cow.{cow_str_bytes};
+ghost use Rattle.std.specs.Option.{option_map};
+ghost use Rattle.protox_comments.specs.Attributing.{attribution_of, begins_newline, outcome, ended, shape_lent};
+ghost use Rattle.protox_comments.specs.CommentState as state;
+ghost use Rattle.protox_lexeme.specs.Gaps as gaps;
+ghost use Rattle.protox_lexeme.specs.Shapes.{Shape};
+ghost use Rattle.protox_lexeme.specs.Shapes as shape;
+ghost use Rattle.protox_lexeme.specs.Tokens.{shape_of};
+
+use protox_descriptor::values::{Items, Text};
+use protox_lexeme::token::Token;
+use std::alloc::{AllocError, Global};
+use std::borrow::CowStr;
+use std::marker::Model;
+
+/// Comments that stand together, and whether they are line comments.
+#[derive(Drop)]
+struct Block {
+    text: Text,
+    of_lines: bool,
+}
+
+/// The comments since the last token, as far as they have been read.
+#[derive(Drop)]
+pub struct Comments {
+    alloc: Global,
+    detached: Vec<Text>,
+    open_block: Option<Block>,
+    trailing: Option<Text>,
+    may_trail: bool,
+}
+
+impl Model for Comments {
+    ghost use Rattle.protox_comments.specs.CommentState.{CommentState};
+
+    ghost Value = { CommentState };
+
+    ghost use Rattle.protox_comments.specs.CommentState.{state_seen};
+
+    ghost view = { state_seen };
+}
+
+impl Comments {
+    /// No comment, and none may trail. It takes no memory: `alloc` serves later growths.
+    pub fn new(alloc: Global) -> Comments
+        ensures { result ≡ state.empty false }
+    {
+        Comments {
+            alloc,
+            detached: Vec::new(alloc),
+            open_block: None,
+            trailing: None,
+            may_trail: false,
+        }
+    }
+
+    /// Puts the open block in its place: it trails, if it may, or else is the last detached one.
+    /// Nothing may trail from then on. On `AllocError` nothing is changed.
+    pub fn flush(&mut self) -> Result<(), AllocError>
+        ensures ok { OnOk result (self.new ≡ state.flushed self.old) }
+        ensures err { OnErr result (self.new ≡ self.old) }
+    {
+        match self.open_block.take() {
+            None => {
+                self.detach();
+                Ok(())
+            }
+            Some(block) if self.may_trail => {
+                self.trailing = Some(block.text);
+                self.detach();
+                Ok(())
+            }
+            Some(Block { text, of_lines }) => match self.detached.push(text) {
+                Ok(()) => Ok(()),
+                Err(refused) => {
+                    self.open_block = Some(Block {
+                        text: refused.value,
+                        of_lines,
+                    });
+                    Err(AllocError)
+                }
+            },
+        }
+    }
+
+    // Puts the open block in its place, if there is one. On `AllocError` nothing is changed.
+    fn close_block(&mut self) -> Result<(), AllocError>
+        ensures ok { OnOk result (self.new ≡ state.closed self.old) }
+        ensures err { OnErr result (self.new ≡ self.old) }
+    {
+        if self.open_block.is_none() {
+            return Ok(());
+        }
+        self.flush()
+    }
+
+    // Opens a block behind the one that is open. On `AllocError` nothing is changed.
+    fn open_as(&mut self, comment: CowStr<'_>, of_lines: bool) -> Result<(), AllocError>
+        ensures ok { OnOk result (self.new ≡ record (state.closed self.old) { open_block = Some (state.block (cow_str_bytes comment.entry) of_lines) }) }
+        ensures err { OnErr result (self.new ≡ self.old) }
+    {
+        let text = Text::from_string(comment.into_owned(self.alloc)?);
+        self.close_block()?;
+        self.open_block = Some(Block { text, of_lines });
+        Ok(())
+    }
+
+    /// A block comment: the block that was open is put in its place, and the comment is the open
+    /// one. On `AllocError` nothing is changed.
+    pub fn block_comment(&mut self, comment: CowStr<'_>) -> Result<(), AllocError>
+        ensures ok { OnOk result (self.new ≡ state.with_block (cow_str_bytes comment.entry) self.old) }
+        ensures err { OnErr result (self.new ≡ self.old) }
+    {
+        self.open_as(comment, false)
+    }
+
+    /// A line comment: it goes on with an open block of line comments. A block of the other kind is
+    /// put in its place, and the comment is the open one. On `AllocError` nothing is changed.
+    pub fn line_comment(&mut self, comment: CowStr<'_>) -> Result<(), AllocError>
+        ensures ok { OnOk result (self.new ≡ state.with_line (cow_str_bytes comment.entry) self.old) }
+        ensures err { OnErr result (self.new ≡ self.old) }
+    {
+        match self.open_block.take() {
+            Some(
+                Block {
+                    mut text,
+                    of_lines: true,
+                },
+            ) => {
+                let pushed = text.push_str(comment.as_str());
+                self.open_block = Some(Block {
+                    text,
+                    of_lines: true,
+                });
+                pushed
+            }
+            other => {
+                self.open_block = other;
+                self.open_as(comment, true)
+            }
+        }
+    }
+
+    /// No block may trail from now on.
+    pub fn detach(&mut self)
+        ensures { self.new ≡ record self.old { may_trail = false } }
+    {
+        self.may_trail = false;
+    }
+
+    /// Forgets all comments. The next block may trail.
+    pub fn reset(&mut self)
+        ensures { self.new ≡ state.empty true }
+    {
+        self.detached = Vec::new(self.alloc);
+        self.open_block = None;
+        self.trailing = None;
+        self.may_trail = true;
+    }
+
+    /// Hands out the detached comments, and the text of the open block.
+    pub fn take_leading(&mut self) -> (Items<Text>, Option<Text>)
+        ensures detached { result.0 ≡ self.old.detached }
+        ensures leading { result.1 ≡ state.open_text self.old.open_block }
+        ensures rest { self.new ≡ record self.old { detached = []; open_block = None } }
+    {
+        let detached = std::mem::replace(&mut self.detached, Vec::new(self.alloc));
+        let leading = match self.open_block.take() {
+            Some(block) => Some(block.text),
+            None => None,
+        };
+        (Items::from_vec(detached), leading)
+    }
+
+    /// Hands out the comment that trails.
+    pub fn take_trailing(&mut self) -> Option<Text>
+        ensures trailing { result ≡ self.old.trailing }
+        ensures rest { self.new ≡ record self.old { trailing = None } }
+    {
+        self.trailing.take()
+    }
+}
+
+/// The comments of a gap, by the declarations that they belong to.
+#[derive(Drop)]
+pub struct GapComments {
+    /// It trails what stands before the gap.
+    pub trailing: Option<Text>,
+    /// Those that belong to no declaration.
+    pub detached: Items<Text>,
+    /// It leads what stands behind the gap.
+    pub leading: Option<Text>,
+}
+
+// A comment may lead the token.
+fn may_lead(next: Option<&Token<'_>>) -> bool
+    ensures { result ≡ gaps.may_lead (shape_lent next.entry) }
+{
+    match next {
+        Some(token) => !matches!(
+            token,
+            Token::RightBrace | Token::RightBracket | Token::RightParen
+        ),
+        None => false,
+    }
+}
+
+// How many tokens the block comment at a place takes: the newline behind it is one of them.
+fn block_len(gap: &[Token<'_>], at: usize) -> usize
+    requires { at < length gap.now }
+    ensures value { result ≡ (if begins_newline (map shape_of (drop (at + 1) gap.now)) then 2 else 1) }
+    ensures within { at + result ≤ length gap.now }
+    ensures items { (text : List ℕ) → gaps.items (shape.BlockComment text ∷ map shape_of (drop (at + 1) gap.now)) ≡ gaps.block text ∷ gaps.items (map shape_of (drop (at + result) gap.now)) }
+{
+    if at + 1 < gap.len() && matches!(&gap[at + 1], Token::Newline) {
+        2
+    } else {
+        1
+    }
+}
+
+impl Comments {
+    // Takes the comment or the newline at a place in a gap. Answers how many tokens that are.
+    fn take_at(&mut self, gap: &[Token<'_>], at: usize) -> Result<usize, AllocError>
+        requires inside { at < length gap.now }
+        requires comments { gaps.IsGap (map shape_of gap.now) }
+        ensures len { IfOk result (λ n. (1 ≤ n) × (at + n ≤ length gap.now)) }
+        ensures value { IfOk result (λ n. (next : Option Shape) → outcome self.new (map shape_of (drop (at + n) gap.now)) next ≡ outcome self.old (map shape_of (drop at gap.now)) next) }
+    {
+        match &gap[at] {
+            Token::LineComment(text) => {
+                self.line_comment(CowStr::Borrowed(text.as_str()))?;
+                Ok(1)
+            }
+            Token::BlockComment(text) => {
+                self.block_comment(CowStr::Borrowed(text.as_str()))?;
+                Ok(block_len(gap, at))
+            }
+            Token::Newline => {
+                self.flush()?;
+                Ok(1)
+            }
+            _ => Ok(1),
+        }
+    }
+
+    // Takes the comments and newlines of a gap from a place on.
+    fn take_from(&mut self, gap: &[Token<'_>], from: usize) -> Result<(), AllocError>
+        requires inside { from ≤ length gap.now }
+        requires comments { gaps.IsGap (map shape_of gap.now) }
+        ensures { OnOk result ((next : Option Shape) → outcome self.new [] next ≡ outcome self.old (map shape_of (drop from gap.now)) next) }
+    {
+        let mut at = from;
+        'tokens: while at < gap.len() {
+            at += self.take_at(gap, at)?;
+        }
+        Ok(())
+    }
+
+    // What becomes of the comments at the end of a gap.
+    fn end(mut self, next: Option<&Token<'_>>) -> Result<GapComments, AllocError>
+        ensures { IfOk result (λ g. attribution_of g ≡ ended self (shape_lent next.entry)) }
+    {
+        if !may_lead(next) {
+            self.flush()?;
+        }
+        let trailing = self.take_trailing();
+        let (detached, leading) = self.take_leading();
+        Ok(GapComments {
+            trailing,
+            detached,
+            leading,
+        })
+    }
+}
+
+// What stands at the front of a gap: how many tokens of it are done with, or None where all
+// comments of the gap are dropped.
+fn begin(
+    comments: &mut Comments,
+    gap: &[Token<'_>],
+    at_start: bool,
+) -> Result<Option<usize>, AllocError>
+    requires empty { comments.old ≡ state.empty false }
+    requires gap { gaps.IsGap (map shape_of gap.now) }
+    ensures within { IfOk result (λ r. IfSome r (λ n. n ≤ length gap.now)) }
+    ensures some { IfOk result (λ r. IfSome r (λ n. (next : Option Shape) → outcome comments.new (map shape_of (drop n gap.now)) next ≡ gaps.attribution (map shape_of gap.now) at_start next)) }
+    ensures none { IfOk result (λ r. r ≡ None → (next : Option Shape) → gaps.attribution (map shape_of gap.now) at_start next ≡ gaps.nothing) }
+{
+    if at_start || gap.is_empty() {
+        return Ok(Some(0));
+    }
+    match &gap[0] {
+        Token::LineComment(text) => {
+            comments.reset();
+            comments.line_comment(CowStr::Borrowed(text.as_str()))?;
+            comments.flush()?;
+            Ok(Some(1))
+        }
+        Token::BlockComment(_) => {
+            if block_len(gap, 0) == 1 {
+                return Ok(None);
+            }
+            comments.reset();
+            Ok(Some(0))
+        }
+        _ => {
+            comments.reset();
+            Ok(Some(1))
+        }
+    }
+}
+
+/// The comments of a gap, by the declarations that they belong to: the gap stands at the start of
+/// the file or elsewhere, and before this token or, at None, before the end.
+pub fn gap_comments(
+    alloc: Global,
+    gap: &[Token<'_>],
+    at_start: bool,
+    next: Option<&Token<'_>>,
+) -> Result<GapComments, AllocError>
+    requires { gaps.IsGap (map shape_of gap.now) }
+    ensures { IfOk result (λ g. attribution_of g ≡ gaps.attribution (map shape_of gap.now) at_start (shape_lent next.entry)) }
+{
+    let mut comments = Comments::new(alloc);
+    match begin(&mut comments, gap, at_start)? {
+        Some(from) => {
+            comments.take_from(gap, from)?;
+            comments.end(next)
+        }
+        None => Ok(GapComments {
+            trailing: None,
+            detached: Items::new(alloc),
+            leading: None,
+        }),
+    }
+}

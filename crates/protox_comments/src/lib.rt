@@ -1,0 +1,4 @@
+//! Comments, and the declarations that they belong to.
+#![tactic(auto)]
+
+pub mod comments;

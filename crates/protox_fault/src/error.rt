@@ -1,0 +1,340 @@
+//! Faults of a source, and how a call that reads one fails.
+ghost use Rattle.std.specs.Prelude.{◌≡◌};
+ghost use Rattle.protox_fault.specs.Faults.{span_of};
+ghost use Rattle.protox_fault.specs.FaultTexts.{HasFixedText, text_of};
+
+use protox_descriptor::values::Text;
+use std::alloc::{AllocError, AllocFailed};
+use std::fmt;
+use std::ops::Range;
+
+/// A part of a source: the offset in bytes of its first byte, and that of the one past its last.
+pub type Span = Range<usize>;
+
+/// What is wrong with a source, and where.
+#[derive(PartialEq, Debug, Drop)]
+pub enum ParseErrorKind {
+    /// No token begins with this character.
+    InvalidToken {
+        span: Span,
+    },
+    /// An integer literal is above `u64::MAX`.
+    IntegerOutOfRange {
+        span: Span,
+    },
+    /// A string holds characters that no string may hold.
+    InvalidStringCharacters {
+        span: Span,
+    },
+    /// A line ends within a string.
+    UnterminatedString {
+        span: Span,
+    },
+    /// A string holds an escape that stands for nothing.
+    InvalidStringEscape {
+        span: Span,
+    },
+    /// A string that has to be text is not UTF-8.
+    InvalidUtf8String {
+        span: Span,
+    },
+    /// A block comment opens within another.
+    NestedBlockComment {
+        span: Span,
+    },
+    /// The syntax statement names no syntax that there is.
+    UnknownSyntax {
+        span: Span,
+        syntax: Text,
+    },
+    /// A reserved name is no identifier.
+    InvalidIdentifier {
+        span: Span,
+    },
+    /// A group's name does not begin with a capital letter.
+    InvalidGroupName {
+        span: Span,
+    },
+    /// An import's path is not one of plain components.
+    InvalidImport {
+        span: Span,
+    },
+    /// A file has two package statements.
+    DuplicatePackage {
+        first: Span,
+        second: Span,
+    },
+    /// A letter follows an integer at once.
+    NoSpaceBetweenIntAndIdent {
+        span: Span,
+    },
+    /// A comment begins with `#` outside an aggregate.
+    HashCommentOutsideTextFormat {
+        span: Span,
+    },
+    /// A float ends in `f` outside an aggregate.
+    FloatSuffixOutsideTextFormat {
+        span: Span,
+    },
+    /// Another token was expected.
+    UnexpectedToken {
+        span: Span,
+        expected: Text,
+        found: Text,
+    },
+    /// The source ends where more was expected.
+    UnexpectedEof {
+        expected: Text,
+    },
+    /// A negated identifier stands where only a `default` may have one.
+    NegativeIdentOutsideDefault {
+        span: Span,
+    },
+    /// A number is none that a message's field can have.
+    InvalidMessageNumber {
+        span: Span,
+    },
+    /// A number is none that an enum's value can have.
+    InvalidEnumNumber {
+        span: Span,
+    },
+    /// A field of this kind has a default value.
+    InvalidDefault {
+        span: Span,
+        kind: &'static str,
+    },
+    /// A field has a default value in proto3.
+    Proto3DefaultValue {
+        span: Span,
+    },
+    /// An extension is a field of this kind.
+    InvalidExtendFieldKind {
+        span: Span,
+        kind: &'static str,
+    },
+    /// An extension is required.
+    RequiredExtendField {
+        span: Span,
+    },
+    /// A map field has a label.
+    MapFieldWithLabel {
+        span: Span,
+    },
+    /// A field of a oneof has a label.
+    OneofFieldWithLabel {
+        span: Span,
+    },
+    /// A field has no label in proto2.
+    Proto2FieldMissingLabel {
+        span: Span,
+    },
+    /// A group stands in proto3.
+    Proto3GroupField {
+        span: Span,
+    },
+    /// A field is required in proto3.
+    Proto3RequiredField {
+        span: Span,
+    },
+    /// A oneof has a field of this kind.
+    InvalidOneofFieldKind {
+        span: Span,
+        kind: &'static str,
+    },
+    /// A map's keys are of a type that none may have.
+    InvalidMapFieldKeyType {
+        span: Span,
+    },
+    /// A value is not of the type that its place asks for.
+    ValueInvalidType {
+        span: Span,
+        expected: Text,
+        actual: Text,
+    },
+    /// An integer is outside the range that its place asks for.
+    IntegerValueOutOfRange {
+        span: Span,
+        expected: Text,
+        actual: Text,
+        min: Text,
+        max: Text,
+    },
+    /// A oneof has no field.
+    EmptyOneof {
+        span: Span,
+    },
+    /// Messages and groups are nested too deep.
+    MessageNestingTooDeep {
+        span: Span,
+    },
+    /// The source is longer than any that is read.
+    FileTooLarge,
+}
+
+impl ParseErrorKind {
+    /// Where the fault is. A fault of two places, of the end of the source or of the whole of it has none.
+    pub fn span(&self) -> Option<Span>
+        ensures { result ≡ span_of self.now }
+    {
+        match self {
+            ParseErrorKind::DuplicatePackage { .. }
+            | ParseErrorKind::UnexpectedEof { .. }
+            | ParseErrorKind::FileTooLarge => None,
+            ParseErrorKind::InvalidToken { span }
+            | ParseErrorKind::IntegerOutOfRange { span }
+            | ParseErrorKind::InvalidStringCharacters { span }
+            | ParseErrorKind::UnterminatedString { span }
+            | ParseErrorKind::InvalidStringEscape { span }
+            | ParseErrorKind::InvalidUtf8String { span }
+            | ParseErrorKind::NestedBlockComment { span }
+            | ParseErrorKind::UnknownSyntax { span, .. }
+            | ParseErrorKind::InvalidIdentifier { span }
+            | ParseErrorKind::InvalidGroupName { span }
+            | ParseErrorKind::InvalidImport { span }
+            | ParseErrorKind::NoSpaceBetweenIntAndIdent { span }
+            | ParseErrorKind::HashCommentOutsideTextFormat { span }
+            | ParseErrorKind::FloatSuffixOutsideTextFormat { span }
+            | ParseErrorKind::UnexpectedToken { span, .. }
+            | ParseErrorKind::NegativeIdentOutsideDefault { span }
+            | ParseErrorKind::InvalidMessageNumber { span }
+            | ParseErrorKind::InvalidEnumNumber { span }
+            | ParseErrorKind::InvalidDefault { span, .. }
+            | ParseErrorKind::Proto3DefaultValue { span }
+            | ParseErrorKind::InvalidExtendFieldKind { span, .. }
+            | ParseErrorKind::RequiredExtendField { span }
+            | ParseErrorKind::MapFieldWithLabel { span }
+            | ParseErrorKind::OneofFieldWithLabel { span }
+            | ParseErrorKind::Proto2FieldMissingLabel { span }
+            | ParseErrorKind::Proto3GroupField { span }
+            | ParseErrorKind::Proto3RequiredField { span }
+            | ParseErrorKind::InvalidOneofFieldKind { span, .. }
+            | ParseErrorKind::InvalidMapFieldKeyType { span }
+            | ParseErrorKind::ValueInvalidType { span, .. }
+            | ParseErrorKind::IntegerValueOutOfRange { span, .. }
+            | ParseErrorKind::EmptyOneof { span }
+            | ParseErrorKind::MessageNestingTooDeep { span } => Some(span.start..span.end),
+        }
+    }
+}
+
+// The text of a fault whose text is always the same.
+fn fixed_text(fault: &ParseErrorKind) -> &'static str
+    ensures { HasFixedText fault.now → result.now ≡ text_of fault.now }
+{
+    match fault {
+        ParseErrorKind::InvalidToken { .. } => "invalid token",
+        ParseErrorKind::IntegerOutOfRange { .. } => "integer is too large",
+        ParseErrorKind::InvalidStringCharacters { .. } => "invalid string character",
+        ParseErrorKind::UnterminatedString { .. } => "unterminated string",
+        ParseErrorKind::InvalidStringEscape { .. } => "invalid string escape",
+        ParseErrorKind::InvalidUtf8String { .. } => "string is not valid utf-8",
+        ParseErrorKind::NestedBlockComment { .. } => "nested block comments are not supported",
+        ParseErrorKind::InvalidIdentifier { .. } => "invalid identifier",
+        ParseErrorKind::InvalidGroupName { .. } => "invalid group name",
+        ParseErrorKind::InvalidImport { .. } => "invalid import",
+        ParseErrorKind::DuplicatePackage { .. } => "multiple package names specified",
+        ParseErrorKind::NoSpaceBetweenIntAndIdent { .. } =>
+            "whitespace is required between an integer literal and an identifier",
+        ParseErrorKind::HashCommentOutsideTextFormat { .. } => "'#' comments are not allowed here",
+        ParseErrorKind::FloatSuffixOutsideTextFormat { .. } =>
+            "'f' suffix for float literals is not allowed",
+        ParseErrorKind::NegativeIdentOutsideDefault { .. } => "identifiers may not be negative",
+        ParseErrorKind::InvalidMessageNumber { .. } =>
+            "message numbers must be between 1 and 536870911",
+        ParseErrorKind::InvalidEnumNumber { .. } =>
+            "enum numbers must be between -2147483648 and 2147483647",
+        ParseErrorKind::Proto3DefaultValue { .. } => "default values are not allowed in proto3",
+        ParseErrorKind::RequiredExtendField { .. } => "extension fields may not be required",
+        ParseErrorKind::MapFieldWithLabel { .. } => "map fields cannot have labels",
+        ParseErrorKind::OneofFieldWithLabel { .. } => "oneof fields cannot have labels",
+        ParseErrorKind::Proto2FieldMissingLabel { .. } =>
+            "fields must have a label with proto2 syntax (expected one of 'optional', 'repeated' or 'required')",
+        ParseErrorKind::Proto3GroupField { .. } => "groups are not allowed in proto3 syntax",
+        ParseErrorKind::Proto3RequiredField { .. } =>
+            "required fields are not allowed in proto3 syntax",
+        ParseErrorKind::InvalidMapFieldKeyType { .. } =>
+            "a map field key type must be an integer, boolean or string",
+        ParseErrorKind::EmptyOneof { .. } => "a oneof must have at least one field",
+        ParseErrorKind::MessageNestingTooDeep { .. } =>
+            "reached maximum recursion limit for nested messages",
+        ParseErrorKind::FileTooLarge => "file is too large",
+        _ => "",
+    }
+}
+
+impl fmt::Display for ParseErrorKind {
+    ghost use Rattle.std.specs.Prelude.{Some};
+    ghost use Rattle.protox_fault.specs.FaultTexts.{text_of};
+
+    ghost output = { λ fault. Some (text_of fault) };
+
+    fn fmt<W: fmt::Write>(&self, f: &mut fmt::Formatter<W>) -> fmt::Result {
+        match self {
+            ParseErrorKind::UnknownSyntax { syntax, .. } => {
+                write!(f, "unknown syntax '{syntax}'")
+            }
+            ParseErrorKind::UnexpectedToken {
+                expected,
+                found,
+                ..
+            } => write!(f, "expected {expected}, but found '{found}'"),
+            ParseErrorKind::UnexpectedEof { expected } => {
+                write!(f, "expected {expected}, but reached end of file")
+            }
+            ParseErrorKind::InvalidDefault { kind, .. } => {
+                write!(f, "{kind} fields may not have default values")
+            }
+            ParseErrorKind::InvalidExtendFieldKind { kind, .. } => {
+                write!(f, "{kind} fields are not allowed in extensions")
+            }
+            ParseErrorKind::InvalidOneofFieldKind { kind, .. } => {
+                write!(f, "{kind} fields are not allowed in a oneof")
+            }
+            ParseErrorKind::ValueInvalidType {
+                expected,
+                actual,
+                ..
+            } => write!(f, "expected value to be {expected}, but found '{actual}'"),
+            ParseErrorKind::IntegerValueOutOfRange {
+                expected,
+                actual,
+                ..
+            } => write!(
+                f,
+                "expected value to be {expected}, but the value {actual} is out of range"
+            ),
+            fault => f.write_str(fixed_text(fault)),
+        }
+    }
+}
+
+/// Why a source was not read to its end.
+#[derive(Debug, Drop)]
+pub enum SyntaxFailure {
+    /// The source has these faults, in the order in which they were found. There is at least one.
+    Faults(Vec<ParseErrorKind>),
+    /// Memory ran out.
+    OutOfMemory,
+}
+
+impl From<AllocError> for SyntaxFailure {
+    ghost use Rattle.std.specs.Prelude.{◌≡◌};
+    ghost use Rattle.protox_fault.specs.declared.error.SyntaxFailure.TheVariants.{OutOfMemory};
+
+    ghost from_gives = { λ _ failure. failure ≡ OutOfMemory };
+
+    fn from(_error: AllocError) -> SyntaxFailure {
+        SyntaxFailure::OutOfMemory
+    }
+}
+
+impl<T: Drop> From<AllocFailed<T>> for SyntaxFailure {
+    ghost use Rattle.std.specs.Prelude.{◌≡◌};
+    ghost use Rattle.protox_fault.specs.declared.error.SyntaxFailure.TheVariants.{OutOfMemory};
+
+    ghost from_gives = { λ _ failure. failure ≡ OutOfMemory };
+
+    fn from(_error: AllocFailed<T>) -> SyntaxFailure {
+        SyntaxFailure::OutOfMemory
+    }
+}

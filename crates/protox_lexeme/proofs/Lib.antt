@@ -1,0 +1,16 @@
+pub mod Each
+pub mod Fitting
+pub mod Nesting
+pub mod Margins
+pub mod Numbers
+pub mod NumberMatch
+pub mod ScanMatch
+pub mod Digits
+pub mod Boundaries
+pub mod ByteTable
+pub mod Cut
+pub mod Step
+pub mod Literal
+pub mod Modes
+pub mod OneKind
+pub mod BlockExtent

@@ -1,0 +1,8 @@
+use Rattle.std.proofs.Common.{◌∙◌}
+use Rattle.protox_lexeme.specs.Pieces.{reading_of}
+use Rattle.protox_lexeme.proofs.Literal.{finished_end}
+use Rattle.protox_lexeme.proofs.string.end.Goals as goal
+
+pub returns-clause-value : goal.returns-clause-value
+returns-clause-value c start =
+    c.found.ensures.value start ∙ finished_end start c.args.at (reading_of c.args.reader) c.close.new.faults.items c.in_ok-close.ensures.ok

@@ -1,0 +1,18 @@
+-- MACHINERY. The text of a block comment, written a character at a time.
+use Rattle.std.specs.Prelude.{ℕ, Bool, true, false, List, ◌∷◌, ◌++◌, encode_utf8_all}
+use Rattle.std.specs.String.{string_bytes}
+use Rattle.protox_lexeme.specs.declared.comment_text.Kept.{Kept}
+use Rattle.protox_lexeme.specs.BlockComments.{without_margins, without_returns}
+
+-- the characters, behind the carriage return that is held
+abbrev pub behind_held : Bool → List ℕ → List ℕ
+behind_held true cs = 13 ∷ cs
+behind_held false cs = cs
+
+-- what is written, and then these characters
+abbrev pub after : List ℕ → Bool → List ℕ → List ℕ
+after text held cs = text ++ encode_utf8_all (without_returns (behind_held held cs))
+
+-- the text, where these characters are to come
+abbrev pub finished : Kept → List ℕ → List ℕ
+finished k cs = after (string_bytes k.text) k.held (without_margins k.fresh cs)

@@ -4,17 +4,17 @@ ghost use Rattle.std.specs.Prelude.{◌≡◌, OnOk};
 ghost use Rattle.protox_grammar.specs.Reader.{any_word, head_in, is_word_of};
 ghost use Rattle.protox_grammar.specs.part.Rules.{barred_words};
 ghost use Rattle.protox_rows.specs.Outcome.{Gives};
-ghost use Rattle.protox_messages.specs.Reads.{add, element_at, elements_at, goes_on, mbody_at, named_body_at, message_at};
+ghost use Rattle.protox_messages.specs.Reads.{add, element_at, elements_at, goes_on, mbody_at, message_at};
 
 use crate::fields::normal;
-use protox_ast::ast::{Ident, Message, MessageBody, MessageItem};
+use protox_ast::ast::{Message, MessageBody, MessageItem};
 use protox_descriptor::values::Items;
 use protox_lex::lex::Token;
 use protox_rows::expected::Expected;
-use protox_rows::leaf::{expect_mark, expect_word, is_mark, join, refused, sees_mark};
+use protox_rows::leaf::{expect_mark, expect_word, is_mark, refused, sees_mark};
 use protox_rows::names::ident;
 use protox_rows::refused::Refused;
-use protox_rows::rows::{RowAt, Unread, comments_of};
+use protox_rows::rows::{RowAt, Unread, comments_of, span_between};
 use std::alloc::{AllocError, Global};
 
 // Whether a word comes next that begins something else than a field without a label.
@@ -117,26 +117,6 @@ fn mbody<'t, 'a>(
     ))
 }
 
-/// ident mbody
-#[tactic(auto, unfolding(crate::specs::Reads::named_body_at))]
-fn named_body<'t, 'a>(
-    alloc: Global,
-    rows: Unread<'t, 'a>,
-) -> Result<
-    (
-        Ident,
-        (MessageBody, (RowAt<'t, 'a>, RowAt<'t, 'a>)),
-        Unread<'t, 'a>,
-    ),
-    Refused,
->
-    ensures { Gives (λ x. ((x.0, (x.1.0, (x.1.1.0.at, x.1.1.1.at))), x.2)) result (named_body_at rows.entry) }
-{
-    let (name, rest) = ident(alloc, rows, Expected::Ident)?;
-    let (body, braces, rest) = mbody(alloc, rest)?;
-    Ok((name, (body, braces), rest))
-}
-
 /// message = "message" ident mbody
 #[tactic(auto, unfolding(crate::specs::Reads::message_at))]
 pub fn message<'t, 'a>(
@@ -147,9 +127,10 @@ pub fn message<'t, 'a>(
 {
     let begun = rows.again();
     let (start, rest) = expect_word(rows, "message", Expected::Statement)?;
-    let (name, (body, (open, close)), rest) = named_body(alloc, rest)?;
+    let (name, rest) = ident(alloc, rest, Expected::Ident)?;
+    let (body, (open, close), rest) = mbody(alloc, rest)?;
     let comments = comments_of(alloc, &begun, &open)?;
-    let span = join(&start.span(), &close.span());
+    let span = span_between(&start, &close);
     Ok((
         Message {
             name,

@@ -20,10 +20,10 @@ use protox_lex::error::Span;
 use protox_lex::lex::Token;
 use protox_messages::messages::message;
 use protox_rows::expected::Expected;
-use protox_rows::leaf::{expect_mark, expect_word, join, sees_mark, sees_word};
+use protox_rows::leaf::{expect_mark, expect_word, sees_mark, sees_word};
 use protox_rows::notes::Note;
 use protox_rows::refused::Refused;
-use protox_rows::rows::{RowAt, Unread, comments_of};
+use protox_rows::rows::{RowAt, Unread, comments_of, span_between};
 use protox_rows::strings::{strings, text_of};
 use std::alloc::{AllocError, Global};
 
@@ -68,7 +68,7 @@ fn syntax<'t, 'a>(
     let (syntax, rest) = syntax_value(alloc, notes, rest)?;
     let (end, rest) = expect_mark(rest, b';', Expected::Semicolon)?;
     let comments = comments_of(alloc, &begun, &end)?;
-    let span = join(&start.span(), &end.span());
+    let span = span_between(&start, &end);
     Ok(((syntax, (span, comments)), rest))
 }
 
@@ -216,7 +216,7 @@ fn import<'t, 'a>(
     let (kind, rest) = import_kind_if_any(rest)?;
     let ((value, value_span), end, rest) = ended_path(alloc, notes, rest, after_import(&kind))?;
     let comments = comments_of(alloc, &begun, &end)?;
-    let span = join(&start.span(), &end.span());
+    let span = span_between(&start, &end);
     Ok((
         Import {
             kind,

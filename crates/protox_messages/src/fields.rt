@@ -62,32 +62,35 @@ fn sees_scalar(rows: &Unread<'_, '_>) -> bool
 }
 
 #[tactic(auto, unfolding(protox_grammar::specs::Reader::leaf, crate::specs::Reads::scalar_at))]
-fn scalar_word<'t, 'a>(rows: Unread<'t, 'a>) -> Result<(Ty, Span, Unread<'t, 'a>), Refused>
-    ensures { Gives (λ x. ((x.0, x.1), x.2)) result (scalar_at rows.entry) }
+fn scalar_word(rows: &mut Unread<'_, '_>) -> Result<(Ty, Span), Refused>
+    ensures { Gives (λ x. (x.0, x.1)) result rows.new (scalar_at rows.old) }
 {
     let Some((first, rest)) = rows.split() else {
-        return Err(refused(&rows, Expected::Type));
+        return Err(refused(rows, Expected::Type));
     };
     match scalar_in(first.token()) {
-        Some(ty) => Ok((ty, first.span(), rest)),
-        None => Err(refused(&rows, Expected::Type)),
+        Some(ty) => {
+            *rows = rest;
+            Ok((ty, first.span()))
+        }
+        None => Err(refused(rows, Expected::Type)),
     }
 }
 
 /// type = one of the 15 scalar words | typename
 #[tactic(auto, unfolding(crate::specs::Reads::type_at))]
-fn field_type<'t, 'a>(
+fn field_type(
     alloc: Global,
-    rows: Unread<'t, 'a>,
+    rows: &mut Unread<'_, '_>,
     expected: Expected,
-) -> Result<(Ty, Span, Unread<'t, 'a>), Refused>
-    ensures { Gives (λ x. ((x.0, x.1), x.2)) result (type_at rows.entry) }
+) -> Result<(Ty, Span), Refused>
+    ensures { Gives (λ x. (x.0, x.1)) result rows.new (type_at rows.old) }
 {
-    if sees_scalar(&rows) {
+    if sees_scalar(rows) {
         return scalar_word(rows);
     }
-    let (name, span, rest) = typename(alloc, rows, expected)?;
-    Ok((Ty::Named(name), span, rest))
+    let (name, span) = typename(alloc, rows, expected)?;
+    Ok((Ty::Named(name), span))
 }
 
 // A name may go on with a dot.
@@ -100,31 +103,28 @@ fn after_type(ty: &Ty) -> Expected {
 
 /// normal = type ident "=" int ";"
 #[tactic(auto, unfolding(crate::specs::Reads::normal_at))]
-pub(crate) fn normal<'t, 'a>(
+pub(crate) fn normal(
     alloc: Global,
-    rows: Unread<'t, 'a>,
+    rows: &mut Unread<'_, '_>,
     expected: Expected,
-) -> Result<(Field, Unread<'t, 'a>), Refused>
-    ensures { Gives (λ x. (x.0, x.1)) result (normal_at rows.entry) }
+) -> Result<Field, Refused>
+    ensures { Gives (λ x. x) result rows.new (normal_at rows.old) }
 {
     let begun = rows.again();
-    let (ty, ty_span, rest) = field_type(alloc, rows, expected)?;
-    let (name, rest) = ident(alloc, rest, after_type(&ty))?;
-    let (_, rest) = expect_mark(rest, b'=', Expected::Equals)?;
-    let (number, rest) = int(rest)?;
-    let (end, rest) = expect_mark(rest, b';', Expected::SemicolonOrOptions)?;
+    let (ty, ty_span) = field_type(alloc, rows, expected)?;
+    let name = ident(alloc, rows, after_type(&ty))?;
+    expect_mark(rows, b'=', Expected::Equals)?;
+    let number = int(rows)?;
+    let end = expect_mark(rows, b';', Expected::SemicolonOrOptions)?;
     let comments = comments_of(alloc, &begun, &end)?;
     let span = join(&ty_span, &end.span());
-    Ok((
-        Field {
-            label: None,
-            name,
-            kind: FieldKind::Normal { ty, ty_span },
-            number,
-            options: None,
-            comments,
-            span,
-        },
-        rest,
-    ))
+    Ok(Field {
+        label: None,
+        name,
+        kind: FieldKind::Normal { ty, ty_span },
+        number,
+        options: None,
+        comments,
+        span,
+    })
 }

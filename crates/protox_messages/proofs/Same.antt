@@ -20,7 +20,6 @@ use Rattle.protox_grammar.specs.part.Rules as r
 use Rattle.protox_grammar.proofs.Shows.{Shows, seq-shows, mapped-shows, either-shows, star-shows, unstarted-shows, shows-by, left-shows, right-shows, two, shows-eats}
 use Rattle.protox_grammar.proofs.Tests.{mark-class, words-class, scalar-class}
 use Rattle.protox_grammar.proofs.part.Messages as messages
-use Rattle.protox_rows.specs.Reads as base
 use Rattle.protox_rows.specs.Reads.{declared}
 use Rattle.protox_rows.proofs.Declared.{mapped_from-shows}
 use Rattle.protox_rows.proofs.Same.{here, word, sign, ident-shows, typename-shows, int-shows, semicolon-class}

@@ -2,7 +2,7 @@
 use Rattle.std.proofs.Common.{◌≡◌, not, List, [], ◌∷◌, ◌++◌, map, Option, Some, None, codes, refl, sym, ap, ◌∙◌, append-nil, append_assoc, lit<}
 use Rattle.std.specs.List.{filter_map, cons_option}
 use Rattle.protox_fault.specs.Faults.{Span}
-use Rattle.protox_lexeme.specs.Shapes.{Shape, Mark, Rows}
+use Rattle.protox_lexeme.specs.Shapes.{Shape, Rows}
 use Rattle.protox_ast.specs.part.Tree as tree
 use Rattle.protox_ast.specs.part.Spelling as s
 use Rattle.protox_ast.specs.part.Ast as ast
@@ -15,12 +15,11 @@ use Rattle.protox_ast.specs.declared.ast.FieldKind.TheVariants as kind
 use Rattle.protox_ast.specs.declared.ast.MessageItem.{MessageItem}
 use Rattle.protox_ast.specs.declared.ast.MessageItem.TheVariants as item
 use Rattle.protox_grammar.specs.Class.{but, class, in_set}
-use Rattle.protox_grammar.specs.Reader.{Consumes, fixed, seq, star, folded}
+use Rattle.protox_grammar.specs.Reader.{Consumes, star, folded}
 use Rattle.protox_grammar.specs.part.Rules as r
 use Rattle.protox_grammar.proofs.Shows.{Shows, seq-shows, mapped-shows, either-shows, star-shows, unstarted-shows, shows-by, left-shows, right-shows, two, shows-eats}
 use Rattle.protox_grammar.proofs.Tests.{mark-class, words-class, scalar-class}
 use Rattle.protox_grammar.proofs.part.Messages as messages
-use Rattle.protox_rows.specs.Reads as base
 use Rattle.protox_rows.specs.Reads.{declared}
 use Rattle.protox_rows.proofs.Declared.{mapped_from-shows}
 use Rattle.protox_rows.proofs.Same.{here, word, sign, ident-shows, typename-shows, int-shows, semicolon-class}
@@ -61,13 +60,9 @@ with_comments x c = roll-Field (record {
   span = ast.join (ast.type_span x.type) x.end.span;
 })
 
-number-shows : Shows (λ (x : Place × (tree.Int Place × Place)). (ast.int x.1.0, x.1.1)) (seq (fixed (Mark s.equals)) (seq (r.int).read (fixed (Mark s.semicolon)))) reads.number_at
-unfolding reads.number_at
-number-shows = right-shows (λ x. x.1) (seq-shows (sign s.equals) (seq-shows int-shows (sign s.semicolon)))
-
 normal-shows : Shows ast.normal (r.normal).read reads.normal_at
-unfolding r.normal reads.named_at reads.normal_at
-normal-shows = mapped_from-shows r.normal (messages.normal-laws here).read _ _ ast.normal (λ xs. refl) (λ x rest. ap (with_comments (record { type = x.0; name = x.1.0; equals_sign = x.1.1.0; number = x.1.1.1.0; end = x.1.1.1.1 })) (type-declared x.0 _ rest x.1.1.1.1)) (seq-shows type-shows (seq-shows ident-shows number-shows))
+unfolding r.normal reads.normal_at
+normal-shows = mapped_from-shows r.normal (messages.normal-laws here).read _ _ ast.normal (λ xs. refl) (λ x rest. ap (with_comments (record { type = x.0; name = x.1.0; equals_sign = x.1.1.0; number = x.1.1.1.0; end = x.1.1.1.1 })) (type-declared x.0 _ rest x.1.1.1.1)) (seq-shows type-shows (seq-shows ident-shows (seq-shows (sign s.equals) (seq-shows int-shows (sign s.semicolon)))))
 
 element-shows : Shows ast.element (r.element).read reads.element_at
 unfolding r.element reads.element_at
@@ -100,5 +95,5 @@ unfolding r.mbody reads.mbody_at
 mbody-shows = mapped-shows _ _ body_and_braces (λ x. refl) (seq-shows (sign s.open_brace) (seq-shows elements-shows (sign s.close_brace)))
 
 pub message-shows : Shows ast.message (r.message).read reads.message_at
-unfolding r.message reads.named_body_at reads.message_at
+unfolding r.message reads.message_at
 message-shows = mapped_from-shows r.message (messages.message-laws here).read _ _ ast.message (λ xs. refl) (λ x rest. refl) (seq-shows (word (codes "message")) (seq-shows ident-shows mbody-shows))

@@ -8,8 +8,6 @@ use Rattle.protox_grammar.specs.part.Rules.{barred_words}
 use Rattle.protox_ast.specs.Spelling.{open_brace, close_brace, equals, semicolon}
 use Rattle.protox_ast.specs.part.Ast.{join, scalar}
 use Rattle.protox_ast.specs.Places.{Place}
-use Rattle.protox_ast.specs.declared.ast.Ident as ident_type
-use Rattle.protox_ast.specs.declared.ast.Int as int_type
 use Rattle.protox_ast.specs.declared.ast.Ty.{Ty}
 use Rattle.protox_ast.specs.declared.ast.Ty.TheVariants as ty
 use Rattle.protox_ast.specs.declared.ast.Field.{Field, roll-Field}
@@ -29,22 +27,16 @@ is_scalar s = is_some (see_scalar s)
 unfoldable pub type_at : Reads (Ty × Span)
 type_at = either is_scalar scalar_at (mapped (λ x. (ty.Named x.0, x.1)) typename_at)
 
-unfoldable pub number_at : Reads (int_type.Int × Place)
-number_at = mapped (λ x. x.1) (seq (sign equals) (seq int_at (sign semicolon)))
-
-unfoldable pub named_at : Reads (ident_type.Ident × (int_type.Int × Place))
-named_at = seq ident_at number_at
-
 unfoldable pub normal_at : Reads Field
 normal_at = mapped_from (λ xs x. roll-Field (record {
   label = None;
   name = x.1.0;
   kind = kind.Normal x.0.0 x.0.1;
-  number = x.1.1.0;
+  number = x.1.1.1.0;
   options = None;
-  comments = declared xs x.1.1.1;
-  span = join x.0.1 x.1.1.1.span;
-})) (seq type_at named_at)
+  comments = declared xs x.1.1.1.1;
+  span = join x.0.1 x.1.1.1.1.span;
+})) (seq type_at (seq ident_at (seq (sign equals) (seq int_at (sign semicolon)))))
 
 unfoldable pub element_at : Reads (Option MessageItem)
 element_at = either (is_mark semicolon) (mapped (λ s. None) (sign semicolon)) (unstarted (is_word_of barred_words) (mapped (λ x. Some (item.Field x)) normal_at))
@@ -66,8 +58,5 @@ body_of items = roll-MessageBody (record { items = items; extensions = []; optio
 unfoldable pub mbody_at : Reads (MessageBody × (Place × Place))
 mbody_at = mapped (λ x. (body_of x.1.0, (x.0, x.1.1))) (seq (sign open_brace) (seq elements_at (sign close_brace)))
 
-unfoldable pub named_body_at : Reads (ident_type.Ident × (MessageBody × (Place × Place)))
-named_body_at = seq ident_at mbody_at
-
 unfoldable pub message_at : Reads Message
-message_at = mapped_from (λ xs x. roll-Message (record { name = x.1.0; body = x.1.1.0; comments = declared xs x.1.1.1.0; span = join x.0.span x.1.1.1.1.span })) (seq (the (codes "message")) named_body_at)
+message_at = mapped_from (λ xs x. roll-Message (record { name = x.1.0; body = x.1.1.0; comments = declared xs x.1.1.1.0; span = join x.0.span x.1.1.1.1.span })) (seq (the (codes "message")) (seq ident_at mbody_at))

@@ -6,16 +6,16 @@ ghost use Rattle.protox_grammar.specs.Reader.{head_in};
 ghost use Rattle.protox_grammar.specs.Rules.{find_scalar, all_scalars, see_scalar};
 ghost use Rattle.protox_lex.specs.TableView.{shape_of_lent};
 ghost use Rattle.protox_rows.specs.Outcome.{Gives};
-ghost use Rattle.protox_messages.specs.Reads.{is_scalar, scalar_at, type_at, number_at, named_at, normal_at};
+ghost use Rattle.protox_messages.specs.Reads.{is_scalar, scalar_at, type_at, normal_at};
 
-use protox_ast::ast::{Field, FieldKind, Ident, Int, Ty};
+use protox_ast::ast::{Field, FieldKind, Ty};
 use protox_lex::error::Span;
 use protox_lex::lex::Token;
 use protox_rows::expected::Expected;
 use protox_rows::leaf::{expect_mark, join, refused};
 use protox_rows::names::{ident, int, typename};
 use protox_rows::refused::Refused;
-use protox_rows::rows::{RowAt, Unread, comments_of};
+use protox_rows::rows::{Unread, comments_of};
 use std::alloc::Global;
 
 // The scalar type that the word names.
@@ -62,32 +62,35 @@ fn sees_scalar(rows: &Unread<'_, '_>) -> bool
 }
 
 #[tactic(auto, unfolding(protox_grammar::specs::Reader::leaf, crate::specs::Reads::scalar_at))]
-fn scalar_word<'t, 'a>(rows: Unread<'t, 'a>) -> Result<(Ty, Span, Unread<'t, 'a>), Refused>
-    ensures { Gives (λ x. ((x.0, x.1), x.2)) result (scalar_at rows.entry) }
+fn scalar_word(rows: &mut Unread<'_, '_>) -> Result<(Ty, Span), Refused>
+    ensures { Gives (λ x. (x.0, x.1)) result rows.new (scalar_at rows.old) }
 {
     let Some((first, rest)) = rows.split() else {
-        return Err(refused(&rows, Expected::Type));
+        return Err(refused(rows, Expected::Type));
     };
     match scalar_in(first.token()) {
-        Some(ty) => Ok((ty, first.span(), rest)),
-        None => Err(refused(&rows, Expected::Type)),
+        Some(ty) => {
+            *rows = rest;
+            Ok((ty, first.span()))
+        }
+        None => Err(refused(rows, Expected::Type)),
     }
 }
 
 /// type = one of the 15 scalar words | typename
 #[tactic(auto, unfolding(crate::specs::Reads::type_at))]
-fn field_type<'t, 'a>(
+fn field_type(
     alloc: Global,
-    rows: Unread<'t, 'a>,
+    rows: &mut Unread<'_, '_>,
     expected: Expected,
-) -> Result<(Ty, Span, Unread<'t, 'a>), Refused>
-    ensures { Gives (λ x. ((x.0, x.1), x.2)) result (type_at rows.entry) }
+) -> Result<(Ty, Span), Refused>
+    ensures { Gives (λ x. (x.0, x.1)) result rows.new (type_at rows.old) }
 {
-    if sees_scalar(&rows) {
+    if sees_scalar(rows) {
         return scalar_word(rows);
     }
-    let (name, span, rest) = typename(alloc, rows, expected)?;
-    Ok((Ty::Named(name), span, rest))
+    let (name, span) = typename(alloc, rows, expected)?;
+    Ok((Ty::Named(name), span))
 }
 
 // A name may go on with a dot.
@@ -98,55 +101,30 @@ fn after_type(ty: &Ty) -> Expected {
     }
 }
 
-/// "=" int ";"
-#[tactic(auto, unfolding(crate::specs::Reads::number_at))]
-fn number<'t, 'a>(rows: Unread<'t, 'a>) -> Result<(Int, RowAt<'t, 'a>, Unread<'t, 'a>), Refused>
-    ensures { Gives (λ x. ((x.0, x.1.at), x.2)) result (number_at rows.entry) }
-{
-    let (_, rest) = expect_mark(rows, b'=', Expected::Equals)?;
-    let (number, rest) = int(rest)?;
-    let (end, rest) = expect_mark(rest, b';', Expected::SemicolonOrOptions)?;
-    Ok((number, end, rest))
-}
-
-/// ident "=" int ";"
-#[tactic(auto, unfolding(crate::specs::Reads::named_at))]
-fn named<'t, 'a>(
-    alloc: Global,
-    rows: Unread<'t, 'a>,
-    expected: Expected,
-) -> Result<(Ident, (Int, RowAt<'t, 'a>), Unread<'t, 'a>), Refused>
-    ensures { Gives (λ x. ((x.0, (x.1.0, x.1.1.at)), x.2)) result (named_at rows.entry) }
-{
-    let (name, rest) = ident(alloc, rows, expected)?;
-    let (number, end, rest) = number(rest)?;
-    Ok((name, (number, end), rest))
-}
-
 /// normal = type ident "=" int ";"
 #[tactic(auto, unfolding(crate::specs::Reads::normal_at))]
-pub(crate) fn normal<'t, 'a>(
+pub(crate) fn normal(
     alloc: Global,
-    rows: Unread<'t, 'a>,
+    rows: &mut Unread<'_, '_>,
     expected: Expected,
-) -> Result<(Field, Unread<'t, 'a>), Refused>
-    ensures { Gives (λ x. (x.0, x.1)) result (normal_at rows.entry) }
+) -> Result<Field, Refused>
+    ensures { Gives (λ x. x) result rows.new (normal_at rows.old) }
 {
     let begun = rows.again();
-    let (ty, ty_span, rest) = field_type(alloc, rows, expected)?;
-    let (name, (number, end), rest) = named(alloc, rest, after_type(&ty))?;
+    let (ty, ty_span) = field_type(alloc, rows, expected)?;
+    let name = ident(alloc, rows, after_type(&ty))?;
+    expect_mark(rows, b'=', Expected::Equals)?;
+    let number = int(rows)?;
+    let end = expect_mark(rows, b';', Expected::SemicolonOrOptions)?;
     let comments = comments_of(alloc, &begun, &end)?;
     let span = join(&ty_span, &end.span());
-    Ok((
-        Field {
-            label: None,
-            name,
-            kind: FieldKind::Normal { ty, ty_span },
-            number,
-            options: None,
-            comments,
-            span,
-        },
-        rest,
-    ))
+    Ok(Field {
+        label: None,
+        name,
+        kind: FieldKind::Normal { ty, ty_span },
+        number,
+        options: None,
+        comments,
+        span,
+    })
 }

@@ -4,17 +4,17 @@ ghost use Rattle.std.specs.Prelude.{◌≡◌, OnOk};
 ghost use Rattle.protox_grammar.specs.Reader.{any_word, head_in, is_word_of};
 ghost use Rattle.protox_grammar.specs.part.Rules.{barred_words};
 ghost use Rattle.protox_rows.specs.Outcome.{Gives};
-ghost use Rattle.protox_messages.specs.Reads.{add, element_at, elements_at, goes_on, mbody_at, named_body_at, message_at};
+ghost use Rattle.protox_messages.specs.Reads.{add, element_at, elements_at, goes_on, mbody_at, message_at};
 
 use crate::fields::normal;
-use protox_ast::ast::{Ident, Message, MessageBody, MessageItem};
+use protox_ast::ast::{Message, MessageBody, MessageItem};
 use protox_descriptor::values::Items;
 use protox_lex::lex::Token;
 use protox_rows::expected::Expected;
-use protox_rows::leaf::{expect_mark, expect_word, is_mark, join, refused, sees_mark};
+use protox_rows::leaf::{expect_mark, expect_word, is_mark, refused, sees_mark};
 use protox_rows::names::ident;
 use protox_rows::refused::Refused;
-use protox_rows::rows::{RowAt, Unread, comments_of};
+use protox_rows::rows::{RowAt, Unread, comments_of, span_between};
 use std::alloc::{AllocError, Global};
 
 // Whether a word comes next that begins something else than a field without a label.
@@ -42,21 +42,18 @@ fn is_barred_word(word: &str) -> bool
 
 /// ";" | normal
 #[tactic(auto, unfolding(crate::specs::Reads::element_at))]
-fn element<'t, 'a>(
-    alloc: Global,
-    rows: Unread<'t, 'a>,
-) -> Result<(Option<MessageItem>, Unread<'t, 'a>), Refused>
-    ensures { Gives (λ x. (x.0, x.1)) result (element_at rows.entry) }
+fn element(alloc: Global, rows: &mut Unread<'_, '_>) -> Result<Option<MessageItem>, Refused>
+    ensures { Gives (λ x. x) result rows.new (element_at rows.old) }
 {
-    if sees_mark(&rows, b';') {
-        let (_, rest) = expect_mark(rows, b';', Expected::Semicolon)?;
-        return Ok((None, rest));
+    if sees_mark(rows, b';') {
+        expect_mark(rows, b';', Expected::Semicolon)?;
+        return Ok(None);
     }
-    if sees_barred_word(&rows) {
-        return Err(refused(&rows, Expected::MessageBody));
+    if sees_barred_word(rows) {
+        return Err(refused(rows, Expected::MessageBody));
     }
-    let (field, rest) = normal(alloc, rows, Expected::MessageBody)?;
-    Ok((Some(MessageItem::Field(field)), rest))
+    let field = normal(alloc, rows, Expected::MessageBody)?;
+    Ok(Some(MessageItem::Field(field)))
 }
 
 fn goes_on(rows: &Unread<'_, '_>) -> bool
@@ -78,85 +75,52 @@ fn put(items: &mut Items<MessageItem>, element: Option<MessageItem>) -> Result<(
 }
 
 #[tactic(auto, unfolding(crate::specs::Reads::elements_at))]
-fn elements<'t, 'a>(
-    alloc: Global,
-    rows: Unread<'t, 'a>,
-) -> Result<(Items<MessageItem>, Unread<'t, 'a>), Refused>
-    ensures { Gives (λ x. (x.0, x.1)) result (elements_at rows.entry) }
+fn elements(alloc: Global, rows: &mut Unread<'_, '_>) -> Result<Items<MessageItem>, Refused>
+    ensures { Gives (λ x. x) result rows.new (elements_at rows.old) }
 {
     let mut items = Items::new(alloc);
-    let mut rest = rows;
-    'more: while goes_on(&rest) {
-        let (element, after) = element(alloc, rest)?;
+    'more: while goes_on(rows) {
+        let element = element(alloc, rows)?;
         put(&mut items, element)?;
-        rest = after;
     }
-    Ok((items, rest))
+    Ok(items)
 }
 
 /// mbody = "{" (";" | normal)* "}"
 #[tactic(auto, unfolding(crate::specs::Reads::mbody_at))]
 fn mbody<'t, 'a>(
     alloc: Global,
-    rows: Unread<'t, 'a>,
-) -> Result<(MessageBody, (RowAt<'t, 'a>, RowAt<'t, 'a>), Unread<'t, 'a>), Refused>
-    ensures { Gives (λ x. ((x.0, (x.1.0.at, x.1.1.at)), x.2)) result (mbody_at rows.entry) }
+    rows: &mut Unread<'t, 'a>,
+) -> Result<(MessageBody, (RowAt<'t, 'a>, RowAt<'t, 'a>)), Refused>
+    ensures { Gives (λ x. (x.0, (x.1.0.at, x.1.1.at))) result rows.new (mbody_at rows.old) }
 {
-    let (start, rest) = expect_mark(rows, b'{', Expected::LeftBrace)?;
-    let (items, rest) = elements(alloc, rest)?;
-    let (end, rest) = expect_mark(rest, b'}', Expected::MessageBody)?;
-    Ok((
-        MessageBody {
-            items,
-            extensions: Items::new(alloc),
-            options: Items::new(alloc),
-            reserved: Items::new(alloc),
-        },
-        (start, end),
-        rest,
-    ))
-}
-
-/// ident mbody
-#[tactic(auto, unfolding(crate::specs::Reads::named_body_at))]
-fn named_body<'t, 'a>(
-    alloc: Global,
-    rows: Unread<'t, 'a>,
-) -> Result<
-    (
-        Ident,
-        (MessageBody, (RowAt<'t, 'a>, RowAt<'t, 'a>)),
-        Unread<'t, 'a>,
-    ),
-    Refused,
->
-    ensures { Gives (λ x. ((x.0, (x.1.0, (x.1.1.0.at, x.1.1.1.at))), x.2)) result (named_body_at rows.entry) }
-{
-    let (name, rest) = ident(alloc, rows, Expected::Ident)?;
-    let (body, braces, rest) = mbody(alloc, rest)?;
-    Ok((name, (body, braces), rest))
+    let start = expect_mark(rows, b'{', Expected::LeftBrace)?;
+    let items = elements(alloc, rows)?;
+    let end = expect_mark(rows, b'}', Expected::MessageBody)?;
+    let body = MessageBody {
+        items,
+        extensions: Items::new(alloc),
+        options: Items::new(alloc),
+        reserved: Items::new(alloc),
+    };
+    Ok((body, (start, end)))
 }
 
 /// message = "message" ident mbody
 #[tactic(auto, unfolding(crate::specs::Reads::message_at))]
-pub fn message<'t, 'a>(
-    alloc: Global,
-    rows: Unread<'t, 'a>,
-) -> Result<(Message, Unread<'t, 'a>), Refused>
-    ensures { Gives (λ x. (x.0, x.1)) result (message_at rows.entry) }
+pub fn message(alloc: Global, rows: &mut Unread<'_, '_>) -> Result<Message, Refused>
+    ensures { Gives (λ x. x) result rows.new (message_at rows.old) }
 {
     let begun = rows.again();
-    let (start, rest) = expect_word(rows, "message", Expected::Statement)?;
-    let (name, (body, (open, close)), rest) = named_body(alloc, rest)?;
+    let start = expect_word(rows, "message", Expected::Statement)?;
+    let name = ident(alloc, rows, Expected::Ident)?;
+    let (body, (open, close)) = mbody(alloc, rows)?;
     let comments = comments_of(alloc, &begun, &open)?;
-    let span = join(&start.span(), &close.span());
-    Ok((
-        Message {
-            name,
-            body,
-            comments,
-            span,
-        },
-        rest,
-    ))
+    let span = span_between(&start, &close);
+    Ok(Message {
+        name,
+        body,
+        comments,
+        span,
+    })
 }

@@ -105,29 +105,35 @@ pub fn refused(rows: &Unread<'_, '_>, expected: Expected) -> Refused
 /// Takes this word.
 #[tactic(auto, unfolding(protox_grammar::specs::Reader::fixed))]
 pub fn expect_word<'t, 'a>(
-    rows: Unread<'t, 'a>,
+    rows: &mut Unread<'t, 'a>,
     word: &str,
     expected: Expected,
-) -> Result<(RowAt<'t, 'a>, Unread<'t, 'a>), Refused>
-    ensures { Gives (λ x. (x.0.at, x.1)) result (fixed (Ident word.now) rows.entry) }
+) -> Result<RowAt<'t, 'a>, Refused>
+    ensures { Gives (λ x. x.at) result rows.new (fixed (Ident word.now) rows.old) }
 {
     match rows.split() {
-        Some((first, rest)) if is_word(first.token(), word) => Ok((first, rest)),
-        _ => Err(refused(&rows, expected)),
+        Some((first, rest)) if is_word(first.token(), word) => {
+            *rows = rest;
+            Ok(first)
+        }
+        _ => Err(refused(rows, expected)),
     }
 }
 
 /// Takes this mark.
 #[tactic(auto, unfolding(protox_grammar::specs::Reader::fixed))]
 pub fn expect_mark<'t, 'a>(
-    rows: Unread<'t, 'a>,
+    rows: &mut Unread<'t, 'a>,
     mark: u8,
     expected: Expected,
-) -> Result<(RowAt<'t, 'a>, Unread<'t, 'a>), Refused>
-    ensures { Gives (λ x. (x.0.at, x.1)) result (fixed (Mark mark) rows.entry) }
+) -> Result<RowAt<'t, 'a>, Refused>
+    ensures { Gives (λ x. x.at) result rows.new (fixed (Mark mark) rows.old) }
 {
     match rows.split() {
-        Some((first, rest)) if is_mark(first.token(), mark) => Ok((first, rest)),
-        _ => Err(refused(&rows, expected)),
+        Some((first, rest)) if is_mark(first.token(), mark) => {
+            *rows = rest;
+            Ok(first)
+        }
+        _ => Err(refused(rows, expected)),
     }
 }

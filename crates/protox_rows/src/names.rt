@@ -20,54 +20,46 @@ use std::alloc::Global;
 
 /// ident
 #[tactic(auto, unfolding(protox_grammar::specs::Reader::leaf, crate::specs::Reads::ident_at))]
-pub fn ident<'t, 'a>(
-    alloc: Global,
-    rows: Unread<'t, 'a>,
-    expected: Expected,
-) -> Result<(Ident, Unread<'t, 'a>), Refused>
-    ensures { Gives (λ x. (x.0, x.1)) result (ident_at rows.entry) }
+pub fn ident(alloc: Global, rows: &mut Unread<'_, '_>, expected: Expected) -> Result<Ident, Refused>
+    ensures { Gives (λ x. x) result rows.new (ident_at rows.old) }
 {
     if let Some((first, rest)) = rows.split() {
         if let Ok(Token::Ident(text)) = first.token() {
             let value = Text::copy(alloc, text)?;
             let span = first.span();
-            return Ok((Ident { value, span }, rest));
+            *rows = rest;
+            return Ok(Ident { value, span });
         }
     }
-    Err(refused(&rows, expected))
+    Err(refused(rows, expected))
 }
 
 #[tactic(auto, unfolding(crate::specs::Reads::more_part_at))]
-fn more_part<'t, 'a>(
-    alloc: Global,
-    rows: Unread<'t, 'a>,
-) -> Result<(Ident, Unread<'t, 'a>), Refused>
-    ensures { Gives (λ x. (x.0, x.1)) result (more_part_at rows.entry) }
+fn more_part(alloc: Global, rows: &mut Unread<'_, '_>) -> Result<Ident, Refused>
+    ensures { Gives (λ x. x) result rows.new (more_part_at rows.old) }
 {
-    let (_, rest) = expect_mark(rows, b'.', Expected::Dot)?;
-    ident(alloc, rest, Expected::Ident)
+    expect_mark(rows, b'.', Expected::Dot)?;
+    ident(alloc, rows, Expected::Ident)
 }
 
 /// fullident = ident ("." ident)*
 #[tactic(auto, unfolding(crate::specs::Reads::parts_at))]
-fn parts<'t, 'a>(
+fn parts(
     alloc: Global,
-    rows: Unread<'t, 'a>,
+    rows: &mut Unread<'_, '_>,
     expected: Expected,
-) -> Result<(Items<Ident>, Unread<'t, 'a>), Refused>
-    ensures read { Gives (λ x. (x.0, x.1)) result (parts_at rows.entry) }
-    ensures some { IfOk result (λ x. 0 < length x.0) }
+) -> Result<Items<Ident>, Refused>
+    ensures read { Gives (λ x. x) result rows.new (parts_at rows.old) }
+    ensures some { IfOk result (λ x. 0 < length x) }
 {
-    let (first, after_first) = ident(alloc, rows, expected)?;
+    let first = ident(alloc, rows, expected)?;
     let mut parts = Items::new(alloc);
     parts.push(first)?;
-    let mut rest = after_first;
-    'more: while sees_mark(&rest, b'.') {
-        let (part, after) = more_part(alloc, rest)?;
+    'more: while sees_mark(rows, b'.') {
+        let part = more_part(alloc, rows)?;
         parts.push(part)?;
-        rest = after;
     }
-    Ok((parts, rest))
+    Ok(parts)
 }
 
 // The place of the last part.
@@ -97,14 +89,14 @@ fn name_span(dot: &Option<Span>, parts: &[Ident]) -> Span
     }
 }
 
-fn dot_if_any<'t, 'a>(rows: Unread<'t, 'a>) -> Result<(Option<Span>, Unread<'t, 'a>), Refused>
-    ensures { Gives (λ x. (x.0, x.1)) result (mapped span_if_any (optional (is_mark dot) (sign dot)) rows.entry) }
+fn dot_if_any(rows: &mut Unread<'_, '_>) -> Result<Option<Span>, Refused>
+    ensures { Gives (λ x. x) result rows.new (mapped span_if_any (optional (is_mark dot) (sign dot)) rows.old) }
 {
-    if sees_mark(&rows, b'.') {
-        let (dot, rest) = expect_mark(rows, b'.', Expected::Dot)?;
-        return Ok((Some(dot.span()), rest));
+    if sees_mark(rows, b'.') {
+        let dot = expect_mark(rows, b'.', Expected::Dot)?;
+        return Ok(Some(dot.span()));
     }
-    Ok((None, rows))
+    Ok(None)
 }
 
 // Behind a dot only a name is left.
@@ -117,66 +109,58 @@ fn first_part(dot: &Option<Span>, expected: Expected) -> Expected {
 
 /// typename = "."? fullident
 #[tactic(auto, unfolding(crate::specs::Reads::typename_at))]
-pub fn typename<'t, 'a>(
+pub fn typename(
     alloc: Global,
-    rows: Unread<'t, 'a>,
+    rows: &mut Unread<'_, '_>,
     expected: Expected,
-) -> Result<(TypeName, Span, Unread<'t, 'a>), Refused>
-    ensures { Gives (λ x. ((x.0, x.1), x.2)) result (typename_at rows.entry) }
+) -> Result<(TypeName, Span), Refused>
+    ensures { Gives (λ x. (x.0, x.1)) result rows.new (typename_at rows.old) }
 {
-    let (leading_dot, rest) = dot_if_any(rows)?;
-    let (parts, rest) = parts(alloc, rest, first_part(&leading_dot, expected))?;
+    let leading_dot = dot_if_any(rows)?;
+    let parts = parts(alloc, rows, first_part(&leading_dot, expected))?;
     let span = name_span(&leading_dot, parts.as_slice());
-    Ok((
-        TypeName {
-            leading_dot,
-            name: FullIdent::from_parts(parts.into_vec()),
-        },
-        span,
-        rest,
-    ))
+    let name = FullIdent::from_parts(parts.into_vec());
+    Ok((TypeName { leading_dot, name }, span))
 }
 
 /// integer
 #[tactic(auto, unfolding(protox_grammar::specs::Reader::leaf, crate::specs::Reads::integer_at))]
-fn integer<'t, 'a>(rows: Unread<'t, 'a>) -> Result<(u64, Span, Unread<'t, 'a>), Refused>
-    ensures { Gives (λ x. ((x.0, x.1), x.2)) result (integer_at rows.entry) }
+fn integer(rows: &mut Unread<'_, '_>) -> Result<(u64, Span), Refused>
+    ensures { Gives (λ x. (x.0, x.1)) result rows.new (integer_at rows.old) }
 {
     if let Some((first, rest)) = rows.split() {
         if let Ok(Token::IntLiteral(value)) = first.token() {
-            return Ok((*value, first.span(), rest));
+            *rows = rest;
+            return Ok((*value, first.span()));
         }
     }
-    Err(refused(&rows, Expected::Int))
+    Err(refused(rows, Expected::Int))
 }
 
-fn minus_if_any<'t, 'a>(rows: Unread<'t, 'a>) -> Result<(Option<Span>, Unread<'t, 'a>), Refused>
-    ensures { Gives (λ x. (x.0, x.1)) result (mapped span_if_any (optional (is_mark minus) (sign minus)) rows.entry) }
+fn minus_if_any(rows: &mut Unread<'_, '_>) -> Result<Option<Span>, Refused>
+    ensures { Gives (λ x. x) result rows.new (mapped span_if_any (optional (is_mark minus) (sign minus)) rows.old) }
 {
-    if sees_mark(&rows, b'-') {
-        let (minus, rest) = expect_mark(rows, b'-', Expected::Minus)?;
-        return Ok((Some(minus.span()), rest));
+    if sees_mark(rows, b'-') {
+        let minus = expect_mark(rows, b'-', Expected::Minus)?;
+        return Ok(Some(minus.span()));
     }
-    Ok((None, rows))
+    Ok(None)
 }
 
 /// int = "-"? integer
 #[tactic(auto, unfolding(crate::specs::Reads::int_at))]
-pub fn int<'t, 'a>(rows: Unread<'t, 'a>) -> Result<(Int, Unread<'t, 'a>), Refused>
-    ensures { Gives (λ x. (x.0, x.1)) result (int_at rows.entry) }
+pub fn int(rows: &mut Unread<'_, '_>) -> Result<Int, Refused>
+    ensures { Gives (λ x. x) result rows.new (int_at rows.old) }
 {
-    let (minus, rest) = minus_if_any(rows)?;
-    let (value, number, rest) = integer(rest)?;
+    let minus = minus_if_any(rows)?;
+    let (value, number) = integer(rows)?;
     let (negative, span) = match &minus {
         Some(minus) => (true, join(minus, &number)),
         None => (false, number),
     };
-    Ok((
-        Int {
-            negative,
-            value,
-            span,
-        },
-        rest,
-    ))
+    Ok(Int {
+        negative,
+        value,
+        span,
+    })
 }

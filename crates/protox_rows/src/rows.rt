@@ -7,9 +7,10 @@ ghost use Rattle.protox_comments.specs.Attributing.{attribution_of};
 ghost use Rattle.protox_lex.specs.TableView.{shape_of_lent};
 ghost use Rattle.protox_lexeme.specs.Tokens.{shape_of};
 ghost use Rattle.protox_rows.specs.Rows.{IsFirst, IsSplit, bare_row, shape_of_row};
-ghost use Rattle.protox_ast.specs.part.Ast.{comments};
+ghost use Rattle.protox_ast.specs.part.Ast.{comments, join};
 ghost use Rattle.protox_rows.specs.Reads.{declared};
 
+use crate::leaf::join;
 use protox_ast::ast::Comments;
 use protox_descriptor::values::Items;
 use protox_lex::comments::{GapComments, gap_comments};
@@ -246,4 +247,11 @@ pub fn comments_of(
         Some(first) => comments_between(alloc, &first, last),
         None => comments_behind(alloc, last),
     }
+}
+
+/// From the start of the one row to the end of the other.
+pub fn span_between(first: &RowAt<'_, '_>, last: &RowAt<'_, '_>) -> Span
+    ensures { result ≡ join first.now.at.span last.now.at.span }
+{
+    join(&first.span(), &last.span())
 }

@@ -26,40 +26,36 @@ fn sees_string(rows: &Unread<'_, '_>) -> bool
 }
 
 #[tactic(auto, unfolding(protox_grammar::specs::Reader::leaf, crate::specs::Reads::string_at))]
-fn string<'t, 'a>(
-    rows: Unread<'t, 'a>,
-    expected: Expected,
-) -> Result<(&'t [u8], Span, Unread<'t, 'a>), Refused>
-    ensures { Gives (λ x. ((x.0.now, x.1), x.2)) result (string_at rows.entry) }
+fn string<'t>(rows: &mut Unread<'t, '_>, expected: Expected) -> Result<(&'t [u8], Span), Refused>
+    ensures { Gives (λ x. (x.0.now, x.1)) result rows.new (string_at rows.old) }
 {
     if let Some((first, rest)) = rows.split() {
         if let Ok(Token::StringLiteral(value)) = first.token() {
-            return Ok((value.as_slice(), first.span(), rest));
+            *rows = rest;
+            return Ok((value.as_slice(), first.span()));
         }
     }
-    Err(refused(&rows, expected))
+    Err(refused(rows, expected))
 }
 
 /// string+, the values joined, from the first to the last.
 #[tactic(auto, unfolding(crate::specs::Reads::strings_at))]
-pub fn strings<'t, 'a>(
+pub fn strings(
     alloc: Global,
-    rows: Unread<'t, 'a>,
+    rows: &mut Unread<'_, '_>,
     expected: Expected,
-) -> Result<(Vec<u8>, Span, Unread<'t, 'a>), Refused>
-    ensures { Gives (λ x. ((x.0.items, x.1), x.2)) result (strings_at rows.entry) }
+) -> Result<(Vec<u8>, Span), Refused>
+    ensures { Gives (λ x. (x.0.items, x.1)) result rows.new (strings_at rows.old) }
 {
-    let (first, first_span, after_first) = string(rows, expected)?;
+    let (first, first_span) = string(rows, expected)?;
     let mut value = Vec::from_slice(alloc, first)?;
     let mut span = first_span;
-    let mut rest = after_first;
-    'more: while sees_string(&rest) {
-        let (more, end, after) = string(rest, Expected::StringLiteral)?;
+    'more: while sees_string(rows) {
+        let (more, end) = string(rows, Expected::StringLiteral)?;
         value.extend_from_slice(more)?;
         span = join(&span, &end);
-        rest = after;
     }
-    Ok((value, span, rest))
+    Ok((value, span))
 }
 
 /// The text of bytes: what is not UTF-8 among them becomes U+FFFD.

@@ -33,7 +33,7 @@ use Rattle.protox_syntax.specs.Notes.{syntax_faults, text_faults, path_faults, s
 use Rattle.protox_syntax.specs.Whole.{whole, all_notes}
 use Rattle.protox_rows.specs.declared.notes.Note.{Note}
 use Rattle.protox_syntax.specs.declared.statement_types.Statements.{Statements}
-use Rattle.protox_rows.proofs.Same.{here, joined, strings-shows, semicolon-class}
+use Rattle.protox_rows.proofs.Same.{here, strings-shows, semicolon-class}
 use Rattle.protox_syntax.proofs.Same.{syntax_and_place, statements_of, import_kind-shows, syntax-class, import-class, statement-shows, statements-shows, syntax_if_any-shows}
 
 -- ---- the parts of what was read

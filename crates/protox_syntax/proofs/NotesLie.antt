@@ -1,5 +1,5 @@
 -- The places of what is noted lie in the source that the rows stand in.
-use Rattle.std.proofs.Common.{◌≡◌, ℕ, zero, suc, ◌≤◌, Option, Bool, true, false, cond, List, [], ◌∷◌, ◌++◌, length, codes, Result, Ok, Err, refl, ap, subst, arith}
+use Rattle.std.proofs.Common.{◌≡◌, ℕ, zero, suc, ◌≤◌, Bool, true, false, cond, List, [], ◌∷◌, ◌++◌, length, codes, Result, Ok, Err, refl, ap, subst, arith}
 use Rattle.protox_fault.specs.Faults.{Span, SpanLiesIn, LiesIn}
 use Rattle.protox_lexeme.specs.Shapes.{Rows}
 use Rattle.protox_ast.specs.Places.{Place}
@@ -10,9 +10,8 @@ use Rattle.protox_ast.specs.part.Spelling as s
 use Rattle.protox_ast.specs.part.Ast as ast
 use Rattle.protox_ast.specs.Keywords.{Each}
 use Rattle.protox_ast.specs.Checks.{is_known_syntax, is_text, is_import_path}
-use Rattle.protox_ast.specs.declared.ast.ImportKind.{ImportKind}
 use Rattle.protox_grammar.specs.Class.{only, among, in_set}
-use Rattle.protox_grammar.specs.Reader.{Reader, Refusal, head_in, seq, optional}
+use Rattle.protox_grammar.specs.Reader.{Reader, Refusal, head_in, optional}
 use Rattle.protox_grammar.specs.Rule.{Rule}
 use Rattle.protox_grammar.specs.Rule as rule
 use Rattle.protox_grammar.specs.part.Rules as r

@@ -53,7 +53,7 @@ unfolding reads.path_at
 path-shows = right-shows (λ x. (ast.text_of x.0, x.1)) strings-shows
 
 pub import-shows : Shows ast.«import» (r.«import»).read reads.import_at
-unfolding r.«import» reads.ended_path_at reads.import_at
+unfolding r.«import» reads.import_at
 import-shows = mapped_from-shows r.«import» (parts.import-laws here).read _ _ ast.«import» (λ xs. refl) (λ x rest. refl)
     (seq-shows (word (codes "import")) (seq-shows (optional-shows _ _ (words-class (codes "weak" ∷ codes "public" ∷ []) refl) import_kind-shows) (seq-shows path-shows (sign s.semicolon))))
 

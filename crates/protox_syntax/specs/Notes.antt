@@ -1,16 +1,16 @@
 -- MACHINERY. What is found at statements while rows are read.
-use Rattle.std.specs.Prelude.{ℕ, zero, suc, List, [], ◌∷◌, ◌++◌, length, codes, if◌then◌else◌, Option}
+use Rattle.std.specs.Prelude.{ℕ, zero, suc, List, [], ◌∷◌, ◌++◌, length, codes, if◌then◌else◌}
 use Rattle.protox_fault.specs.Faults.{Span}
 use Rattle.protox_lexeme.specs.Shapes.{Rows}
 use Rattle.protox_fault.specs.declared.error.ParseErrorKind.{ParseErrorKind}
 use Rattle.protox_fault.specs.declared.error.ParseErrorKind.TheVariants.{InvalidUtf8String, InvalidImport, UnknownSyntax}
-use Rattle.protox_grammar.specs.Reader.{head_in, seq, optional}
+use Rattle.protox_grammar.specs.Reader.{head_in, optional}
 use Rattle.protox_ast.specs.Spelling.{equals, semicolon}
 use Rattle.protox_ast.specs.part.Ast.{text_of}
 use Rattle.protox_ast.specs.Places.{Place}
 use Rattle.protox_ast.specs.Checks.{is_known_syntax, is_text, is_import_path}
 use Rattle.protox_rows.specs.declared.notes.Note.{Note}
-use Rattle.protox_rows.specs.Reads.{Reads, is_word, is_mark, the, sign, strings_at}
+use Rattle.protox_rows.specs.Reads.{is_word, is_mark, the, sign, strings_at}
 use Rattle.protox_rows.specs.Notes.{noted, checked, then_notes}
 use Rattle.protox_syntax.specs.Reads.{is_import_kind, import_kind_at, statement_at}
 

@@ -5,7 +5,6 @@ use Rattle.protox_lexeme.specs.Shapes.{Shape}
 use Rattle.protox_grammar.specs.Reader.{is_word_of, seq, mapped, either, optional, star, gathered}
 use Rattle.protox_ast.specs.Spelling.{equals, semicolon}
 use Rattle.protox_ast.specs.part.Ast.{join, text_of, syntax_of}
-use Rattle.protox_ast.specs.Places.{Place}
 use Rattle.protox_ast.specs.declared.ast.Comments.{Comments}
 use Rattle.protox_ast.specs.declared.ast.Syntax.{Syntax}
 use Rattle.protox_ast.specs.declared.ast.ImportKind.{ImportKind}
@@ -37,12 +36,9 @@ import_kind_at = either (is_word (codes "weak")) (mapped (λ p. (Weak, p.span)) 
 unfoldable pub path_at : Reads (List ℕ × Span)
 path_at = mapped (λ x. (text_of x.0, x.1)) strings_at
 
-unfoldable pub ended_path_at : Reads ((List ℕ × Span) × Place)
-ended_path_at = seq path_at (sign semicolon)
-
 unfoldable pub import_at : Reads Import
 import_at = mapped_from (λ xs x. record { kind = x.1.0; value = x.1.1.0.0; value_span = x.1.1.0.1; comments = declared xs x.1.1.1; span = join x.0.span x.1.1.1.span })
-    (seq (the (codes "import")) (seq (optional is_import_kind import_kind_at) ended_path_at))
+    (seq (the (codes "import")) (seq (optional is_import_kind import_kind_at) (seq path_at (sign semicolon))))
 
 -- ---- statements
 

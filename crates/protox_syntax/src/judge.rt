@@ -147,7 +147,8 @@ fn after_syntax(
     ensures { Judges table.now size result }
 {
     let mut notes = Vec::new(alloc);
-    match statements(alloc, &mut notes, rest) {
+    let mut rows = rest;
+    match statements(alloc, &mut notes, &mut rows) {
         Ok(found) => finished(alloc, table, size, notes, syntax, found),
         Err(Refused::OutOfMemory) => Err(SyntaxFailure::OutOfMemory),
         Err(Refused::At { left, expected }) => refused(alloc, table, size, notes, left, expected),
@@ -164,11 +165,11 @@ pub(crate) fn judge(
     ensures { Judges table.now size result }
 {
     let mut notes = Vec::new(alloc);
-    let read = syntax_if_any(alloc, &mut notes, Unread::all(table));
-    match read {
+    let mut rows = Unread::all(table);
+    match syntax_if_any(alloc, &mut notes, &mut rows) {
         Err(Refused::OutOfMemory) => Err(SyntaxFailure::OutOfMemory),
         _ if !notes.is_empty() => stopped(alloc, table, size, notes),
         Err(Refused::At { left, expected }) => refused(alloc, table, size, notes, left, expected),
-        Ok((syntax, rest)) => after_syntax(alloc, table, size, syntax, rest),
+        Ok(syntax) => after_syntax(alloc, table, size, syntax, rows),
     }
 }

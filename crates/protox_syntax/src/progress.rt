@@ -3,7 +3,7 @@
 ghost use Rattle.std.specs.Prelude.{◌≡◌, ◌<◌, ◌+◌, ◌++◌, ◌^◌, OnOk, IfOk, Some, option_to_list};
 ghost use Rattle.protox_lexeme.specs.Printed.{printed};
 ghost use Rattle.protox_lexeme.specs.Tokens.{shape_of};
-ghost use Rattle.protox_syntax.specs.Weave.{released, progress, read_to, noted_in, play, beginning, weave, refusal, row_at};
+ghost use Rattle.protox_syntax.specs.Weave.{released, progress, read_to, play, beginning, weave, refusal, row_at};
 
 use protox_descriptor::values::Text;
 use protox_lex::error::{ParseErrorKind, Span};
@@ -44,23 +44,7 @@ fn read_to(
     Ok(next + count)
 }
 
-// A note, behind the faults of the rows that are read before it.
-fn play_note(
-    alloc: Global,
-    table: &TokenTable<'_>,
-    total: usize,
-    note: Note,
-    next: usize,
-    errors: &mut Vec<ParseErrorKind>,
-) -> Result<usize, AllocError>
-    ensures { IfOk result (λ n. progress errors.new.items n ≡ noted_in table.now.faults total note (progress errors.old.items next)) }
-{
-    let next = read_to(alloc, table, total, note.left, next, errors)?;
-    errors.push(note.fault)?;
-    Ok(next)
-}
-
-// The notes in their order.
+// The notes in their order, each behind the faults of the rows that are read before it.
 fn play(
     alloc: Global,
     table: &TokenTable<'_>,
@@ -72,7 +56,8 @@ fn play(
 {
     let mut next = 0;
     'notes: for note in notes {
-        next = play_note(alloc, table, total, note, next, errors)?;
+        next = read_to(alloc, table, total, note.left, next, errors)?;
+        errors.push(note.fault)?;
     }
     Ok(next)
 }

@@ -2,15 +2,12 @@
 
 ghost use Rattle.std.specs.Prelude.{◌≡◌, ◌∷◌, ◌++◌, [], codes, OnOk, IfOk};
 ghost use Rattle.protox_grammar.specs.Reader.{any_word, head_in, mapped, optional};
-ghost use Rattle.protox_ast.specs.Spelling.{semicolon};
 ghost use Rattle.protox_ast.specs.part.Ast.{syntax_of, text_of};
 ghost use Rattle.protox_rows.specs.Outcome.{Gives};
 ghost use Rattle.protox_rows.specs.Notes.{Adds};
-ghost use Rattle.protox_rows.specs.Reads.{the, sign};
-ghost use Rattle.protox_messages.specs.Reads.{message_at};
+ghost use Rattle.protox_rows.specs.Reads.{the};
 ghost use Rattle.protox_syntax.specs.Notes.{syntax_value_notes, syntax_notes, syntax_if_any_notes, path_check, path_notes, import_notes, statement_notes, statements_notes};
-ghost use Rattle.protox_syntax.specs.Reads.{add_statement, is_import_kind, import_kind_at, path_at, ended_path_at, import_at, statement_at, statements_at, syntax_value_at, syntax_at, syntax_if_any_at};
-ghost use Rattle.protox_syntax.specs.declared.statement_types.Statement.TheVariants as statement;
+ghost use Rattle.protox_syntax.specs.Reads.{add_statement, is_import_kind, import_kind_at, path_at, import_at, statement_at, statements_at, syntax_value_at, syntax_at, syntax_if_any_at};
 
 use crate::checks::{check_path, check_syntax, check_text};
 use crate::statement_types::{Statement, Statements};
@@ -20,10 +17,10 @@ use protox_lex::error::Span;
 use protox_lex::lex::Token;
 use protox_messages::messages::message;
 use protox_rows::expected::Expected;
-use protox_rows::leaf::{expect_mark, expect_word, join, sees_mark, sees_word};
+use protox_rows::leaf::{expect_mark, expect_word, sees_mark, sees_word};
 use protox_rows::notes::Note;
 use protox_rows::refused::Refused;
-use protox_rows::rows::{RowAt, Unread, comments_of};
+use protox_rows::rows::{Unread, comments_of, span_between};
 use protox_rows::strings::{strings, text_of};
 use std::alloc::{AllocError, Global};
 
@@ -39,54 +36,54 @@ fn syntax_of(value: &[u8]) -> Syntax
 
 /// string+, as the syntax that it names.
 #[tactic(auto, unfolding(crate::specs::Reads::syntax_value_at, crate::specs::Notes::syntax_value_notes))]
-fn syntax_value<'t, 'a>(
+fn syntax_value(
     alloc: Global,
     notes: &mut Vec<Note>,
-    rows: Unread<'t, 'a>,
-) -> Result<(Syntax, Unread<'t, 'a>), Refused>
-    ensures read { Gives (λ x. (x.0, x.1)) result (syntax_value_at rows.entry) }
-    ensures notes { Adds result notes.old.items (syntax_value_notes rows.entry) notes.new.items }
+    rows: &mut Unread<'_, '_>,
+) -> Result<Syntax, Refused>
+    ensures read { Gives (λ x. x) result rows.new (syntax_value_at rows.old) }
+    ensures notes { Adds result notes.old.items (syntax_value_notes rows.old) notes.new.items }
 {
-    let (value, span, rest) = strings(alloc, rows, Expected::String)?;
-    check_syntax(alloc, notes, &rest, &value, &span)?;
-    Ok((syntax_of(&value), rest))
+    let (value, span) = strings(alloc, rows, Expected::String)?;
+    check_syntax(alloc, notes, rows, &value, &span)?;
+    Ok(syntax_of(&value))
 }
 
 /// syntax = "syntax" "=" string+ ";"
 #[tactic(auto, unfolding(crate::specs::Reads::syntax_at, crate::specs::Notes::syntax_notes))]
-fn syntax<'t, 'a>(
+fn syntax(
     alloc: Global,
     notes: &mut Vec<Note>,
-    rows: Unread<'t, 'a>,
-) -> Result<((Syntax, (Span, Comments)), Unread<'t, 'a>), Refused>
-    ensures read { Gives (λ x. (x.0, x.1)) result (syntax_at rows.entry) }
-    ensures notes { Adds result notes.old.items (syntax_notes rows.entry) notes.new.items }
+    rows: &mut Unread<'_, '_>,
+) -> Result<(Syntax, (Span, Comments)), Refused>
+    ensures read { Gives (λ x. x) result rows.new (syntax_at rows.old) }
+    ensures notes { Adds result notes.old.items (syntax_notes rows.old) notes.new.items }
 {
     let begun = rows.again();
-    let (start, rest) = expect_word(rows, "syntax", Expected::Syntax)?;
-    let (_, rest) = expect_mark(rest, b'=', Expected::Equals)?;
-    let (syntax, rest) = syntax_value(alloc, notes, rest)?;
-    let (end, rest) = expect_mark(rest, b';', Expected::Semicolon)?;
+    let start = expect_word(rows, "syntax", Expected::Syntax)?;
+    expect_mark(rows, b'=', Expected::Equals)?;
+    let syntax = syntax_value(alloc, notes, rows)?;
+    let end = expect_mark(rows, b';', Expected::Semicolon)?;
     let comments = comments_of(alloc, &begun, &end)?;
-    let span = join(&start.span(), &end.span());
-    Ok(((syntax, (span, comments)), rest))
+    let span = span_between(&start, &end);
+    Ok((syntax, (span, comments)))
 }
 
 /// syntax?
 #[tactic(auto, unfolding(crate::specs::Reads::syntax_if_any_at, crate::specs::Notes::syntax_if_any_notes))]
-pub(crate) fn syntax_if_any<'t, 'a>(
+pub(crate) fn syntax_if_any(
     alloc: Global,
     notes: &mut Vec<Note>,
-    rows: Unread<'t, 'a>,
-) -> Result<(Option<(Syntax, (Span, Comments))>, Unread<'t, 'a>), Refused>
-    ensures read { Gives (λ x. (x.0, x.1)) result (syntax_if_any_at rows.entry) }
-    ensures notes { Adds result notes.old.items (syntax_if_any_notes rows.entry) notes.new.items }
+    rows: &mut Unread<'_, '_>,
+) -> Result<Option<(Syntax, (Span, Comments))>, Refused>
+    ensures read { Gives (λ x. x) result rows.new (syntax_if_any_at rows.old) }
+    ensures notes { Adds result notes.old.items (syntax_if_any_notes rows.old) notes.new.items }
 {
-    if sees_word(&rows, "syntax") {
-        let (syntax, rest) = syntax(alloc, notes, rows)?;
-        return Ok((Some(syntax), rest));
+    if sees_word(rows, "syntax") {
+        let syntax = syntax(alloc, notes, rows)?;
+        return Ok(Some(syntax));
     }
-    Ok((None, rows))
+    Ok(None)
 }
 
 fn sees_import_kind(rows: &Unread<'_, '_>) -> bool
@@ -108,40 +105,36 @@ fn is_import_word(word: &str) -> bool
 }
 
 // This word, as a kind of import.
-fn kind_word<'t, 'a>(
-    rows: Unread<'t, 'a>,
+fn kind_word(
+    rows: &mut Unread<'_, '_>,
     word: &str,
     kind: ImportKind,
-) -> Result<((ImportKind, Span), Unread<'t, 'a>), Refused>
-    ensures { Gives (λ x. (x.0, x.1)) result (mapped (λ p. (kind, p.span)) (the word.now) rows.entry) }
+) -> Result<(ImportKind, Span), Refused>
+    ensures { Gives (λ x. x) result rows.new (mapped (λ p. (kind, p.span)) (the word.now) rows.old) }
 {
-    let (word, rest) = expect_word(rows, word, Expected::WeakOrPublic)?;
-    Ok(((kind, word.span()), rest))
+    let word = expect_word(rows, word, Expected::WeakOrPublic)?;
+    Ok((kind, word.span()))
 }
 
 /// "weak" | "public"
 #[tactic(auto, unfolding(crate::specs::Reads::import_kind_at))]
-fn import_kind<'t, 'a>(
-    rows: Unread<'t, 'a>,
-) -> Result<((ImportKind, Span), Unread<'t, 'a>), Refused>
-    ensures { Gives (λ x. (x.0, x.1)) result (import_kind_at rows.entry) }
+fn import_kind(rows: &mut Unread<'_, '_>) -> Result<(ImportKind, Span), Refused>
+    ensures { Gives (λ x. x) result rows.new (import_kind_at rows.old) }
 {
-    if sees_word(&rows, "weak") {
+    if sees_word(rows, "weak") {
         return kind_word(rows, "weak", ImportKind::Weak);
     }
     kind_word(rows, "public", ImportKind::Public)
 }
 
-fn import_kind_if_any<'t, 'a>(
-    rows: Unread<'t, 'a>,
-) -> Result<(Option<(ImportKind, Span)>, Unread<'t, 'a>), Refused>
-    ensures { Gives (λ x. (x.0, x.1)) result (optional is_import_kind import_kind_at rows.entry) }
+fn import_kind_if_any(rows: &mut Unread<'_, '_>) -> Result<Option<(ImportKind, Span)>, Refused>
+    ensures { Gives (λ x. x) result rows.new (optional is_import_kind import_kind_at rows.old) }
 {
-    if sees_import_kind(&rows) {
-        let (kind, rest) = import_kind(rows)?;
-        return Ok((Some(kind), rest));
+    if sees_import_kind(rows) {
+        let kind = import_kind(rows)?;
+        return Ok(Some(kind));
     }
-    Ok((None, rows))
+    Ok(None)
 }
 
 // Behind `weak` or `public` only a string is left.
@@ -171,110 +164,66 @@ fn checked_path(
 
 /// string+, as the path that it is.
 #[tactic(auto, unfolding(crate::specs::Reads::path_at, crate::specs::Notes::path_notes))]
-fn path<'t, 'a>(
+fn path(
     alloc: Global,
     notes: &mut Vec<Note>,
-    rows: Unread<'t, 'a>,
+    rows: &mut Unread<'_, '_>,
     expected: Expected,
-) -> Result<((Text, Span), Unread<'t, 'a>), Refused>
-    ensures read { Gives (λ x. (x.0, x.1)) result (path_at rows.entry) }
-    ensures notes { Adds result notes.old.items (path_notes rows.entry) notes.new.items }
+) -> Result<(Text, Span), Refused>
+    ensures read { Gives (λ x. x) result rows.new (path_at rows.old) }
+    ensures notes { Adds result notes.old.items (path_notes rows.old) notes.new.items }
 {
-    let (bytes, span, rest) = strings(alloc, rows, expected)?;
-    let text = checked_path(alloc, notes, &rest, &bytes, &span)?;
-    Ok(((text, span), rest))
-}
-
-/// string+ ";"
-#[tactic(auto, unfolding(crate::specs::Reads::ended_path_at))]
-fn ended_path<'t, 'a>(
-    alloc: Global,
-    notes: &mut Vec<Note>,
-    rows: Unread<'t, 'a>,
-    expected: Expected,
-) -> Result<((Text, Span), RowAt<'t, 'a>, Unread<'t, 'a>), Refused>
-    ensures read { Gives (λ x. ((x.0, x.1.at), x.2)) result (ended_path_at rows.entry) }
-    ensures notes { Adds result notes.old.items (path_notes rows.entry) notes.new.items }
-{
-    let (path, rest) = path(alloc, notes, rows, expected)?;
-    let (end, rest) = expect_mark(rest, b';', Expected::Semicolon)?;
-    Ok((path, end, rest))
+    let (bytes, span) = strings(alloc, rows, expected)?;
+    let text = checked_path(alloc, notes, rows, &bytes, &span)?;
+    Ok((text, span))
 }
 
 /// import = "import" ("weak" | "public")? string+ ";"
 #[tactic(auto, unfolding(crate::specs::Reads::import_at, crate::specs::Notes::import_notes))]
-fn import<'t, 'a>(
+fn import(
     alloc: Global,
     notes: &mut Vec<Note>,
-    rows: Unread<'t, 'a>,
-) -> Result<(Import, Unread<'t, 'a>), Refused>
-    ensures read { Gives (λ x. (x.0, x.1)) result (import_at rows.entry) }
-    ensures notes { Adds result notes.old.items (import_notes rows.entry) notes.new.items }
+    rows: &mut Unread<'_, '_>,
+) -> Result<Import, Refused>
+    ensures read { Gives (λ x. x) result rows.new (import_at rows.old) }
+    ensures notes { Adds result notes.old.items (import_notes rows.old) notes.new.items }
 {
     let begun = rows.again();
-    let (start, rest) = expect_word(rows, "import", Expected::Import)?;
-    let (kind, rest) = import_kind_if_any(rest)?;
-    let ((value, value_span), end, rest) = ended_path(alloc, notes, rest, after_import(&kind))?;
+    let start = expect_word(rows, "import", Expected::Import)?;
+    let kind = import_kind_if_any(rows)?;
+    let (value, value_span) = path(alloc, notes, rows, after_import(&kind))?;
+    let end = expect_mark(rows, b';', Expected::Semicolon)?;
     let comments = comments_of(alloc, &begun, &end)?;
-    let span = join(&start.span(), &end.span());
-    Ok((
-        Import {
-            kind,
-            value,
-            value_span,
-            comments,
-            span,
-        },
-        rest,
-    ))
-}
-
-fn empty_statement<'t, 'a>(rows: Unread<'t, 'a>) -> Result<(Statement, Unread<'t, 'a>), Refused>
-    ensures { Gives (λ x. (x.0, x.1)) result (mapped (λ s. statement.Empty) (sign semicolon) rows.entry) }
-{
-    let (_, rest) = expect_mark(rows, b';', Expected::Semicolon)?;
-    Ok((Statement::Empty, rest))
-}
-
-fn import_statement<'t, 'a>(
-    alloc: Global,
-    notes: &mut Vec<Note>,
-    rows: Unread<'t, 'a>,
-) -> Result<(Statement, Unread<'t, 'a>), Refused>
-    ensures read { Gives (λ x. (x.0, x.1)) result (mapped statement.Import import_at rows.entry) }
-    ensures notes { Adds result notes.old.items (import_notes rows.entry) notes.new.items }
-{
-    let (import, rest) = import(alloc, notes, rows)?;
-    Ok((Statement::Import(import), rest))
-}
-
-fn message_statement<'t, 'a>(
-    alloc: Global,
-    rows: Unread<'t, 'a>,
-) -> Result<(Statement, Unread<'t, 'a>), Refused>
-    ensures { Gives (λ x. (x.0, x.1)) result (mapped statement.Message message_at rows.entry) }
-{
-    let (message, rest) = message(alloc, rows)?;
-    Ok((Statement::Message(message), rest))
+    let span = span_between(&start, &end);
+    Ok(Import {
+        kind,
+        value,
+        value_span,
+        comments,
+        span,
+    })
 }
 
 /// statement = ";" | import | message
 #[tactic(auto, unfolding(crate::specs::Reads::statement_at, crate::specs::Notes::statement_notes))]
-fn statement<'t, 'a>(
+fn statement(
     alloc: Global,
     notes: &mut Vec<Note>,
-    rows: Unread<'t, 'a>,
-) -> Result<(Statement, Unread<'t, 'a>), Refused>
-    ensures read { Gives (λ x. (x.0, x.1)) result (statement_at rows.entry) }
-    ensures notes { Adds result notes.old.items (statement_notes rows.entry) notes.new.items }
+    rows: &mut Unread<'_, '_>,
+) -> Result<Statement, Refused>
+    ensures read { Gives (λ x. x) result rows.new (statement_at rows.old) }
+    ensures notes { Adds result notes.old.items (statement_notes rows.old) notes.new.items }
 {
-    if sees_mark(&rows, b';') {
-        return empty_statement(rows);
+    if sees_mark(rows, b';') {
+        expect_mark(rows, b';', Expected::Semicolon)?;
+        return Ok(Statement::Empty);
     }
-    if sees_word(&rows, "import") {
-        return import_statement(alloc, notes, rows);
+    if sees_word(rows, "import") {
+        let import = import(alloc, notes, rows)?;
+        return Ok(Statement::Import(import));
     }
-    message_statement(alloc, rows)
+    let message = message(alloc, rows)?;
+    Ok(Statement::Message(message))
 }
 
 fn put_statement(file: &mut Statements, statement: Statement) -> Result<(), AllocError>
@@ -289,23 +238,21 @@ fn put_statement(file: &mut Statements, statement: Statement) -> Result<(), Allo
 
 /// statement*, up to the end or to the first that is refused.
 #[tactic(auto, unfolding(crate::specs::Reads::statements_at, crate::specs::Notes::statements_notes))]
-pub(crate) fn statements<'t, 'a>(
+pub(crate) fn statements(
     alloc: Global,
     notes: &mut Vec<Note>,
-    rows: Unread<'t, 'a>,
+    rows: &mut Unread<'_, '_>,
 ) -> Result<Statements, Refused>
-    ensures read { Gives (λ x. (x, [])) result (statements_at rows.entry) }
-    ensures notes { Adds result notes.old.items (statements_notes rows.entry) notes.new.items }
+    ensures read { Gives (λ x. x) result [] (statements_at rows.old) }
+    ensures notes { Adds result notes.old.items (statements_notes rows.old) notes.new.items }
 {
     let mut file = Statements {
         imports: Items::new(alloc),
         items: Items::new(alloc),
     };
-    let mut rest = rows;
-    'more: while !rest.is_empty() {
-        let (statement, after) = statement(alloc, notes, rest)?;
+    'more: while !rows.is_empty() {
+        let statement = statement(alloc, notes, rows)?;
         put_statement(&mut file, statement)?;
-        rest = after;
     }
     Ok(file)
 }

@@ -6,9 +6,9 @@ use Rattle.protox_rows.proofs.names.parts.Given as goal
 
 abbrev pub invariant-more : goal.invariant-more
 invariant-more l = record {
-  read : gathered push l.parts (star (is_mark dot) more_part_at l.rest) ≡ parts_at l.fn.rows;
+  read : gathered push l.parts (star (is_mark dot) more_part_at l.rows) ≡ parts_at l.fn.rows;
   some : 0 < length l.parts;
 }
 
 abbrev pub decreases-more : goal.decreases-more
-decreases-more l = length l.rest
+decreases-more l = length l.rows

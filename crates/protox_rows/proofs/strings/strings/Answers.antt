@@ -9,14 +9,14 @@ use Rattle.protox_rows.proofs.strings.strings.Goals as goal
 pub returns-in_err-more : goal.returns-in_err-more
 returns-in_err-more c =
     let p = err_from_is_err_and c.from_residual-in_err-more.result c.from_residual-in_err-more.ensures.1 in
-    rw (p.1, p.2) (turns.ends more_string is_string string_at string-eats (strings_at c.args.rows) c.in_err-more.field-0.0 _ _ (sym c.sees_string.ensures ∙ c.more-test.true) c.in_err-more.ensures c.more.invariant)
+    rw (p.1, p.2) (turns.ends more_string is_string string_at string-eats (strings_at c.args.rows.now) c.in_err-more.field-0.0 _ _ (sym c.sees_string.ensures ∙ c.more-test.true) c.in_err-more.ensures c.more.invariant)
 
 pub more-smaller : goal.more-smaller
-more-smaller c = turns.shorter string_at string-eats c.more.rest c.in_ok-more.after _ c.in_ok-more.ensures
+more-smaller c = turns.shorter string_at string-eats c.more.rows c.string-in-more.new.rows _ c.in_ok-more.ensures
 
 pub more-preserved : goal.more-preserved
 more-preserved c =
-    rw (c.in_ok-extend_from_slice.ensures.items, c.join-span.ensures) (turns.more more_string is_string string_at string-eats (strings_at c.args.rows) _ _ _ _ (sym c.sees_string.ensures ∙ c.more-test.true) c.in_ok-more.ensures c.more.invariant)
+    rw (c.in_ok-extend_from_slice.ensures.items, c.join-span.ensures) (turns.more more_string is_string string_at string-eats (strings_at c.args.rows.now) _ _ _ _ (sym c.sees_string.ensures ∙ c.more-test.true) c.in_ok-more.ensures c.more.invariant)
 
 pub returns : goal.returns
-returns c = turns.done more_string is_string string_at string-eats (strings_at c.args.rows) _ _ (sym c.sees_string.ensures ∙ c.more-test.false) c.more.invariant
+returns c = turns.done more_string is_string string_at string-eats (strings_at c.args.rows.now) _ _ (sym c.sees_string.ensures ∙ c.more-test.false) c.more.invariant

@@ -4,7 +4,7 @@ use Rattle.protox_rows.specs.Reads.{more_string, string_at, strings_at}
 use Rattle.protox_rows.proofs.strings.strings.Given as goal
 
 abbrev pub invariant-more : goal.invariant-more
-invariant-more l = gathered more_string (l.value.items, l.span) (star is_string string_at l.rest) ≡ strings_at l.fn.rows
+invariant-more l = gathered more_string (l.value.items, l.span) (star is_string string_at l.rows) ≡ strings_at l.fn.rows
 
 abbrev pub decreases-more : goal.decreases-more
-decreases-more l = length l.rest
+decreases-more l = length l.rows

@@ -7,9 +7,9 @@ use Rattle.protox_syntax.proofs.statements.statements.Given as goal
 
 abbrev pub invariant-more : goal.invariant-more
 invariant-more l = record {
-  read : gathered add_statement l.file (star anything statement_at l.rest) ≡ statements_at l.fn.rows;
-  notes : l.notes.items ++ statements_notes l.rest ≡ l.fn.notes.items ++ statements_notes l.fn.rows;
+  read : gathered add_statement l.file (star anything statement_at l.rows) ≡ statements_at l.fn.rows;
+  notes : l.notes.items ++ statements_notes l.rows ≡ l.fn.notes.items ++ statements_notes l.fn.rows;
 }
 
 abbrev pub decreases-more : goal.decreases-more
-decreases-more l = length l.rest
+decreases-more l = length l.rows

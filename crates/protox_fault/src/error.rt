@@ -11,147 +11,148 @@ use std::ops::Range;
 /// A part of a source: the offset in bytes of its first byte, and that of the one past its last.
 pub type Span = Range<usize>;
 
-/// What is wrong with a source, and where.
+/// What is wrong with a source, and where. Each kind says behind its colon what its `span` covers.
 #[derive(PartialEq, Debug, Drop)]
 pub enum ParseErrorKind {
-    /// No token begins with this character.
+    /// No token begins with this character: its bytes.
     InvalidToken {
         span: Span,
     },
-    /// An integer literal is above `u64::MAX`.
+    /// An integer literal is above `u64::MAX`: its digits, without `0` or `0x` before them.
     IntegerOutOfRange {
         span: Span,
     },
-    /// A string holds characters that no string may hold.
+    /// A string holds characters that no string may hold: they, and what adjoins them that is invalid too.
     InvalidStringCharacters {
         span: Span,
     },
-    /// A line ends within a string.
+    /// A line ends within a string: the newline.
     UnterminatedString {
         span: Span,
     },
-    /// A string holds an escape that stands for nothing.
+    /// A string holds an escape that stands for nothing: it, from the backslash on, and what adjoins it that is invalid too.
     InvalidStringEscape {
         span: Span,
     },
-    /// A string that has to be text is not UTF-8.
+    /// A string that has to be text is not UTF-8: the string, from its first literal to its last.
     InvalidUtf8String {
         span: Span,
     },
-    /// A block comment opens within another.
+    /// A block comment opens within another: the two bytes that open it.
     NestedBlockComment {
         span: Span,
     },
-    /// The syntax statement names no syntax that there is.
+    /// The syntax statement names no syntax that there is: the string, from its first literal to its last. `syntax` is its text.
     UnknownSyntax {
         span: Span,
         syntax: Text,
     },
-    /// A reserved name is no identifier.
+    /// A reserved name is no identifier: the string, from its first literal to its last.
     InvalidIdentifier {
         span: Span,
     },
-    /// A group's name does not begin with a capital letter.
+    /// A group's name does not begin with a capital letter, or has other characters than letters, digits and `_`: the name.
     InvalidGroupName {
         span: Span,
     },
-    /// An import's path is not one of plain components.
+    /// An import's path is not one of plain components: the string, from its first literal to its last.
     InvalidImport {
         span: Span,
     },
-    /// A file has two package statements.
+    /// A file has two package statements: the first one, and this one, each with its `;`.
     DuplicatePackage {
         first: Span,
         second: Span,
     },
-    /// A letter follows an integer at once.
+    /// A letter or `_` follows an integer at once: the digits, the byte behind them, and the letters that follow.
     NoSpaceBetweenIntAndIdent {
         span: Span,
     },
-    /// A comment begins with `#` outside an aggregate.
+    /// A comment begins with `#` outside an aggregate: the comment, with the newline that ends it.
     HashCommentOutsideTextFormat {
         span: Span,
     },
-    /// A float ends in `f` outside an aggregate.
+    /// A float ends in `f` outside an aggregate: the literal.
     FloatSuffixOutsideTextFormat {
         span: Span,
     },
-    /// Another token was expected.
+    /// Another token was expected: the token that stands there. `expected` says what, `found` is how the token prints.
     UnexpectedToken {
         span: Span,
         expected: Text,
         found: Text,
     },
-    /// The source ends where more was expected.
+    /// The source ends where more was expected. `expected` says what.
     UnexpectedEof {
         expected: Text,
     },
-    /// A negated identifier stands where only a `default` may have one.
+    /// A negated identifier stands where only a `default` may have one: the value, from its sign on.
     NegativeIdentOutsideDefault {
         span: Span,
     },
-    /// A number is none that a message's field can have.
+    /// A number is none that a message's field can have: the integer, with its sign.
     InvalidMessageNumber {
         span: Span,
     },
-    /// A number is none that an enum's value can have.
+    /// A number is none that an enum's value can have: the integer, with its sign.
     InvalidEnumNumber {
         span: Span,
     },
-    /// A field of this kind has a default value.
+    /// A field of this kind has a default value: the option, from its name to its value. `kind` is the word of the kind.
     InvalidDefault {
         span: Span,
         kind: &'static str,
     },
-    /// A field has a default value in proto3.
+    /// A field has a default value in proto3: the option, from its name to its value.
     Proto3DefaultValue {
         span: Span,
     },
-    /// An extension is a field of this kind.
+    /// An extension is a field of this kind: the field. `kind` is the word of the kind.
     InvalidExtendFieldKind {
         span: Span,
         kind: &'static str,
     },
-    /// An extension is required.
+    /// An extension is required: the label.
     RequiredExtendField {
         span: Span,
     },
-    /// A map field has a label.
+    /// A map field has a label: the label.
     MapFieldWithLabel {
         span: Span,
     },
-    /// A field of a oneof has a label.
+    /// A field of a oneof has a label: the label.
     OneofFieldWithLabel {
         span: Span,
     },
-    /// A field has no label in proto2.
+    /// A field has no label in proto2: the field.
     Proto2FieldMissingLabel {
         span: Span,
     },
-    /// A group stands in proto3.
+    /// A group stands in proto3: the field.
     Proto3GroupField {
         span: Span,
     },
-    /// A field is required in proto3.
+    /// A field is required in proto3: the label.
     Proto3RequiredField {
         span: Span,
     },
-    /// A oneof has a field of this kind.
+    /// A oneof has a field of this kind: the field. `kind` is the word of the kind.
     InvalidOneofFieldKind {
         span: Span,
         kind: &'static str,
     },
-    /// A map's keys are of a type that none may have.
+    /// A map's keys are of a type that none may have: the type.
     InvalidMapFieldKeyType {
         span: Span,
     },
-    /// A value is not of the type that its place asks for.
+    /// A value is not of the type that its place asks for: the value. `expected` says what is, `actual` is how the value prints.
     ValueInvalidType {
         span: Span,
         expected: Text,
         actual: Text,
     },
-    /// An integer is outside the range that its place asks for.
+    /// An integer is outside the range that its place asks for: the value. `expected` names the range, from `min` to `max`; `actual` is how
+    /// the value prints.
     IntegerValueOutOfRange {
         span: Span,
         expected: Text,
@@ -159,15 +160,15 @@ pub enum ParseErrorKind {
         min: Text,
         max: Text,
     },
-    /// A oneof has no field.
+    /// A oneof has no field: the oneof.
     EmptyOneof {
         span: Span,
     },
-    /// Messages and groups are nested too deep.
+    /// Messages and groups are nested too deep: the word `message` or `group` of the one at level 32.
     MessageNestingTooDeep {
         span: Span,
     },
-    /// The source is longer than any that is read.
+    /// The source is longer than 2,147,483,647 bytes.
     FileTooLarge,
 }
 

@@ -16,7 +16,7 @@ use protox_fault::error::{ParseErrorKind, Span};
 use std::alloc::{AllocError, Global};
 use std::marker::Model;
 
-/// Cuts a text into lexemes.
+/// Cuts a text into lexemes: tokens, comments, newlines, and characters that begin none of these.
 #[derive(Drop)]
 pub struct Lexer<'a> {
     alloc: Global,
@@ -44,7 +44,7 @@ impl<'a> Model for Lexer<'a> {
 }
 
 impl<'a> Token<'a> {
-    /// A lexer at the start of the source.
+    /// A lexer at the start of the source, in the mode of source files. It takes no memory: `alloc` serves later growths.
     pub fn lexer(alloc: Global, source: &'a str) -> Lexer<'a>
         ensures { result ≡ record { source = source.entry.now; left = spec.cut 0 source.entry.now; start = 0; stop = 0; errors = []; text_format = false; failed = false } }
     {
@@ -88,7 +88,8 @@ fn read_into<'a>(
 }
 
 impl<'a> Lexer<'a> {
-    /// The next lexeme, `Err(())` for an invalid one, and None at the end. Once memory has run out, every call says so.
+    /// The next lexeme, `Err(())` for an invalid character, and None at the end. Its faults are added to `errors`. After
+    /// `AllocError` span and faults are as before, and every call answers `AllocError`.
     pub fn next(&mut self) -> Result<Option<Result<Token<'a>, ()>>, AllocError>
         ensures ok { IfOk result (λ r. Answers self.old r self.new) }
         ensures err { OnErr result (self.new ≡ record self.old { failed = true }) }
@@ -118,21 +119,21 @@ impl<'a> Lexer<'a> {
         }
     }
 
-    /// The span of the last lexeme.
+    /// The span of the last lexeme, in bytes: `0..0` before the first. The end and want of memory leave it as it is.
     pub fn span(&self) -> Span
         ensures { result ≡ record { start = self.now.start; end = self.now.stop } }
     {
         self.start..self.stop
     }
 
-    /// The lexical faults so far.
+    /// The faults of the lexemes so far, in order. An invalid character has none here.
     pub fn errors(&self) -> &[ParseErrorKind]
         ensures { result.now ≡ self.now.errors }
     {
         &self.errors
     }
 
-    /// Whether `#` comments and float suffixes are allowed.
+    /// Whether `#` comments and float suffixes are allowed in what is cut from now on, as they are in an aggregate.
     pub fn set_text_format_mode(&mut self, text_format: bool)
         ensures { self.new ≡ record self.old { text_format = text_format } }
     {

@@ -17,9 +17,13 @@ pub struct EqFloat<'a>(pub CowStr<'a>);
 /// A token. A text is a part of the source as it stands there wherever it can be.
 #[derive(PartialEq, Eq, Drop)]
 pub enum Token<'a> {
+    /// A word: a letter or `_`, then letters, digits and `_`. A keyword is one too.
     Ident(&'a str),
+    /// An integer, decimal, octal or hexadecimal; 0 where it is too large.
     IntLiteral(u64),
+    /// A float: its text without the suffix `f`, with `.0` behind an integer.
     FloatLiteral(EqFloat<'a>),
+    /// A string: the bytes that it stands for, without those of invalid parts.
     StringLiteral(CowSlice<'a, u8>),
     Dot,
     Minus,
@@ -37,7 +41,10 @@ pub enum Token<'a> {
     Colon,
     Semicolon,
     ForwardSlash,
+    /// A comment from `//` or `#` to the end of its line: what stands behind these, the newline with it.
     LineComment(CowStr<'a>),
+    /// A comment between `/*` and `*/`: what stands between, without the margin of its lines; nothing where it has a
+    /// fault.
     BlockComment(CowStr<'a>),
     Newline,
 }

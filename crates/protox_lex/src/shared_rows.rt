@@ -8,6 +8,7 @@ ghost use Rattle.protox_lex.specs.Sharing.{shape_at, len_at, AreMarks};
 ghost use Rattle.protox_lex.specs.TableView.{shape_of_lent};
 ghost use Rattle.protox_lexeme.specs.Tokens.{shape_of, shape_of_result};
 
+use crate::laws::tokens_are_equal_by_shape;
 use protox_fault::error::Span;
 use protox_lexeme::bytes::byte_at;
 use protox_lexeme::token::{Token, mark_of};
@@ -70,7 +71,8 @@ fn is_kept(kept: &KeptToken<'_>, token: &Token<'_>, len: usize) -> bool
     ensures equal { result ≡ true → shape_of_result kept.now.token ≡ shape_of token.now }
     ensures size { result ≡ true → kept.now.len ≡ len }
 {
-    kept.len as usize == len && matches!(&kept.token, Ok(known) if known == token)
+    kept.len as usize == len
+        && matches!(&kept.token, Ok(known) if tokens_are_equal_by_shape(known, token))
 }
 
 // The number of a token that is equal to this one, if that one is remembered there.

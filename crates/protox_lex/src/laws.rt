@@ -20,8 +20,7 @@ ghost use Rattle.protox_lexeme.specs.Table.{rows_of, gaps_of, faults_of, StandBe
 ghost use Rattle.protox_lexeme.specs.Tokens.{shape_of, shape_of_result};
 ghost use Rattle.protox_lex.specs.Words.{IsWordOf};
 
-use protox_lexeme::lexer::Lexer;
-use protox_lexeme::token::{EqFloat, Token};
+use crate::lex::*;
 use std::alloc::Global;
 
 /// Each text has one cut into lexemes, and `cut` is it.
@@ -135,3 +134,11 @@ pub fn five_lexemes(alloc: Global) -> [Option<Result<Token<'static>, ()>>; 5]
     let fifth = next_of_free(&mut lexer);
     [first, second, third, fourth, fifth]
 }
+
+/// Each constant of a keyword is its own name in small letters.
+pub fn keywords_are_their_names()
+    ensures statements { (SYNTAX.now ≡ codes "syntax") × (PACKAGE.now ≡ codes "package") × (IMPORT.now ≡ codes "import") × (WEAK.now ≡ codes "weak") × (PUBLIC.now ≡ codes "public") × (ENUM.now ≡ codes "enum") × (OPTION.now ≡ codes "option") × (SERVICE.now ≡ codes "service") × (RPC.now ≡ codes "rpc") × (STREAM.now ≡ codes "stream") × (RETURNS.now ≡ codes "returns") × (EXTEND.now ≡ codes "extend") × (MESSAGE.now ≡ codes "message") }
+    ensures fields { (OPTIONAL.now ≡ codes "optional") × (REQUIRED.now ≡ codes "required") × (REPEATED.now ≡ codes "repeated") × (MAP.now ≡ codes "map") × (ONEOF.now ≡ codes "oneof") × (GROUP.now ≡ codes "group") }
+    ensures scalars { (DOUBLE.now ≡ codes "double") × (FLOAT.now ≡ codes "float") × (INT32.now ≡ codes "int32") × (INT64.now ≡ codes "int64") × (UINT32.now ≡ codes "uint32") × (UINT64.now ≡ codes "uint64") × (SINT32.now ≡ codes "sint32") × (SINT64.now ≡ codes "sint64") × (FIXED32.now ≡ codes "fixed32") × (FIXED64.now ≡ codes "fixed64") × (SFIXED32.now ≡ codes "sfixed32") × (SFIXED64.now ≡ codes "sfixed64") × (BOOL.now ≡ codes "bool") × (STRING.now ≡ codes "string") × (BYTES.now ≡ codes "bytes") }
+    ensures ranges { (RESERVED.now ≡ codes "reserved") × (EXTENSIONS.now ≡ codes "extensions") × (TO.now ≡ codes "to") × (MAX.now ≡ codes "max") }
+{}

@@ -1,4 +1,4 @@
-//! Words and equality of tokens, notes of faults that no lexeme has, states of comments, and lexers that run out of
+//! Equality of tokens, notes of faults that no lexeme has, states of comments, and lexers that run out of
 //! memory.
 use protox_descriptor::values::{Items, Text};
 use protox_lex::comments::Comments;
@@ -8,54 +8,6 @@ use protox_lex::lex::*;
 use std::alloc::{AllocError, Global};
 use std::borrow::{CowSlice, CowStr};
 use std::test::Fail;
-
-#[test]
-fn words(rt: HostRuntime) -> Result<(), Fail> {
-    let cases = [
-        (SYNTAX, "syntax"),
-        (PACKAGE, "package"),
-        (IMPORT, "import"),
-        (WEAK, "weak"),
-        (PUBLIC, "public"),
-        (ENUM, "enum"),
-        (OPTION, "option"),
-        (SERVICE, "service"),
-        (RPC, "rpc"),
-        (STREAM, "stream"),
-        (RETURNS, "returns"),
-        (EXTEND, "extend"),
-        (MESSAGE, "message"),
-        (OPTIONAL, "optional"),
-        (REQUIRED, "required"),
-        (REPEATED, "repeated"),
-        (MAP, "map"),
-        (ONEOF, "oneof"),
-        (GROUP, "group"),
-        (DOUBLE, "double"),
-        (FLOAT, "float"),
-        (INT32, "int32"),
-        (INT64, "int64"),
-        (UINT32, "uint32"),
-        (UINT64, "uint64"),
-        (SINT32, "sint32"),
-        (SINT64, "sint64"),
-        (FIXED32, "fixed32"),
-        (FIXED64, "fixed64"),
-        (SFIXED32, "sfixed32"),
-        (SFIXED64, "sfixed64"),
-        (BOOL, "bool"),
-        (STRING, "string"),
-        (BYTES, "bytes"),
-        (RESERVED, "reserved"),
-        (EXTENSIONS, "extensions"),
-        (TO, "to"),
-        (MAX, "max"),
-    ];
-    for (word, text) in cases {
-        assert_eq!(rt; word, text);
-    }
-    Ok(())
-}
 
 // Whether row `k` of a source is this word.
 fn row_is(alloc: Global, source: &str, k: usize, word: &'static str) -> Result<bool, AllocError> {

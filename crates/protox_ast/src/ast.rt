@@ -3,7 +3,7 @@
 //! and `Opt` is the standard optional. A span begins at a part's first token and ends with its last.
 
 use protox_descriptor::values::{Items, Text};
-use protox_lex::error::Span;
+use protox_fault::error::Span;
 use std::marker::Model;
 
 mod names;

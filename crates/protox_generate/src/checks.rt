@@ -11,7 +11,7 @@ use protox_ast::ast::{
     Opt, Syntax,
 };
 use protox_descriptor::values::Items;
-use protox_lex::error::{ParseErrorKind, Span};
+use protox_fault::error::{ParseErrorKind, Span};
 use std::alloc::{AllocError, Global};
 
 /// What a field stands in.

@@ -10,7 +10,7 @@ use crate::lines::LineResolver;
 use protox_ast::ast::Comments;
 use protox_descriptor::descriptor::source_code_info::Location;
 use protox_descriptor::values::{Items, Text};
-use protox_lex::error::Span;
+use protox_fault::error::Span;
 use std::alloc::{AllocError, Global};
 
 /// The path to the part that is read, and the locations so far.

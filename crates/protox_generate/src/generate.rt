@@ -26,7 +26,7 @@ use protox_ast::ast::File;
 use protox_descriptor::descriptor::source_code_info::Location;
 use protox_descriptor::descriptor::{DescriptorProto, FileDescriptorProto, SourceCodeInfo};
 use protox_descriptor::values::{Items, Text};
-use protox_lex::error::SyntaxFailure;
+use protox_fault::error::SyntaxFailure;
 use std::alloc::{AllocError, Global};
 
 // What the one pass over a file gives.

@@ -12,7 +12,7 @@ use crate::lines::LineResolver;
 use protox_ast::ast::{Comments, Opt, Package, Syntax};
 use protox_descriptor::tag::file::{PACKAGE, SYNTAX};
 use protox_descriptor::values::Text;
-use protox_lex::error::Span;
+use protox_fault::error::Span;
 use std::alloc::{AllocError, Global};
 
 /// None for proto2.

@@ -15,7 +15,7 @@ use crate::lines::LineResolver;
 use protox_ast::ast::{Import, ImportKind, Opt};
 use protox_descriptor::tag::file::{DEPENDENCY, PUBLIC_DEPENDENCY, WEAK_DEPENDENCY};
 use protox_descriptor::values::{Items, Text};
-use protox_lex::error::Span;
+use protox_fault::error::Span;
 use std::alloc::{AllocError, Global};
 
 /// The imported files in order, and the places of the public and the weak ones among them.

@@ -3,7 +3,7 @@
 ghost use Rattle.std.specs.Prelude.{◌≡◌, ◌≤◌, ◌-◌, ℕ, List, pos, length, IfOk};
 ghost use Rattle.protox_generate.specs.Lines.{line, column, starts, starts as starts_in, span_numbers, numbers_at, count_le, last_le, Rises, Found};
 
-use protox_lex::error::Span;
+use protox_fault::error::Span;
 use std::alloc::{AllocError, Global};
 use std::marker::Model;
 

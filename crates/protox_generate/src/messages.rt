@@ -22,7 +22,7 @@ use protox_descriptor::descriptor::{DescriptorProto, OneofDescriptorProto};
 use protox_descriptor::tag::message::{FIELD, NESTED_TYPE, ONEOF_DECL};
 use protox_descriptor::tag::{field as field_tag, message as message_tag, oneof as oneof_tag};
 use protox_descriptor::values::Text;
-use protox_lex::error::Span;
+use protox_fault::error::Span;
 use std::alloc::{AllocError, Global};
 
 /// The descriptor of a message. Its locations, from the current path on, are added.

@@ -38,13 +38,13 @@ pub fn fits_is_word()
 {}
 
 /// The rows of a source stand in it, one behind the other, and each has a byte.
-#[tactic(auto, using(crate::proofs::Places::stand))]
+#[tactic(auto, using(protox_lexeme::proofs::Places::stand))]
 pub fn rows_stand_in_source()
     ensures { (source : List ℕ) → IsUtf8 source → StandBetween 0 (length source) (rows_of (spec.cut 0 source)) }
 {}
 
 /// Each fault of a source's table lies in the source.
-#[tactic(auto, using(crate::proofs::Places::lie))]
+#[tactic(auto, using(protox_lexeme::proofs::Places::lie))]
 pub fn faults_lie_in_source()
     ensures { (source : List ℕ) → IsUtf8 source → All (All (LiesIn (length source))) (faults_of (spec.cut 0 source)) }
 {}

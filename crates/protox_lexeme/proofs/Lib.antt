@@ -14,3 +14,6 @@ pub mod Literal
 pub mod Modes
 pub mod OneKind
 pub mod BlockExtent
+pub mod Extents
+pub mod Places
+pub mod FaultPlaces

@@ -9,7 +9,7 @@ use Rattle.protox_lexeme.specs.Printed.{printed}
 use Rattle.protox_lexeme.specs.Table.{Table, rows_of, faults_of, StandBetween}
 use Rattle.protox_fault.specs.declared.error.ParseErrorKind.{ParseErrorKind}
 use Rattle.protox_fault.specs.declared.error.ParseErrorKind.TheVariants.{UnexpectedToken, UnexpectedEof}
-use Rattle.protox_lex.proofs.Places.{stand, lie}
+use Rattle.protox_lexeme.proofs.Places.{stand, lie}
 use Rattle.protox_ast.specs.Keywords.{Each}
 use Rattle.protox_ast.specs.declared.ast.Syntax.{Syntax}
 use Rattle.protox_grammar.specs.Reader.{Unexpected}

@@ -6,7 +6,7 @@ ghost use Rattle.protox_ast.specs.Names.{name_span, type_name_span};
 
 use super::{FullIdent, Ident, TypeName};
 use protox_descriptor::values::{Items, Text};
-use protox_lex::error::Span;
+use protox_fault::error::Span;
 use std::alloc::{AllocError, Global};
 
 impl Ident {

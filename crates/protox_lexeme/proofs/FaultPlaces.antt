@@ -17,7 +17,7 @@ use Rattle.protox_lexeme.specs.BlockComments.{Mark as CommentMark, opens, closes
 use Rattle.protox_lexeme.specs.Strings as spec
 use Rattle.protox_lexeme.proofs.BlockExtent.{Lies, EndLies, ending_lies, marks_lie}
 use Rattle.protox_lexeme.proofs.Each.{Every, every_append}
-use Rattle.protox_lex.proofs.Extents.{Stands}
+use Rattle.protox_lexeme.proofs.Extents.{Stands}
 use Rattle.protox_lexeme.proofs.Fitting.{fits_within}
 
 -- ---- numbers and comments

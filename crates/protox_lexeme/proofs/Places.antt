@@ -10,9 +10,9 @@ use Rattle.protox_lexeme.specs.Lexemes.{Lexeme, IsCut, cut, blanks}
 use Rattle.protox_lexeme.specs.Table.{is_gap, in_front, rows_of, faults_of, invalid_faults, StandBetween}
 use Rattle.protox_lexeme.proofs.Boundaries.{blanks_boundary}
 use Rattle.protox_lexeme.proofs.Cut.{cut_is_cut}
-use Rattle.protox_lex.proofs.Extents.{Stands, lexeme_stands}
+use Rattle.protox_lexeme.proofs.Extents.{Stands, lexeme_stands}
 use Rattle.protox_lexeme.proofs.Each.{Every, every_append, all_every}
-use Rattle.protox_lex.proofs.FaultPlaces.{lexeme_lie}
+use Rattle.protox_lexeme.proofs.FaultPlaces.{lexeme_lie}
 use Rattle.std.proofs.lemmas.Str.{IsUtf8-drop}
 
 -- what stands behind the blanks is text

@@ -180,7 +180,6 @@ module _ {M : Type 0} (m : M) where
       rows = rows;
       quiet = λ x. begins-quiet (steps x) x (begin x);
       placed = λ x z h. placed x z h;
-      blind = λ xs ys e x h. absurd (never xs x h);
       ok = λ xs x h. absurd (never xs x h);
       halts = deep-halts;
       agrees = λ front rest x z more h q alike. deep-agrees front rest x z more q;

@@ -14,7 +14,6 @@ use Rattle.protox_grammar.proofs.ReadingTokens.{fixed-read, fixed-deep}
 use Rattle.protox_grammar.proofs.Choosing.{either-read, unstarted-read}
 use Rattle.protox_grammar.proofs.Repeat.{star-read}
 use Rattle.protox_grammar.specs.Steps.{Event, Steps, tokens, until, steps_of_option}
-use Rattle.protox_grammar.proofs.Blind.{fixed-blind}
 use Rattle.protox_grammar.proofs.StepLists.{Quiet}
 use Rattle.protox_grammar.proofs.Tracing.{Alike, IsTraced, viable-of}
 use Rattle.protox_grammar.proofs.TracingPairs.{seq-traced, mapped-traced, nothing-traced}
@@ -33,7 +32,7 @@ pub fixed-laws : {M : Type 0} (m : M) (w : Shape) (i : ℕ) → only i (class w)
 fixed-laws m w i h back exact =
     let l = fixed-spelled w (only i) h in
     let rd = fixed-read m w back exact in
-    record { spelled = l; read = rd; traced = plain-traced (fixed w) false (only i) none l rd (fixed-deep m w back exact) (λ t. refl) (λ xs. refl) (fixed-blind w) }
+    record { spelled = l; read = rd; traced = plain-traced (fixed w) false (only i) none l rd (fixed-deep m w back exact) (λ t. refl) (λ xs. refl) }
 
 pub word-laws : {M : Type 0} (m : M) (w : List ℕ) (i : ℕ) → only i (place keywords w) ≡ true → Lawful {M = M} (fixed (Ident w)) false (only i) none
 word-laws m w i h = fixed-laws m (Ident w) i h (word-back w) (word-exact w)
@@ -91,7 +90,6 @@ module _ {M A : Type 0} {r : Rule M A} {e : Bool} {f g : Set} (spell : A → Row
     rows = λ t. ap tokens (stepped t) ∙ l.traced.rows t ∙ sym (spelled t);
     quiet = λ t. subst Quiet (sym (stepped t)) (l.traced.quiet t);
     placed = λ t z h. subst (λ u. ArePlaced None u z) (sym (stepped t)) (l.traced.placed t z (ends_obeys t z h));
-    blind = l.traced.blind;
     ok = λ xs x h. l.traced.ok xs x h ∙ sym (stepped x.0);
     halts = λ xs e h.
         let v = l.traced.halts xs e h in

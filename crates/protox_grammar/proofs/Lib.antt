@@ -4,7 +4,8 @@ pub mod Words
 pub mod Sets
 pub mod Laws
 pub mod Reading
-pub mod Blind
+pub mod Marks
+pub mod MarksOfRules
 pub mod StepLists
 pub mod Placing
 pub mod Tracing
@@ -36,6 +37,7 @@ pub mod Holding
 pub mod NotedFiles
 pub mod Located
 pub mod Main
+pub mod MarkLaws
 pub mod Numbers
 pub mod PassedOver
 pub mod NotedTrue

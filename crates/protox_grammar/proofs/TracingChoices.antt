@@ -10,7 +10,6 @@ use Rattle.protox_grammar.proofs.Takes.{bind_ok, ok_is}
 use Rattle.protox_grammar.proofs.Sets.{starts-within}
 use Rattle.protox_grammar.proofs.Laws.{IsSpelled}
 use Rattle.protox_grammar.proofs.Reading.{IsRead, err-ok, failed, chosen, map_err, head-starts, head-stops, ok-err}
-use Rattle.protox_grammar.proofs.Blind.{mapped-blind, peek-blind, either-blind, unstarted-blind}
 use Rattle.protox_grammar.proofs.StepLists.{Quiet, until-quiet}
 use Rattle.protox_grammar.proofs.Tracing.{Alike, IsLeft, Halts, IsTraced, silent}
 use Rattle.protox_grammar.proofs.Placing.{ArePlaced}
@@ -117,7 +116,7 @@ module _ {M A B : Type 0} (p : Shape → Bool) (P : Set) (a : Rule M A) (b : Rul
   either-placed (inr t) z h = tb.placed t z h.0
 
   pub either-traced : IsTraced (either p P a b)
-  either-traced = record { rows = either-rows; quiet = either-quiet; placed = either-placed; blind = either-blind p (reader.mapped inl a.read) (reader.mapped inr b.read) (mapped-blind inl a.read ta.blind) (mapped-blind inr b.read tb.blind); ok = either-ok; halts = either-halts; agrees = either-agrees }
+  either-traced = record { rows = either-rows; quiet = either-quiet; placed = either-placed; ok = either-ok; halts = either-halts; agrees = either-agrees }
 
 -- ---- a test of the next row
 
@@ -135,7 +134,6 @@ module _ {M : Type 0} (G : Set) where
     rows = λ t. refl;
     quiet = λ t. tt;
     placed = λ t z h. tt;
-    blind = peek-blind (in_set G);
     ok = λ xs x h. refl;
     halts = λ xs e h.
         let same = peek-fails xs e h in
@@ -160,7 +158,6 @@ module _ {M B : Type 0} (P : Set) (b : Rule M B) (eb : Bool) (fb gb : Set) (lb :
     rows = tb.rows;
     quiet = tb.quiet;
     placed = λ t z h. tb.placed t z h.0;
-    blind = unstarted-blind (in_set P) b.read tb.blind;
     ok = λ xs x h. elim (chosen (head_in (in_set P) xs) (failed (B × Rows M) (Unexpected (length xs))) (b.read xs) (Ok x) h) [
       | inl c ↦ absurd (err-ok x _ c.1)
       | inr c ↦ on-other xs c.0 ∙ tb.ok xs x c.1

@@ -8,7 +8,6 @@ use Rattle.protox_grammar.specs.Rule.{Rule, noting}
 use Rattle.protox_grammar.specs.Steps.{Event, Token, Note, Steps, tokens, plainly, until, has_deep, then_steps, rows_before, plain_trace}
 use Rattle.protox_grammar.proofs.Laws.{IsSpelled, head-same}
 use Rattle.protox_grammar.proofs.Reading.{IsRead, Begins}
-use Rattle.protox_grammar.proofs.Blind.{IsBlind}
 use Rattle.protox_grammar.proofs.StepLists.{Quiet, until-quiet, tokens-append, tokens-plainly, plainly-append, plainly-quiet, until-long, apart-of, take-front}
 use Rattle.protox_grammar.proofs.Tracing.{Alike, Halts, IsTraced, then-of, then-none, goes, never-deep, not-inside, inside}
 use Rattle.protox_grammar.proofs.Placing.{last_row, is_string_row, IsPlaced, ArePlaced, placed-note, placed-plainly}
@@ -75,7 +74,6 @@ module _ {M A : Type 0} (note : A → Event M) (a : Rule M A) (fa ga : Set) (la 
     rows = λ t. tokens-append (a.steps t) (Note (note t) ∷ []) ∙ append-nil (tokens (a.steps t)) ∙ ta.rows t;
     quiet = λ t. note-quiet (note t) (a.steps t) (ta.quiet t) (some-taken t);
     placed = λ t z h. placed-note None (a.steps t) (note t) z (ta.placed t z h) (subst (λ u. IsPlaced (last_row None u) (note t) z) (sym (ta.rows t)) (placed t z h));
-    blind = ta.blind;
     ok = λ xs x h. noted-trace xs x h;
     halts = λ xs e h.
         let v = ta.halts xs e h in
@@ -105,7 +103,7 @@ module _ {M A : Type 0} (note : A → Event M) (a : Rule M A) (fa ga : Set) (la 
 -- ---- a rule without notes
 
 module _ {M A : Type 0} (r : Rule M A) (e : Bool) (f g : Set) (l : IsSpelled r e f g) (rd : IsRead r) (never : (n : ℕ) (xs : Rows M) → r.read xs ≡ Err (Deep n) → ⊥)
-    (steps-are : (t : A) → r.steps t ≡ plainly (r.spell t)) (trace-is : (xs : Rows M) → r.trace xs ≡ plain_trace r.read xs) (blind : IsBlind r.read) where
+    (steps-are : (t : A) → r.steps t ≡ plainly (r.spell t)) (trace-is : (xs : Rows M) → r.trace xs ≡ plain_trace r.read xs) where
   took-front : (xs ys rest : Rows M) (n : ℕ) → xs ≡ ys ++ rest → n ≡ length rest → take (length xs - n) xs ≡ ys
   took-front xs ys rest n p q =
       ap (λ u. take (length xs - n) u) p ∙ take-front (length xs - n) ys rest (omega (arith, ap length p, length-append ys rest, q))
@@ -185,7 +183,6 @@ module _ {M A : Type 0} (r : Rule M A) (e : Bool) (f g : Set) (l : IsSpelled r e
     rows = λ t. ap tokens (steps-are t) ∙ tokens-plainly (r.spell t);
     quiet = λ t. subst Quiet (sym (steps-are t)) (plainly-quiet (r.spell t));
     placed = λ t z h. subst (λ u. ArePlaced None u z) (sym (steps-are t)) (placed-plainly None (r.spell t) z);
-    blind = blind;
     ok = λ xs x h. plain-ok xs x h ∙ sym (steps-are x.0);
     halts = plain-halts;
     agrees = λ front rest t z more h q alike. unnoted-agrees front rest t z more h q;

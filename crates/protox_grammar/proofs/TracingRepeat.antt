@@ -14,7 +14,6 @@ use Rattle.protox_grammar.proofs.Sets.{starts-within}
 use Rattle.protox_grammar.proofs.Laws.{IsSpelled}
 use Rattle.protox_grammar.proofs.Reading.{IsRead, Took, bind_err, ok-err, err-ok, chosen, head-starts, head-stops}
 use Rattle.protox_grammar.proofs.Repeat.{some-rows}
-use Rattle.protox_grammar.proofs.Blind.{star-blind}
 use Rattle.protox_grammar.proofs.StepLists.{Quiet, until-quiet, quiet-append, tokens-append, has_deep-first}
 use Rattle.protox_grammar.proofs.Tracing.{Alike, IsLeft, IsTraced, then-of, then-none, silent, sequel}
 use Rattle.protox_grammar.proofs.Placing.{ArePlaced, placed-append}
@@ -165,7 +164,6 @@ module _ {M A : Type 0} (p : Shape → Bool) (P : Set) (a : Rule M A) (same : (s
     rows = many-rows;
     quiet = many-quiet;
     placed = many-placed;
-    blind = star-blind p a.read ta.blind;
     ok = λ xs x e. ok_at (suc (length xs)) xs x e;
     halts = λ xs e h.
         let v = halts_at (suc (length xs)) xs e (omega arith) h in

@@ -1,0 +1,204 @@
+-- What is noted of tokens with their places is what is noted of tokens with their numbers.
+use Rattle.std.proofs.Common.{◌≡◌, ◌↔◌, ℕ, zero, suc, ◌+◌, Bool, true, false, ◌||◌, cond, List, [], ◌∷◌, ◌++◌, map, length, Option, Some, None, Result, Ok, Err, refl, sym, ap, subst, ◌∙◌, arith, inl, inr, ◌⊎◌}
+use Rattle.std.specs.Prelude.{Any, option_map}
+use Rattle.protox_lex.specs.Faults.{Span}
+use Rattle.protox_lex.specs.Lexemes.{Lexeme}
+use Rattle.protox_lex.specs.Shapes.{Shape, Row, Rows}
+use Rattle.protox_lex.specs.Table.{rows_of, gaps_of}
+use Rattle.protox_lex.specs.declared.error.ParseErrorKind.{ParseErrorKind}
+use Rattle.protox_lex.specs.declared.error.ParseErrorKind.TheVariants as fault
+use Rattle.protox_ast.specs.AstParts.{join, last_place, run_span, strings_value, values}
+use Rattle.protox_ast.specs.CheckedNodes.{CheckedNode, ASyntax, AnImport, AReservedName, AGroupName, APackageAgain, ATooDeep}
+use Rattle.protox_ast.specs.Checks.{IsGroupName, WrongCheckedNode, WrongSyntax, WrongImport, WrongReservedName}
+use Rattle.protox_ast.specs.Fronts.{numbered, shapes}
+use Rattle.protox_ast.specs.Places.{Place, placed_from, later_gaps}
+use Rattle.protox_ast.specs.Tree as t
+use Rattle.protox_ast.specs.Truth.{token_span}
+use Rattle.protox_grammar.specs.Bodies as rule
+use Rattle.protox_grammar.specs.CheckLaws.{IsNotedBy, levels, noted_by, steps_by, tokens_of}
+use Rattle.protox_grammar.specs.MarkLaws.{map_marks, map_text, map_strings, map_package, map_event, map_node, map_step, map_steps, SameOutcome, IsSameOutcome, SameSteps, no_place, mark_at, place_at, placed_tokens, placed_steps_by, placed_nodes_by, PlacesAreLookedUp, SpansArePlaces, SpansAreLeft, IsNotedAlike, NotedAlike, WrongAlike}
+use Rattle.protox_grammar.specs.Noted.{noted_nodes, open_behind, trace}
+use Rattle.protox_grammar.specs.Reader.{Refusal, ◌>>=◌}
+use Rattle.protox_grammar.specs.Reads.{read}
+use Rattle.protox_grammar.specs.Steps.{Event, ANode, APackage, AKeyword, ADeepBody, ADeeperBody, AnOpenBrace, ACloseBrace, Token, Note, Steps, tokens, is_too_deep, until, has_deep}
+use Rattle.protox_grammar.proofs.Holding.{Holds, any-holds, holds-any}
+use Rattle.protox_grammar.proofs.StepLists.{until-note}
+use Rattle.protox_grammar.proofs.Marks.{Goes, Unnoted, no_mark, same-unmarked, same-length, steps-if}
+use Rattle.protox_grammar.proofs.MarksOfRules.{file_at-alike}
+
+-- ---- what is said of steps with other marks
+
+module _ {M N : Type 0} (f : M → N) where
+  event-deep : (e : Event M) → is_too_deep (map_event f e) ≡ is_too_deep e
+  event-deep (ANode x) = refl
+  event-deep (APackage x) = refl
+  event-deep (AKeyword m) = refl
+  event-deep (ADeepBody m) = refl
+  event-deep (ADeeperBody m) = refl
+  event-deep (AnOpenBrace m) = refl
+  event-deep (ACloseBrace m) = refl
+
+  pub tokens-map : (l : Steps M) → tokens (map_steps f l) ≡ map_marks f (tokens l)
+  tokens-map [] = refl
+  tokens-map (Token r ∷ l) = ap (λ u. record { shape = r.shape; at = f r.at } ∷ u) (tokens-map l)
+  tokens-map (Note e ∷ l) = tokens-map l
+
+  pub deep-map : (l : Steps M) → has_deep (map_steps f l) ≡ has_deep l
+  deep-map [] = refl
+  deep-map (Token r ∷ l) = deep-map l
+  deep-map (Note e ∷ l) = λ i. event-deep e i || deep-map l i
+
+  pub until-map : (n : ℕ) (l : Steps M) → until n (map_steps f l) ≡ map_steps f (until n l)
+  until-map zero [] = refl
+  until-map (suc n) [] = refl
+  until-map zero (Token r ∷ l) = refl
+  until-map (suc n) (Token r ∷ l) = ap (λ u. map_step f (Token r) ∷ u) (until-map n l)
+  until-map n (Note e ∷ l) =
+      until-note n (map_event f e) (map_steps f l)
+      ∙ ap (λ u. Note (map_event f e) ∷ u) (steps-if f (is_too_deep e) (is_too_deep (map_event f e)) [] (until n l) [] (until n (map_steps f l)) (event-deep e) refl (until-map n l))
+      ∙ ap (map_steps f) (sym (until-note n e l))
+
+  pub open-map : (before : Bool) (l : Steps M) → open_behind before (map_steps f l) ≡ open_behind before l
+  open-map before [] = refl
+  open-map before (Token r ∷ l) = open-map before l
+  open-map before (Note (ANode x) ∷ l) = open-map before l
+  open-map before (Note (APackage x) ∷ l) = open-map before l
+  open-map before (Note (AKeyword m) ∷ l) = open-map before l
+  open-map before (Note (ADeepBody m) ∷ l) = open-map before l
+  open-map before (Note (ADeeperBody m) ∷ l) = open-map before l
+  open-map before (Note (AnOpenBrace m) ∷ l) = open-map true l
+  open-map before (Note (ACloseBrace m) ∷ l) = open-map false l
+
+  pub nodes-map : (first : Option (t.Package M)) (keyword : M) (l : Steps M) → noted_nodes (option_map (map_package f) first) (f keyword) (map_steps f l) ≡ map (map_node f) (noted_nodes first keyword l)
+  nodes-map first keyword [] = refl
+  nodes-map first keyword (Token r ∷ l) = nodes-map first keyword l
+  nodes-map first keyword (Note (ANode x) ∷ l) = ap (λ u. map_node f x ∷ u) (nodes-map first keyword l)
+  nodes-map None keyword (Note (APackage x) ∷ l) = nodes-map (Some x) keyword l
+  nodes-map (Some first) keyword (Note (APackage x) ∷ l) = ap (λ u. map_node f (APackageAgain first x) ∷ u) (nodes-map (Some first) keyword l)
+  nodes-map first keyword (Note (AKeyword m) ∷ l) = nodes-map first m l
+  nodes-map first keyword (Note (ADeepBody m) ∷ l) = ap (λ u. map_node f (ATooDeep keyword m) ∷ u) (nodes-map first keyword l)
+  nodes-map first keyword (Note (ADeeperBody m) ∷ l) = nodes-map first keyword l
+  nodes-map first keyword (Note (AnOpenBrace m) ∷ l) = nodes-map first keyword l
+  nodes-map first keyword (Note (ACloseBrace m) ∷ l) = nodes-map first keyword l
+
+  -- ---- what is wrong with a node
+
+  values-map : (xs : List (t.Text M)) → values (map (map_text f) xs) ≡ values xs
+  values-map [] = refl
+  values-map (x ∷ xs) = ap (λ u. x.0 ++ u) (values-map xs)
+
+  pub strings_value-map : (x : t.Strings M) → strings_value (map_strings f x) ≡ strings_value x
+  strings_value-map x = ap (λ u. x.first.0 ++ u) (values-map x.others)
+
+  module _ (span : N → Span) (of : M → Span) (same : (m : M) → span (f m) ≡ of m) where
+    last_place-map : (here : Span) (xs : List (t.Text M)) → last_place (λ (y : t.Text N). span y.1) here (map (map_text f) xs) ≡ last_place (λ (y : t.Text M). of y.1) here xs
+    last_place-map here [] = refl
+    last_place-map here (x ∷ xs) = ap (λ u. last_place (λ (y : t.Text N). span y.1) u (map (map_text f) xs)) (same x.1) ∙ last_place-map (of x.1) xs
+
+    pub run_span-map : (x : t.Strings M) → run_span span (map_strings f x) ≡ run_span of x
+    run_span-map x = λ i. join (same x.first.1 i) ((ap (λ u. last_place (λ (y : t.Text N). span y.1) u (map (map_text f) x.others)) (same x.first.1) ∙ last_place-map (of x.first.1) x.others) i)
+
+    pub wrong-map : (node : CheckedNode M) (wrong : ParseErrorKind) → WrongCheckedNode span (map_node f node) wrong ≡ WrongCheckedNode of node wrong
+    wrong-map (ASyntax x) wrong = λ i. WrongSyntax (run_span-map x i) (strings_value-map x i) wrong
+    wrong-map (AnImport x) wrong = λ i. WrongImport (run_span-map x i) (strings_value-map x i) wrong
+    wrong-map (AReservedName x) wrong = λ i. WrongReservedName (run_span-map x i) (strings_value-map x i) wrong
+    wrong-map (AGroupName x) wrong = λ i. (IsGroupName x.0 → ⊥) × (wrong ≡ fault.InvalidGroupName (same x.1 i))
+    wrong-map (APackageAgain first again) wrong = λ i. wrong ≡ fault.DuplicatePackage (join (same first.keyword i) (same first.end i)) (join (same again.keyword i) (same again.end i))
+    wrong-map (ATooDeep keyword open_at) wrong = λ i. wrong ≡ fault.MessageNestingTooDeep (same keyword i)
+
+    holds-map : (wrong : ParseErrorKind) (nodes : List (CheckedNode M)) → Holds (λ node. WrongCheckedNode span node wrong) (map (map_node f) nodes) ≡ Holds (λ node. WrongCheckedNode of node wrong) nodes
+    holds-map wrong [] = refl
+    holds-map wrong (x ∷ xs) = λ i. wrong-map x wrong i ⊎ holds-map wrong xs i
+
+    any-map : (wrong : ParseErrorKind) (nodes : List (CheckedNode M)) → Any (λ node. WrongCheckedNode span node wrong) (map (map_node f) nodes) ↔ Any (λ node. WrongCheckedNode of node wrong) nodes
+    any-map wrong nodes = (
+      λ h. holds-any _ nodes (subst (λ T. T) (holds-map wrong nodes) (any-holds _ (map (map_node f) nodes) h)),
+      λ h. holds-any _ (map (map_node f) nodes) (subst (λ T. T) (sym (holds-map wrong nodes)) (any-holds _ nodes h)),
+    )
+
+-- ---- reading
+
+mapped-outcome : {M N : Type 0} (f : M → N) (n : ℕ) (rows : Rows M) → IsSameOutcome (read n rows) (read n (map_marks f rows))
+unfolding read
+mapped-outcome {M} {N} f n rows = of-results ((rule.file (rule.mbody_at n)).read rows) ((rule.file (rule.mbody_at n)).read (map_marks f rows)) ((file_at-alike f n).reads rows)
+  where
+    of-results : (p : Result (t.File M × Rows M) Refusal) (q : Result (t.File N × Rows N) Refusal) → Goes f Unnoted p q → IsSameOutcome (p >>= λ x. Ok x.0) (q >>= λ y. Ok y.0)
+    of-results (Ok x) (Ok y) h = tt
+    of-results (Ok x) (Err e) h = absurd h
+    of-results (Err d) (Ok y) h = absurd h
+    of-results (Err d) (Err e) h = h
+
+-- both as a third
+same-both : {A B C : Type 0} (p : Result A Refusal) (q : Result B Refusal) (u : Result C Refusal) → IsSameOutcome p u → IsSameOutcome q u → IsSameOutcome p q
+same-both (Ok x) (Ok y) u h g = tt
+same-both (Ok x) (Err e) (Ok z) h g = absurd g
+same-both (Ok x) (Err e) (Err z) h g = absurd h
+same-both (Err d) (Ok y) (Ok z) h g = absurd h
+same-both (Err d) (Ok y) (Err z) h g = absurd g
+same-both (Err d) (Err e) (Ok z) h g = absurd h
+same-both (Err d) (Err e) (Err z) h g = h ∙ sym g
+
+pub same_outcome : {M N : Type 0} → SameOutcome M N
+same_outcome n rows others e =
+    same-both (read n rows) (read n others) (read n (map_marks no_mark rows)) (mapped-outcome no_mark n rows)
+    (subst (λ u. IsSameOutcome (read n others) (read n u)) (sym (same-unmarked rows others e)) (mapped-outcome no_mark n others))
+
+pub same_steps : {M N : Type 0} → SameSteps M N
+same_steps f n rows = (file_at-alike f n).traces rows
+
+-- ---- places
+
+placed-shapes : (first : Bool) (rows : Rows Span) (gaps : List (List Shape)) → shapes (placed_from first rows gaps) ≡ shapes rows
+placed-shapes first [] gaps = refl
+placed-shapes first (r ∷ rs) gaps = ap (λ u. r.shape ∷ u) (placed-shapes false rs (later_gaps gaps))
+
+placed-spans : (first : Bool) (rows : Rows Span) (gaps : List (List Shape)) (n : ℕ) → (mark_at no_place (placed_from first rows gaps) n).span ≡ token_span rows n
+placed-spans first [] gaps n = refl
+placed-spans first (r ∷ rs) gaps zero = refl
+placed-spans first (r ∷ rs) gaps (suc n) = placed-spans false rs (later_gaps gaps) n
+
+placed-bare : (first : Bool) (rows : Rows Span) (gaps : List (List Shape)) → map_marks (λ place. place.span) (placed_from first rows gaps) ≡ rows
+placed-bare first [] gaps = refl
+placed-bare first (r ∷ rs) gaps = ap (λ u. r ∷ u) (placed-bare false rs (later_gaps gaps))
+
+looked-up : {M : Type 0} (none : M) (ys : Rows M) (k : ℕ) (look : ℕ → M) → ((i j : ℕ) → i ≡ k + j → look i ≡ mark_at none ys j) → map_marks look (numbered k (shapes ys)) ≡ ys
+looked-up none [] k look h = refl
+looked-up none (y ∷ ys) k look h =
+    λ i. record { shape = y.shape; at = h k 0 (omega arith) i } ∷ looked-up none ys (suc k) look (λ i j e. h i (suc j) (omega (arith, e))) i
+
+pub places_are_looked_up : PlacesAreLookedUp
+places_are_looked_up lexemes =
+    ap (λ u. map_marks (place_at lexemes) (numbered 0 u)) (sym (placed-shapes true (rows_of lexemes) (gaps_of lexemes)))
+    ∙ looked-up no_place (placed_tokens lexemes) 0 (place_at lexemes) (λ i j e. ap (place_at lexemes) (omega (arith, e)))
+
+pub spans_are_places : SpansArePlaces
+spans_are_places lexemes n = placed-spans true (rows_of lexemes) (gaps_of lexemes) n
+
+pub spans_are_left : SpansAreLeft
+spans_are_left lexemes = placed-bare true (rows_of lexemes) (gaps_of lexemes)
+
+-- ---- what is noted
+
+pub noted_alike : NotedAlike
+noted_alike lexemes n =
+    let place = place_at lexemes in
+    let so_far = steps_by lexemes n in
+    let steps : placed_steps_by lexemes n ≡ map_steps place so_far = ap (λ u. until n (trace levels u)) (sym (places_are_looked_up lexemes)) ∙ ap (until n) (same_steps place levels (tokens_of lexemes)) ∙ until-map place n (trace levels (tokens_of lexemes)) in
+    let nodes : placed_nodes_by lexemes n ≡ map (map_node place) (noted_by lexemes n) = ap (λ u. noted_nodes None (place 0) u) steps ∙ nodes-map place None 0 so_far in
+    record {
+      steps = steps;
+      taken = ap (λ u. length (tokens u)) steps ∙ ap length (tokens-map place so_far) ∙ same-length place (tokens so_far);
+      too_deep = ap has_deep steps ∙ deep-map place so_far;
+      is_open = λ before. ap (λ u. open_behind before u) steps ∙ open-map place before so_far;
+      nodes = nodes;
+      faults = λ wrong.
+          let c = any-map place (λ (p : Place). p.span) (token_span (rows_of lexemes)) (spans_are_places lexemes) wrong (noted_by lexemes n) in (
+            λ h. c.0 (subst (λ u. Any (λ node. WrongCheckedNode (λ (p : Place). p.span) node wrong) u) nodes h),
+            λ h. subst (λ u. Any (λ node. WrongCheckedNode (λ (p : Place). p.span) node wrong) u) (sym nodes) (c.1 h),
+          );
+    }
+
+pub wrong_alike : WrongAlike
+wrong_alike lexemes node wrong =
+    let e = wrong-map (place_at lexemes) (λ (p : Place). p.span) (token_span (rows_of lexemes)) (spans_are_places lexemes) node wrong in
+    (λ h. subst (λ T. T) e h, λ h. subst (λ T. T) (sym e) h)

@@ -1,9 +1,8 @@
 -- What is noted of tokens with their places is what is noted of tokens with their numbers.
-use Rattle.std.proofs.Common.{◌≡◌, ◌↔◌, ℕ, zero, suc, ◌+◌, Bool, true, false, ◌||◌, cond, List, [], ◌∷◌, ◌++◌, map, length, Option, Some, None, Result, Ok, Err, refl, sym, ap, subst, ◌∙◌, arith, inl, inr, ◌⊎◌}
+use Rattle.std.proofs.Common.{◌≡◌, ◌↔◌, ℕ, zero, suc, ◌+◌, Bool, true, false, ◌||◌, List, [], ◌∷◌, ◌++◌, map, length, Option, Some, None, Result, Ok, Err, refl, sym, ap, subst, ◌∙◌, arith, ◌⊎◌}
 use Rattle.std.specs.Prelude.{Any, option_map}
 use Rattle.protox_lex.specs.Faults.{Span}
-use Rattle.protox_lex.specs.Lexemes.{Lexeme}
-use Rattle.protox_lex.specs.Shapes.{Shape, Row, Rows}
+use Rattle.protox_lex.specs.Shapes.{Shape, Rows}
 use Rattle.protox_lex.specs.Table.{rows_of, gaps_of}
 use Rattle.protox_lex.specs.declared.error.ParseErrorKind.{ParseErrorKind}
 use Rattle.protox_lex.specs.declared.error.ParseErrorKind.TheVariants as fault
@@ -15,8 +14,8 @@ use Rattle.protox_ast.specs.Places.{Place, placed_from, later_gaps}
 use Rattle.protox_ast.specs.Tree as t
 use Rattle.protox_ast.specs.Truth.{token_span}
 use Rattle.protox_grammar.specs.Bodies as rule
-use Rattle.protox_grammar.specs.CheckLaws.{IsNotedBy, levels, noted_by, steps_by, tokens_of}
-use Rattle.protox_grammar.specs.MarkLaws.{map_marks, map_text, map_strings, map_package, map_event, map_node, map_step, map_steps, SameOutcome, IsSameOutcome, SameSteps, no_place, mark_at, place_at, placed_tokens, placed_steps_by, placed_nodes_by, PlacesAreLookedUp, SpansArePlaces, SpansAreLeft, IsNotedAlike, NotedAlike, WrongAlike}
+use Rattle.protox_grammar.specs.CheckLaws.{levels, noted_by, steps_by, tokens_of}
+use Rattle.protox_grammar.specs.MarkLaws.{map_marks, map_text, map_strings, map_package, map_event, map_node, map_step, map_steps, SameOutcome, IsSameOutcome, SameSteps, no_place, mark_at, place_at, placed_tokens, placed_steps_by, placed_nodes_by, PlacesAreLookedUp, SpansArePlaces, SpansAreLeft, NotedAlike, WrongAlike}
 use Rattle.protox_grammar.specs.Noted.{noted_nodes, open_behind, trace}
 use Rattle.protox_grammar.specs.Reader.{Refusal, ◌>>=◌}
 use Rattle.protox_grammar.specs.Reads.{read}

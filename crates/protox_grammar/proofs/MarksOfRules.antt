@@ -1,5 +1,5 @@
 -- The rules of the grammar don't depend on the marks of rows.
-use Rattle.std.proofs.Common.{◌≡◌, ℕ, zero, suc, ◌-◌, ◌==◌, true, false, cond, [], ◌∷◌, map, Result, Ok, Err, refl, sym, ap, ◌∙◌}
+use Rattle.std.proofs.Common.{◌≡◌, ℕ, zero, suc, ◌-◌, ◌==◌, [], ◌∷◌, Result, Ok, refl, sym, ap, ◌∙◌}
 use Rattle.protox_lex.specs.Shapes.{Mark, Row, Rows}
 use Rattle.protox_ast.specs.CheckedNodes.{CheckedNode, ASyntax, AnImport, AReservedName, AGroupName}
 use Rattle.protox_ast.specs.Keywords as k
@@ -10,10 +10,10 @@ use Rattle.protox_grammar.specs.Class.{all, among, but, only, union, words}
 use Rattle.protox_grammar.specs.MarkLaws.{map_fullident, map_marks, map_node, map_package, map_strings, map_text, map_event, map_steps}
 use Rattle.protox_grammar.specs.Reader as reader
 use Rattle.protox_grammar.specs.Reader.{Refusal, Deep, ◌>>=◌, see_word, see_integer, see_float, see_text}
-use Rattle.protox_grammar.specs.Rule.{Rule, noting}
+use Rattle.protox_grammar.specs.Rule.{Rule}
 use Rattle.protox_grammar.specs.Rules as r
-use Rattle.protox_grammar.specs.Steps.{Event, Note, Token, Steps, AKeyword, ADeepBody, ADeeperBody, ANode, APackage, AnOpenBrace, ACloseBrace}
-use Rattle.protox_grammar.proofs.Marks.{same-length, Goes, IsAlike, Unnoted, Pairwise, pairwise-map, goes-if, goes-on, refused, plain-alike, fixed-reads, steps-if, fixed-alike, leaf-alike, seq-alike, joined-alike, unless-alike, choice-alike, optional-alike, times-alike, named_as-alike, named-alike, named_fits-alike, noting-alike, peek-alike}
+use Rattle.protox_grammar.specs.Steps.{Event, Note, Token, AKeyword, ADeepBody, ANode, APackage, AnOpenBrace, ACloseBrace}
+use Rattle.protox_grammar.proofs.Marks.{same-length, Goes, IsAlike, Unnoted, pairwise-map, goes-if, goes-on, refused, plain-alike, fixed-reads, steps-if, fixed-alike, leaf-alike, seq-alike, joined-alike, unless-alike, choice-alike, optional-alike, times-alike, named_as-alike, named-alike, named_fits-alike, noting-alike, peek-alike}
 
 module _ {M N : Type 0} (f : M → N) where
   -- ---- up to the brace that closes

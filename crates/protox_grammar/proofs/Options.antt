@@ -9,7 +9,6 @@ use Rattle.protox_ast.specs.Tree as t
 use Rattle.protox_ast.specs.Spelling as s
 use Rattle.protox_ast.specs.Keywords as k
 use Rattle.protox_grammar.specs.Rules as r
-use Rattle.protox_grammar.specs.Reader.{fixed}
 use Rattle.protox_grammar.proofs.TracingNotes.{plain-traced}
 use Rattle.protox_grammar.proofs.Closed.{closed-spelled, closed-read, closed-deep}
 use Rattle.protox_grammar.proofs.Forms.{Lawful, word-laws, mark-laws, seq-laws, choice-laws, optional-laws, times-laws, named-laws, wide, noting-laws}

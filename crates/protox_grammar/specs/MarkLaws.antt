@@ -1,7 +1,7 @@
 -- The laws of marks: what is read and what is noted depends on the tokens alone, and not on their marks. The laws of what is noted speak of
 -- tokens that are marked with their numbers. So what is noted of tokens with their places is the same, with each number's place in its stead.
 use Rattle.std.specs.Prelude.{◌≡◌, ◌↔◌, ℕ, zero, suc, Bool, List, [], ◌∷◌, map, length, None, Result, Ok, Err, Any}
-use Rattle.protox_lex.specs.Faults.{Span, span_from}
+use Rattle.protox_lex.specs.Faults.{span_from}
 use Rattle.protox_lex.specs.Lexemes.{Lexeme}
 use Rattle.protox_lex.specs.Shapes.{Rows}
 use Rattle.protox_lex.specs.Table.{rows_of, table_of}

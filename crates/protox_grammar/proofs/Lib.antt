@@ -8,6 +8,7 @@ pub mod Marks
 pub mod MarksOfRules
 pub mod StepLists
 pub mod Placing
+pub mod EndsDeep
 pub mod Tracing
 pub mod ReadingTokens
 pub mod Choosing

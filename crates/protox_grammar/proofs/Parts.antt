@@ -191,7 +191,7 @@ module _ {M : Type 0} (m : M) where
 
   pub noted_strings-laws : (node : t.Strings M → CheckedNode M) → ((x : t.Strings M) → run_end x ≡ node_end (node x)) → ((x : t.Strings M) → true ≡ is_run (node x)) → Lawful {M = M} (r.noted_strings node) false (only 41) (only 41)
   unfolding r.strings
-  noted_strings-laws node e run = noting-laws (λ x. ANode (node x)) strings-laws (λ x h. h) run-prompt (λ x. omega arith) (run-placed node e run)
+  noted_strings-laws node e run = noting-laws (λ x. ANode (node x)) strings-laws (λ x h. h) run-prompt (λ x. omega arith) (run-placed node e run) (λ x. refl)
 
   pub syntax-laws : Lawful {M = M} r.syntax false (only 0) none
   unfolding r.syntax r.strings
@@ -249,7 +249,7 @@ module _ {M : Type 0} (m : M) where
   pub noted_package-laws : Lawful {M = M} (noting APackage r.«package») false (only 1) none
   unfolding r.«package» r.fullident
   noted_package-laws = noting-laws APackage package-laws (λ x h. tt) (λ x y z h a. package-laws.spelled.follow x z tt (stops-none z)) (λ x. omega arith)
-      (λ x z h. subst (λ u. IsPlaced u (APackage x) z) (sym (last-past (Some (row (Ident (codes "package")) x.keyword)) (s.fullident x.name) (row (shape.Mark s.semicolon) x.end) [])) (refl, refl, λ g. absurd cc))
+      (λ x z h. subst (λ u. IsPlaced u (APackage x) z) (sym (last-past (Some (row (Ident (codes "package")) x.keyword)) (s.fullident x.name) (row (shape.Mark s.semicolon) x.end) [])) (refl, refl, λ g. absurd cc)) (λ x. refl)
 
   pub typename-laws : Lawful {M = M} r.typename false (union (only 42) words) (only 42)
   unfolding r.typename r.fullident

@@ -12,6 +12,7 @@ use Rattle.protox_grammar.proofs.Laws.{IsSpelled}
 use Rattle.protox_grammar.proofs.Reading.{IsRead, bind_err, ok-err, map_err}
 use Rattle.protox_grammar.proofs.StepLists.{Quiet, quiet-append, tokens-append, has_deep-first}
 use Rattle.protox_grammar.proofs.Tracing.{Alike, Halts, IsTraced, then-of, then-none, silent, sequel}
+use Rattle.protox_grammar.proofs.EndsDeep.{StopsDeep, stops-mapped, stops-then}
 use Rattle.protox_grammar.proofs.Placing.{ArePlaced, placed-append}
 
 -- ---- one after another
@@ -81,6 +82,9 @@ module _ {M A B : Type 0} (a : Rule M A) (b : Rule M B) (ea : Bool) (fa ga : Set
       sequel a ea fa ga la ra ta front rest t.0 (b.spell t.1 ++ z) more h.0 (sym (append_assoc (a.spell t.0) (b.spell t.1) z) ∙ q) alike next (b.steps t.1) (λ x. silent b eb fb gb lb rb tb x.1) (tb.quiet t.1)
       (λ s gs p zs al. tb.agrees (s ∷ gs) rest t.1 z more h.1 zs al)
 
+  both-stop : (xs : Rows M) → StopsDeep (reader.seq a.read b.read xs) ((seq a b).trace xs)
+  both-stop xs = stops-then (a.read xs) (λ x. b.read x.1 >>= λ y. Ok ((x.0, y.0), y.1)) (a.trace xs) next (ta.stops xs) (λ x. stops-mapped (λ y. (x.0, y)) (b.read x.1) (b.trace x.1) (tb.stops x.1))
+
   pub seq-traced : IsTraced (seq a b)
   seq-traced = record {
     rows = both-rows;
@@ -95,6 +99,7 @@ module _ {M A B : Type 0} (a : Rule M A) (b : Rule M B) (ea : Bool) (fa ga : Set
       ]
     ];
     agrees = plain-agrees;
+    stops = both-stop;
   }
 
   -- ---- on a condition
@@ -130,6 +135,7 @@ module _ {M A B : Type 0} (a : Rule M A) (b : Rule M B) (ea : Bool) (fa ga : Set
         ]
       ];
       agrees = plain-agrees;
+      stops = both-stop;
     }
 
 -- ---- under another name
@@ -155,6 +161,7 @@ module _ {M A B : Type 0} (to : B → A) (from : A → B) (b : Rule M B) (there 
           deep = v.deep;
         };
     agrees = λ front rest t z more h q alike. tb.agrees front rest (from t) z more h q alike;
+    stops = λ xs. stops-mapped to (b.read xs) (b.trace xs) (tb.stops xs);
   }
 
 -- ---- nothing, and a test of the next row
@@ -167,4 +174,5 @@ nothing-traced {M = M} = record {
   ok = λ xs x h. refl;
   halts = λ xs e h. absurd (ok-err _ e h);
   agrees = λ front rest t z more h q alike. refl;
+  stops = λ xs. refl;
 }

@@ -1,5 +1,5 @@
 -- What is too deep is noted last, and only where reading stops.
-use Rattle.std.proofs.Common.{◌≡◌, Bool, true, false, cond, [], ◌++◌, Result, Ok, Err, refl, sym, subst, ◌∙◌}
+use Rattle.std.proofs.Common.{◌≡◌, Bool, true, false, cond, ◌++◌, Result, Ok, Err, sym, subst, ◌∙◌}
 use Rattle.std.proofs.lemmas.List.{append-nil}
 use Rattle.protox_lex.specs.Shapes.{Rows}
 use Rattle.protox_grammar.specs.Reader.{Refusal, ◌>>=◌}

@@ -42,6 +42,7 @@ pub mod MarkLaws
 pub mod Numbers
 pub mod PassedOver
 pub mod NotedTrue
+pub mod PlaceLaws
 pub mod NotedTrueOf
 pub mod Insides
 pub mod InsideLaws

@@ -19,12 +19,13 @@ use Rattle.protox_grammar.specs.Reads.{read}
 use Rattle.protox_grammar.specs.Bodies as rule
 use Rattle.protox_grammar.specs.Steps.{ANode, APackage, AKeyword, ADeepBody, ADeeperBody, AnOpenBrace, ACloseBrace, Token, Note, Steps, tokens, until}
 use Rattle.protox_grammar.specs.Noted.{noted_nodes, steps, trace}
-use Rattle.protox_grammar.specs.CheckLaws.{NotedIsTrue, tokens_of, noted_by, steps_by}
+use Rattle.protox_grammar.specs.CheckLaws.{AllIsNoted, NotedIsTrue, tokens_of, noted_by, steps_by}
 use Rattle.protox_grammar.specs.MarkLaws.{IsSameOutcome}
 use Rattle.protox_grammar.proofs.Marks.{head-same-shapes}
 use Rattle.protox_grammar.proofs.MarkLaws.{same_outcome}
-use Rattle.protox_grammar.proofs.StepLists.{tokens-append, take-front, until-ends, deep-whole, until-until, until-at-most, until-front}
+use Rattle.protox_grammar.proofs.StepLists.{until-all, tokens-append, take-front, until-ends, deep-whole, until-until, until-at-most, until-front}
 use Rattle.protox_grammar.proofs.Main as main
+use Rattle.protox_grammar.proofs.EndsDeep.{stops-ends}
 use Rattle.protox_grammar.proofs.Holding.{Holds, any-holds, holds-any, holds-one, holds-of}
 use Rattle.protox_grammar.proofs.NotedFiles.{file-noted}
 use Rattle.protox_grammar.proofs.Located.{Located, locate}
@@ -78,6 +79,14 @@ completed-at xs (Ok x) h =
 completed-at xs (Err e) h =
     let v = (main.laws 0 31).traced.halts xs e h in
     record { rest = v.rest; parts = v.parts; placed = v.placed; tree = v.tree; keeps = main.of-may 0 31 v.tree v.tree_may; later = v.later; goes_on = v.goes_on }
+
+-- behind the last token nothing more is noted
+pub all_is_noted : AllIsNoted
+all_is_noted lexemes n h =
+    let xs = tokens_of lexemes in
+    let c = completed-at xs ((main.file_at 0 31).read xs) refl in
+    until-all n (trace 31 xs) (omega (arith, h, ap length c.parts, length-append (tokens (trace 31 xs)) c.rest, numbered-length 0 (shapes (rows_of lexemes)), shapes-length (rows_of lexemes)))
+    (stops-ends ((main.file_at 0 31).read xs) (trace 31 xs) ((main.laws 0 31).traced.stops xs))
 
 read-too : (f : t.File ℕ) (other : Result (t.File ℕ) Refusal) → IsSameOutcome (Ok f) other → (g : t.File ℕ) × (other ≡ Ok g)
 read-too f (Ok g) h = (g, refl)

@@ -1,6 +1,6 @@
 -- The laws of marks: what is read and what is noted depends on the tokens alone, and not on their marks. The laws of what is noted speak of
 -- tokens that are marked with their numbers. So what is noted of tokens with their places is the same, with each number's place in its stead.
-use Rattle.std.specs.Prelude.{◌≡◌, ◌↔◌, ℕ, zero, suc, Bool, List, [], ◌∷◌, map, length, None, Result, Ok, Err, Any}
+use Rattle.std.specs.Prelude.{◌≡◌, ◌↔◌, ◌≤◌, ℕ, zero, suc, Bool, List, [], ◌∷◌, map, length, None, Result, Ok, Err, Any}
 use Rattle.protox_lex.specs.Faults.{span_from}
 use Rattle.protox_lex.specs.Lexemes.{Lexeme}
 use Rattle.protox_lex.specs.Shapes.{Rows}
@@ -119,6 +119,8 @@ placed_nodes_by lexemes n = noted_nodes None (place_at lexemes 0) (placed_steps_
 -- Of the first n tokens the same is noted, whether they are marked with their places or with their numbers.
 pub record IsNotedAlike (lexemes : List Lexeme) (n : ℕ) : Type 0 where
   pub steps : placed_steps_by lexemes n ≡ map_steps (place_at lexemes) (steps_by lexemes n)
+  -- which are all steps of reading, by the last token
+  pub whole : length (rows_of lexemes) ≤ n → placed_steps_by lexemes n ≡ trace levels (placed_tokens lexemes)
   pub taken : length (tokens (placed_steps_by lexemes n)) ≡ length (tokens (steps_by lexemes n))
   pub too_deep : has_deep (placed_steps_by lexemes n) ≡ is_too_deep_by lexemes n
   pub is_open : (before : Bool) → open_behind before (placed_steps_by lexemes n) ≡ open_behind before (steps_by lexemes n)

@@ -66,6 +66,11 @@ pub fn too_deep_is_noted()
     ensures { checks.TooDeepIsNoted }
 {}
 
+/// By the last token of a source all is noted that reading it notes.
+pub fn all_is_noted()
+    ensures { checks.AllIsNoted }
+{}
+
 /// Some file goes on inside an aggregate just where the last brace of an aggregate that was noted opens it.
 pub fn insides_are_open()
     ensures inside { checks.InsideIsOpen }

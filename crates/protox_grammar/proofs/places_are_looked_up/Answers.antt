@@ -1,4 +1,4 @@
-use Rattle.protox_grammar.proofs.MarkLaws as laws
+use Rattle.protox_grammar.proofs.PlaceLaws as laws
 use Rattle.protox_grammar.proofs.places_are_looked_up.Goals as goal
 
 pub returns-clause-rows : goal.returns-clause-rows

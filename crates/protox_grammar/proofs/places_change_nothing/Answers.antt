@@ -1,4 +1,4 @@
-use Rattle.protox_grammar.proofs.MarkLaws as laws
+use Rattle.protox_grammar.proofs.PlaceLaws as laws
 use Rattle.protox_grammar.proofs.places_change_nothing.Goals as goal
 
 pub returns-clause-noted : goal.returns-clause-noted

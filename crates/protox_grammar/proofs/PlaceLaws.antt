@@ -9,7 +9,7 @@ use Rattle.protox_ast.specs.Fronts.{numbered, shapes}
 use Rattle.protox_ast.specs.Places.{Place, placed_from, later_gaps}
 use Rattle.protox_ast.specs.Truth.{token_span}
 use Rattle.protox_grammar.specs.CheckLaws.{levels, noted_by, steps_by, tokens_of}
-use Rattle.protox_grammar.specs.MarkLaws.{map_marks, map_node, map_steps, no_place, mark_at, place_at, placed_tokens, placed_steps_by, placed_nodes_by, PlacesAreLookedUp, SpansArePlaces, SpansAreLeft, NotedAlike, WrongAlike}
+use Rattle.protox_grammar.specs.MarkLaws.{map_marks, map_node, map_steps, no_place, mark_at, place_at, placed_tokens, placed_steps_by, placed_nodes_by, PlacesAreLookedUp, PlacesHaveSpans, SpansAreLeft, NotedAlike, WrongAlike}
 use Rattle.protox_grammar.specs.Noted.{noted_nodes, open_behind, trace}
 use Rattle.protox_grammar.specs.Steps.{tokens, until, has_deep}
 use Rattle.protox_grammar.proofs.Marks.{same-length}
@@ -41,8 +41,8 @@ places_are_looked_up lexemes =
     ap (λ u. map_marks (place_at lexemes) (numbered 0 u)) (sym (placed-shapes true (rows_of lexemes) (gaps_of lexemes)))
     ∙ looked-up no_place (placed_tokens lexemes) 0 (place_at lexemes) (λ i j e. ap (place_at lexemes) (omega (arith, e)))
 
-pub spans_are_places : SpansArePlaces
-spans_are_places lexemes n = placed-spans true (rows_of lexemes) (gaps_of lexemes) n
+pub places_have_spans : PlacesHaveSpans
+places_have_spans lexemes n = placed-spans true (rows_of lexemes) (gaps_of lexemes) n
 
 pub spans_are_left : SpansAreLeft
 spans_are_left lexemes = placed-bare true (rows_of lexemes) (gaps_of lexemes)
@@ -63,7 +63,7 @@ noted_alike lexemes n =
       nodes = nodes;
       whole = λ h. steps ∙ ap (map_steps place) (all_is_noted lexemes n h) ∙ sym (same_steps place levels (tokens_of lexemes)) ∙ ap (trace levels) (places_are_looked_up lexemes);
       faults = λ wrong.
-          let c = any-map place (λ (p : Place). p.span) (token_span (rows_of lexemes)) (spans_are_places lexemes) wrong (noted_by lexemes n) in (
+          let c = any-map place (λ (p : Place). p.span) (token_span (rows_of lexemes)) (places_have_spans lexemes) wrong (noted_by lexemes n) in (
             λ h. c.0 (subst (λ u. Any (λ node. WrongCheckedNode (λ (p : Place). p.span) node wrong) u) nodes h),
             λ h. subst (λ u. Any (λ node. WrongCheckedNode (λ (p : Place). p.span) node wrong) u) (sym nodes) (c.1 h),
           );
@@ -71,5 +71,5 @@ noted_alike lexemes n =
 
 pub wrong_alike : WrongAlike
 wrong_alike lexemes node wrong =
-    let e = wrong-map (place_at lexemes) (λ (p : Place). p.span) (token_span (rows_of lexemes)) (spans_are_places lexemes) node wrong in
+    let e = wrong-map (place_at lexemes) (λ (p : Place). p.span) (token_span (rows_of lexemes)) (places_have_spans lexemes) node wrong in
     (λ h. subst (λ T. T) e h, λ h. subst (λ T. T) (sym e) h)

@@ -95,12 +95,13 @@ mark_at none (row ∷ rows) (suc n) = mark_at none rows n
 abbrev pub place_at : List Lexeme → ℕ → Place
 place_at lexemes n = mark_at no_place (placed_tokens lexemes) n
 
--- The tokens with their places are those with their numbers, where each number's place is looked up; and its span is the token's.
+-- The tokens with their places are those with their numbers, where each number's place is looked up.
 abbrev pub PlacesAreLookedUp : Type 0
 PlacesAreLookedUp = (lexemes : List Lexeme) → map_marks (place_at lexemes) (tokens_of lexemes) ≡ placed_tokens lexemes
 
-abbrev pub SpansArePlaces : Type 0
-SpansArePlaces = (lexemes : List Lexeme) (n : ℕ) → (place_at lexemes n).span ≡ token_span (rows_of lexemes) n
+-- The span of that place is the token's.
+abbrev pub PlacesHaveSpans : Type 0
+PlacesHaveSpans = (lexemes : List Lexeme) (n : ℕ) → (place_at lexemes n).span ≡ token_span (rows_of lexemes) n
 
 -- Without the comments around them they are the tokens with their spans.
 abbrev pub SpansAreLeft : Type 0
@@ -118,13 +119,19 @@ placed_nodes_by lexemes n = noted_nodes None (place_at lexemes 0) (placed_steps_
 
 -- Of the first n tokens the same is noted, whether they are marked with their places or with their numbers.
 pub record IsNotedAlike (lexemes : List Lexeme) (n : ℕ) : Type 0 where
+  -- the steps are the same, with each number's place looked up
   pub steps : placed_steps_by lexemes n ≡ map_steps (place_at lexemes) (steps_by lexemes n)
-  -- which are all steps of reading, by the last token
+  -- by the last token they are all steps of reading
   pub whole : length (rows_of lexemes) ≤ n → placed_steps_by lexemes n ≡ trace levels (placed_tokens lexemes)
+  -- as many tokens are taken
   pub taken : length (tokens (placed_steps_by lexemes n)) ≡ length (tokens (steps_by lexemes n))
+  -- a body that is too deep was opened by both or by none
   pub too_deep : has_deep (placed_steps_by lexemes n) ≡ is_too_deep_by lexemes n
+  -- an aggregate is open behind both or behind none
   pub is_open : (before : Bool) → open_behind before (placed_steps_by lexemes n) ≡ open_behind before (steps_by lexemes n)
+  -- the same nodes are noted, with each number's place looked up
   pub nodes : placed_nodes_by lexemes n ≡ map (map_node (place_at lexemes)) (noted_by lexemes n)
+  -- and these have the same faults
   pub faults : (wrong : ParseErrorKind) → Any (λ node. WrongCheckedNode (λ place. place.span) node wrong) (placed_nodes_by lexemes n) ↔ IsNotedBy lexemes n wrong
 
 abbrev pub NotedAlike : Type 0

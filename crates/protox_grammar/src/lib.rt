@@ -86,7 +86,7 @@ pub fn marks_change_nothing<M, N>(_mark: &M, _other: &N)
 /// The tokens of a source with their places are those with their numbers, where each number's place is looked up.
 pub fn places_are_looked_up()
     ensures rows { marks.PlacesAreLookedUp }
-    ensures span { marks.SpansArePlaces }
+    ensures span { marks.PlacesHaveSpans }
     ensures bare { marks.SpansAreLeft }
 {}
 

@@ -5,6 +5,7 @@ use Rattle.protox_grammar.specs.Class.{only, none}
 use Rattle.protox_grammar.specs.Reader.{Reader, Refusal, Unexpected, Deep, is_token, is_string}
 use Rattle.protox_grammar.specs.Steps.{Event, ADeepBody, ADeeperBody, Token, Note, Steps, tokens, plainly, until, has_deep, is_too_deep}
 use Rattle.protox_grammar.proofs.StepLists.{Quiet, until-quiet, until-note, tokens-plainly}
+use Rattle.protox_grammar.proofs.EndsDeep.{StopsDeep, stops-if}
 use Rattle.protox_grammar.proofs.Tracing.{IsLeft, Halts, IsTraced}
 use Rattle.protox_grammar.proofs.Reading.{failed, chosen, err-ok, true-false}
 use Rattle.protox_grammar.specs.Reader as reader
@@ -175,14 +176,19 @@ module _ {M : Type 0} (m : M) where
         ∙ ap (λ (u : Row M). Token u ∷ (Note (note u.at) ∷ [])) (sym same)
         ∙ sym (until-deep (length fs) (row (Mark s.open_brace) (rule.opening x)) (rule.opening x) (begin x).0) ∙ ap (λ u. until (length (f ∷ fs)) u) (sym (begin x).1)
 
+    deep-stops : (xs : Rows M) → StopsDeep (rule.deep_read xs) (rule.deep_trace note xs)
+    unfolding rule.deep_read reader.too_deep rule.deep_trace
+    deep-stops [] = tt
+    deep-stops (r ∷ rs) = stops-if (is_token (Mark s.open_brace) r.shape) _ _ (Token r ∷ (Note (note r.at) ∷ [])) [] (λ q. refl, tt) tt
+
     deep-traced : IsTraced deep_rule
     deep-traced = record {
       rows = rows;
       quiet = λ x. begins-quiet (steps x) x (begin x);
       placed = λ x z h. placed x z h;
-      blind = λ xs ys e x h. absurd (never xs x h);
       ok = λ xs x h. absurd (never xs x h);
       halts = deep-halts;
+      stops = deep-stops;
       agrees = λ front rest x z more h q alike. deep-agrees front rest x z more q;
     }
 

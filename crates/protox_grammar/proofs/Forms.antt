@@ -13,8 +13,7 @@ use Rattle.protox_grammar.proofs.Reading.{Concerns, IsRead, Took, seq-read, mapp
 use Rattle.protox_grammar.proofs.ReadingTokens.{fixed-read, fixed-deep}
 use Rattle.protox_grammar.proofs.Choosing.{either-read, unstarted-read}
 use Rattle.protox_grammar.proofs.Repeat.{star-read}
-use Rattle.protox_grammar.specs.Steps.{Event, Steps, tokens, until, steps_of_option}
-use Rattle.protox_grammar.proofs.Blind.{fixed-blind}
+use Rattle.protox_grammar.specs.Steps.{Event, Steps, is_too_deep, tokens, until, steps_of_option}
 use Rattle.protox_grammar.proofs.StepLists.{Quiet}
 use Rattle.protox_grammar.proofs.Tracing.{Alike, IsTraced, viable-of}
 use Rattle.protox_grammar.proofs.TracingPairs.{seq-traced, mapped-traced, nothing-traced}
@@ -33,7 +32,7 @@ pub fixed-laws : {M : Type 0} (m : M) (w : Shape) (i : ℕ) → only i (class w)
 fixed-laws m w i h back exact =
     let l = fixed-spelled w (only i) h in
     let rd = fixed-read m w back exact in
-    record { spelled = l; read = rd; traced = plain-traced (fixed w) false (only i) none l rd (fixed-deep m w back exact) (λ t. refl) (λ xs. refl) (fixed-blind w) }
+    record { spelled = l; read = rd; traced = plain-traced (fixed w) false (only i) none l rd (fixed-deep m w back exact) (λ t. refl) (λ xs. refl) }
 
 pub word-laws : {M : Type 0} (m : M) (w : List ℕ) (i : ℕ) → only i (place keywords w) ≡ true → Lawful {M = M} (fixed (Ident w)) false (only i) none
 word-laws m w i h = fixed-laws m (Ident w) i h (word-back w) (word-exact w)
@@ -91,11 +90,11 @@ module _ {M A : Type 0} {r : Rule M A} {e : Bool} {f g : Set} (spell : A → Row
     rows = λ t. ap tokens (stepped t) ∙ l.traced.rows t ∙ sym (spelled t);
     quiet = λ t. subst Quiet (sym (stepped t)) (l.traced.quiet t);
     placed = λ t z h. subst (λ u. ArePlaced None u z) (sym (stepped t)) (l.traced.placed t z (ends_obeys t z h));
-    blind = l.traced.blind;
     ok = λ xs x h. l.traced.ok xs x h ∙ sym (stepped x.0);
     halts = λ xs e h.
         let v = l.traced.halts xs e h in
         record { rest = v.rest; parts = v.parts; left_is = v.left_is; placed = v.placed; tree = v.tree; tree_may = allows v.tree v.tree_may; later = v.later; goes_on = stepped v.tree ∙ v.goes_on; deep = v.deep };
+    stops = l.traced.stops;
     agrees = λ front rest t z more h q alike. l.traced.agrees front rest t z more (ends_obeys t z h) (ap (λ v. v ++ z) (sym (spelled t)) ∙ q) alike ∙ ap (λ u. until (length front) u) (sym (stepped t));
   }
 
@@ -250,8 +249,8 @@ unstarted-laws {b = b} {eb = eb} {fb = fb} {gb = gb} P l some m s = record {
 -- what is noted behind a rule of which all trees can be read
 pub noting-laws : {M A : Type 0} {a : Rule M A} {f g : Set} (note : A → Event M) → Lawful a false f g → ((t : A) → a.may t → a.fits t)
     → ((t : A) (y z : Rows M) → a.ends t y → Alike (a.spell t) y z → a.ends t z) → ((t : A) → 0 < length (a.spell t))
-    → ((t : A) (z : Rows M) → a.ends t z → IsPlaced (last_row None (a.spell t)) (note t) z) → Lawful (noting note a) false f g
-noting-laws {M} {A} {a = a} {f = f} {g = g} note l whole prompt nonempty placed = record {
+    → ((t : A) (z : Rows M) → a.ends t z → IsPlaced (last_row None (a.spell t)) (note t) z) → ((t : A) → is_too_deep (note t) ≡ false) → Lawful (noting note a) false f g
+noting-laws {M} {A} {a = a} {f = f} {g = g} note l whole prompt nonempty placed shallow = record {
   spelled = record { starts = l.spelled.starts; follow = l.spelled.follow; ahead = l.spelled.ahead; once = l.spelled.once };
   read = record {
     some = l.read.some;
@@ -259,11 +258,11 @@ noting-laws {M} {A} {a = a} {f = f} {g = g} note l whole prompt nonempty placed 
     within = l.read.within;
     takes = λ xs x h. let k = l.read.takes xs x h in record { parts = k.parts; fits = k.fits; ends = k.ends };
     again = l.read.again;
-    viable = viable-of (noting note a) (noting-traced note a f g l.spelled l.read l.traced whole prompt nonempty placed);
+    viable = viable-of (noting note a) (noting-traced note a f g l.spelled l.read l.traced whole prompt nonempty placed shallow);
     tight = λ d front s rest n h t z more c k j. l.read.tight d front s rest n h t z more (noted-concerned d t c) k j;
     short = l.read.short;
   };
-  traced = noting-traced note a f g l.spelled l.read l.traced whole prompt nonempty placed;
+  traced = noting-traced note a f g l.spelled l.read l.traced whole prompt nonempty placed shallow;
 }
   where
     noted-concerned : (d : Refusal) (t : A) → Concerns (noting note a) d t → Concerns a d t

@@ -144,9 +144,9 @@ sealed-traced l = record {
   rows = l.traced.rows;
   quiet = l.traced.quiet;
   placed = λ t z h. l.traced.placed t z (l.spelled.follow t z h (stops-none z));
-  blind = l.traced.blind;
   ok = l.traced.ok;
   halts = λ xs e h. let v = l.traced.halts xs e h in record { rest = v.rest; parts = v.parts; left_is = v.left_is; placed = v.placed; tree = v.tree; tree_may = v.tree_may; later = v.later; goes_on = v.goes_on; deep = v.deep };
+  stops = l.traced.stops;
   agrees = λ front rest t z more h q alike. l.traced.agrees front rest t z more (l.spelled.follow t z h (stops-none z)) q alike;
 }
 

@@ -4,9 +4,11 @@ pub mod Words
 pub mod Sets
 pub mod Laws
 pub mod Reading
-pub mod Blind
+pub mod Marks
+pub mod MarksOfRules
 pub mod StepLists
 pub mod Placing
+pub mod EndsDeep
 pub mod Tracing
 pub mod ReadingTokens
 pub mod Choosing
@@ -36,9 +38,11 @@ pub mod Holding
 pub mod NotedFiles
 pub mod Located
 pub mod Main
+pub mod MarkLaws
 pub mod Numbers
 pub mod PassedOver
 pub mod NotedTrue
+pub mod PlaceLaws
 pub mod NotedTrueOf
 pub mod Insides
 pub mod InsideLaws

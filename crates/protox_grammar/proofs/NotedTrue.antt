@@ -19,11 +19,13 @@ use Rattle.protox_grammar.specs.Reads.{read}
 use Rattle.protox_grammar.specs.Bodies as rule
 use Rattle.protox_grammar.specs.Steps.{ANode, APackage, AKeyword, ADeepBody, ADeeperBody, AnOpenBrace, ACloseBrace, Token, Note, Steps, tokens, until}
 use Rattle.protox_grammar.specs.Noted.{noted_nodes, steps, trace}
-use Rattle.protox_grammar.specs.CheckLaws.{NotedIsTrue, tokens_of, noted_by, steps_by}
-use Rattle.protox_grammar.proofs.Takes.{bind_ok}
-use Rattle.protox_grammar.proofs.Blind.{same-head}
-use Rattle.protox_grammar.proofs.StepLists.{tokens-append, take-front, until-ends, deep-whole, until-until, until-at-most, until-front}
+use Rattle.protox_grammar.specs.CheckLaws.{AllIsNoted, NotedIsTrue, tokens_of, noted_by, steps_by}
+use Rattle.protox_grammar.specs.MarkLaws.{IsSameOutcome}
+use Rattle.protox_grammar.proofs.Marks.{head-same-shapes}
+use Rattle.protox_grammar.proofs.MarkLaws.{same_outcome}
+use Rattle.protox_grammar.proofs.StepLists.{until-all, tokens-append, take-front, until-ends, deep-whole, until-until, until-at-most, until-front}
 use Rattle.protox_grammar.proofs.Main as main
+use Rattle.protox_grammar.proofs.EndsDeep.{stops-ends}
 use Rattle.protox_grammar.proofs.Holding.{Holds, any-holds, holds-any, holds-one, holds-of}
 use Rattle.protox_grammar.proofs.NotedFiles.{file-noted}
 use Rattle.protox_grammar.proofs.Located.{Located, locate}
@@ -78,16 +80,25 @@ completed-at xs (Err e) h =
     let v = (main.laws 0 31).traced.halts xs e h in
     record { rest = v.rest; parts = v.parts; placed = v.placed; tree = v.tree; keeps = main.of-may 0 31 v.tree v.tree_may; later = v.later; goes_on = v.goes_on }
 
+-- behind the last token nothing more is noted
+pub all_is_noted : AllIsNoted
+all_is_noted lexemes n h =
+    let xs = tokens_of lexemes in
+    let c = completed-at xs ((main.file_at 0 31).read xs) refl in
+    until-all n (trace 31 xs) (omega (arith, h, ap length c.parts, length-append (tokens (trace 31 xs)) c.rest, numbered-length 0 (shapes (rows_of lexemes)), shapes-length (rows_of lexemes)))
+    (stops-ends ((main.file_at 0 31).read xs) (trace 31 xs) ((main.laws 0 31).traced.stops xs))
+
+read-too : (f : t.File ℕ) (other : Result (t.File ℕ) Refusal) → IsSameOutcome (Ok f) other → (g : t.File ℕ) × (other ≡ Ok g)
+read-too f (Ok g) h = (g, refl)
+read-too f (Err e) h = absurd h
+
 -- the same file with other marks
 pub remarked : (f : t.File ℕ) → k.KeepsKeywords f → (rows : Rows ℕ) → shapes rows ≡ shapes (s.spell f) → (g : t.File ℕ) × Spells rows g
-unfolding read
 remarked f h rows e =
     let n = d.depth f in
     let a : read n (s.spell f) ≡ Ok f = (main.accepts_iff 0 n (s.spell f) f).1 ((refl, h), omega arith) in
-    let p = bind_ok ((main.file_at 0 n).read (s.spell f)) (λ x. Ok x.0) f a in
-    let v = (main.laws 0 n).traced.blind (s.spell f) rows (sym e) p.0 p.1 in
-    let b : read n rows ≡ Ok v.0.0 = rw v.1 refl in
-    (v.0.0, ((main.accepts_iff 0 n rows v.0.0).0 b).0)
+    let b = read-too f (read n rows) (subst (λ u. IsSameOutcome u (read n rows)) a (same_outcome n (s.spell f) rows (sym e))) in
+    (b.0, ((main.accepts_iff 0 n rows b.0).0 b.1).0)
 
 module _ (lexemes : List Lexeme) (n : ℕ) (wrong : ParseErrorKind) (e : CheckedNode ℕ) (is-wrong : WrongCheckedNode (token_span (rows_of lexemes)) e wrong) (noted : Holds (λ u. u ≡ e) (noted_by lexemes n)) where
   abbrev xs : Rows ℕ
@@ -156,12 +167,12 @@ module _ (lexemes : List Lexeme) (n : ℕ) (wrong : ParseErrorKind) (e : Checked
 
     next-is : (m : ℕ) → is_run e ≡ true → head_in is_string (numbered m (drop end all_shapes)) ≡ false
     next-is m g =
-        same-head is_string (numbered m (drop end all_shapes)) (v.behind ++ (tokens j ++ c.rest)) (shapes-numbered m (drop end all_shapes) ∙ drop-is)
+        head-same-shapes is_string (numbered m (drop end all_shapes)) (v.behind ++ (tokens j ++ c.rest)) (shapes-numbered m (drop end all_shapes) ∙ drop-is)
         ∙ (v.facts.2 (ap is_run node-is ∙ g)).0
 
     more-is : (m : ℕ) → is_run e ≡ true → head_in is_string (numbered m more) ≡ false
     more-is m g =
-        same-head is_string (numbered m more) (v.behind ++ tokens (j ++ c.later)) (shapes-numbered m more)
+        head-same-shapes is_string (numbered m more) (v.behind ++ tokens (j ++ c.later)) (shapes-numbered m more)
         ∙ ap (λ u. head_in is_string (v.behind ++ u)) (sym (append-nil (tokens (j ++ c.later)))) ∙ (v.facts.2 (ap is_run node-is ∙ g)).1
 
     before-wrong : IsWrongBefore lexemes end wrong e

@@ -9,8 +9,6 @@ use Rattle.protox_ast.specs.Tree as t
 use Rattle.protox_ast.specs.Spelling as s
 use Rattle.protox_ast.specs.Keywords as k
 use Rattle.protox_grammar.specs.Rules as r
-use Rattle.protox_grammar.specs.Reader.{fixed}
-use Rattle.protox_grammar.proofs.Blind.{seq-blind, balanced-blind, fixed-blind}
 use Rattle.protox_grammar.proofs.TracingNotes.{plain-traced}
 use Rattle.protox_grammar.proofs.Closed.{closed-spelled, closed-read, closed-deep}
 use Rattle.protox_grammar.proofs.Forms.{Lawful, word-laws, mark-laws, seq-laws, choice-laws, optional-laws, times-laws, named-laws, wide, noting-laws}
@@ -19,14 +17,14 @@ use Rattle.protox_grammar.proofs.Placing.{IsPlaced, last-past}
 
 module _ {M : Type 0} (m : M) where
   closed-laws : Lawful {M = M} r.closed false all none
-  closed-laws = record { spelled = closed-spelled; read = closed-read m; traced = plain-traced r.closed false all none closed-spelled (closed-read m) closed-deep (λ t. refl) (λ xs. refl) (seq-blind (r.balanced_at 0) (fixed (Mark s.close_brace)) (balanced-blind 0) (fixed-blind (Mark s.close_brace))) }
+  closed-laws = record { spelled = closed-spelled; read = closed-read m; traced = plain-traced r.closed false all none closed-spelled (closed-read m) closed-deep (λ t. refl) (λ xs. refl) }
 
   opened-laws : Lawful {M = M} (noting AnOpenBrace (r.sign s.open_brace)) false (only 47) none
-  opened-laws = noting-laws AnOpenBrace (mark-laws m s.open_brace 47 refl) (λ x h. tt) (λ x y z h a. tt) (λ x. omega arith) (λ x z h. (refl, refl, λ g. absurd cc))
+  opened-laws = noting-laws AnOpenBrace (mark-laws m s.open_brace 47 refl) (λ x h. tt) (λ x y z h a. tt) (λ x. omega arith) (λ x z h. (refl, refl, λ g. absurd cc)) (λ x. refl)
 
   noted_closed-laws : Lawful {M = M} (noting (λ x. ACloseBrace x.1) r.closed) false all none
   noted_closed-laws = noting-laws (λ x. ACloseBrace x.1) closed-laws (λ x h. h) (λ x y z h a. h) (λ x. omega (arith, length-append x.0 (row (Mark s.close_brace) x.1 ∷ [])))
-      (λ x z h. subst (λ u. IsPlaced u (ACloseBrace x.1) z) (sym (last-past None x.0 (row (Mark s.close_brace) x.1) [])) (refl, refl, λ g. absurd cc))
+      (λ x z h. subst (λ u. IsPlaced u (ACloseBrace x.1) z) (sym (last-past None x.0 (row (Mark s.close_brace) x.1) [])) (refl, refl, λ g. absurd cc)) (λ x. refl)
 
   part-back : (x : t.Part M) → r.to_part (r.from_part x) ≡ x
   part-back (t.plain_part a) = refl

@@ -16,7 +16,6 @@ use Rattle.protox_grammar.proofs.Sets.{place-le}
 use Rattle.protox_grammar.proofs.Laws.{leaf-spelled}
 use Rattle.protox_grammar.proofs.Reading.{chosen}
 use Rattle.protox_grammar.proofs.ReadingTokens.{leaf-read, leaf-deep}
-use Rattle.protox_grammar.proofs.Blind.{leaf-blind}
 use Rattle.protox_grammar.proofs.TracingNotes.{plain-traced}
 use Rattle.protox_grammar.proofs.Tracing.{Alike}
 use Rattle.protox_grammar.specs.Steps.{ANode, APackage}
@@ -57,7 +56,7 @@ module _ {M : Type 0} (m : M) where
   ident-laws =
       let l = leaf-spelled see_word Ident words words-at (λ x. refl) in
       let rd = leaf-read ([], m) see_word Ident (λ x. refl) exact in
-      record { spelled = l; read = rd; traced = plain-traced r.ident false words none l rd (leaf-deep ([], m) see_word Ident (λ x. refl) exact) (λ t. refl) (λ xs. refl) (leaf-blind see_word) }
+      record { spelled = l; read = rd; traced = plain-traced r.ident false words none l rd (leaf-deep ([], m) see_word Ident (λ x. refl) exact) (λ t. refl) (λ xs. refl) }
     where
       exact : (s : Shape) (x : List ℕ) → see_word s ≡ Some x → s ≡ Ident x
       exact (Ident t) x e = cc
@@ -67,7 +66,7 @@ module _ {M : Type 0} (m : M) where
   integer-laws =
       let l = leaf-spelled see_integer shape.Int (only 39) (λ x. refl) (λ x. refl) in
       let rd = leaf-read (0, m) see_integer shape.Int (λ x. refl) exact in
-      record { spelled = l; read = rd; traced = plain-traced r.integer false (only 39) none l rd (leaf-deep (0, m) see_integer shape.Int (λ x. refl) exact) (λ t. refl) (λ xs. refl) (leaf-blind see_integer) }
+      record { spelled = l; read = rd; traced = plain-traced r.integer false (only 39) none l rd (leaf-deep (0, m) see_integer shape.Int (λ x. refl) exact) (λ t. refl) (λ xs. refl) }
     where
       exact : (s : Shape) (x : ℕ) → see_integer s ≡ Some x → s ≡ shape.Int x
       exact (shape.Int t) x e = cc
@@ -77,7 +76,7 @@ module _ {M : Type 0} (m : M) where
   float-laws =
       let l = leaf-spelled see_float shape.Float (only 40) (λ x. refl) (λ x. refl) in
       let rd = leaf-read ([], m) see_float shape.Float (λ x. refl) exact in
-      record { spelled = l; read = rd; traced = plain-traced r.float false (only 40) none l rd (leaf-deep ([], m) see_float shape.Float (λ x. refl) exact) (λ t. refl) (λ xs. refl) (leaf-blind see_float) }
+      record { spelled = l; read = rd; traced = plain-traced r.float false (only 40) none l rd (leaf-deep ([], m) see_float shape.Float (λ x. refl) exact) (λ t. refl) (λ xs. refl) }
     where
       exact : (s : Shape) (x : List ℕ) → see_float s ≡ Some x → s ≡ shape.Float x
       exact (shape.Float t) x e = cc
@@ -87,7 +86,7 @@ module _ {M : Type 0} (m : M) where
   string-laws =
       let l = leaf-spelled see_text Str (only 41) (λ x. refl) (λ x. refl) in
       let rd = leaf-read ([], m) see_text Str (λ x. refl) exact in
-      record { spelled = l; read = rd; traced = plain-traced r.string false (only 41) none l rd (leaf-deep ([], m) see_text Str (λ x. refl) exact) (λ t. refl) (λ xs. refl) (leaf-blind see_text) }
+      record { spelled = l; read = rd; traced = plain-traced r.string false (only 41) none l rd (leaf-deep ([], m) see_text Str (λ x. refl) exact) (λ t. refl) (λ xs. refl) }
     where
       exact : (s : Shape) (x : List ℕ) → see_text s ≡ Some x → s ≡ Str x
       exact (Str t) x e = cc
@@ -131,7 +130,7 @@ module _ {M : Type 0} (m : M) where
   scalar-laws =
       let l = leaf-spelled r.see_scalar r.scalar_shape r.scalar_set scalar-in scalar-back in
       let rd = leaf-read (t.double, m) r.see_scalar r.scalar_shape scalar-back exact in
-      record { spelled = l; read = rd; traced = plain-traced r.scalar false r.scalar_set none l rd (leaf-deep (t.double, m) r.see_scalar r.scalar_shape scalar-back exact) (λ t. refl) (λ xs. refl) (leaf-blind r.see_scalar) }
+      record { spelled = l; read = rd; traced = plain-traced r.scalar false r.scalar_set none l rd (leaf-deep (t.double, m) r.see_scalar r.scalar_shape scalar-back exact) (λ t. refl) (λ xs. refl) }
     where
       exact : (s : Shape) (x : t.Scalar) → r.see_scalar s ≡ Some x → s ≡ r.scalar_shape x
       exact (Ident w) x e = ap Ident (find-exact r.all_scalars w x e)
@@ -192,7 +191,7 @@ module _ {M : Type 0} (m : M) where
 
   pub noted_strings-laws : (node : t.Strings M → CheckedNode M) → ((x : t.Strings M) → run_end x ≡ node_end (node x)) → ((x : t.Strings M) → true ≡ is_run (node x)) → Lawful {M = M} (r.noted_strings node) false (only 41) (only 41)
   unfolding r.strings
-  noted_strings-laws node e run = noting-laws (λ x. ANode (node x)) strings-laws (λ x h. h) run-prompt (λ x. omega arith) (run-placed node e run)
+  noted_strings-laws node e run = noting-laws (λ x. ANode (node x)) strings-laws (λ x h. h) run-prompt (λ x. omega arith) (run-placed node e run) (λ x. refl)
 
   pub syntax-laws : Lawful {M = M} r.syntax false (only 0) none
   unfolding r.syntax r.strings
@@ -250,7 +249,7 @@ module _ {M : Type 0} (m : M) where
   pub noted_package-laws : Lawful {M = M} (noting APackage r.«package») false (only 1) none
   unfolding r.«package» r.fullident
   noted_package-laws = noting-laws APackage package-laws (λ x h. tt) (λ x y z h a. package-laws.spelled.follow x z tt (stops-none z)) (λ x. omega arith)
-      (λ x z h. subst (λ u. IsPlaced u (APackage x) z) (sym (last-past (Some (row (Ident (codes "package")) x.keyword)) (s.fullident x.name) (row (shape.Mark s.semicolon) x.end) [])) (refl, refl, λ g. absurd cc))
+      (λ x z h. subst (λ u. IsPlaced u (APackage x) z) (sym (last-past (Some (row (Ident (codes "package")) x.keyword)) (s.fullident x.name) (row (shape.Mark s.semicolon) x.end) [])) (refl, refl, λ g. absurd cc)) (λ x. refl)
 
   pub typename-laws : Lawful {M = M} r.typename false (union (only 42) words) (only 42)
   unfolding r.typename r.fullident

@@ -159,6 +159,10 @@ EndsDeep [] = Unit {0}
 EndsDeep (Token r ∷ l) = EndsDeep l
 EndsDeep (Note e ∷ l) = (is_too_deep e ≡ true → l ≡ []) × EndsDeep l
 
+not-both : (b : Bool) → b ≡ true → b ≡ false → ⊥
+not-both true q h = absurd cc
+not-both false q h = absurd cc
+
 pub until-ends : {M : Type 0} (n : ℕ) (l : Steps M) → EndsDeep (until n l)
 until-ends zero [] = tt
 until-ends (suc n) [] = tt
@@ -168,11 +172,7 @@ until-ends n (Note e ∷ l) = subst EndsDeep (sym (until-note n e l)) (under e (
   where
     under : {M : Type 0} (e : Event M) (b : Bool) → is_too_deep e ≡ b → (k : Steps M) → EndsDeep k → EndsDeep (Note e ∷ cond b [] k)
     under e true h k g = (λ q. refl, tt)
-    under e false h k g = (λ q. absurd (no (is_too_deep e) q h), g)
-      where
-        no : (b : Bool) → b ≡ true → b ≡ false → ⊥
-        no true q h = absurd cc
-        no false q h = absurd cc
+    under e false h k g = (λ q. absurd (not-both (is_too_deep e) q h), g)
 
 pub deep-whole : {M : Type 0} (n : ℕ) (l : Steps M) → EndsDeep l → has_deep (until n l) ≡ true → until n l ≡ l
 deep-whole zero [] g h = refl
@@ -220,3 +220,40 @@ until-front {M} n (Note e ∷ l) = subst (λ u. (k : Steps M) × (Note e ∷ l �
     under : {M : Type 0} (e : Event M) (b : Bool) (l c : Steps M) → (k : Steps M) × (l ≡ c ++ k) → (k : Steps M) × (Note e ∷ l ≡ (Note e ∷ cond b [] c) ++ k)
     under e true l c v = (l, refl)
     under e false l c v = (v.0, ap (λ u. Note e ∷ u) v.1)
+
+-- ---- what is too deep, at the end alone
+
+neither : (b c : Bool) → b || c ≡ false → (b ≡ false) × (c ≡ false)
+neither true c h = absurd cc
+neither false c h = (refl, h)
+
+pub shallow-ends : {M : Type 0} (l : Steps M) → has_deep l ≡ false → EndsDeep l
+shallow-ends [] h = tt
+shallow-ends (Token r ∷ l) h = shallow-ends l h
+shallow-ends (Note e ∷ l) h = let p = neither (is_too_deep e) (has_deep l) h in (λ q. absurd (not-both (is_too_deep e) q p.0), shallow-ends l p.1)
+
+pub deep-behind : {M : Type 0} (l k : Steps M) → has_deep l ≡ false → has_deep (l ++ k) ≡ has_deep k
+deep-behind [] k h = refl
+deep-behind (Token r ∷ l) k h = deep-behind l k h
+deep-behind (Note e ∷ l) k h = let p = neither (is_too_deep e) (has_deep l) h in (λ i. p.0 i || has_deep (l ++ k)) ∙ deep-behind l k p.1
+
+pub ends-behind : {M : Type 0} (l k : Steps M) → has_deep l ≡ false → EndsDeep k → EndsDeep (l ++ k)
+ends-behind [] k h g = g
+ends-behind (Token r ∷ l) k h g = ends-behind l k h g
+ends-behind (Note e ∷ l) k h g = let p = neither (is_too_deep e) (has_deep l) h in (λ q. absurd (not-both (is_too_deep e) q p.0), ends-behind l k p.1 g)
+
+pub plainly-shallow : {M : Type 0} (xs : Rows M) → has_deep (plainly xs) ≡ false
+plainly-shallow [] = refl
+plainly-shallow (x ∷ xs) = plainly-shallow xs
+
+-- where all rows are taken the front is the whole
+pub until-all : {M : Type 0} (n : ℕ) (l : Steps M) → length (tokens l) ≤ n → EndsDeep l → until n l ≡ l
+until-all zero [] h g = refl
+until-all (suc n) [] h g = refl
+until-all zero (Token r ∷ l) h g = absurd (omega (arith, h))
+until-all (suc n) (Token r ∷ l) h g = ap (λ v. Token r ∷ v) (until-all n l (omega (arith, h)) g)
+until-all n (Note e ∷ l) h g = until-note n e l ∙ ap (λ v. Note e ∷ v) (under e (is_too_deep e) l (until n l) g.0 (until-all n l h g.1))
+  where
+    under : {M : Type 0} (e : Event M) (b : Bool) (l k : Steps M) → (b ≡ true → l ≡ []) → k ≡ l → cond b [] k ≡ l
+    under e true l k f q = sym (f refl)
+    under e false l k f q = q

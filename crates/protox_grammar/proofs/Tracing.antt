@@ -8,8 +8,8 @@ use Rattle.protox_grammar.specs.Rule.{Rule}
 use Rattle.protox_grammar.specs.Steps.{Token, Note, Steps, tokens, until, has_deep, then_steps}
 use Rattle.protox_grammar.proofs.Laws.{IsSpelled}
 use Rattle.protox_grammar.proofs.Reading.{IsRead, Begins, Viable}
-use Rattle.protox_grammar.proofs.Blind.{IsBlind}
 use Rattle.protox_grammar.proofs.StepLists.{Quiet, quiet-front, tokens-append, until-past, until-same, deep-until, deep-or, until-fewer, apart-of}
+use Rattle.protox_grammar.proofs.EndsDeep.{StopsDeep}
 use Rattle.protox_grammar.proofs.Placing.{last_row, is_string_row, ArePlaced, last-past}
 
 -- behind a string either both lists begin with a string or none
@@ -37,9 +37,9 @@ pub record IsTraced {M A : Type 0} (r : Rule M A) : Type 0 where
   pub rows : (t : A) → tokens (r.steps t) ≡ r.spell t
   pub quiet : (t : A) → Quiet (r.steps t)
   pub placed : (t : A) (z : Rows M) → r.ends t z → ArePlaced None (r.steps t) z
-  pub blind : IsBlind r.read
   pub ok : (xs : Rows M) (x : A × Rows M) → r.read xs ≡ Ok x → r.trace xs ≡ r.steps x.0
   pub halts : (xs : Rows M) (e : Refusal) → r.read xs ≡ Err e → Halts r xs e
+  pub stops : (xs : Rows M) → StopsDeep (r.read xs) (r.trace xs)
   -- the steps up to the end of a front depend on the front alone, but for a run of strings, which the next row ends
   pub agrees : (front rest : Rows M) (t : A) (z more : Rows M) → r.ends t z → r.spell t ++ z ≡ front ++ more → Alike front rest more
       → until (length front) (r.trace (front ++ rest)) ≡ until (length front) (r.steps t)

@@ -10,9 +10,9 @@ use Rattle.protox_grammar.proofs.Takes.{bind_ok, ok_is}
 use Rattle.protox_grammar.proofs.Sets.{starts-within}
 use Rattle.protox_grammar.proofs.Laws.{IsSpelled}
 use Rattle.protox_grammar.proofs.Reading.{IsRead, err-ok, failed, chosen, map_err, head-starts, head-stops, ok-err}
-use Rattle.protox_grammar.proofs.Blind.{mapped-blind, peek-blind, either-blind, unstarted-blind}
 use Rattle.protox_grammar.proofs.StepLists.{Quiet, until-quiet}
 use Rattle.protox_grammar.proofs.Tracing.{Alike, IsLeft, Halts, IsTraced, silent}
+use Rattle.protox_grammar.proofs.EndsDeep.{StopsDeep, stops-if, stops-mapped, stops-shallow}
 use Rattle.protox_grammar.proofs.Placing.{ArePlaced}
 
 same-refusal : (A : Type 0) (d e : Refusal) → failed A d ≡ failed A e → d ≡ e
@@ -116,8 +116,11 @@ module _ {M A B : Type 0} (p : Shape → Bool) (P : Set) (a : Rule M A) (b : Rul
   either-placed (inl t) z h = ta.placed t z h
   either-placed (inr t) z h = tb.placed t z h.0
 
+  either-stops : (xs : Rows M) → StopsDeep (rule.read xs) (rule.trace xs)
+  either-stops xs = stops-if (head_in p xs) (reader.mapped inl a.read xs) (reader.mapped inr b.read xs) (a.trace xs) (b.trace xs) (stops-mapped inl (a.read xs) (a.trace xs) (ta.stops xs)) (stops-mapped inr (b.read xs) (b.trace xs) (tb.stops xs))
+
   pub either-traced : IsTraced (either p P a b)
-  either-traced = record { rows = either-rows; quiet = either-quiet; placed = either-placed; blind = either-blind p (reader.mapped inl a.read) (reader.mapped inr b.read) (mapped-blind inl a.read ta.blind) (mapped-blind inr b.read tb.blind); ok = either-ok; halts = either-halts; agrees = either-agrees }
+  either-traced = record { rows = either-rows; quiet = either-quiet; placed = either-placed; ok = either-ok; halts = either-halts; agrees = either-agrees; stops = either-stops }
 
 -- ---- a test of the next row
 
@@ -135,12 +138,12 @@ module _ {M : Type 0} (G : Set) where
     rows = λ t. refl;
     quiet = λ t. tt;
     placed = λ t z h. tt;
-    blind = peek-blind (in_set G);
     ok = λ xs x h. refl;
     halts = λ xs e h.
         let same = peek-fails xs e h in
         record { rest = xs; parts = refl; left_is = subst (λ u. IsLeft u (length xs)) same refl; placed = tt; tree = tt; tree_may = tt; later = []; goes_on = refl; deep = λ n k. absurd (never-both (length xs) n (same ∙ k)) };
     agrees = λ front rest t z more h q alike. refl;
+    stops = λ xs. stops-shallow (reader.peek (in_set G) xs) [] refl;
   }
 
 -- ---- what doesn't begin with a token of a set
@@ -160,7 +163,6 @@ module _ {M B : Type 0} (P : Set) (b : Rule M B) (eb : Bool) (fb gb : Set) (lb :
     rows = tb.rows;
     quiet = tb.quiet;
     placed = λ t z h. tb.placed t z h.0;
-    blind = unstarted-blind (in_set P) b.read tb.blind;
     ok = λ xs x h. elim (chosen (head_in (in_set P) xs) (failed (B × Rows M) (Unexpected (length xs))) (b.read xs) (Ok x) h) [
       | inl c ↦ absurd (err-ok x _ c.1)
       | inr c ↦ on-other xs c.0 ∙ tb.ok xs x c.1
@@ -197,6 +199,7 @@ module _ {M B : Type 0} (P : Set) (b : Rule M B) (eb : Bool) (fb gb : Set) (lb :
           }
     ];
     agrees = barred-agrees;
+    stops = λ xs. stops-if (head_in (in_set P) xs) (failed (B × Rows M) (Unexpected (length xs))) (b.read xs) [] (b.trace xs) tt (tb.stops xs);
   }
     where
       begun-other : (xs : Rows M) (rest : Rows M) (l : Steps M) → Quiet l → xs ≡ tokens l ++ rest → head_in (in_set P) xs ≡ false → (tree : B) → b.may tree → (later : Steps M) → b.steps tree ≡ l ++ later

@@ -1,16 +1,16 @@
 -- The laws of steps for a rule with a note behind it, and for one without notes.
-use Rattle.std.proofs.Common.{◌≡◌, ℕ, ◌-◌, ◌<◌, ◌≤◌, Bool, false, [], ◌∷◌, ◌++◌, length, take, None, Result, Ok, Err, refl, sym, ap, subst, ◌∙◌, append_assoc, arith, inl, inr}
+use Rattle.std.proofs.Common.{◌≡◌, ℕ, ◌-◌, ◌<◌, ◌≤◌, Bool, false, ◌||◌, [], ◌∷◌, ◌++◌, length, take, None, Result, Ok, Err, refl, sym, ap, subst, ◌∙◌, append_assoc, arith, inl, inr}
 use Rattle.std.proofs.lemmas.List.{append-nil, length-append}
 use Rattle.protox_lexeme.specs.Shapes.{Rows}
 use Rattle.protox_grammar.specs.Class.{Set}
 use Rattle.protox_grammar.specs.Reader.{Refusal, Unexpected, Deep}
 use Rattle.protox_grammar.specs.Rule.{Rule, noting}
-use Rattle.protox_grammar.specs.Steps.{Event, Token, Note, Steps, tokens, plainly, until, has_deep, then_steps, rows_before, plain_trace}
+use Rattle.protox_grammar.specs.Steps.{Event, Token, Note, Steps, tokens, plainly, is_too_deep, until, has_deep, then_steps, rows_before, plain_trace}
 use Rattle.protox_grammar.proofs.Laws.{IsSpelled, head-same}
 use Rattle.protox_grammar.proofs.Reading.{IsRead, Begins}
-use Rattle.protox_grammar.proofs.Blind.{IsBlind}
-use Rattle.protox_grammar.proofs.StepLists.{Quiet, until-quiet, tokens-append, tokens-plainly, plainly-append, plainly-quiet, until-long, apart-of, take-front}
+use Rattle.protox_grammar.proofs.StepLists.{Quiet, EndsDeep, deep-behind, plainly-shallow, until-quiet, tokens-append, tokens-plainly, plainly-append, plainly-quiet, until-long, apart-of, take-front}
 use Rattle.protox_grammar.proofs.Tracing.{Alike, Halts, IsTraced, then-of, then-none, goes, never-deep, not-inside, inside}
+use Rattle.protox_grammar.proofs.EndsDeep.{StopsDeep, stops-shallow}
 use Rattle.protox_grammar.proofs.Placing.{last_row, is_string_row, IsPlaced, ArePlaced, placed-note, placed-plainly}
 
 -- ---- a note behind a rule
@@ -19,7 +19,8 @@ module _ {M A : Type 0} (note : A → Event M) (a : Rule M A) (fa ga : Set) (la 
     (whole : (t : A) → a.may t → a.fits t)
     (prompt : (t : A) (y z : Rows M) → a.ends t y → Alike (a.spell t) y z → a.ends t z)
     (nonempty : (t : A) → 0 < length (a.spell t))
-    (placed : (t : A) (z : Rows M) → a.ends t z → IsPlaced (last_row None (a.spell t)) (note t) z) where
+    (placed : (t : A) (z : Rows M) → a.ends t z → IsPlaced (last_row None (a.spell t)) (note t) z)
+    (shallow : (t : A) → is_too_deep (note t) ≡ false) where
   abbrev noted : A × Rows M → Steps M
   noted x = Note (note x.0) ∷ []
 
@@ -70,12 +71,15 @@ module _ {M A : Type 0} (note : A → Event M) (a : Rule M A) (fa ga : Set) (la 
     ]
   ]
 
+  noting-stops : (xs : Rows M) (res : Result (A × Rows M) Refusal) → StopsDeep res (a.trace xs) → StopsDeep res (a.trace xs ++ then_steps res noted)
+  noting-stops xs (Ok x) h = deep-behind (a.trace xs) (noted x) h ∙ ap (λ b. b || false) (shallow x.0)
+  noting-stops xs (Err e) h = subst EndsDeep (sym (append-nil (a.trace xs))) h
+
   pub noting-traced : IsTraced (noting note a)
   noting-traced = record {
     rows = λ t. tokens-append (a.steps t) (Note (note t) ∷ []) ∙ append-nil (tokens (a.steps t)) ∙ ta.rows t;
     quiet = λ t. note-quiet (note t) (a.steps t) (ta.quiet t) (some-taken t);
     placed = λ t z h. placed-note None (a.steps t) (note t) z (ta.placed t z h) (subst (λ u. IsPlaced (last_row None u) (note t) z) (sym (ta.rows t)) (placed t z h));
-    blind = ta.blind;
     ok = λ xs x h. noted-trace xs x h;
     halts = λ xs e h.
         let v = ta.halts xs e h in
@@ -92,6 +96,7 @@ module _ {M A : Type 0} (note : A → Event M) (a : Rule M A) (fa ga : Set) (la 
           deep = λ n k. ap has_deep g ∙ v.deep n k;
         };
     agrees = noting-agrees;
+    stops = λ xs. noting-stops xs (a.read xs) (ta.stops xs);
   }
     where
       note-quiet : (e : Event M) (l : Steps M) → Quiet l → 0 < length (tokens l) → Quiet (l ++ (Note e ∷ []))
@@ -105,7 +110,7 @@ module _ {M A : Type 0} (note : A → Event M) (a : Rule M A) (fa ga : Set) (la 
 -- ---- a rule without notes
 
 module _ {M A : Type 0} (r : Rule M A) (e : Bool) (f g : Set) (l : IsSpelled r e f g) (rd : IsRead r) (never : (n : ℕ) (xs : Rows M) → r.read xs ≡ Err (Deep n) → ⊥)
-    (steps-are : (t : A) → r.steps t ≡ plainly (r.spell t)) (trace-is : (xs : Rows M) → r.trace xs ≡ plain_trace r.read xs) (blind : IsBlind r.read) where
+    (steps-are : (t : A) → r.steps t ≡ plainly (r.spell t)) (trace-is : (xs : Rows M) → r.trace xs ≡ plain_trace r.read xs) where
   took-front : (xs ys rest : Rows M) (n : ℕ) → xs ≡ ys ++ rest → n ≡ length rest → take (length xs - n) xs ≡ ys
   took-front xs ys rest n p q =
       ap (λ u. take (length xs - n) u) p ∙ take-front (length xs - n) ys rest (omega (arith, ap length p, length-append ys rest, q))
@@ -185,8 +190,8 @@ module _ {M A : Type 0} (r : Rule M A) (e : Bool) (f g : Set) (l : IsSpelled r e
     rows = λ t. ap tokens (steps-are t) ∙ tokens-plainly (r.spell t);
     quiet = λ t. subst Quiet (sym (steps-are t)) (plainly-quiet (r.spell t));
     placed = λ t z h. subst (λ u. ArePlaced None u z) (sym (steps-are t)) (placed-plainly None (r.spell t) z);
-    blind = blind;
     ok = λ xs x h. plain-ok xs x h ∙ sym (steps-are x.0);
     halts = plain-halts;
     agrees = λ front rest t z more h q alike. unnoted-agrees front rest t z more h q;
+    stops = λ xs. stops-shallow (r.read xs) (r.trace xs) (ap has_deep (trace-is xs) ∙ plainly-shallow (rows_before xs (r.read xs)));
   }

@@ -10,9 +10,9 @@ use Rattle.protox_grammar.specs.Steps.{Token, Note, Steps, tokens, until, has_de
 use Rattle.protox_grammar.proofs.Takes.{bind_ok, ok_is}
 use Rattle.protox_grammar.proofs.Laws.{IsSpelled}
 use Rattle.protox_grammar.proofs.Reading.{IsRead, bind_err, ok-err, map_err}
-use Rattle.protox_grammar.proofs.Blind.{seq-blind, mapped-blind, nothing-blind}
 use Rattle.protox_grammar.proofs.StepLists.{Quiet, quiet-append, tokens-append, has_deep-first}
 use Rattle.protox_grammar.proofs.Tracing.{Alike, Halts, IsTraced, then-of, then-none, silent, sequel}
+use Rattle.protox_grammar.proofs.EndsDeep.{StopsDeep, stops-mapped, stops-then}
 use Rattle.protox_grammar.proofs.Placing.{ArePlaced, placed-append}
 
 -- ---- one after another
@@ -82,12 +82,14 @@ module _ {M A B : Type 0} (a : Rule M A) (b : Rule M B) (ea : Bool) (fa ga : Set
       sequel a ea fa ga la ra ta front rest t.0 (b.spell t.1 ++ z) more h.0 (sym (append_assoc (a.spell t.0) (b.spell t.1) z) ∙ q) alike next (b.steps t.1) (λ x. silent b eb fb gb lb rb tb x.1) (tb.quiet t.1)
       (λ s gs p zs al. tb.agrees (s ∷ gs) rest t.1 z more h.1 zs al)
 
+  both-stop : (xs : Rows M) → StopsDeep (reader.seq a.read b.read xs) ((seq a b).trace xs)
+  both-stop xs = stops-then (a.read xs) (λ x. b.read x.1 >>= λ y. Ok ((x.0, y.0), y.1)) (a.trace xs) next (ta.stops xs) (λ x. stops-mapped (λ y. (x.0, y)) (b.read x.1) (b.trace x.1) (tb.stops x.1))
+
   pub seq-traced : IsTraced (seq a b)
   seq-traced = record {
     rows = both-rows;
     quiet = λ t. quiet-append (a.steps t.0) (b.steps t.1) (ta.quiet t.0) (tb.quiet t.1);
     placed = both-placed;
-    blind = seq-blind a.read b.read ta.blind tb.blind;
     ok = seq-ok;
     halts = λ xs e h. elim (bind_err (a.read xs) (λ v. b.read v.1 >>= λ y. Ok ((v.0, y.0), y.1)) e h) [
       | inl k ↦ halts-first xs e k rb.some rb.some_may (seq a b).may (seq a b).fits (λ t m. (m, rb.some_may))
@@ -97,6 +99,7 @@ module _ {M A B : Type 0} (a : Rule M A) (b : Rule M B) (ea : Bool) (fa ga : Set
       ]
     ];
     agrees = plain-agrees;
+    stops = both-stop;
   }
 
   -- ---- on a condition
@@ -123,7 +126,6 @@ module _ {M A B : Type 0} (a : Rule M A) (b : Rule M B) (ea : Bool) (fa ga : Set
       rows = both-rows;
       quiet = λ t. quiet-append (a.steps t.0) (b.steps t.1) (ta.quiet t.0) (tb.quiet t.1);
       placed = both-placed;
-      blind = seq-blind a.read b.read ta.blind tb.blind;
       ok = seq-ok;
       halts = λ xs e h. elim (bind_err (a.read xs) (λ v. b.read v.1 >>= λ y. Ok ((v.0, y.0), y.1)) e h) [
         | inl k ↦ halts-first xs e k some some_may (joined C a b).may (joined C a b).fits (λ t m. (free t, m, some_may))
@@ -133,6 +135,7 @@ module _ {M A B : Type 0} (a : Rule M A) (b : Rule M B) (ea : Bool) (fa ga : Set
         ]
       ];
       agrees = plain-agrees;
+      stops = both-stop;
     }
 
 -- ---- under another name
@@ -143,7 +146,6 @@ module _ {M A B : Type 0} (to : B → A) (from : A → B) (b : Rule M B) (there 
     rows = λ t. tb.rows (from t);
     quiet = λ t. tb.quiet (from t);
     placed = λ t z h. tb.placed (from t) z h;
-    blind = mapped-blind to b.read tb.blind;
     ok = λ xs x h. let p = bind_ok (b.read xs) (λ y. Ok (to y.0, y.1)) x h in tb.ok xs p.0 p.1 ∙ ap b.steps (sym (there p.0.0)) ∙ ap (λ (u : A × Rows M). b.steps (from u.0)) (ok_is (to p.0.0, p.0.1) x p.2);
     halts = λ xs e h.
         let v = tb.halts xs e (map_err to (b.read xs) e h) in
@@ -159,6 +161,7 @@ module _ {M A B : Type 0} (to : B → A) (from : A → B) (b : Rule M B) (there 
           deep = v.deep;
         };
     agrees = λ front rest t z more h q alike. tb.agrees front rest (from t) z more h q alike;
+    stops = λ xs. stops-mapped to (b.read xs) (b.trace xs) (tb.stops xs);
   }
 
 -- ---- nothing, and a test of the next row
@@ -168,8 +171,8 @@ nothing-traced {M = M} = record {
   rows = λ t. refl;
   quiet = λ t. tt;
   placed = λ t z h. tt;
-  blind = nothing-blind;
   ok = λ xs x h. refl;
   halts = λ xs e h. absurd (ok-err _ e h);
   agrees = λ front rest t z more h q alike. refl;
+  stops = λ xs. refl;
 }

@@ -14,9 +14,9 @@ use Rattle.protox_grammar.proofs.Sets.{starts-within}
 use Rattle.protox_grammar.proofs.Laws.{IsSpelled}
 use Rattle.protox_grammar.proofs.Reading.{IsRead, Took, bind_err, ok-err, err-ok, chosen, head-starts, head-stops}
 use Rattle.protox_grammar.proofs.Repeat.{some-rows}
-use Rattle.protox_grammar.proofs.Blind.{star-blind}
 use Rattle.protox_grammar.proofs.StepLists.{Quiet, until-quiet, quiet-append, tokens-append, has_deep-first}
 use Rattle.protox_grammar.proofs.Tracing.{Alike, IsLeft, IsTraced, then-of, then-none, silent, sequel}
+use Rattle.protox_grammar.proofs.EndsDeep.{StopsDeep, stops-if, stops-mapped, stops-then}
 use Rattle.protox_grammar.proofs.Placing.{ArePlaced, placed-append}
 
 -- ---- again and again
@@ -159,16 +159,22 @@ module _ {M A : Type 0} (p : Shape → Bool) (P : Set) (a : Rule M A) (same : (s
       ∙ sequel a false fa ga la ra ta (f ∷ fs) rest t (many a.spell ts ++ z) more h.0 q' alike (turn n) (steps_of_many a.steps ts) (λ x. turn-silent n x.1) (many-quiet ts)
       (λ s gs p zs al. agrees_at n (s ∷ gs) rest ts z more (omega (arith, l, some-rows P (a.spell t) starts, ap length p, length-append (a.spell t) (s ∷ gs), length-append (f ∷ fs) rest, length-append (s ∷ gs) rest)) h.1 zs al)
 
+  turns-stop : (n : ℕ) (xs : Rows M) → StopsDeep (star_at p a.read n xs) (turns n xs)
+  unfolding star_at star_trace
+  turns-stop zero xs = tt
+  turns-stop (suc n) xs = stops-if (head_in p xs) (a.read xs >>= again_at n) (Ok ([], xs)) (a.trace xs ++ then_steps (a.read xs) (turn n)) []
+      (stops-then (a.read xs) (again_at n) (a.trace xs) (turn n) (ta.stops xs) (λ x. stops-mapped (λ y. x.0 ∷ y) (star_at p a.read n x.1) (turns n x.1) (turns-stop n x.1))) refl
+
   pub star-traced : IsTraced (star p P a)
   unfolding reader.star
   star-traced = record {
     rows = many-rows;
     quiet = many-quiet;
     placed = many-placed;
-    blind = star-blind p a.read ta.blind;
     ok = λ xs x e. ok_at (suc (length xs)) xs x e;
     halts = λ xs e h.
         let v = halts_at (suc (length xs)) xs e (omega arith) h in
         record { rest = v.rest; parts = v.parts; left_is = v.left_is; placed = v.placed; tree = v.tree; tree_may = v.tree_may; later = v.later; goes_on = v.goes_on; deep = v.deep };
+    stops = λ xs. turns-stop (suc (length xs)) xs;
     agrees = λ front rest ts z more h q alike. agrees_at (suc (length (front ++ rest))) front rest ts z more (omega arith) h q alike;
   }

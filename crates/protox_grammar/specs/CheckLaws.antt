@@ -58,6 +58,10 @@ NoneIsPassedOver = (lexemes : List Lexeme) (n : ℕ) (wrong : ParseErrorKind)
 abbrev pub TooDeepIsNoted : Type 0
 TooDeepIsNoted = (lexemes : List Lexeme) (n : ℕ) → is_too_deep_by lexemes n ≡ true → (span : Span) × IsNotedBy lexemes n (MessageNestingTooDeep span)
 
+-- The steps by the last token are all steps of reading: what holds of the first n tokens holds of the whole.
+abbrev pub AllIsNoted : Type 0
+AllIsNoted = (lexemes : List Lexeme) (n : ℕ) → length (rows_of lexemes) ≤ n → steps_by lexemes n ≡ trace levels (tokens_of lexemes)
+
 -- ---- aggregates
 
 -- where some file goes on inside an aggregate, one is open, unless reading ended at a body that is too deep

@@ -7,6 +7,7 @@ pub mod Bodies
 pub mod Reads
 pub mod Noted
 pub mod CheckLaws
+pub mod MarkLaws
 pub mod Grammar
 pub mod OneOfThree
 pub mod TruthLaws

@@ -6,6 +6,7 @@ ghost use Rattle.protox_grammar.specs.Grammar as grammar;
 ghost use Rattle.protox_grammar.specs.OneOfThree as three;
 ghost use Rattle.protox_grammar.specs.TruthLaws as truth;
 ghost use Rattle.protox_grammar.specs.CheckLaws as checks;
+ghost use Rattle.protox_grammar.specs.MarkLaws as marks;
 
 /// No rows are the spelling of two trees that keep the keyword rules.
 pub fn one_tree<M>(_mark: &M)
@@ -65,8 +66,32 @@ pub fn too_deep_is_noted()
     ensures { checks.TooDeepIsNoted }
 {}
 
+/// By the last token of a source all is noted that reading it notes.
+pub fn all_is_noted()
+    ensures { checks.AllIsNoted }
+{}
+
 /// Some file goes on inside an aggregate just where the last brace of an aggregate that was noted opens it.
 pub fn insides_are_open()
     ensures inside { checks.InsideIsOpen }
     ensures open { checks.OpenIsInside }
+{}
+
+/// Rows of the same shapes are read or refused alike, and the same is noted of them, whatever their marks are.
+pub fn marks_change_nothing<M, N>(_mark: &M, _other: &N)
+    ensures outcome { marks.SameOutcome M N }
+    ensures steps { marks.SameSteps M N }
+{}
+
+/// The tokens of a source with their places are those with their numbers, where each number's place is looked up.
+pub fn places_are_looked_up()
+    ensures rows { marks.PlacesAreLookedUp }
+    ensures span { marks.PlacesHaveSpans }
+    ensures bare { marks.SpansAreLeft }
+{}
+
+/// Of the first tokens of a source the same is noted, whether they are marked with their places or with their numbers.
+pub fn places_change_nothing()
+    ensures noted { marks.NotedAlike }
+    ensures wrong { marks.WrongAlike }
 {}

@@ -1,11 +1,14 @@
 -- What is noted while small sources are read, up to each of some tokens, by computing.
-use Rattle.std.proofs.Common.{◌≡◌, ℕ, ◌+◌, Bool, true, false, List, [], ◌∷◌, ◌++◌, length, codes, refl}
+use Rattle.std.proofs.Common.{◌≡◌, ℕ, ◌+◌, Bool, true, false, List, [], ◌∷◌, ◌++◌, length, None, codes, refl}
+use Rattle.protox_fault.specs.Faults.{span_from}
 use Rattle.protox_lexeme.specs.Lexemes.{Lexeme}
 use Rattle.protox_lexeme.specs.Shapes.{Mark}
 use Rattle.protox_ast.specs.CheckedNodes.{ASyntax, AnImport, AReservedName, AGroupName, APackageAgain, ATooDeep}
+use Rattle.protox_ast.specs.Places.{Place}
 use Rattle.protox_ast.specs.Spelling as s
 use Rattle.protox_ast.specs.Tree as t
 use Rattle.protox_grammar.specs.CheckLaws.{noted_by, steps_by, is_too_deep_by}
+use Rattle.protox_grammar.specs.MarkLaws.{placed_nodes_by}
 use Rattle.protox_grammar.specs.Noted.{open_behind}
 use Rattle.protox_grammar.specs.Steps.{tokens, star_trace}
 use Rattle.protox_grammar.specs.Reader as reader
@@ -15,6 +18,10 @@ use Rattle.protox_grammar.proofs.samples.Sources as x
 
 abbrev run : List ℕ → ℕ → t.Strings ℕ
 run value n = record { first = (value, n); others = [] }
+
+-- a place with no comments around it
+abbrev bare_place : ℕ → ℕ → Place
+bare_place low high = record { span = span_from low high; detached = []; leading = None; trailing = None }
 
 abbrev two_strings : t.Strings ℕ
 two_strings = record { first = (codes "pro", 2); others = (codes "to4", 3) ∷ [] }
@@ -40,6 +47,8 @@ record AreNoted : Type 0 where
   run_whole : noted_by x.unknown_run 4 ≡ ASyntax two_strings ∷ []
   import_before : noted_by x.parent 1 ≡ []
   import_there : noted_by x.parent 2 ≡ AnImport (run (codes "..") 1) ∷ []
+  -- the same with places
+  import_placed : placed_nodes_by x.parent 2 ≡ AnImport (record { first = (codes "..", bare_place 7 11); others = [] }) ∷ []
   name_there : noted_by x.digit_first 5 ≡ AReservedName (run (codes "0foo") 4) ∷ []
   -- the name of a group, before the group is whole
   group_before : noted_by x.small_group 5 ≡ []
@@ -70,6 +79,7 @@ are_noted = record {
   run_whole = refl;
   import_before = refl;
   import_there = refl;
+  import_placed = refl;
   name_there = refl;
   group_before = refl;
   group_there = refl;

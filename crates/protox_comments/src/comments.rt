@@ -186,11 +186,11 @@ impl Comments {
 /// The comments of a gap, by the declarations that they belong to.
 #[derive(Drop)]
 pub struct GapComments {
-    /// It trails what stands before the gap.
+    /// It trails the declaration before the gap, or in whose body the gap stands first.
     pub trailing: Option<Text>,
-    /// Those that belong to no declaration.
+    /// They stand apart before the declaration behind the gap, and belong to it too.
     pub detached: Items<Text>,
-    /// It leads what stands behind the gap.
+    /// It leads the declaration behind the gap.
     pub leading: Option<Text>,
 }
 

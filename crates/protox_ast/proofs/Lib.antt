@@ -3,3 +3,4 @@ pub mod NamePlaces
 pub mod NameTests
 pub mod Standing
 pub mod Texts
+pub mod SpansStand

@@ -20,3 +20,4 @@ pub mod Fronts
 pub mod Truth
 pub mod Accepted
 pub mod part
+pub mod Siblings

@@ -4,3 +4,4 @@ pub mod NameTests
 pub mod Standing
 pub mod Texts
 pub mod SpansStand
+pub mod PartsStand

@@ -119,15 +119,16 @@ end-many place spell f rows span h (x ∷ xs) =
 pub none : Hold [] [] []
 none = record { stand = λ low high h. record { spans = h; within = tt } }
 
--- a token that is no part, and one that is
-pub skip : (r : Row Place) → Hold (r ∷ []) [] []
-skip r = record { stand = λ low high h. record { spans = omega (arith, h.0, h.1, h.2); within = tt } }
+-- rows that are not looked into
+pub nothing : (rows : Rows Place) → Hold rows [] []
+nothing rows = record { stand = λ low high h. record { spans = in-order low high rows h; within = tt } }
 
+-- a token that is a part, and one that is none, with what comes behind
 pub one : (r : Row Place) → Hold (r ∷ []) (r.at.span ∷ []) []
 one r = record { stand = λ low high h. record { spans = h; within = tt } }
 
 pub past : {rows : Rows Place} {xs : List Span} {i : List Siblings} (r : Row Place) → Hold rows xs i → Hold (r ∷ rows) xs i
-past {rows} {xs} {i} r f = record { stand = λ low high h. nodes-append low r.at.span.end high [] xs [] i ((skip r).stand low r.at.span.end (h.0, h.1, omega arith)) (f.stand r.at.span.end high h.2) }
+past {rows} {xs} {i} r f = record { stand = λ low high h. nodes-append low r.at.span.end high [] xs [] i ((nothing (r ∷ [])).stand low r.at.span.end (h.0, h.1, omega arith)) (f.stand r.at.span.end high h.2) }
 
 pub token : {rows : Rows Place} {xs : List Span} {i : List Siblings} (r : Row Place) → Hold rows xs i → Hold (r ∷ rows) (r.at.span ∷ xs) i
 token {rows} {xs} {i} r f = record { stand = λ low high h. nodes-append low r.at.span.end high (r.at.span ∷ []) xs [] i ((one r).stand low r.at.span.end (h.0, h.1, omega arith)) (f.stand r.at.span.end high h.2) }
@@ -137,13 +138,13 @@ both a b {xs} {ys} {i} {j} f g = record { stand = λ low high h.
     let p = stand-split low high a b h in
     nodes-append low p.0 high xs ys i j (f.stand low p.0 p.1) (g.stand p.0 high p.2) }
 
--- with no part behind
-pub after : (a b : Rows Place) {xs : List Span} {i : List Siblings} → Hold a xs i → Hold b [] [] → Hold (a ++ b) xs i
-after a b {xs} {i} f g = subst (λ ys. Hold (a ++ b) ys i) (append-nil xs) (subst (λ j. Hold (a ++ b) (xs ++ []) j) (append-nil i) (both a b f g))
+-- with no part before
+pub before : (a b : Rows Place) {xs : List Span} {i : List Siblings} → Hold b xs i → Hold (a ++ b) xs i
+before a b f = both a b (nothing a) f
 
--- rows that are not seen into
-pub unseen : {rows : Rows Place} {xs : List Span} {i : List Siblings} → Hold rows xs i → Hold rows [] []
-unseen {rows} {xs} {i} f = record { stand = λ low high h. record { spans = in-order low high rows h; within = tt } }
+-- with no part behind
+pub after : (a b : Rows Place) {xs : List Span} {i : List Siblings} → Hold a xs i → Hold (a ++ b) xs i
+after a b {xs} {i} f = subst (λ ys. Hold (a ++ b) ys i) (append-nil xs) (subst (λ j. Hold (a ++ b) (xs ++ []) j) (append-nil i) (both a b f (nothing b)))
 
 -- Rows from the start of a span to its end are a node of it.
 pub leaf : {rows : Rows Place} (span : Span) → Begin rows span.start → End rows span.end → IsNode rows span []

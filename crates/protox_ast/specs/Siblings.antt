@@ -171,7 +171,7 @@ enum_siblings x =
 
 abbrev pub method_siblings : Method → List Siblings
 method_siblings x =
-    siblings x.span (x.name.span ∷ (span_if_any x.client_streaming ++ (type_name_spans x.input_ty ++ (span_if_any x.server_streaming ++ type_name_spans x.output_ty))))
+    siblings x.span (x.name.span ∷ ((span_if_any x.client_streaming ++ type_name_spans x.input_ty) ++ (span_if_any x.server_streaming ++ type_name_spans x.output_ty)))
     ∷ siblings x.span (option_spans x.options) ∷ flat_map option_siblings x.options
 
 -- a service's name, its options and its methods

@@ -5,3 +5,4 @@ pub mod Standing
 pub mod Texts
 pub mod SpansStand
 pub mod PartsStand
+pub mod BlocksStand

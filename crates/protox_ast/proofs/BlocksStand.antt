@@ -137,10 +137,10 @@ type-begin (t.named x) = dotted x.leading_dot
     dotted (Some m) = begin-first _ _
 
 -- a map's type, from `map` to `>`
-abbrev map_rows : t.Map Place → Rows Place
+abbrev pub map_rows : t.Map Place → Rows Place
 map_rows x = s.keyword (codes "map") x.keyword ++ (s.sign s.open_angle x.open_at ++ (s.type x.key ++ (s.sign s.comma x.comma_at ++ (s.type x.value ++ s.sign s.close_angle x.close_at))))
 
-abbrev map_tail : t.Map Place → Rows Place
+abbrev pub map_tail : t.Map Place → Rows Place
 map_tail x = s.ident x.name ++ (s.sign s.equals x.equals_sign ++ (s.int x.number ++ (s.maybe s.list x.options ++ s.sign s.semicolon x.end)))
 
 pub map-parts : (x : t.Map Place) → map_rows x ++ map_tail x ≡ s.map x

@@ -6,3 +6,4 @@ pub mod Texts
 pub mod SpansStand
 pub mod PartsStand
 pub mod BlocksStand
+pub mod MessagesStand

@@ -180,7 +180,7 @@ more-lists {rows} {xs} {i} {xss} {j} f g = record { stand = λ low high h.
     let m = g.stand low high h in
     ((n.spans, m.0), each-append (SiblingsStand low high) i j n.within m.1) }
 
-lists-within : (span : Span) (low high : ℕ) (xss : List (List Span)) → low ≤ span.start → span.end ≤ high → Each (SpansStand span.start span.end) xss → Each (SiblingsStand low high) (map (siblings span) xss)
+pub lists-within : (span : Span) (low high : ℕ) (xss : List (List Span)) → low ≤ span.start → span.end ≤ high → Each (SpansStand span.start span.end) xss → Each (SiblingsStand low high) (map (siblings span) xss)
 lists-within span low high [] l m h = tt
 lists-within span low high (xs ∷ xss) l m h = (record { from = l; parts = h.0; to = m }, lists-within span low high xss l m h.1)
 

@@ -7,3 +7,4 @@ pub mod SpansStand
 pub mod PartsStand
 pub mod BlocksStand
 pub mod MessagesStand
+pub mod FilesStand

@@ -16,10 +16,10 @@ use Rattle.protox_ast.specs.Places.{Place, placed}
 use Rattle.protox_ast.specs.Ast as ast
 use Rattle.protox_ast.specs.Siblings.{SpansStand, StartsRise, Siblings, SiblingsStand, siblings, ident_spans, place_if_any, option_siblings, option_spans, import_siblings, package_span, package_siblings, syntax_span, file_node, file_siblings, node_spans, inside_all, spans_in, FileStands}
 use Rattle.protox_ast.proofs.Standing.{Stand, tokens-stand, in-order}
-use Rattle.protox_ast.proofs.SpansStand.{each-append, spans-order, spans-append, spans-wider, Hold, IsNode, Lists, begin-first, end-last, end-back, none, nothing, one, past, both, before, after, leaf, whole, last-list, more-lists, lists-within}
+use Rattle.protox_ast.proofs.SpansStand.{each-append, spans-order, spans-append, spans-wider, Hold, IsNode, Lists, begin-first, end-last, end-back, none, nothing, one, past, both, before, after, leaf, whole, last-list, more-lists, lists-within, HoldAll, kinds-lists, all-none, all-past, all-before}
 use Rattle.protox_ast.proofs.PartsStand.{fullident-hold, strings-node, option-node}
-use Rattle.protox_ast.proofs.BlocksStand.{span_of_some, inside_some, chosen, enum-node, service-node}
-use Rattle.protox_ast.proofs.MessagesStand.{message-is, extend-is}
+use Rattle.protox_ast.proofs.BlocksStand.{span_of_some, inside_some, chosen}
+use Rattle.protox_ast.proofs.MessagesStand.{all-both, message-is, extend-is, enum-is, service-is}
 
 -- ---- declarations
 
@@ -76,16 +76,16 @@ packages-hold (t.a_message x ∷ xs) = before (s.message x) (s.many s.statement 
 packages-hold (t.an_enum x ∷ xs) = before (s.enum x) (s.many s.statement xs) (packages-hold xs)
 packages-hold (t.a_service x ∷ xs) = before (s.service x) (s.many s.statement xs) (packages-hold xs)
 
-items-hold : (xs : List (t.Statement Place)) → Hold (s.many s.statement xs) (node_spans (map file_node (filter_map ast.file_element xs))) (inside_all (map file_node (filter_map ast.file_element xs)))
-items-hold [] = none
-items-hold (t.a_message x ∷ xs) = both (s.message x) (s.many s.statement xs) (message-is x).hold (items-hold xs)
-items-hold (t.an_enum x ∷ xs) = both (s.enum x) (s.many s.statement xs) (enum-node x).hold (items-hold xs)
-items-hold (t.an_extend x ∷ xs) = both (s.extend x) (s.many s.statement xs) (extend-is x).hold (items-hold xs)
-items-hold (t.a_service x ∷ xs) = both (s.service x) (s.many s.statement xs) (service-node x).hold (items-hold xs)
-items-hold (t.an_empty m ∷ xs) = past _ (items-hold xs)
-items-hold (t.an_import x ∷ xs) = before (s.«import» x) (s.many s.statement xs) (items-hold xs)
-items-hold (t.a_package x ∷ xs) = before (s.«package» x) (s.many s.statement xs) (items-hold xs)
-items-hold (t.an_option x ∷ xs) = before (s.option x) (s.many s.statement xs) (items-hold xs)
+items-hold : (xs : List (t.Statement Place)) → HoldAll (s.many s.statement xs) (map file_node (filter_map ast.file_element xs))
+items-hold [] = all-none
+items-hold (t.a_message x ∷ xs) = all-both (s.message x) (s.many s.statement xs) (message-is x) (items-hold xs)
+items-hold (t.an_enum x ∷ xs) = all-both (s.enum x) (s.many s.statement xs) (enum-is x) (items-hold xs)
+items-hold (t.an_extend x ∷ xs) = all-both (s.extend x) (s.many s.statement xs) (extend-is x) (items-hold xs)
+items-hold (t.a_service x ∷ xs) = all-both (s.service x) (s.many s.statement xs) (service-is x) (items-hold xs)
+items-hold (t.an_empty m ∷ xs) = all-past _ (items-hold xs)
+items-hold (t.an_import x ∷ xs) = all-before (s.«import» x) (s.many s.statement xs) (items-hold xs)
+items-hold (t.a_package x ∷ xs) = all-before (s.«package» x) (s.many s.statement xs) (items-hold xs)
+items-hold (t.an_option x ∷ xs) = all-before (s.option x) (s.many s.statement xs) (items-hold xs)
 
 -- ---- the law
 
@@ -99,12 +99,14 @@ pub file-stands : (size : ℕ) (x : t.File Place) → Stand 0 size (s.spell x) �
 file-stands size x h =
     let front = s.maybe s.syntax x.syntax in
     let statements = s.many s.statement x.statements in
+    let items = all-before front statements (items-hold x.statements) in
     let lists =
-        more-lists (after front statements (syntax-hold x.syntax))
+        kinds-lists items
+        (more-lists (after front statements (syntax-hold x.syntax))
         (more-lists (before front statements (packages-hold x.statements))
         (more-lists (before front statements (chosen s.statement ast.imported (λ y. y.span) import_siblings imported-hold x.statements))
         (more-lists (before front statements (chosen s.statement ast.file_option (λ y. y.span) option_siblings options-hold x.statements))
-        (last-list (before front statements (items-hold x.statements))))))
+        (last-list items.hold)))))
     in
     lists-stand size lists h
 

@@ -7,7 +7,7 @@ use Rattle.protox_ast.specs.Keywords.{Each}
 use Rattle.protox_ast.specs.Places.{Place}
 use Rattle.protox_ast.specs.AstParts.{last_place}
 use Rattle.protox_ast.specs.Spelling as s
-use Rattle.protox_ast.specs.Siblings.{SpansStand, Siblings, SiblingsStand, siblings}
+use Rattle.protox_ast.specs.Siblings.{SpansStand, Siblings, SiblingsStand, siblings, SiblingKind, AField, AMessage, AnEnum, AOneof, AnExtend, AnExtension, AService, sibling_kinds, Node, node_spans, inside_all, brought}
 use Rattle.protox_ast.proofs.Standing.{Stand, in-order}
 
 -- ---- each of a list
@@ -183,6 +183,31 @@ more-lists {rows} {xs} {i} {xss} {j} f g = record { stand = λ low high h.
 pub lists-within : (span : Span) (low high : ℕ) (xss : List (List Span)) → low ≤ span.start → span.end ≤ high → Each (SpansStand span.start span.end) xss → Each (SiblingsStand low high) (map (siblings span) xss)
 lists-within span low high [] l m h = tt
 lists-within span low high (xs ∷ xss) l m h = (record { from = l; parts = h.0; to = m }, lists-within span low high xss l m h.1)
+
+-- rows that hold some nodes and those of each kind that they bring
+pub record HoldAll (rows : Rows Place) (nodes : List Node) : Type 0 where
+  pub hold : Hold rows (node_spans nodes) (inside_all nodes)
+  pub bring : (kind : SiblingKind) → Hold rows (brought kind nodes) []
+
+-- what is in them left out
+pub spans-only : {rows : Rows Place} {xs : List Span} {i : List Siblings} → Hold rows xs i → Hold rows xs []
+spans-only {rows} {xs} {i} f = record { stand = λ low high h. record { spans = (f.stand low high h).spans; within = tt } }
+
+pub kinds-lists : {rows : Rows Place} {nodes : List Node} {xss : List (List Span)} {i : List Siblings} → HoldAll rows nodes → Lists rows xss i → Lists rows (map (λ kind. brought kind nodes) sibling_kinds ++ xss) i
+kinds-lists f g =
+    more-lists (f.bring AField) (more-lists (f.bring AMessage) (more-lists (f.bring AnEnum) (more-lists (f.bring AOneof) (more-lists (f.bring AnExtend) (more-lists (f.bring AnExtension) (more-lists (f.bring AService) g))))))
+
+pub all-none : HoldAll [] []
+all-none = record { hold = none; bring = λ kind. none }
+
+pub all-past : {rows : Rows Place} {nodes : List Node} (r : Row Place) → HoldAll rows nodes → HoldAll (r ∷ rows) nodes
+all-past r f = record { hold = past r f.hold; bring = λ kind. past r (f.bring kind) }
+
+pub all-before : (a b : Rows Place) {nodes : List Node} → HoldAll b nodes → HoldAll (a ++ b) nodes
+all-before a b f = record { hold = before a b f.hold; bring = λ kind. before a b (f.bring kind) }
+
+pub all-after : (a b : Rows Place) {nodes : List Node} → HoldAll a nodes → HoldAll (a ++ b) nodes
+all-after a b f = record { hold = after a b f.hold; bring = λ kind. after a b (f.bring kind) }
 
 -- the lists of a node of this span
 pub lists-node : {rows : Rows Place} {xss : List (List Span)} {i : List Siblings} (span : Span) → Begin rows span.start → End rows span.end → Lists rows xss i → IsNode rows span (map (siblings span) xss ++ i)

@@ -187,10 +187,27 @@ service_siblings x =
 
 -- ---- messages, and what holds them or stands in them
 
--- the span of a node, and where the nodes in it stand
+-- the kinds of like siblings in messages and files, which are numbered together
+pub data SiblingKind : Type 0 where
+  -- a field of a message or of a oneof in it
+  AField : SiblingKind
+  -- a message, that of a group, or the entry of a map
+  AMessage : SiblingKind
+  AnEnum : SiblingKind
+  AOneof : SiblingKind
+  AnExtend : SiblingKind
+  -- a field of an extend
+  AnExtension : SiblingKind
+  AService : SiblingKind
+
+abbrev pub sibling_kinds : List SiblingKind
+sibling_kinds = AField ∷ AMessage ∷ AnEnum ∷ AOneof ∷ AnExtend ∷ AnExtension ∷ AService ∷ []
+
+-- the span of a node, where the nodes in it stand, and the spans of those of each kind that it brings
 pub record Node : Type 0 where
   pub span : Span
   pub inside : List Siblings
+  pub brings : SiblingKind → List Span
 
 abbrev pub node_spans : List Node → List Span
 node_spans = map (λ x. x.span)
@@ -198,31 +215,79 @@ node_spans = map (λ x. x.span)
 abbrev pub inside_all : List Node → List Siblings
 inside_all = flat_map (λ x. x.inside)
 
--- of a field's kind: the span of its type, and what stands in it, of the field's own span
+-- those of a kind that these bring
+abbrev pub brought : SiblingKind → List Node → List Span
+brought kind = flat_map (λ x. x.brings kind)
+
+-- the like siblings of each kind, in the message or the file of this span
+abbrev pub like_siblings : Span → List Node → List Siblings
+like_siblings whole items = map (λ kind. siblings whole (brought kind items)) sibling_kinds
+
+abbrev pub field_brings : Span → List Span → SiblingKind → List Span
+field_brings span messages AField = span ∷ []
+field_brings span messages AMessage = messages
+field_brings span messages _ = []
+
+abbrev pub message_brings : Span → SiblingKind → List Span
+message_brings span AMessage = span ∷ []
+message_brings span _ = []
+
+abbrev pub enum_brings : Span → SiblingKind → List Span
+enum_brings span AnEnum = span ∷ []
+enum_brings span _ = []
+
+abbrev pub oneof_brings : Span → List Node → SiblingKind → List Span
+oneof_brings span fields AField = brought AField fields
+oneof_brings span fields AMessage = brought AMessage fields
+oneof_brings span fields AOneof = span ∷ []
+oneof_brings span fields _ = []
+
+abbrev pub extend_brings : Span → List Node → SiblingKind → List Span
+extend_brings span fields AMessage = brought AMessage fields
+extend_brings span fields AnExtend = span ∷ []
+extend_brings span fields AnExtension = brought AField fields
+extend_brings span fields _ = []
+
+abbrev pub service_brings : Span → SiblingKind → List Span
+service_brings span AService = span ∷ []
+service_brings span _ = []
+
+abbrev pub enum_node : Enum → Node
+enum_node x = record { span = x.span; inside = enum_siblings x; brings = enum_brings x.span }
+
+abbrev pub service_node : Service → Node
+service_node x = record { span = x.span; inside = service_siblings x; brings = service_brings x.span }
+
+-- of a field's kind: the span of its type, and of the field's own span what stands in it and the message that it brings
 pub record OfKind : Type 0 where
   pub type : Span
   pub inside : Span → List Siblings
+  pub messages : Span → List Span
 
 abbrev Layer : (Type 0 → Type 0 → Type 0 → Type 0 → Type 0 → Type 0 → Type 0 → Type 0) → Type 0
 Layer F = F OfKind Node Node Node Node (Span → List Siblings) Node
 
 abbrev pub of_field_kind : Layer FieldKind-F → OfKind
-of_field_kind (FieldKind-F.Normal type span) = record { type = span; inside = λ whole. type_siblings type span }
-of_field_kind (FieldKind-F.Group span body) = record { type = span; inside = body }
-of_field_kind (FieldKind-F.Map span key key_span value value_span) =
-    record { type = span; inside = λ whole. siblings span (key_span ∷ (value_span ∷ [])) ∷ (type_siblings key key_span ++ type_siblings value value_span) }
+of_field_kind (FieldKind-F.Normal type span) = record { type = span; inside = λ whole. type_siblings type span; messages = λ whole. [] }
+of_field_kind (FieldKind-F.Group span body) = record { type = span; inside = body; messages = λ whole. whole ∷ [] }
+of_field_kind (FieldKind-F.Map span key key_span value value_span) = record {
+  type = span;
+  inside = λ whole. siblings span (key_span ∷ (value_span ∷ [])) ∷ (type_siblings key key_span ++ type_siblings value value_span);
+  messages = λ whole. whole ∷ [];
+}
 
 abbrev pub of_message_item : Layer MessageItem-F → Node
 of_message_item (MessageItem-F.Field x) = x
-of_message_item (MessageItem-F.Enum x) = record { span = x.span; inside = enum_siblings x }
+of_message_item (MessageItem-F.Enum x) = enum_node x
 of_message_item (MessageItem-F.Message x) = x
 of_message_item (MessageItem-F.Extend x) = x
 of_message_item (MessageItem-F.Oneof x) = x
 
--- of a body in the message or group of this span: its items, its options, its extensions and its reserved statements
+-- of a body in the message or group of this span: its like siblings of each kind, its items, its options, its extensions and its reserved statements
 abbrev pub inside_body : Layer MessageBody-F → Span → List Siblings
 inside_body x whole =
-    siblings whole (node_spans x.items) ∷ siblings whole (option_spans x.options) ∷ siblings whole (extensions_spans x.extensions) ∷ siblings whole (reserved_spans x.reserved)
+    like_siblings whole x.items
+    ++ siblings whole (node_spans x.items) ∷ siblings whole (option_spans x.options) ∷ siblings whole (extensions_spans x.extensions) ∷ siblings whole (reserved_spans x.reserved)
     ∷ (inside_all x.items ++ (flat_map option_siblings x.options ++ (flat_map extensions_siblings x.extensions ++ flat_map reserved_siblings x.reserved)))
 
 -- a label, the type, the name, the number and the options
@@ -243,20 +308,20 @@ abbrev pub nodes : Steps OfKind Node Node Node Node (Span → List Siblings) Nod
 nodes = record {
   kind = of_field_kind;
   item = of_message_item;
-  extend = λ x. record { span = x.span; inside = inside_extend x };
-  field = λ x. record { span = x.span; inside = inside_field x };
-  message = λ x. record { span = x.span; inside = siblings x.span (x.name.span ∷ []) ∷ x.body x.span };
+  extend = λ x. record { span = x.span; inside = inside_extend x; brings = extend_brings x.span x.fields };
+  field = λ x. record { span = x.span; inside = inside_field x; brings = field_brings x.span (x.kind.messages x.span) };
+  message = λ x. record { span = x.span; inside = siblings x.span (x.name.span ∷ []) ∷ x.body x.span; brings = message_brings x.span };
   body = inside_body;
-  oneof = λ x. record { span = x.span; inside = inside_oneof x };
+  oneof = λ x. record { span = x.span; inside = inside_oneof x; brings = oneof_brings x.span x.fields };
 }
 
 -- ---- files
 
 abbrev pub file_node : FileItem → Node
-file_node (file_item.Enum x) = record { span = x.span; inside = enum_siblings x }
+file_node (file_item.Enum x) = enum_node x
 file_node (file_item.Message x) = of_message nodes x
 file_node (file_item.Extend x) = of_extend nodes x
-file_node (file_item.Service x) = record { span = x.span; inside = service_siblings x }
+file_node (file_item.Service x) = service_node x
 
 abbrev pub syntax_span : Option (Span × Comments) → List Span
 syntax_span None = []
@@ -278,9 +343,11 @@ import_siblings x = siblings x.span (place_if_any x.kind ++ x.value_span ∷ [])
 abbrev pub file_siblings : ℕ → File → List Siblings
 file_siblings size x =
     let whole = span_from 0 size in
-    siblings whole (syntax_span x.syntax_span) ∷ siblings whole (package_span x.«package») ∷ siblings whole (map (λ i. i.span) x.imports)
-    ∷ siblings whole (option_spans x.options) ∷ siblings whole (node_spans (map file_node x.items))
-    ∷ (package_siblings x.«package» ++ (flat_map import_siblings x.imports ++ (flat_map option_siblings x.options ++ inside_all (map file_node x.items))))
+    let items = map file_node x.items in
+    like_siblings whole items
+    ++ siblings whole (syntax_span x.syntax_span) ∷ siblings whole (package_span x.«package») ∷ siblings whole (map (λ i. i.span) x.imports)
+    ∷ siblings whole (option_spans x.options) ∷ siblings whole (node_spans items)
+    ∷ (package_siblings x.«package» ++ (flat_map import_siblings x.imports ++ (flat_map option_siblings x.options ++ inside_all items)))
 
 -- each span of a file but its own
 abbrev pub spans_in : ℕ → File → List Span

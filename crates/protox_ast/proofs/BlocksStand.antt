@@ -2,15 +2,17 @@
 use Rattle.std.proofs.Common.{◌≡◌, List, [], ◌∷◌, ◌++◌, map, flat_map, codes, Option, Some, None, refl, sym, ap, subst, append_assoc, ◌∙◌}
 use Rattle.std.specs.Prelude.{option_map}
 use Rattle.std.specs.List.{filter_map, cons_option}
+use Rattle.std.proofs.lemmas.List.{append-nil}
 use Rattle.protox_lex.specs.Faults.{Span}
 use Rattle.protox_lex.specs.Shapes.{Row, Rows}
+use Rattle.protox_ast.specs.declared.ast.Reserved.{Reserved}
 use Rattle.protox_ast.specs.Tree as t
 use Rattle.protox_ast.specs.Spelling as s
 use Rattle.protox_ast.specs.Places.{Place}
 use Rattle.protox_ast.specs.Ast as ast
-use Rattle.protox_ast.specs.Siblings.{Siblings, siblings, span_if_any, place_if_any, type_name_spans, type_siblings, list_span, list_siblings, option_spans, option_siblings, reserved_spans, reserved_siblings, enum_value_siblings, enum_siblings, method_siblings, service_siblings}
+use Rattle.protox_ast.specs.Siblings.{Siblings, siblings, span_if_any, place_if_any, type_name_spans, type_siblings, list_span, list_siblings, option_spans, option_siblings, reserved_siblings, enum_value_siblings, enum_siblings, method_siblings, service_siblings}
 use Rattle.protox_ast.proofs.SpansStand.{Hold, Begin, End, IsNode, Lists, begin-first, begin-front, end-last, end-back, none, nothing, one, past, token, both, before, after, whole, last-list, more-lists, lists-node}
-use Rattle.protox_ast.proofs.PartsStand.{typename-hold, int-node, list-hold, option-node, reserved-node, type-node}
+use Rattle.protox_ast.proofs.PartsStand.{typename-hold, int-node, list-hold, option-node, reserved-node, reserved-lists, type-node}
 
 -- ---- those of some kind
 
@@ -30,6 +32,16 @@ module _ {A B : Type 0} (spell : A → Rows Place) (f : A → Option B) (span : 
   pub chosen : (xs : List A) → Hold (s.many spell xs) (map span (filter_map f xs)) (flat_map inside (filter_map f xs))
   chosen [] = none
   chosen (x ∷ xs) = chosen-step (spell x) (s.many spell xs) (f x) (filter_map f xs) (h x) (chosen xs)
+
+-- parts of those that are chosen
+module _ {A B : Type 0} (spell : A → Rows Place) (f : A → Option B) (parts : B → List Span) (h : (x : A) → Hold (spell x) (flat_map parts (cons_option (f x) [])) []) where
+  chosen_parts-step : (a b : Rows Place) (x : Option B) (ys : List B) → Hold a (flat_map parts (cons_option x [])) [] → Hold b (flat_map parts ys) [] → Hold (a ++ b) (flat_map parts (cons_option x ys)) []
+  chosen_parts-step a b None ys f g = both a b f g
+  chosen_parts-step a b (Some y) ys f g = both a b (subst (λ xs. Hold a xs []) (append-nil (parts y)) f) g
+
+  pub chosen_parts : (xs : List A) → Hold (s.many spell xs) (flat_map parts (filter_map f xs)) []
+  chosen_parts [] = none
+  chosen_parts (x ∷ xs) = chosen_parts-step (spell x) (s.many spell xs) (f x) (filter_map f xs) (h x) (chosen_parts xs)
 
 -- ---- enums
 
@@ -59,6 +71,12 @@ enum-reserved (t.enum_option x) = nothing _
 enum-reserved (t.enum_reserved x) = (reserved-node x).hold
 enum-reserved (t.enum_value x) = nothing _
 
+enum_reserved-parts : (f : Reserved → List Span) → ((x : t.Reserved Place) → Hold (s.reserved x) (f (ast.reserved x)) []) → (x : t.EnumElement Place) → Hold (s.enum_element x) (flat_map f (cons_option (ast.enum_reserved x) [])) []
+enum_reserved-parts f h (t.enum_empty m) = nothing _
+enum_reserved-parts f h (t.enum_option x) = nothing _
+enum_reserved-parts f h (t.enum_reserved x) = subst (λ xs. Hold (s.reserved x) xs []) (sym (append-nil (f (ast.reserved x)))) (h x)
+enum_reserved-parts f h (t.enum_value x) = nothing _
+
 pub enum-node : (x : t.Enum Place) → IsNode (s.enum x) (ast.enum x).span (enum_siblings (ast.enum x))
 enum-node x =
     let elements = s.many s.enum_element x.elements in
@@ -66,7 +84,8 @@ enum-node x =
     (more-lists (past _ (token _ (nothing _)))
     (more-lists (past _ (past _ (past _ (after elements _ (chosen s.enum_element ast.enum_option (λ y. y.span) option_siblings enum-option x.elements)))))
     (more-lists (past _ (past _ (past _ (after elements _ (chosen s.enum_element ast.enum_value (λ y. y.span) enum_value_siblings enum-value x.elements)))))
-    (last-list (past _ (past _ (past _ (after elements _ (chosen s.enum_element ast.enum_reserved (λ y. y.span) reserved_siblings enum-reserved x.elements)))))))))
+    (reserved-lists (s.enum x) (ast.enum x).reserved (λ f h. past _ (past _ (past _ (after elements _ (chosen_parts s.enum_element ast.enum_reserved f (enum_reserved-parts f h) x.elements)))))
+    (past _ (past _ (past _ (after elements _ (chosen s.enum_element ast.enum_reserved (λ y. y.span) reserved_siblings enum-reserved x.elements)))))))))
 
 -- ---- services
 

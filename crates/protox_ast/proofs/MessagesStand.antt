@@ -4,6 +4,7 @@ use Rattle.std.specs.Prelude.{option_map}
 use Rattle.std.proofs.lemmas.List.{append-nil}
 use Rattle.protox_lex.specs.Faults.{Span}
 use Rattle.protox_lex.specs.Shapes.{Row, Rows}
+use Rattle.protox_ast.specs.declared.ast.Extensions.{Extensions}
 use Rattle.protox_ast.specs.declared.ast.Field as field_type
 use Rattle.protox_ast.specs.declared.ast.Extend as extend_type
 use Rattle.protox_ast.specs.declared.ast.FieldKind.{FieldKind}
@@ -12,6 +13,7 @@ use Rattle.protox_ast.specs.declared.ast.FieldKind.TheOpen.{FieldKind-F, Oneof-F
 use Rattle.protox_ast.specs.declared.ast.Message.{Message}
 use Rattle.protox_ast.specs.declared.ast.MessageBody.{MessageBody}
 use Rattle.protox_ast.specs.declared.ast.Oneof as oneof_type
+use Rattle.protox_ast.specs.declared.ast.Reserved.{Reserved}
 use Rattle.protox_ast.specs.declared.ast.MessageItem.{MessageItem}
 use Rattle.protox_ast.specs.declared.ast.MessageItem.TheVariants as item
 use Rattle.protox_ast.specs.Keywords.{Each}
@@ -20,10 +22,10 @@ use Rattle.protox_ast.specs.Spelling as s
 use Rattle.protox_ast.specs.Places.{Place}
 use Rattle.protox_ast.specs.Ast as ast
 use Rattle.protox_ast.specs.Steps.{of_item, of_field, of_message, of_body, of_oneof, of_extend, body-gives, message-gives, field-gives, item-field, item-enum, item-message, item-extend, item-oneof, kind-normal, kind-group, kind-map}
-use Rattle.protox_ast.specs.Siblings.{SpansStand, Siblings, SiblingsStand, siblings, place_if_any, type_siblings, list_span, list_siblings, option_spans, option_siblings, extensions_spans, extensions_siblings, reserved_spans, reserved_siblings, enum_siblings, SiblingKind, AField, AMessage, AnEnum, AOneof, AnExtend, AnExtension, AService, Node, OfKind, nodes, node_spans, inside_all, brought, inside_field, of_field_kind, field_brings, message_brings, enum_brings, oneof_brings, extend_brings, service_brings, enum_node, service_node}
+use Rattle.protox_ast.specs.Siblings.{SpansStand, Siblings, SiblingsStand, siblings, place_if_any, type_siblings, list_span, list_siblings, option_spans, option_siblings, extensions_siblings, extension_ranges, reserved_siblings, enum_siblings, SiblingKind, AField, AMessage, AnEnum, AOneof, AnExtend, AnExtension, AService, Node, OfKind, nodes, node_spans, inside_all, brought, inside_field, of_field_kind, field_brings, message_brings, enum_brings, oneof_brings, extend_brings, service_brings, enum_node, service_node}
 use Rattle.protox_ast.proofs.Standing.{Stand, stand-after}
 use Rattle.protox_ast.proofs.SpansStand.{each-append, each-so, siblings-wider, Hold, Begin, End, IsNode, Lists, begin-first, begin-front, end-last, end-back, none, nothing, one, past, token, both, before, after, whole, last-list, more-lists, lists-within, lists-node, HoldAll, spans-only, kinds-lists, all-none, all-past, all-before, all-after}
-use Rattle.protox_ast.proofs.PartsStand.{typename-hold, int-node, list-hold, option-node, reserved-node, extensions-node, type-node}
+use Rattle.protox_ast.proofs.PartsStand.{typename-hold, int-node, list-hold, option-node, reserved-node, reserved-lists, extensions-node, extension_ranges-hold, type-node}
 use Rattle.protox_ast.proofs.BlocksStand.{tail-hold, enum-node, service-node, label-hold, field-begin, type-begin, map_rows, map_tail, map-parts, map_type-node, tail-end}
 
 -- The rows are the node, and hold those of each kind that it brings.
@@ -131,15 +133,25 @@ options-hold t.no_elements = none
 options-hold (t.elements (t.option x) es) = both (s.option x) (s.elements es) (option-node x).hold (options-hold es)
 options-hold (t.elements e es) = before (s.element e) (s.elements es) (options-hold es)
 
-extensions-hold : (es : t.Elements Place) → Hold (s.elements es) (extensions_spans (ast.extensions_in es)) (flat_map extensions_siblings (ast.extensions_in es))
+extensions-hold : (es : t.Elements Place) → Hold (s.elements es) (map (λ (x : Extensions). x.span) (ast.extensions_in es)) (flat_map extensions_siblings (ast.extensions_in es))
 extensions-hold t.no_elements = none
 extensions-hold (t.elements (t.extensions x) es) = both (s.extensions x) (s.elements es) (extensions-node x).hold (extensions-hold es)
 extensions-hold (t.elements e es) = before (s.element e) (s.elements es) (extensions-hold es)
 
-reserved-hold : (es : t.Elements Place) → Hold (s.elements es) (reserved_spans (ast.reserved_in es)) (flat_map reserved_siblings (ast.reserved_in es))
+reserved-hold : (es : t.Elements Place) → Hold (s.elements es) (map (λ (x : Reserved). x.span) (ast.reserved_in es)) (flat_map reserved_siblings (ast.reserved_in es))
 reserved-hold t.no_elements = none
 reserved-hold (t.elements (t.reserved x) es) = both (s.reserved x) (s.elements es) (reserved-node x).hold (reserved-hold es)
 reserved-hold (t.elements e es) = before (s.element e) (s.elements es) (reserved-hold es)
+
+extension_parts-hold : (es : t.Elements Place) → Hold (s.elements es) (flat_map extension_ranges (ast.extensions_in es)) []
+extension_parts-hold t.no_elements = none
+extension_parts-hold (t.elements (t.extensions x) es) = both (s.extensions x) (s.elements es) (extension_ranges-hold x) (extension_parts-hold es)
+extension_parts-hold (t.elements e es) = before (s.element e) (s.elements es) (extension_parts-hold es)
+
+reserved_parts-hold : (f : Reserved → List Span) → ((x : t.Reserved Place) → Hold (s.reserved x) (f (ast.reserved x)) []) → (es : t.Elements Place) → Hold (s.elements es) (flat_map f (ast.reserved_in es)) []
+reserved_parts-hold f h t.no_elements = none
+reserved_parts-hold f h (t.elements (t.reserved x) es) = both (s.reserved x) (s.elements es) (h x) (reserved_parts-hold f h es)
+reserved_parts-hold f h (t.elements e es) = before (s.element e) (s.elements es) (reserved_parts-hold f h es)
 
 oneof_options-hold : (es : t.OneofElements Place) → Hold (s.oneof_elements es) (option_spans (ast.oneof_options es)) (flat_map option_siblings (ast.oneof_options es))
 oneof_options-hold t.no_oneof_elements = none
@@ -217,7 +229,8 @@ mutual
       subst (InBody (s.mbody (t.mbody_of o es c))) (sym (body-gives nodes (ast.mbody (t.mbody_of o es c))))
       (lists-body (kinds-lists (all-past _ (all-after (s.elements es) _ items))
       (more-lists (past _ (after (s.elements es) _ items.hold)) (more-lists (past _ (after (s.elements es) _ (options-hold es)))
-      (more-lists (past _ (after (s.elements es) _ (extensions-hold es))) (last-list (past _ (after (s.elements es) _ (reserved-hold es)))))))))
+      (more-lists (past _ (after (s.elements es) _ (extensions-hold es))) (more-lists (past _ (after (s.elements es) _ (extension_parts-hold es)))
+      (reserved-lists (s.mbody (t.mbody_of o es c)) (ast.reserved_in es) (λ f h. past _ (after (s.elements es) _ (reserved_parts-hold f h es))) (past _ (after (s.elements es) _ (reserved-hold es))))))))))
 
   items-hold : (es : t.Elements Place) → HoldAll (s.elements es) (map (of_item nodes) (ast.items es))
   items-hold t.no_elements = all-none

@@ -4,12 +4,13 @@ use Rattle.std.specs.Prelude.{option_map}
 use Rattle.std.proofs.lemmas.List.{append-nil}
 use Rattle.protox_lex.specs.Faults.{Span}
 use Rattle.protox_lex.specs.Shapes.{Mark, Row, Rows}
+use Rattle.protox_ast.specs.declared.ast.Reserved.{Reserved}
 use Rattle.protox_ast.specs.Tree as t
 use Rattle.protox_ast.specs.Spelling as s
 use Rattle.protox_ast.specs.Places.{Place}
 use Rattle.protox_ast.specs.Ast as ast
-use Rattle.protox_ast.specs.Siblings.{Siblings, siblings, span_if_any, place_if_any, ident_spans, type_name_spans, type_siblings, part_span, part_siblings, value_span, value_siblings, body_span, body_siblings, list_span, list_siblings, range_span, range_siblings, range_last, range_end_span, option_siblings, reserved_siblings, extensions_siblings}
-use Rattle.protox_ast.proofs.SpansStand.{Hold, Begin, End, IsNode, begin-first, begin-front, end-last, end-back, end-many, none, nothing, one, past, token, both, after, leaf, whole, token-node}
+use Rattle.protox_ast.specs.Siblings.{Siblings, siblings, span_if_any, place_if_any, ident_spans, type_name_spans, type_siblings, part_span, part_siblings, value_span, value_siblings, body_span, body_siblings, list_span, list_siblings, range_span, range_siblings, range_last, range_end_span, option_siblings, reserved_siblings, extensions_siblings, extension_ranges, range_statement, reserved_ranges, name_statement, reserved_names}
+use Rattle.protox_ast.proofs.SpansStand.{Hold, Begin, End, IsNode, begin-first, begin-front, end-last, end-back, end-many, none, nothing, one, past, token, both, after, leaf, whole, token-node, Lists, last-list, more-lists, spans-only}
 
 -- ---- lists
 
@@ -150,3 +151,40 @@ reserved-node x = reserved-of x.keyword x.kind x.end
 pub extensions-node : (x : t.Extensions Place) → IsNode (s.extensions x) (ast.extensions x).span (extensions_siblings (ast.extensions x))
 extensions-node x = whole (ast.extensions x).span (begin-first _ _) (end-back (_ ∷ []) _ (end-back (s.ranges x.ranges) _ (end-back (s.maybe s.list x.options) _ (end-last _))))
     (past _ (both (s.ranges x.ranges) _ (ranges-hold x.ranges) (after (s.maybe s.list x.options) _ (list-hold x.options))))
+
+-- the ranges of an extensions statement, and what a reserved one holds
+pub extension_ranges-hold : (x : t.Extensions Place) → Hold (s.extensions x) (extension_ranges (ast.extensions x)) []
+extension_ranges-hold x = past _ (after (s.ranges x.ranges) _ (spans-only (ranges-hold x.ranges)))
+
+range_statement-hold : (x : t.Reserved Place) → Hold (s.reserved x) (range_statement (ast.reserved x)) []
+range_statement-hold x = of x.keyword x.kind x.end
+  where
+    of : (k : Place) (kind : t.ReservedKind Place) (e : Place) → Hold (s.reserved (record { keyword = k; kind = kind; end = e })) (range_statement (ast.reserved (record { keyword = k; kind = kind; end = e }))) []
+    of k (t.ranges y) e = spans-only (reserved-of k (t.ranges y) e).hold
+    of k (t.names y) e = nothing _
+
+reserved_ranges-hold : (x : t.Reserved Place) → Hold (s.reserved x) (reserved_ranges (ast.reserved x)) []
+reserved_ranges-hold x = of x.keyword x.kind x.end
+  where
+    of : (k : Place) (kind : t.ReservedKind Place) (e : Place) → Hold (s.reserved (record { keyword = k; kind = kind; end = e })) (reserved_ranges (ast.reserved (record { keyword = k; kind = kind; end = e }))) []
+    of k (t.ranges y) e = past _ (after (s.ranges y) _ (spans-only (ranges-hold y)))
+    of k (t.names y) e = nothing _
+
+name_statement-hold : (x : t.Reserved Place) → Hold (s.reserved x) (name_statement (ast.reserved x)) []
+name_statement-hold x = of x.keyword x.kind x.end
+  where
+    of : (k : Place) (kind : t.ReservedKind Place) (e : Place) → Hold (s.reserved (record { keyword = k; kind = kind; end = e })) (name_statement (ast.reserved (record { keyword = k; kind = kind; end = e }))) []
+    of k (t.ranges y) e = nothing _
+    of k (t.names y) e = spans-only (reserved-of k (t.names y) e).hold
+
+reserved_names-hold : (x : t.Reserved Place) → Hold (s.reserved x) (reserved_names (ast.reserved x)) []
+reserved_names-hold x = of x.keyword x.kind x.end
+  where
+    of : (k : Place) (kind : t.ReservedKind Place) (e : Place) → Hold (s.reserved (record { keyword = k; kind = kind; end = e })) (reserved_names (ast.reserved (record { keyword = k; kind = kind; end = e }))) []
+    of k (t.ranges y) e = nothing _
+    of k (t.names y) e = past _ (after (s.names y) _ (both (s.strings y.first) _ (strings-node y.first).hold (names-hold y.others)))
+
+-- the lists of some reserved statements, of rows that hold what each of them does
+pub reserved-lists : (rows : Rows Place) (xs : List Reserved) {i : List Siblings} → ((f : Reserved → List Span) → ((x : t.Reserved Place) → Hold (s.reserved x) (f (ast.reserved x)) []) → Hold rows (flat_map f xs) []) → Hold rows (map (λ (x : Reserved). x.span) xs) i
+    → Lists rows (flat_map range_statement xs ∷ (flat_map reserved_ranges xs ∷ (flat_map name_statement xs ∷ (flat_map reserved_names xs ∷ (map (λ (x : Reserved). x.span) xs ∷ []))))) i
+reserved-lists rows xs f g = more-lists (f range_statement range_statement-hold) (more-lists (f reserved_ranges reserved_ranges-hold) (more-lists (f name_statement name_statement-hold) (more-lists (f reserved_names reserved_names-hold) (last-list g))))

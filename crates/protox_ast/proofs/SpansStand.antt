@@ -184,14 +184,14 @@ pub lists-within : (span : Span) (low high : ℕ) (xss : List (List Span)) → l
 lists-within span low high [] l m h = tt
 lists-within span low high (xs ∷ xss) l m h = (record { from = l; parts = h.0; to = m }, lists-within span low high xss l m h.1)
 
+-- what is in them left out
+pub spans-only : {rows : Rows Place} {xs : List Span} {i : List Siblings} → Hold rows xs i → Hold rows xs []
+spans-only {rows} {xs} {i} f = record { stand = λ low high h. record { spans = (f.stand low high h).spans; within = tt } }
+
 -- rows that hold some nodes and those of each kind that they bring
 pub record HoldAll (rows : Rows Place) (nodes : List Node) : Type 0 where
   pub hold : Hold rows (node_spans nodes) (inside_all nodes)
   pub bring : (kind : SiblingKind) → Hold rows (brought kind nodes) []
-
--- what is in them left out
-pub spans-only : {rows : Rows Place} {xs : List Span} {i : List Siblings} → Hold rows xs i → Hold rows xs []
-spans-only {rows} {xs} {i} f = record { stand = λ low high h. record { spans = (f.stand low high h).spans; within = tt } }
 
 pub kinds-lists : {rows : Rows Place} {nodes : List Node} {xss : List (List Span)} {i : List Siblings} → HoldAll rows nodes → Lists rows xss i → Lists rows (map (λ kind. brought kind nodes) sibling_kinds ++ xss) i
 kinds-lists f g =

@@ -154,14 +154,35 @@ reserved_siblings x = elim x.kind as (λ _. List Siblings) [
   | reserved_kinds.Names names ↦ siblings x.span (ident_spans names) ∷ []
 ]
 
-abbrev pub reserved_spans : List Reserved → List Span
-reserved_spans = map (λ x. x.span)
+-- a reserved statement if it holds ranges, and those; if it holds names, and those
+abbrev pub range_statement : Reserved → List Span
+range_statement x = elim x.kind as (λ _. List Span) [ reserved_kinds.Ranges ranges ↦ x.span ∷ [] | reserved_kinds.Names names ↦ [] ]
+
+abbrev pub reserved_ranges : Reserved → List Span
+reserved_ranges x = elim x.kind as (λ _. List Span) [ reserved_kinds.Ranges ranges ↦ map range_span ranges | reserved_kinds.Names names ↦ [] ]
+
+abbrev pub name_statement : Reserved → List Span
+name_statement x = elim x.kind as (λ _. List Span) [ reserved_kinds.Ranges ranges ↦ [] | reserved_kinds.Names names ↦ x.span ∷ [] ]
+
+abbrev pub reserved_names : Reserved → List Span
+reserved_names x = elim x.kind as (λ _. List Span) [ reserved_kinds.Ranges ranges ↦ [] | reserved_kinds.Names names ↦ ident_spans names ]
+
+-- of the reserved statements of the message or the enum of this span: those of each kind, what they hold, and all of them
+abbrev pub all_reserved : Span → List Reserved → List Siblings
+all_reserved whole xs =
+    siblings whole (flat_map range_statement xs) ∷ siblings whole (flat_map reserved_ranges xs) ∷ siblings whole (flat_map name_statement xs) ∷ siblings whole (flat_map reserved_names xs)
+    ∷ siblings whole (map (λ x. x.span) xs) ∷ []
 
 abbrev pub extensions_siblings : Extensions → List Siblings
 extensions_siblings x = siblings x.span (map range_span x.ranges ++ list_span x.options) ∷ (flat_map range_siblings x.ranges ++ list_siblings x.options)
 
-abbrev pub extensions_spans : List Extensions → List Span
-extensions_spans = map (λ x. x.span)
+-- the ranges of an extensions statement
+abbrev pub extension_ranges : Extensions → List Span
+extension_ranges x = map range_span x.ranges
+
+-- of the extensions statements of the message of this span: themselves, and the ranges of all
+abbrev pub all_extensions : Span → List Extensions → List Siblings
+all_extensions whole xs = siblings whole (map (λ x. x.span) xs) ∷ siblings whole (flat_map extension_ranges xs) ∷ []
 
 -- ---- enums and services
 
@@ -171,8 +192,8 @@ enum_value_siblings x = siblings x.span (x.name.span ∷ (x.number.span ∷ list
 -- an enum's name, its options, its values and its reserved statements
 abbrev pub enum_siblings : Enum → List Siblings
 enum_siblings x =
-    siblings x.span (x.name.span ∷ []) ∷ siblings x.span (option_spans x.options) ∷ siblings x.span (map (λ v. v.span) x.values) ∷ siblings x.span (reserved_spans x.reserved)
-    ∷ (flat_map option_siblings x.options ++ (flat_map enum_value_siblings x.values ++ flat_map reserved_siblings x.reserved))
+    siblings x.span (x.name.span ∷ []) ∷ siblings x.span (option_spans x.options) ∷ siblings x.span (map (λ v. v.span) x.values)
+    ∷ (all_reserved x.span x.reserved ++ (flat_map option_siblings x.options ++ (flat_map enum_value_siblings x.values ++ flat_map reserved_siblings x.reserved)))
 
 abbrev pub method_siblings : Method → List Siblings
 method_siblings x =
@@ -287,8 +308,8 @@ of_message_item (MessageItem-F.Oneof x) = x
 abbrev pub inside_body : Layer MessageBody-F → Span → List Siblings
 inside_body x whole =
     like_siblings whole x.items
-    ++ siblings whole (node_spans x.items) ∷ siblings whole (option_spans x.options) ∷ siblings whole (extensions_spans x.extensions) ∷ siblings whole (reserved_spans x.reserved)
-    ∷ (inside_all x.items ++ (flat_map option_siblings x.options ++ (flat_map extensions_siblings x.extensions ++ flat_map reserved_siblings x.reserved)))
+    ++ siblings whole (node_spans x.items) ∷ siblings whole (option_spans x.options) ∷ (all_extensions whole x.extensions ++ (all_reserved whole x.reserved
+    ++ (inside_all x.items ++ (flat_map option_siblings x.options ++ (flat_map extensions_siblings x.extensions ++ flat_map reserved_siblings x.reserved)))))
 
 -- a label, the type, the name, the number and the options
 abbrev pub inside_field : Layer Field-F → List Siblings

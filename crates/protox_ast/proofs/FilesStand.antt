@@ -1,5 +1,5 @@
 -- Where a file's declarations stand, with all that is in them: in the source, like siblings one behind the other.
-use Rattle.std.proofs.Common.{◌≡◌, ℕ, ◌<◌, ◌≤◌, ◌+◌, List, [], ◌∷◌, ◌++◌, length, map, flat_map, Option, Some, None, refl, subst, arith}
+use Rattle.std.proofs.Common.{◌≡◌, ℕ, ◌<◌, ◌≤◌, ◌+◌, List, [], ◌∷◌, ◌++◌, length, map, flat_map, Option, Some, None, refl, sym, subst, arith}
 use Rattle.std.specs.Prelude.{option_map, IfSome}
 use Rattle.std.specs.List.{filter_map}
 use Rattle.std.specs.Str.{IsUtf8}
@@ -9,6 +9,8 @@ use Rattle.protox_lex.specs.Shapes.{Row, Rows}
 use Rattle.protox_lex.specs.Table.{table_of}
 use Rattle.protox_ast.specs.declared.ast.FileItem.{FileItem}
 use Rattle.protox_ast.specs.declared.ast.Package.{Package}
+use Rattle.protox_ast.specs.declared.ast.File.{File}
+use Rattle.protox_ast.specs.Accepted.{IsFileOf}
 use Rattle.protox_ast.specs.Keywords.{Each}
 use Rattle.protox_ast.specs.Tree as t
 use Rattle.protox_ast.specs.Spelling as s
@@ -17,6 +19,7 @@ use Rattle.protox_ast.specs.Ast as ast
 use Rattle.protox_ast.specs.Siblings.{SpansStand, StartsRise, Siblings, SiblingsStand, siblings, ident_spans, place_if_any, option_siblings, option_spans, import_siblings, package_span, package_siblings, syntax_span, file_node, file_siblings, node_spans, inside_all, spans_in, FileStands}
 use Rattle.protox_ast.proofs.Standing.{Stand, tokens-stand, in-order}
 use Rattle.protox_ast.proofs.SpansStand.{each-append, spans-order, spans-append, spans-wider, Hold, IsNode, Lists, begin-first, end-last, end-back, none, nothing, one, past, both, before, after, leaf, whole, last-list, more-lists, lists-within, HoldAll, kinds-lists, all-none, all-past, all-before}
+use Rattle.protox_ast.proofs.Siblings.{all-lie}
 use Rattle.protox_ast.proofs.PartsStand.{fullident-hold, strings-node, option-node}
 use Rattle.protox_ast.proofs.BlocksStand.{span_of_some, inside_some, chosen}
 use Rattle.protox_ast.proofs.MessagesStand.{all-both, message-is, extend-is, enum-is, service-is}
@@ -28,11 +31,11 @@ kind-hold None = none
 kind-hold (Some (t.weak m)) = one _
 kind-hold (Some (t.«public» m)) = one _
 
-import-node : (x : t.Import Place) → IsNode (s.«import» x) (ast.«import» x).span (import_siblings (ast.«import» x))
+pub import-node : (x : t.Import Place) → IsNode (s.«import» x) (ast.«import» x).span (import_siblings (ast.«import» x))
 import-node x = whole (ast.«import» x).span (begin-first _ _) (end-back (_ ∷ []) _ (end-back (s.maybe s.import_kind x.kind) _ (end-back (s.strings x.value) _ (end-last _))))
     (past _ (both (s.maybe s.import_kind x.kind) _ (kind-hold x.kind) (after (s.strings x.value) _ (strings-node x.value).hold)))
 
-package-node : (x : t.Package Place) → IsNode (s.«package» x) (ast.«package» x).span (siblings (ast.«package» x).span (ident_spans (ast.fullident x.name)) ∷ [])
+pub package-node : (x : t.Package Place) → IsNode (s.«package» x) (ast.«package» x).span (siblings (ast.«package» x).span (ident_spans (ast.fullident x.name)) ∷ [])
 package-node x = whole (ast.«package» x).span (begin-first _ _) (end-back (_ ∷ []) _ (end-back (s.fullident x.name) _ (end-last _))) (past _ (after (s.fullident x.name) _ (fullident-hold x.name)))
 
 syntax-hold : (x : Option (t.Syntax Place)) → Hold (s.maybe s.syntax x) (syntax_span (option_map ast.syntax_place x)) []
@@ -110,7 +113,7 @@ file-stands size x h =
     in
     lists-stand size lists h
 
--- The same of the tree of a source's tokens.
+-- The same of the tree that a source's tokens spell.
 pub source-stands : (source : List ℕ) → IsUtf8 source → (x : t.File Place) → placed (table_of (cut 0 source)) ≡ s.spell x → FileStands (length source) (ast.file (length source) x)
 source-stands source u x e = file-stands (length source) x (subst (Stand 0 (length source)) e (tokens-stand source u))
 
@@ -140,41 +143,10 @@ rows-reach size (x ∷ a) h = let k = rows-lie size (x ∷ a) h (omega arith) in
 pub file-reach : (size : ℕ) (x : t.File Place) → Stand 0 size (s.spell x) → ((ast.file size x).span.start ≤ size) × ((ast.file size x).span.end ≤ size)
 file-reach size x h = rows-reach size (s.spell x) h
 
--- ---- what follows of parts that stand
-
-each-lies : (low high size : ℕ) (xs : List Span) → high ≤ size → SpansStand low high xs → Each (SpanLiesIn size) xs
-each-lies low high size [] l h = tt
-each-lies low high size (x ∷ xs) l h = ((omega (arith, h.1), omega (arith, l, spans-order x.end high xs h.2)), each-lies x.end high size xs l h.2)
-
-all-lie : (size : ℕ) (xs : List Siblings) → Each (SiblingsStand 0 size) xs → Each (SpanLiesIn size) (flat_map (λ y. y.children) xs)
-all-lie size [] h = tt
-all-lie size (x ∷ xs) h = each-append (SpanLiesIn size) x.children (flat_map (λ y. y.children) xs) (each-lies x.parent.start x.parent.end size x.children h.0.to h.0.parts) (all-lie size xs h.1)
-
 -- All spans of the tree but the file's own lie in the source.
 pub spans-lie : (size : ℕ) (x : t.File Place) → Stand 0 size (s.spell x) → Each (SpanLiesIn size) (spans_in size (ast.file size x))
 spans-lie size x h = all-lie size (file_siblings size (ast.file size x)) (file-stands size x h)
 
-starts-behind : (n low high : ℕ) (xs : List Span) → n < low → SpansStand low high xs → Each (λ (y : Span). n < y.start) xs
-starts-behind n low high [] l h = tt
-starts-behind n low high (x ∷ xs) l h = (omega (arith, l, h.0), starts-behind n x.end high xs (omega (arith, l, h.0, h.1)) h.2)
-
--- Parts that stand one behind the other start one behind the other.
-pub starts-rise : (low high : ℕ) (xs : List Span) → SpansStand low high xs → StartsRise xs
-starts-rise low high [] h = tt
-starts-rise low high (x ∷ xs) h = (starts-behind x.start x.end high xs h.1 h.2, starts-rise x.end high xs h.2)
-
--- Each has a byte, so there are no more of them than bytes.
-pub spans-few : (low high : ℕ) (xs : List Span) → SpansStand low high xs → low + length xs ≤ high
-spans-few low high [] h = omega (arith, h)
-spans-few low high (x ∷ xs) h = omega (arith, h.0, h.1, spans-few x.end high xs h.2)
-
-pub siblings-few : (low high : ℕ) (x : Siblings) → SiblingsStand low high x → low + length x.children ≤ high
-siblings-few low high x h = omega (arith, h.from, h.to, spans-few x.parent.start x.parent.end x.children h.parts)
-
--- Parts of those that stand one behind the other, as the fields of a message and of its oneofs.
-pub spans-flat : {A : Type 0} (span : A → Span) (parts : A → List Span) (low high : ℕ) (xs : List A)
-    → SpansStand low high (map span xs) → Each (λ x. SpansStand (span x).start (span x).end (parts x)) xs → SpansStand low high (flat_map parts xs)
-spans-flat span parts low high [] h k = h
-spans-flat span parts low high (x ∷ xs) h k =
-    spans-append low (span x).end high (parts x) (flat_map parts xs) (spans-wider (span x).start (span x).end low (span x).end (parts x) h.0 (omega arith) k.0)
-    (spans-flat span parts (span x).end high xs h.2 k.1)
+-- The same of the file that a source gives.
+pub accepted-stands : (source : List ℕ) → IsUtf8 source → (file : File) → IsFileOf source file → FileStands (length source) file
+accepted-stands source u file h = subst (FileStands (length source)) (sym h.2) (source-stands source u h.0 h.1.spells.0)

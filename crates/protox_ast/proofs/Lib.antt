@@ -1,10 +1,11 @@
+pub mod BlocksStand
+pub mod FilesStand
 pub mod Membership
+pub mod MessagesStand
 pub mod NamePlaces
 pub mod NameTests
+pub mod PartsStand
+pub mod Siblings
+pub mod SpansStand
 pub mod Standing
 pub mod Texts
-pub mod SpansStand
-pub mod PartsStand
-pub mod BlocksStand
-pub mod MessagesStand
-pub mod FilesStand

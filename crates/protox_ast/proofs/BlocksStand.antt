@@ -1,17 +1,17 @@
 -- Where enums, services and fields without a body stand, of rows that spell them.
-use Rattle.std.proofs.Common.{◌≡◌, List, [], ◌∷◌, ◌++◌, map, flat_map, codes, Option, Some, None, refl, sym, ap, subst, append_assoc, ◌∙◌}
+use Rattle.std.proofs.Common.{◌≡◌, List, [], ◌∷◌, ◌++◌, map, flat_map, codes, Option, Some, None, sym, ap, subst, append_assoc, ◌∙◌}
 use Rattle.std.specs.Prelude.{option_map}
 use Rattle.std.specs.List.{filter_map, cons_option}
 use Rattle.std.proofs.lemmas.List.{append-nil}
 use Rattle.protox_lex.specs.Faults.{Span}
-use Rattle.protox_lex.specs.Shapes.{Row, Rows}
+use Rattle.protox_lex.specs.Shapes.{Rows}
 use Rattle.protox_ast.specs.declared.ast.Reserved.{Reserved}
 use Rattle.protox_ast.specs.Tree as t
 use Rattle.protox_ast.specs.Spelling as s
 use Rattle.protox_ast.specs.Places.{Place}
 use Rattle.protox_ast.specs.Ast as ast
 use Rattle.protox_ast.specs.Siblings.{Siblings, siblings, span_if_any, place_if_any, type_name_spans, type_siblings, list_span, list_siblings, option_spans, option_siblings, reserved_siblings, enum_value_siblings, enum_siblings, method_siblings, service_siblings}
-use Rattle.protox_ast.proofs.SpansStand.{Hold, Begin, End, IsNode, Lists, begin-first, begin-front, end-last, end-back, none, nothing, one, past, token, both, before, after, whole, last-list, more-lists, lists-node}
+use Rattle.protox_ast.proofs.SpansStand.{Hold, Begin, End, IsNode, begin-first, end-last, end-back, none, nothing, one, past, token, both, before, after, whole, last-list, more-lists, lists-node}
 use Rattle.protox_ast.proofs.PartsStand.{typename-hold, int-node, list-hold, option-node, reserved-node, reserved-lists, type-node}
 
 -- ---- those of some kind

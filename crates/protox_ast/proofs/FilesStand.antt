@@ -1,14 +1,12 @@
 -- Where a file's declarations stand, with all that is in them: in the source, like siblings one behind the other.
-use Rattle.std.proofs.Common.{◌≡◌, ℕ, ◌<◌, ◌≤◌, ◌+◌, List, [], ◌∷◌, ◌++◌, length, map, flat_map, Option, Some, None, refl, sym, subst, arith}
-use Rattle.std.specs.Prelude.{option_map, IfSome}
+use Rattle.std.proofs.Common.{◌≡◌, ℕ, ◌≤◌, List, [], ◌∷◌, ◌++◌, length, map, Option, Some, None, sym, subst, arith}
+use Rattle.std.specs.Prelude.{option_map}
 use Rattle.std.specs.List.{filter_map}
 use Rattle.std.specs.Str.{IsUtf8}
 use Rattle.protox_lex.specs.Faults.{Span, SpanLiesIn, span_from}
 use Rattle.protox_lex.specs.Lexemes.{cut}
 use Rattle.protox_lex.specs.Shapes.{Row, Rows}
 use Rattle.protox_lex.specs.Table.{table_of}
-use Rattle.protox_ast.specs.declared.ast.FileItem.{FileItem}
-use Rattle.protox_ast.specs.declared.ast.Package.{Package}
 use Rattle.protox_ast.specs.declared.ast.File.{File}
 use Rattle.protox_ast.specs.Accepted.{IsFileOf}
 use Rattle.protox_ast.specs.Keywords.{Each}
@@ -16,9 +14,9 @@ use Rattle.protox_ast.specs.Tree as t
 use Rattle.protox_ast.specs.Spelling as s
 use Rattle.protox_ast.specs.Places.{Place, placed}
 use Rattle.protox_ast.specs.Ast as ast
-use Rattle.protox_ast.specs.Siblings.{SpansStand, StartsRise, Siblings, SiblingsStand, siblings, ident_spans, place_if_any, option_siblings, option_spans, import_siblings, package_span, package_siblings, syntax_span, file_node, file_siblings, node_spans, inside_all, spans_in, FileStands}
+use Rattle.protox_ast.specs.Siblings.{Siblings, SiblingsStand, siblings, ident_spans, place_if_any, option_siblings, import_siblings, package_span, package_siblings, syntax_span, file_node, file_siblings, spans_in, FileStands}
 use Rattle.protox_ast.proofs.Standing.{Stand, tokens-stand, in-order}
-use Rattle.protox_ast.proofs.SpansStand.{each-append, spans-order, spans-append, spans-wider, Hold, IsNode, Lists, begin-first, end-last, end-back, none, nothing, one, past, both, before, after, leaf, whole, last-list, more-lists, lists-within, HoldAll, kinds-lists, all-none, all-past, all-before}
+use Rattle.protox_ast.proofs.SpansStand.{each-append, Hold, IsNode, Lists, begin-first, end-last, end-back, none, nothing, one, past, both, before, after, leaf, whole, last-list, more-lists, lists-within, HoldAll, kinds-lists, all-none, all-past, all-before}
 use Rattle.protox_ast.proofs.Siblings.{all-lie}
 use Rattle.protox_ast.proofs.PartsStand.{fullident-hold, strings-node, option-node}
 use Rattle.protox_ast.proofs.BlocksStand.{span_of_some, inside_some, chosen}
@@ -104,12 +102,12 @@ file-stands size x h =
     let statements = s.many s.statement x.statements in
     let items = all-before front statements (items-hold x.statements) in
     let lists =
-        kinds-lists items
-        (more-lists (after front statements (syntax-hold x.syntax))
-        (more-lists (before front statements (packages-hold x.statements))
-        (more-lists (before front statements (chosen s.statement ast.imported (λ y. y.span) import_siblings imported-hold x.statements))
-        (more-lists (before front statements (chosen s.statement ast.file_option (λ y. y.span) option_siblings options-hold x.statements))
-        (last-list items.hold)))))
+    kinds-lists items
+    (more-lists (after front statements (syntax-hold x.syntax))
+    (more-lists (before front statements (packages-hold x.statements))
+    (more-lists (before front statements (chosen s.statement ast.imported (λ y. y.span) import_siblings imported-hold x.statements))
+    (more-lists (before front statements (chosen s.statement ast.file_option (λ y. y.span) option_siblings options-hold x.statements))
+    (last-list items.hold)))))
     in
     lists-stand size lists h
 

@@ -1,9 +1,8 @@
 -- Where messages, groups, oneofs and extends stand, with all that is in them, of rows that spell them.
-use Rattle.std.proofs.Common.{◌≡◌, ℕ, ◌≤◌, List, [], ◌∷◌, ◌++◌, map, flat_map, Option, Some, None, sym, ap, subst, ◌∙◌, arith}
-use Rattle.std.specs.Prelude.{option_map}
+use Rattle.std.proofs.Common.{◌≡◌, ℕ, ◌≤◌, List, [], ◌∷◌, ◌++◌, map, flat_map, Option, sym, ap, subst, ◌∙◌, arith}
 use Rattle.std.proofs.lemmas.List.{append-nil}
 use Rattle.protox_lex.specs.Faults.{Span}
-use Rattle.protox_lex.specs.Shapes.{Row, Rows}
+use Rattle.protox_lex.specs.Shapes.{Rows}
 use Rattle.protox_ast.specs.declared.ast.Extensions.{Extensions}
 use Rattle.protox_ast.specs.declared.ast.Field as field_type
 use Rattle.protox_ast.specs.declared.ast.Extend as extend_type
@@ -22,10 +21,10 @@ use Rattle.protox_ast.specs.Spelling as s
 use Rattle.protox_ast.specs.Places.{Place}
 use Rattle.protox_ast.specs.Ast as ast
 use Rattle.protox_ast.specs.Steps.{of_item, of_field, of_message, of_body, of_oneof, of_extend, body-gives, message-gives, field-gives, item-field, item-enum, item-message, item-extend, item-oneof, kind-normal, kind-group, kind-map}
-use Rattle.protox_ast.specs.Siblings.{SpansStand, Siblings, SiblingsStand, siblings, place_if_any, type_siblings, list_span, list_siblings, option_spans, option_siblings, extensions_siblings, extension_ranges, reserved_siblings, enum_siblings, SiblingKind, AField, AMessage, AnEnum, AOneof, AnExtend, AnExtension, AService, Node, OfKind, nodes, node_spans, inside_all, brought, inside_field, of_field_kind, field_brings, message_brings, enum_brings, oneof_brings, extend_brings, service_brings, enum_node, service_node}
+use Rattle.protox_ast.specs.Siblings.{Siblings, SiblingsStand, siblings, option_spans, option_siblings, extensions_siblings, extension_ranges, reserved_siblings, SiblingKind, AField, AMessage, AnEnum, AOneof, AnExtend, AnExtension, AService, Node, OfKind, nodes, inside_field, of_field_kind, field_brings, message_brings, enum_brings, oneof_brings, extend_brings, service_brings, enum_node, service_node}
 use Rattle.protox_ast.proofs.Standing.{Stand, stand-after}
-use Rattle.protox_ast.proofs.SpansStand.{each-append, each-so, siblings-wider, Hold, Begin, End, IsNode, Lists, begin-first, begin-front, end-last, end-back, none, nothing, one, past, token, both, before, after, whole, last-list, more-lists, lists-within, lists-node, HoldAll, spans-only, kinds-lists, all-none, all-past, all-before, all-after}
-use Rattle.protox_ast.proofs.PartsStand.{typename-hold, int-node, list-hold, option-node, reserved-node, reserved-lists, extensions-node, extension_ranges-hold, type-node}
+use Rattle.protox_ast.proofs.SpansStand.{each-append, each-so, siblings-wider, Hold, End, IsNode, Lists, begin-first, begin-front, end-last, end-back, none, nothing, past, token, both, before, after, whole, last-list, more-lists, lists-within, lists-node, HoldAll, spans-only, kinds-lists, all-none, all-past, all-before, all-after}
+use Rattle.protox_ast.proofs.PartsStand.{typename-hold, option-node, reserved-node, reserved-lists, extensions-node, extension_ranges-hold, type-node}
 use Rattle.protox_ast.proofs.BlocksStand.{tail-hold, enum-node, service-node, label-hold, field-begin, type-begin, map_rows, map_tail, map-parts, map_type-node, tail-end}
 
 -- The rows are the node, and hold those of each kind that it brings.
@@ -49,31 +48,41 @@ behind-all : (b : Rows Place) → Behind b b
 behind-all b = record { at = λ low high h. (low, omega arith, h) }
 
 behind-back : (a b : Rows Place) {c : Rows Place} → Behind b c → Behind (a ++ b) c
-behind-back a b {c} f = record { at = λ low high h.
-    let p = stand-after low high a b h in
-    let q = f.at p.0 high p.2 in
-    (q.0, omega (arith, p.1, q.1), q.2) }
+behind-back a b {c} f = record {
+  at = λ low high h.
+      let p = stand-after low high a b h in
+      let q = f.at p.0 high p.2 in
+      (q.0, omega (arith, p.1, q.1), q.2);
+}
 
 stand-lower : (low m high : ℕ) (rows : Rows Place) → low ≤ m → Stand m high rows → Stand low high rows
 stand-lower low m high [] l h = omega (arith, l, h)
 stand-lower low m high (x ∷ a) l h = (omega (arith, l, h.0), h.1, h.2)
 
 with-body : {rows b : Rows Place} {span : Span} {x : Siblings} {i : List Siblings} {inside : Span → List Siblings} → Behind rows b → IsNode rows span (x ∷ i) → InBody b inside → IsNode rows span (x ∷ (inside span ++ i))
-with-body {rows} {b} {span} {x} {i} {inside} f n k = record { begin = n.begin; end = n.end; hold = record { stand = λ low high h.
-    let q = n.end.at low high h in
-    let p = n.begin.at low span.end q.1 in
-    let r = f.at span.start span.end p.2 in
-    let m = n.hold.stand low high h in
-    record {
-      spans = m.spans;
-      within = (m.within.0, each-append (SiblingsStand low high) (inside span) i (k.at span low high (stand-lower span.start r.0 span.end b r.1 r.2) p.0 q.0) m.within.1);
-    } } }
+with-body {rows} {b} {span} {x} {i} {inside} f n k = record {
+  begin = n.begin;
+  end = n.end;
+  hold = record {
+    stand = λ low high h.
+        let q = n.end.at low high h in
+        let p = n.begin.at low span.end q.1 in
+        let r = f.at span.start span.end p.2 in
+        let m = n.hold.stand low high h in
+        record {
+          spans = m.spans;
+          within = (m.within.0, each-append (SiblingsStand low high) (inside span) i (k.at span low high (stand-lower span.start r.0 span.end b r.1 r.2) p.0 q.0) m.within.1);
+        };
+  };
+}
 
 lists-body : {rows : Rows Place} {xss : List (List Span)} {i : List Siblings} → Lists rows xss i → InBody rows (λ span. map (siblings span) xss ++ i)
-lists-body {rows} {xss} {i} f = record { at = λ span low high h l m.
-    let n = f.stand span.start span.end h in
-    each-append (SiblingsStand low high) (map (siblings span) xss) i (lists-within span low high xss l m n.0)
-    (each-so (SiblingsStand span.start span.end) (SiblingsStand low high) i (λ x k. siblings-wider span.start span.end low high x l m k) n.1) }
+lists-body {rows} {xss} {i} f = record {
+  at = λ span low high h l m.
+      let n = f.stand span.start span.end h in
+      each-append (SiblingsStand low high) (map (siblings span) xss) i (lists-within span low high xss l m n.0)
+      (each-so (SiblingsStand span.start span.end) (SiblingsStand low high) i (λ x k. siblings-wider span.start span.end low high x l m k) n.1);
+}
 
 -- ---- fields
 
@@ -217,9 +226,9 @@ mutual
   message-is (t.message_of k n b) =
       let span = ast.join k.span (ast.body_close b).span in
       let node : IsNode (s.message (t.message_of k n b)) span (siblings span (n.1.span ∷ []) ∷ of_body nodes (ast.mbody b) span) =
-          subst (λ i. IsNode (s.message (t.message_of k n b)) span (siblings span (n.1.span ∷ []) ∷ i)) (append-nil (of_body nodes (ast.mbody b) span))
-          (with-body (behind-back (_ ∷ _ ∷ []) _ (behind-all (s.mbody b)))
-          (whole {rows = s.message (t.message_of k n b)} span (begin-first _ _) (end-back (_ ∷ _ ∷ []) _ (mbody-end b)) (past _ (token _ (nothing (s.mbody b))))) (body-is b))
+      subst (λ i. IsNode (s.message (t.message_of k n b)) span (siblings span (n.1.span ∷ []) ∷ i)) (append-nil (of_body nodes (ast.mbody b) span))
+      (with-body (behind-back (_ ∷ _ ∷ []) _ (behind-all (s.mbody b)))
+      (whole {rows = s.message (t.message_of k n b)} span (begin-first _ _) (end-back (_ ∷ _ ∷ []) _ (mbody-end b)) (past _ (token _ (nothing (s.mbody b))))) (body-is b))
       in
       subst (Is (s.message (t.message_of k n b))) (sym (message-gives nodes (ast.message (t.message_of k n b)))) (record { node = node; bring = message-bring node.hold })
 

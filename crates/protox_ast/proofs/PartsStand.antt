@@ -9,7 +9,7 @@ use Rattle.protox_ast.specs.Tree as t
 use Rattle.protox_ast.specs.Spelling as s
 use Rattle.protox_ast.specs.Places.{Place}
 use Rattle.protox_ast.specs.Ast as ast
-use Rattle.protox_ast.specs.Siblings.{Siblings, siblings, span_if_any, place_if_any, ident_spans, type_name_spans, type_siblings, part_span, part_siblings, value_span, value_siblings, body_span, body_siblings, list_span, list_siblings, range_span, range_siblings, range_last, range_end_span, option_siblings, reserved_siblings, extensions_siblings, extension_ranges, range_statement, reserved_ranges, name_statement, reserved_names}
+use Rattle.protox_ast.specs.Siblings.{Siblings, siblings, span_if_any, ident_spans, type_name_spans, type_siblings, part_span, part_siblings, value_span, value_siblings, body_span, body_siblings, list_span, list_siblings, range_span, range_siblings, range_last, range_end_span, option_siblings, reserved_siblings, extensions_siblings, extension_ranges, range_statement, reserved_ranges, name_statement, reserved_names}
 use Rattle.protox_ast.proofs.SpansStand.{Hold, Begin, End, IsNode, begin-first, begin-front, end-last, end-back, end-many, none, nothing, one, past, token, both, after, leaf, whole, token-node, Lists, last-list, more-lists, spans-only}
 
 -- ---- lists
@@ -19,7 +19,6 @@ module _ {A B : Type 0} (spell : A → Rows Place) (f : A → B) (span : B → S
   pub listed : (separator : Place → Row Place) (xs : List (Place × A)) → Hold (s.many (λ (y : Place × A). separator y.0 ∷ spell y.1) xs) (map span (map (λ (y : Place × A). f y.1) xs)) (flat_map inside (map (λ (y : Place × A). f y.1) xs))
   listed separator [] = none
   listed separator (x ∷ xs) = past (separator x.0) (both (spell x.1) (s.many (λ (y : Place × A). separator y.0 ∷ spell y.1) xs) (h x.1).hold (listed separator xs))
-
 
 abbrev pub dot_row : Place → Row Place
 dot_row m = record { shape = Mark s.dot; at = m }
@@ -94,7 +93,7 @@ body-node x =
     let value = value-node x.value in
     let parts = flat_map part_siblings (map (λ (y : Place × t.Part Place). ast.part y.1) x.others) in
     let rest : Hold (s.many s.dot_part x.others ++ (s.sign s.equals x.equals_sign ++ s.value x.value)) (map part_span (map (λ (y : Place × t.Part Place). ast.part y.1) x.others) ++ value_span (ast.value x.value) ∷ []) (parts ++ value_siblings (ast.value x.value)) =
-        both (s.many s.dot_part x.others) _ (listed s.part ast.part part_span part_siblings part-node dot_row x.others) (past _ value.hold) in
+    both (s.many s.dot_part x.others) _ (listed s.part ast.part part_span part_siblings part-node dot_row x.others) (past _ value.hold) in
     whole (body_span (ast.body x)) (begin-front (s.part x.first) _ first.begin)
     (end-back (s.part x.first) _ (end-back (s.many s.dot_part x.others) _ (end-back (_ ∷ []) _ value.end)))
     (subst (λ i. Hold (s.body x) (map part_span (ast.body x).name ++ value_span (ast.value x.value) ∷ []) i) (sym (append_assoc (part_siblings (ast.part x.first)) parts (value_siblings (ast.value x.value))))

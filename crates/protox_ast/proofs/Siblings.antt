@@ -1,5 +1,5 @@
 -- What follows of parts that stand in a source: they lie in it, start one behind the other, and are no more than its bytes.
-use Rattle.std.proofs.Common.{◌≡◌, ℕ, ◌<◌, ◌≤◌, ◌+◌, List, [], ◌∷◌, ◌++◌, length, map, flat_map, arith}
+use Rattle.std.proofs.Common.{ℕ, ◌<◌, ◌≤◌, ◌+◌, List, [], ◌∷◌, ◌++◌, length, map, flat_map, arith}
 use Rattle.protox_lex.specs.Faults.{Span, SpanLiesIn}
 use Rattle.protox_lex.specs.Shapes.{Rows}
 use Rattle.protox_ast.specs.declared.ast.OptionBody.{OptionBody}

@@ -1,8 +1,8 @@
 -- Spans that stand one behind the other, and the parts of a tree that some rows spell.
-use Rattle.std.proofs.Common.{◌≡◌, ℕ, suc, ◌+◌, ◌<◌, ◌≤◌, List, [], ◌∷◌, ◌++◌, length, map, flat_map, Option, Some, None, refl, sym, ap, subst, append_assoc, arith}
+use Rattle.std.proofs.Common.{ℕ, ◌<◌, ◌≤◌, List, [], ◌∷◌, ◌++◌, map, sym, subst, append_assoc, arith}
 use Rattle.std.proofs.lemmas.List.{append-nil}
 use Rattle.protox_lex.specs.Faults.{Span}
-use Rattle.protox_lex.specs.Shapes.{Shape, Row, Rows}
+use Rattle.protox_lex.specs.Shapes.{Row, Rows}
 use Rattle.protox_ast.specs.Keywords.{Each}
 use Rattle.protox_ast.specs.Places.{Place}
 use Rattle.protox_ast.specs.AstParts.{last_place}
@@ -92,19 +92,23 @@ pub begin-first : (r : Row Place) (rows : Rows Place) → Begin (r ∷ rows) r.a
 begin-first r rows = record { at = λ low high h. (h.0, omega (arith, h.1, in-order r.at.span.end high rows h.2), (omega arith, h.1, h.2)) }
 
 pub begin-front : (a b : Rows Place) {n : ℕ} → Begin a n → Begin (a ++ b) n
-begin-front a b {n} f = record { at = λ low high h.
-    let p = stand-split low high a b h in
-    let q = f.at low p.0 p.1 in
-    (q.0, omega (arith, q.1, in-order p.0 high b p.2), stand-join n p.0 high a b q.2 p.2) }
+begin-front a b {n} f = record {
+  at = λ low high h.
+      let p = stand-split low high a b h in
+      let q = f.at low p.0 p.1 in
+      (q.0, omega (arith, q.1, in-order p.0 high b p.2), stand-join n p.0 high a b q.2 p.2);
+}
 
 pub end-last : (r : Row Place) → End (r ∷ []) r.at.span.end
 end-last r = record { at = λ low high h. (h.2, (h.0, h.1, omega arith)) }
 
 pub end-back : (a b : Rows Place) {n : ℕ} → End b n → End (a ++ b) n
-end-back a b {n} f = record { at = λ low high h.
-    let p = stand-split low high a b h in
-    let q = f.at p.0 high p.2 in
-    (q.0, stand-join low p.0 n a b p.1 q.1) }
+end-back a b {n} f = record {
+  at = λ low high h.
+      let p = stand-split low high a b h in
+      let q = f.at p.0 high p.2 in
+      (q.0, stand-join low p.0 n a b p.1 q.1);
+}
 
 -- at the last of some
 pub end-many : {A : Type 0} (place : A → Span) (spell : A → Rows Place) → ((x : A) → End (spell x) (place x).end)
@@ -134,9 +138,11 @@ pub token : {rows : Rows Place} {xs : List Span} {i : List Siblings} (r : Row Pl
 token {rows} {xs} {i} r f = record { stand = λ low high h. nodes-append low r.at.span.end high (r.at.span ∷ []) xs [] i ((one r).stand low r.at.span.end (h.0, h.1, omega arith)) (f.stand r.at.span.end high h.2) }
 
 pub both : (a b : Rows Place) {xs ys : List Span} {i j : List Siblings} → Hold a xs i → Hold b ys j → Hold (a ++ b) (xs ++ ys) (i ++ j)
-both a b {xs} {ys} {i} {j} f g = record { stand = λ low high h.
-    let p = stand-split low high a b h in
-    nodes-append low p.0 high xs ys i j (f.stand low p.0 p.1) (g.stand p.0 high p.2) }
+both a b {xs} {ys} {i} {j} f g = record {
+  stand = λ low high h.
+      let p = stand-split low high a b h in
+      nodes-append low p.0 high xs ys i j (f.stand low p.0 p.1) (g.stand p.0 high p.2);
+}
 
 -- with no part before
 pub before : (a b : Rows Place) {xs : List Span} {i : List Siblings} → Hold b xs i → Hold (a ++ b) xs i
@@ -148,20 +154,32 @@ after a b {xs} {i} f = subst (λ ys. Hold (a ++ b) ys i) (append-nil xs) (subst 
 
 -- Rows from the start of a span to its end are a node of it.
 pub leaf : {rows : Rows Place} (span : Span) → Begin rows span.start → End rows span.end → IsNode rows span []
-leaf {rows} span f g = record { begin = f; end = g; hold = record { stand = λ low high h.
-    let q = g.at low high h in
-    let p = f.at low span.end q.1 in
-    record { spans = (p.0, p.1, q.0); within = tt } } }
+leaf {rows} span f g = record {
+  begin = f;
+  end = g;
+  hold = record {
+    stand = λ low high h.
+        let q = g.at low high h in
+        let p = f.at low span.end q.1 in
+        record { spans = (p.0, p.1, q.0); within = tt };
+  };
+}
 
 pub whole : {rows : Rows Place} {xs : List Span} {i : List Siblings} (span : Span) → Begin rows span.start → End rows span.end → Hold rows xs i → IsNode rows span (siblings span xs ∷ i)
-whole {rows} {xs} {i} span f g k = record { begin = f; end = g; hold = record { stand = λ low high h.
-    let q = g.at low high h in
-    let p = f.at low span.end q.1 in
-    let n = k.stand span.start span.end p.2 in
-    record {
-      spans = (p.0, p.1, q.0);
-      within = (record { from = p.0; parts = n.spans; to = q.0 }, (nodes-wider span.start span.end low high xs i p.0 q.0 n).within);
-    } } }
+whole {rows} {xs} {i} span f g k = record {
+  begin = f;
+  end = g;
+  hold = record {
+    stand = λ low high h.
+        let q = g.at low high h in
+        let p = f.at low span.end q.1 in
+        let n = k.stand span.start span.end p.2 in
+        record {
+          spans = (p.0, p.1, q.0);
+          within = (record { from = p.0; parts = n.spans; to = q.0 }, (nodes-wider span.start span.end low high xs i p.0 q.0 n).within);
+        };
+  };
+}
 
 pub token-node : (r : Row Place) → IsNode (r ∷ []) r.at.span []
 token-node r = leaf r.at.span (begin-first r []) (end-last r)
@@ -175,10 +193,12 @@ pub last-list : {rows : Rows Place} {xs : List Span} {i : List Siblings} → Hol
 last-list f = record { stand = λ low high h. (((f.stand low high h).spans, tt), (f.stand low high h).within) }
 
 pub more-lists : {rows : Rows Place} {xs : List Span} {i : List Siblings} {xss : List (List Span)} {j : List Siblings} → Hold rows xs i → Lists rows xss j → Lists rows (xs ∷ xss) (i ++ j)
-more-lists {rows} {xs} {i} {xss} {j} f g = record { stand = λ low high h.
-    let n = f.stand low high h in
-    let m = g.stand low high h in
-    ((n.spans, m.0), each-append (SiblingsStand low high) i j n.within m.1) }
+more-lists {rows} {xs} {i} {xss} {j} f g = record {
+  stand = λ low high h.
+      let n = f.stand low high h in
+      let m = g.stand low high h in
+      ((n.spans, m.0), each-append (SiblingsStand low high) i j n.within m.1);
+}
 
 pub lists-within : (span : Span) (low high : ℕ) (xss : List (List Span)) → low ≤ span.start → span.end ≤ high → Each (SpansStand span.start span.end) xss → Each (SiblingsStand low high) (map (siblings span) xss)
 lists-within span low high [] l m h = tt
@@ -211,12 +231,18 @@ all-after a b f = record { hold = after a b f.hold; bring = λ kind. after a b (
 
 -- the lists of a node of this span
 pub lists-node : {rows : Rows Place} {xss : List (List Span)} {i : List Siblings} (span : Span) → Begin rows span.start → End rows span.end → Lists rows xss i → IsNode rows span (map (siblings span) xss ++ i)
-lists-node {rows} {xss} {i} span f g k = record { begin = f; end = g; hold = record { stand = λ low high h.
-    let q = g.at low high h in
-    let p = f.at low span.end q.1 in
-    let n = k.stand span.start span.end p.2 in
-    record {
-      spans = (p.0, p.1, q.0);
-      within = each-append (SiblingsStand low high) (map (siblings span) xss) i (lists-within span low high xss p.0 q.0 n.0)
-          (each-so (SiblingsStand span.start span.end) (SiblingsStand low high) i (λ x k. siblings-wider span.start span.end low high x p.0 q.0 k) n.1);
-    } } }
+lists-node {rows} {xss} {i} span f g k = record {
+  begin = f;
+  end = g;
+  hold = record {
+    stand = λ low high h.
+        let q = g.at low high h in
+        let p = f.at low span.end q.1 in
+        let n = k.stand span.start span.end p.2 in
+        record {
+          spans = (p.0, p.1, q.0);
+          within = each-append (SiblingsStand low high) (map (siblings span) xss) i (lists-within span low high xss p.0 q.0 n.0)
+              (each-so (SiblingsStand span.start span.end) (SiblingsStand low high) i (λ x k. siblings-wider span.start span.end low high x p.0 q.0 k) n.1);
+        };
+  };
+}

@@ -22,7 +22,6 @@ use Rattle.protox_ast.specs.declared.ast.Ty.TheVariants as ty
 use Rattle.protox_ast.specs.declared.ast.ReservedRange.{ReservedRange}
 use Rattle.protox_ast.specs.declared.ast.ReservedRangeEnd.{ReservedRangeEnd}
 use Rattle.protox_ast.specs.declared.ast.ReservedRangeEnd.TheVariants as range_ends
-use Rattle.protox_ast.specs.declared.ast.ReservedKind.{ReservedKind}
 use Rattle.protox_ast.specs.declared.ast.ReservedKind.TheVariants as reserved_kinds
 use Rattle.protox_ast.specs.declared.ast.Reserved.{Reserved}
 use Rattle.protox_ast.specs.declared.ast.Extensions.{Extensions}
@@ -30,7 +29,7 @@ use Rattle.protox_ast.specs.declared.ast.EnumValue.{EnumValue}
 use Rattle.protox_ast.specs.declared.ast.Enum.{Enum}
 use Rattle.protox_ast.specs.declared.ast.Method.{Method}
 use Rattle.protox_ast.specs.declared.ast.Service.{Service}
-use Rattle.protox_ast.specs.declared.ast.FieldKind.TheOpen.{Message-F, MessageBody-F, MessageItem-F, Field-F, FieldKind-F, Oneof-F, Extend-F}
+use Rattle.protox_ast.specs.declared.ast.FieldKind.TheOpen.{MessageBody-F, MessageItem-F, Field-F, FieldKind-F, Oneof-F, Extend-F}
 use Rattle.protox_ast.specs.declared.ast.FileItem.{FileItem}
 use Rattle.protox_ast.specs.declared.ast.FileItem.TheVariants as file_item
 use Rattle.protox_ast.specs.declared.ast.File.{File}

@@ -9,7 +9,8 @@ use Rattle.protox_ast.specs.Tree as t
 use Rattle.protox_ast.specs.Spelling as s
 use Rattle.protox_ast.specs.Places.{Place}
 use Rattle.protox_ast.specs.Ast as ast
-use Rattle.protox_ast.specs.Siblings.{Siblings, siblings, span_if_any, ident_spans, type_name_spans, type_siblings, part_span, part_siblings, value_span, value_siblings, body_span, body_siblings, list_span, list_siblings, range_span, range_siblings, range_last, range_end_span, option_siblings, reserved_siblings, extensions_siblings, extension_ranges, range_statement, reserved_ranges, name_statement, reserved_names}
+use Rattle.protox_ast.specs.Siblings.{Siblings, siblings, span_if_any, ident_spans, type_name_spans, type_siblings, part_siblings, value_siblings, body_siblings, list_span, list_siblings, range_siblings, end_if_any, option_siblings, reserved_siblings, extensions_siblings, extension_ranges, range_statement, reserved_ranges, name_statement, reserved_names}
+use Rattle.protox_ast.specs.Spans.{part_span, value_span, body_span, range_span, end_place}
 use Rattle.protox_ast.proofs.SpansStand.{Hold, Begin, End, IsNode, begin-first, begin-front, end-last, end-back, end-many, none, nothing, one, past, token, both, after, leaf, whole, token-node, Lists, last-list, more-lists, spans-only}
 
 -- ---- lists
@@ -123,8 +124,8 @@ type-node (t.named x) = typename-node x
 
 -- ---- ranges, reserved and extensions statements
 
-range-of : (a : t.Int Place) (b : Option (t.RangeEnd Place)) → IsNode (s.int a ++ s.maybe s.range_end b) (ast.join (ast.int a).span (range_last (ast.int a).span (ast.range_end b)))
-    (siblings (ast.join (ast.int a).span (range_last (ast.int a).span (ast.range_end b))) ((ast.int a).span ∷ range_end_span (ast.range_end b)) ∷ [])
+range-of : (a : t.Int Place) (b : Option (t.RangeEnd Place)) → IsNode (s.int a ++ s.maybe s.range_end b) (ast.join (ast.int a).span (end_place (ast.int a).span (ast.range_end b)))
+    (siblings (ast.join (ast.int a).span (end_place (ast.int a).span (ast.range_end b))) ((ast.int a).span ∷ end_if_any (ast.range_end b)) ∷ [])
 range-of a None = whole (ast.int a).span (begin-front (s.int a) [] (int-node a).begin) (subst (λ rows. End rows (ast.int a).span.end) (sym (append-nil (s.int a))) (int-node a).end) (after (s.int a) [] (int-node a).hold)
 range-of a (Some (t.up_to k b)) = whole (ast.join (ast.int a).span (ast.int b).span) (begin-front (s.int a) _ (int-node a).begin) (end-back (s.int a) _ (end-back (_ ∷ []) _ (int-node b).end)) (both (s.int a) _ (int-node a).hold (past _ (int-node b).hold))
 range-of a (Some (t.up_to_max k m)) = whole (ast.join (ast.int a).span m.span) (begin-front (s.int a) _ (int-node a).begin) (end-back (s.int a) _ (end-back (_ ∷ []) _ (end-last _))) (both (s.int a) _ (int-node a).hold (past _ (one _)))

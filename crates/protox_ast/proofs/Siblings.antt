@@ -6,7 +6,8 @@ use Rattle.protox_ast.specs.declared.ast.OptionBody.{OptionBody}
 use Rattle.protox_ast.specs.declared.ast.OptionNamePart.{OptionNamePart}
 use Rattle.protox_ast.specs.Keywords.{Each}
 use Rattle.protox_ast.specs.Places.{Place}
-use Rattle.protox_ast.specs.Siblings.{SpansStand, StartsRise, Siblings, SiblingsStand, siblings, part_span, value_span, body_span, from_first}
+use Rattle.protox_ast.specs.Siblings.{SpansStand, StartsRise, Siblings, SiblingsStand, siblings}
+use Rattle.protox_ast.specs.Spans.{part_span, value_span, body_span, parts_span}
 use Rattle.protox_ast.proofs.Standing.{Stand}
 use Rattle.protox_ast.proofs.SpansStand.{IsNode, each-append, spans-order, spans-append, spans-wider}
 
@@ -47,17 +48,13 @@ spans-flat span parts low high (x ∷ xs) h k =
 pub node-lies : {rows : Rows Place} {span : Span} {i : List Siblings} (low high : ℕ) → IsNode rows span i → Stand low high rows → SpanLiesIn high span
 node-lies low high f h = let k = (f.hold.stand low high h).spans in (omega (arith, k.1), k.2)
 
-value-behind : (low high : ℕ) (names : List Span) (value : Span) → 1 ≤ length names → SpansStand low high (names ++ value ∷ []) → (from_first names value).start < value.start
+value-behind : (low high : ℕ) (parts : List OptionNamePart) (value : Span) → 1 ≤ length parts → SpansStand low high (map part_span parts ++ value ∷ []) → (parts_span parts).start < value.start
 value-behind low high [] value l h = absurd (omega (arith, l))
 value-behind low high (x ∷ []) value l h = omega (arith, h.1, h.2.0)
-value-behind low high (x ∷ y ∷ names) value l h =
-    let k = value-behind x.end high (y ∷ names) value (omega arith) h.2 in
+value-behind low high (x ∷ y ∷ parts) value l h =
+    let k = value-behind (part_span x).end high (y ∷ parts) value (omega arith) h.2 in
     omega (arith, h.1, h.2.0, k)
 
 -- An option begins before its value, as `json_name` does, whose two locations have one path.
 pub option-first : (low high : ℕ) (x : OptionBody) → 1 ≤ length x.name → SiblingsStand low high (siblings (body_span x) (map part_span x.name ++ value_span x.value ∷ [])) → (body_span x).start < (value_span x.value).start
-option-first low high x l h = value-behind (body_span x).start (body_span x).end (map part_span x.name) (value_span x.value) (as-many x.name l) h.parts
-  where
-    as-many : (xs : List OptionNamePart) → 1 ≤ length xs → 1 ≤ length (map part_span xs)
-    as-many [] m = m
-    as-many (y ∷ ys) m = omega arith
+option-first low high x l h = value-behind (body_span x).start (body_span x).end x.name (value_span x.value) l h.parts

@@ -3,7 +3,7 @@
 use Rattle.std.specs.Prelude.{ℕ, ◌<◌, ◌≤◌, List, [], ◌∷◌, ◌++◌, map, flat_map, Option, Some, None}
 use Rattle.protox_lex.specs.Faults.{Span, span_from}
 use Rattle.protox_ast.specs.Steps.{Steps, of_message, of_extend}
-use Rattle.protox_ast.specs.AstParts.{join}
+use Rattle.protox_ast.specs.Spans.{part_span, value_span, body_span, range_span}
 use Rattle.protox_ast.specs.Keywords.{Each}
 use Rattle.protox_ast.specs.declared.ast.Comments.{Comments}
 use Rattle.protox_ast.specs.declared.ast.Ident.{Ident}
@@ -80,33 +80,13 @@ abbrev pub type_siblings : Ty → Span → List Siblings
 type_siblings (ty.Named x) span = siblings span (type_name_spans x) ∷ []
 type_siblings _ span = []
 
-abbrev pub part_span : OptionNamePart → Span
-part_span (name_part.Ident x) = x.span
-part_span (name_part.Extension x span) = span
-
 abbrev pub part_siblings : OptionNamePart → List Siblings
 part_siblings (name_part.Ident x) = []
 part_siblings (name_part.Extension x span) = siblings span (type_name_spans x) ∷ []
 
-abbrev pub value_span : OptionValue → Span
-value_span (option_value.Ident negative x span) = span
-value_span (option_value.Int x) = x.span
-value_span (option_value.Float x) = x.span
-value_span (option_value.String x) = x.span
-value_span (option_value.Aggregate text span) = span
-
 abbrev pub value_siblings : OptionValue → List Siblings
 value_siblings (option_value.Ident negative x span) = siblings span (x.span ∷ []) ∷ []
 value_siblings _ = []
-
--- from the first of these, or from the last place if there are none, to the end of that place
-abbrev pub from_first : List Span → Span → Span
-from_first [] last = last
-from_first (x ∷ xs) last = join x last
-
--- an option from its name to its value
-abbrev pub body_span : OptionBody → Span
-body_span x = from_first (map part_span x.name) (value_span x.value)
 
 -- the parts of an option's name and then its value
 abbrev pub body_siblings : OptionBody → List Siblings
@@ -129,23 +109,13 @@ option_spans = map (λ x. x.span)
 
 -- ---- ranges, reserved and extensions statements
 
-abbrev pub range_end_span : ReservedRangeEnd → List Span
-range_end_span range_ends.None = []
-range_end_span (range_ends.Int x) = x.span ∷ []
-range_end_span (range_ends.Max span) = span ∷ []
-
--- the last of a span and the end of a range
-abbrev pub range_last : Span → ReservedRangeEnd → Span
-range_last span range_ends.None = span
-range_last span (range_ends.Int x) = x.span
-range_last span (range_ends.Max last) = last
-
--- from the first number of a range to its last, or to `max`
-abbrev pub range_span : ReservedRange → Span
-range_span x = join x.start.span (range_last x.start.span x.end)
+abbrev pub end_if_any : ReservedRangeEnd → List Span
+end_if_any range_ends.None = []
+end_if_any (range_ends.Int x) = x.span ∷ []
+end_if_any (range_ends.Max span) = span ∷ []
 
 abbrev pub range_siblings : ReservedRange → List Siblings
-range_siblings x = siblings (range_span x) (x.start.span ∷ range_end_span x.end) ∷ []
+range_siblings x = siblings (range_span x) (x.start.span ∷ end_if_any x.end) ∷ []
 
 abbrev pub reserved_siblings : Reserved → List Siblings
 reserved_siblings x = elim x.kind as (λ _. List Siblings) [

@@ -1,5 +1,5 @@
 -- Where a file's declarations stand, with all that is in them: in the source, like siblings one behind the other.
-use Rattle.std.proofs.Common.{◌≡◌, ℕ, ◌≤◌, List, [], ◌∷◌, ◌++◌, length, map, Option, Some, None, sym, subst, arith}
+use Rattle.std.proofs.Common.{◌≡◌, ◌⊎◌, inl, inr, ℕ, ◌≤◌, List, [], ◌∷◌, ◌++◌, length, map, Option, Some, None, sym, refl, subst, arith}
 use Rattle.std.specs.Prelude.{option_map}
 use Rattle.std.specs.List.{filter_map}
 use Rattle.std.specs.Str.{IsUtf8}
@@ -133,6 +133,14 @@ rows-lie size (x ∷ a) h l =
 -- A file that has a row lies in the source.
 pub file-lies : (size : ℕ) (x : t.File Place) → Stand 0 size (s.spell x) → 1 ≤ length (s.spell x) → SpanLiesIn size (ast.file size x).span
 file-lies size x h l = rows-lie size (s.spell x) h l
+
+rows-own : (size : ℕ) (rows : Rows Place) → Stand 0 size rows → SpanLiesIn size (ast.rows_span size rows) ⊎ (ast.rows_span size rows ≡ span_from size 0)
+rows-own size [] h = inr refl
+rows-own size (x ∷ a) h = inl (rows-lie size (x ∷ a) h (omega arith))
+
+-- A file's own span lies in the source, or goes from the source's end to 0 where it has no row.
+pub file-own : (size : ℕ) (x : t.File Place) → Stand 0 size (s.spell x) → SpanLiesIn size (ast.file size x).span ⊎ ((ast.file size x).span ≡ span_from size 0)
+file-own size x h = rows-own size (s.spell x) h
 
 rows-reach : (size : ℕ) (rows : Rows Place) → Stand 0 size rows → ((ast.rows_span size rows).start ≤ size) × ((ast.rows_span size rows).end ≤ size)
 rows-reach size [] h = (omega arith, omega arith)

@@ -6,10 +6,15 @@ use Rattle.protox_ast.specs.declared.ast.OptionBody.{OptionBody}
 use Rattle.protox_ast.specs.declared.ast.OptionNamePart.{OptionNamePart}
 use Rattle.protox_ast.specs.Keywords.{Each}
 use Rattle.protox_ast.specs.Places.{Place}
-use Rattle.protox_ast.specs.Siblings.{SpansStand, StartsRise, Siblings, SiblingsStand, siblings}
+use Rattle.protox_ast.specs.Siblings.{SpansStand, Siblings, SiblingsStand, siblings}
 use Rattle.protox_ast.specs.Spans.{part_span, value_span, body_span, parts_span}
 use Rattle.protox_ast.proofs.Standing.{Stand}
 use Rattle.protox_ast.proofs.SpansStand.{IsNode, each-append, spans-order, spans-append, spans-wider}
+
+-- Each starts before those behind it.
+abbrev pub StartsRise : List Span → Type 0
+StartsRise [] = Unit {0}
+StartsRise (x ∷ xs) = Each (λ (y : Span). x.start < y.start) xs × StartsRise xs
 
 pub each-lies : (low high size : ℕ) (xs : List Span) → high ≤ size → SpansStand low high xs → Each (SpanLiesIn size) xs
 each-lies low high size [] l h = tt

@@ -16,6 +16,14 @@ pub each-append : {A : Type 0} (P : A → Type 0) (xs ys : List A) → Each P xs
 each-append P [] ys h k = k
 each-append P (x ∷ xs) ys h k = (h.0, each-append P xs ys h.1 k)
 
+pub each-front : {A : Type 0} (P : A → Type 0) (xs ys : List A) → Each P (xs ++ ys) → Each P xs
+each-front P [] ys h = tt
+each-front P (x ∷ xs) ys h = (h.0, each-front P xs ys h.1)
+
+pub each-back : {A : Type 0} (P : A → Type 0) (xs ys : List A) → Each P (xs ++ ys) → Each P ys
+each-back P [] ys h = h
+each-back P (x ∷ xs) ys h = each-back P xs ys h.1
+
 pub each-so : {A : Type 0} (P Q : A → Type 0) (xs : List A) → ((x : A) → P x → Q x) → Each P xs → Each Q xs
 each-so P Q [] so h = tt
 each-so P Q (x ∷ xs) so h = (so x h.0, each-so P Q xs so h.1)

@@ -39,11 +39,6 @@ abbrev pub SpansStand : ℕ → ℕ → List Span → Type 0
 SpansStand low high [] = low ≤ high
 SpansStand low high (x ∷ xs) = (low ≤ x.start) × (x.start < x.end) × SpansStand x.end high xs
 
--- Each starts before those behind it.
-abbrev pub StartsRise : List Span → Type 0
-StartsRise [] = Unit {0}
-StartsRise (x ∷ xs) = Each (λ y. x.start < y.start) xs × StartsRise xs
-
 -- a span, and the spans of some parts of it
 pub record Siblings : Type 0 where
   pub parent : Span

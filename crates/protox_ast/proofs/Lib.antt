@@ -1,6 +1,6 @@
 pub mod BlocksStand
 pub mod FilesStand
-pub mod LikeSiblings
+pub mod LevelsStand
 pub mod Membership
 pub mod MessagesStand
 pub mod NamePlaces

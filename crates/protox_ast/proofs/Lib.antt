@@ -1,5 +1,12 @@
+pub mod BlocksStand
+pub mod FilesStand
+pub mod LevelsStand
 pub mod Membership
+pub mod MessagesStand
 pub mod NamePlaces
 pub mod NameTests
+pub mod PartsStand
+pub mod Siblings
+pub mod SpansStand
 pub mod Standing
 pub mod Texts

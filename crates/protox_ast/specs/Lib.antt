@@ -20,3 +20,5 @@ pub mod Fronts
 pub mod Truth
 pub mod Accepted
 pub mod part
+pub mod Spans
+pub mod Siblings

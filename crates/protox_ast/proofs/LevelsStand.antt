@@ -1,0 +1,162 @@
+-- What stands in each level of a tree, list by list.
+use Rattle.std.proofs.Common.{◌≡◌, ℕ, List, [], ◌∷◌, ◌++◌, map, flat_map, subst}
+use Rattle.protox_fault.specs.Faults.{Span, span_from}
+use Rattle.protox_ast.specs.declared.ast.Extend.{Extend, out-Extend}
+use Rattle.protox_ast.specs.declared.ast.Field.{Field, out-Field}
+use Rattle.protox_ast.specs.declared.ast.File.{File}
+use Rattle.protox_ast.specs.declared.ast.Message.{Message, out-Message}
+use Rattle.protox_ast.specs.declared.ast.MessageBody.{MessageBody, out-MessageBody}
+use Rattle.protox_ast.specs.declared.ast.Oneof.{Oneof, out-Oneof}
+use Rattle.protox_ast.specs.Keywords.{Each}
+use Rattle.protox_ast.specs.Siblings.{SpansStand, SiblingsStand, place_if_any, type_name_spans, list_span, list_siblings, option_spans, option_siblings, extension_ranges, extensions_siblings, range_statement, reserved_ranges, name_statement, reserved_names, reserved_siblings, Siblings, inside_body, SiblingKind, AField, AMessage, AnEnum, AOneof, AnExtend, AnExtension, AService, Node, node_spans, inside_all, brought, nodes, syntax_span, package_span, package_siblings, import_siblings, file_node, FileStands}
+use Rattle.protox_ast.specs.Steps.{of_kind, of_item, of_field, of_message, of_body, of_oneof, of_extend, body-gives, message-gives, field-gives, oneof-gives, extend-gives}
+use Rattle.protox_ast.proofs.SpansStand.{each-front, each-back}
+
+abbrev pub body_items : MessageBody → List Node
+body_items b = map (of_item nodes) (out-MessageBody b).items
+
+-- in a message or group of this span
+pub record BodyStands (low high : ℕ) (whole : Span) (b : MessageBody) : Type 0 where
+  pub like : (kind : SiblingKind) → SpansStand whole.start whole.end (brought kind (body_items b))
+  pub items : SpansStand whole.start whole.end (node_spans (body_items b))
+  pub options : SpansStand whole.start whole.end (option_spans (out-MessageBody b).options)
+  pub extensions : SpansStand whole.start whole.end (map (λ x. x.span) (out-MessageBody b).extensions)
+  pub extension_ranges : SpansStand whole.start whole.end (flat_map extension_ranges (out-MessageBody b).extensions)
+  pub range_statements : SpansStand whole.start whole.end (flat_map range_statement (out-MessageBody b).reserved)
+  pub reserved_ranges : SpansStand whole.start whole.end (flat_map reserved_ranges (out-MessageBody b).reserved)
+  pub name_statements : SpansStand whole.start whole.end (flat_map name_statement (out-MessageBody b).reserved)
+  pub reserved_names : SpansStand whole.start whole.end (flat_map reserved_names (out-MessageBody b).reserved)
+  pub in_items : Each (SiblingsStand low high) (inside_all (body_items b))
+  pub in_options : Each (SiblingsStand low high) (flat_map option_siblings (out-MessageBody b).options)
+  pub in_extensions : Each (SiblingsStand low high) (flat_map extensions_siblings (out-MessageBody b).extensions)
+  pub in_reserved : Each (SiblingsStand low high) (flat_map reserved_siblings (out-MessageBody b).reserved)
+
+pub body-stands : (low high : ℕ) (whole : Span) (b : MessageBody) → Each (SiblingsStand low high) (of_body nodes b whole) → BodyStands low high whole b
+body-stands low high whole b given =
+    let y = out-MessageBody b in
+    let h = subst (λ (f : Span → List Siblings). Each (SiblingsStand low high) (f whole)) (body-gives nodes b) given in
+    let k = h.1.1.1.1.1.1.1 in
+    let last = k.1.1.1.1.1.1.1.1.1 in
+    let behind = each-back (SiblingsStand low high) (inside_all (body_items b)) _ last in
+    let rest = each-back (SiblingsStand low high) (flat_map option_siblings y.options) _ behind in
+    record {
+      like = like h;
+      items = k.0.parts;
+      options = k.1.0.parts;
+      extensions = k.1.1.0.parts;
+      extension_ranges = k.1.1.1.0.parts;
+      range_statements = k.1.1.1.1.0.parts;
+      reserved_ranges = k.1.1.1.1.1.0.parts;
+      name_statements = k.1.1.1.1.1.1.0.parts;
+      reserved_names = k.1.1.1.1.1.1.1.0.parts;
+      in_items = each-front (SiblingsStand low high) (inside_all (body_items b)) _ last;
+      in_options = each-front (SiblingsStand low high) (flat_map option_siblings y.options) _ behind;
+      in_extensions = each-front (SiblingsStand low high) (flat_map extensions_siblings y.extensions) _ rest;
+      in_reserved = each-back (SiblingsStand low high) (flat_map extensions_siblings y.extensions) _ rest;
+    }
+  where
+    like : Each (SiblingsStand low high) (inside_body (record { items = body_items b; extensions = (out-MessageBody b).extensions; options = (out-MessageBody b).options; reserved = (out-MessageBody b).reserved }) whole)
+        → (kind : SiblingKind) → SpansStand whole.start whole.end (brought kind (body_items b))
+    like h AField = h.0.parts
+    like h AMessage = h.1.0.parts
+    like h AnEnum = h.1.1.0.parts
+    like h AOneof = h.1.1.1.0.parts
+    like h AnExtend = h.1.1.1.1.0.parts
+    like h AnExtension = h.1.1.1.1.1.0.parts
+    like h AService = h.1.1.1.1.1.1.0.parts
+
+pub record MessageStands (low high : ℕ) (x : Message) : Type 0 where
+  pub name : SpansStand (out-Message x).span.start (out-Message x).span.end ((out-Message x).name.span ∷ [])
+  pub body : BodyStands low high (out-Message x).span (out-Message x).body
+
+pub message-stands : (low high : ℕ) (x : Message) → Each (SiblingsStand low high) (of_message nodes x).inside → MessageStands low high x
+message-stands low high x given =
+    let h = subst (λ (n : Node). Each (SiblingsStand low high) n.inside) (message-gives nodes x) given in
+    record { name = h.0.parts; body = body-stands low high (out-Message x).span (out-Message x).body h.1 }
+
+-- a field's own parts, what stands in its kind and in its options
+pub record FieldStands (low high : ℕ) (x : Field) : Type 0 where
+  pub parts : SpansStand (out-Field x).span.start (out-Field x).span.end (place_if_any (out-Field x).label ++ ((of_kind nodes (out-Field x).kind).type ∷ ((out-Field x).name.span ∷ ((out-Field x).number.span ∷ list_span (out-Field x).options))))
+  pub in_kind : Each (SiblingsStand low high) ((of_kind nodes (out-Field x).kind).inside (out-Field x).span)
+  pub in_options : Each (SiblingsStand low high) (list_siblings (out-Field x).options)
+
+pub field-stands : (low high : ℕ) (x : Field) → Each (SiblingsStand low high) (of_field nodes x).inside → FieldStands low high x
+field-stands low high x given =
+    let h = subst (λ (n : Node). Each (SiblingsStand low high) n.inside) (field-gives nodes x) given in
+    record {
+      parts = h.0.parts;
+      in_kind = each-front (SiblingsStand low high) ((of_kind nodes (out-Field x).kind).inside (out-Field x).span) (list_siblings (out-Field x).options) h.1;
+      in_options = each-back (SiblingsStand low high) ((of_kind nodes (out-Field x).kind).inside (out-Field x).span) (list_siblings (out-Field x).options) h.1;
+    }
+
+pub record OneofStands (low high : ℕ) (x : Oneof) : Type 0 where
+  pub name : SpansStand (out-Oneof x).span.start (out-Oneof x).span.end ((out-Oneof x).name.span ∷ [])
+  pub options : SpansStand (out-Oneof x).span.start (out-Oneof x).span.end (option_spans (out-Oneof x).options)
+  pub fields : SpansStand (out-Oneof x).span.start (out-Oneof x).span.end (node_spans (map (of_field nodes) (out-Oneof x).fields))
+  pub in_options : Each (SiblingsStand low high) (flat_map option_siblings (out-Oneof x).options)
+  pub in_fields : Each (SiblingsStand low high) (inside_all (map (of_field nodes) (out-Oneof x).fields))
+
+pub oneof-stands : (low high : ℕ) (x : Oneof) → Each (SiblingsStand low high) (of_oneof nodes x).inside → OneofStands low high x
+oneof-stands low high x given =
+    let h = subst (λ (n : Node). Each (SiblingsStand low high) n.inside) (oneof-gives nodes x) given in
+    record {
+      name = h.0.parts;
+      options = h.1.0.parts;
+      fields = h.1.1.0.parts;
+      in_options = each-front (SiblingsStand low high) (flat_map option_siblings (out-Oneof x).options) (inside_all (map (of_field nodes) (out-Oneof x).fields)) h.1.1.1;
+      in_fields = each-back (SiblingsStand low high) (flat_map option_siblings (out-Oneof x).options) (inside_all (map (of_field nodes) (out-Oneof x).fields)) h.1.1.1;
+    }
+
+pub record ExtendStands (low high : ℕ) (x : Extend) : Type 0 where
+  pub extendee : SpansStand (out-Extend x).span.start (out-Extend x).span.end (type_name_spans (out-Extend x).extendee)
+  pub fields : SpansStand (out-Extend x).span.start (out-Extend x).span.end (node_spans (map (of_field nodes) (out-Extend x).fields))
+  pub in_fields : Each (SiblingsStand low high) (inside_all (map (of_field nodes) (out-Extend x).fields))
+
+pub extend-stands : (low high : ℕ) (x : Extend) → Each (SiblingsStand low high) (of_extend nodes x).inside → ExtendStands low high x
+extend-stands low high x given =
+    let h = subst (λ (n : Node). Each (SiblingsStand low high) n.inside) (extend-gives nodes x) given in
+    record { extendee = h.0.parts; fields = h.1.0.parts; in_fields = h.1.1 }
+
+abbrev pub items_of_file : File → List Node
+items_of_file x = map file_node x.items
+
+-- in a source of so many bytes
+pub record DeclarationsStand (size : ℕ) (x : File) : Type 0 where
+  pub like : (kind : SiblingKind) → SpansStand 0 size (brought kind (items_of_file x))
+  pub syntax : SpansStand 0 size (syntax_span x.syntax_span)
+  pub «package» : SpansStand 0 size (package_span x.«package»)
+  pub imports : SpansStand 0 size (map (λ i. i.span) x.imports)
+  pub options : SpansStand 0 size (option_spans x.options)
+  pub items : SpansStand 0 size (node_spans (items_of_file x))
+  pub in_package : Each (SiblingsStand 0 size) (package_siblings x.«package»)
+  pub in_imports : Each (SiblingsStand 0 size) (flat_map import_siblings x.imports)
+  pub in_options : Each (SiblingsStand 0 size) (flat_map option_siblings x.options)
+  pub in_items : Each (SiblingsStand 0 size) (inside_all (items_of_file x))
+
+pub declarations-stand : (size : ℕ) (x : File) → FileStands size x → DeclarationsStand size x
+declarations-stand size x h =
+    let k = h.1.1.1.1.1.1.1 in
+    let last = k.1.1.1.1.1 in
+    let behind = each-back (SiblingsStand 0 size) (package_siblings x.«package») _ last in
+    let rest = each-back (SiblingsStand 0 size) (flat_map import_siblings x.imports) _ behind in
+    record {
+      like = like h;
+      syntax = k.0.parts;
+      «package» = k.1.0.parts;
+      imports = k.1.1.0.parts;
+      options = k.1.1.1.0.parts;
+      items = k.1.1.1.1.0.parts;
+      in_package = each-front (SiblingsStand 0 size) (package_siblings x.«package») _ last;
+      in_imports = each-front (SiblingsStand 0 size) (flat_map import_siblings x.imports) _ behind;
+      in_options = each-front (SiblingsStand 0 size) (flat_map option_siblings x.options) _ rest;
+      in_items = each-back (SiblingsStand 0 size) (flat_map option_siblings x.options) _ rest;
+    }
+  where
+    like : FileStands size x → (kind : SiblingKind) → SpansStand 0 size (brought kind (items_of_file x))
+    like h AField = h.0.parts
+    like h AMessage = h.1.0.parts
+    like h AnEnum = h.1.1.0.parts
+    like h AOneof = h.1.1.1.0.parts
+    like h AnExtend = h.1.1.1.1.0.parts
+    like h AnExtension = h.1.1.1.1.1.0.parts
+    like h AService = h.1.1.1.1.1.1.0.parts

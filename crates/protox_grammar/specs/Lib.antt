@@ -12,3 +12,4 @@ pub mod Grammar
 pub mod OneOfThree
 pub mod TruthLaws
 pub mod part
+pub mod SpanLaws

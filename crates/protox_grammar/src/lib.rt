@@ -4,6 +4,7 @@
 
 ghost use Rattle.protox_grammar.specs.Grammar as grammar;
 ghost use Rattle.protox_grammar.specs.OneOfThree as three;
+ghost use Rattle.protox_grammar.specs.SpanLaws as spans;
 ghost use Rattle.protox_grammar.specs.TruthLaws as truth;
 ghost use Rattle.protox_grammar.specs.CheckLaws as checks;
 ghost use Rattle.protox_grammar.specs.MarkLaws as marks;
@@ -94,4 +95,9 @@ pub fn places_are_looked_up()
 pub fn places_change_nothing()
     ensures noted { marks.NotedAlike }
     ensures wrong { marks.WrongAlike }
+{}
+
+/// The nodes of the syntax tree of a source's tokens stand in the source, the parts of each one behind the other within it.
+pub fn nodes_stand_in_source()
+    ensures { spans.NodesStand }
 {}

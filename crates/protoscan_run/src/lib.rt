@@ -6,6 +6,7 @@ ghost use Rattle.std.specs.Prelude.{◌≡◌, ◌≢◌, ◌≤◌, length, Non
 ghost use Rattle.protox_parse.specs.Files.{IsFile};
 
 use protox_parse::descriptor::FileDescriptorProto;
+use protox_parse::descriptor::source_code_info::Location;
 use protox_parse::{ParseFailure, parse};
 use std::alloc::Global;
 use std::io::{self, Write};
@@ -27,19 +28,23 @@ fn write_numbers<W: Write>(out: &mut W, numbers: &[i32], between: char) -> io::R
     Ok(())
 }
 
-// A line for each location: its path with dots, a point for that of the file, and its span.
+/// A line: the path of a location with dots, one dot for that of the file, and its span with commas.
+pub fn write_location<W: Write>(out: &mut W, location: &Location) -> io::Result<()> {
+    if location.path.is_empty() {
+        write!(out, ".")?;
+    }
+    write_numbers(out, location.path.as_slice(), '.')?;
+    write!(out, " ")?;
+    write_numbers(out, location.span.as_slice(), ',')?;
+    writeln!(out)
+}
+
 fn write_locations<W: Write>(out: &mut W, file: &FileDescriptorProto) -> io::Result<()> {
     let Some(info) = &file.source_code_info else {
         return Ok(());
     };
     for location in info.location.iter() {
-        if location.path.is_empty() {
-            write!(out, ".")?;
-        }
-        write_numbers(out, location.path.as_slice(), '.')?;
-        write!(out, " ")?;
-        write_numbers(out, location.span.as_slice(), ',')?;
-        writeln!(out)?;
+        write_location(out, location)?;
     }
     Ok(())
 }

@@ -47,11 +47,11 @@ pub enum FileItem {
 /// The comments that belong to a declaration.
 #[derive(PartialEq, Debug, Drop)]
 pub struct Comments {
-    /// Blocks before it that blank lines keep apart, in order.
+    /// The blocks before it but the one that leads it, in order.
     pub leading_detached_comments: Items<Text>,
     /// The block right before it.
     pub leading_comment: Opt<Text>,
-    /// The block behind its `;`, or behind the brace that opens its body.
+    /// The block behind its `;` or behind the brace that opens its body; behind the one that closes that of a method.
     pub trailing_comment: Opt<Text>,
 }
 

@@ -30,7 +30,8 @@ pub enum ParseErrorKind {
     UnterminatedString {
         span: Span,
     },
-    /// A string holds an escape that stands for nothing: it, from the backslash on, and what adjoins it that is invalid too.
+    /// A string holds a backslash that begins no escape, or an escape that stands for nothing: the backslash, or the whole escape, and
+    /// what adjoins it that is invalid too.
     InvalidStringEscape {
         span: Span,
     },
@@ -64,7 +65,8 @@ pub enum ParseErrorKind {
         first: Span,
         second: Span,
     },
-    /// A letter or `_` follows an integer at once: the digits, the byte behind them, and the letters that follow.
+    /// A letter or `_` follows an integer at once: the digits, without `0` or `0x` before them, the byte behind them, and the letters that
+    /// follow.
     NoSpaceBetweenIntAndIdent {
         span: Span,
     },

@@ -19,7 +19,7 @@ use Rattle.protox_generate.specs.Faults.{WrongNode, Wrong, placed, settled}
 use Rattle.protox_generate.specs.FieldFaults.{Scope, InMessage, InOneof, InExtend, KindNode, Normal, Group, Map, FieldNode, WithKind, WrongLabel, WrongMap, WrongKey, WrongKind, WrongDefault, on_map, on_repeated, on_group, in_proto3, WrongDefaultValue, WrongField, of_label, of_kind, of_default, of_default_value, may_be_key, is_map, is_group, is_repeated}
 use Rattle.protox_generate.specs.Nodes.{Node, AMessageNumber, AnEnumNumber, AField, AJsonName, AnOption, AnEmptyOneof, file_nodes}
 use Rattle.protox_generate.specs.Numbers.{in_message_range}
-use Rattle.protox_generate.specs.Spans.{body_span}
+use Rattle.protox_ast.specs.Spans.{body_span}
 use Rattle.protox_generate.specs.ValueFaults.{invalid_type, out_of_range, WrongInteger, WrongValue, WrongUninterpreted}
 use Rattle.protox_generate.specs.Values.{Interval, is_in, any_64, signed_32, Wanted, a_float, an_integer, a_bool, a_text, some_bytes, anything, wanted, as_bool, as_float_text}
 use Rattle.protox_generate.proofs.Membership.{Among, somewhere-from, any-from, among-from, contains-from, among-left, among-right, among-cases, among-flat, somewhere-flat, not-true, not-false, and_parts, and-true, none-true, none-test}

@@ -11,7 +11,7 @@ use Rattle.protox_ast.specs.declared.ast.Syntax.{Syntax}
 use Rattle.protox_ast.specs.declared.ast.Syntax.TheVariants.{Proto2, Proto3}
 use Rattle.protox_ast.specs.declared.ast.Ty.{Ty}
 use Rattle.protox_ast.specs.declared.ast.Ty.TheVariants as ty
-use Rattle.protox_generate.specs.Spans.{body_span}
+use Rattle.protox_ast.specs.Spans.{body_span}
 use Rattle.protox_generate.specs.ValueFaults.{WrongValue}
 use Rattle.protox_generate.specs.Values.{wanted}
 

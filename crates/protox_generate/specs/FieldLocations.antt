@@ -16,7 +16,7 @@ use Rattle.protox_descriptor.specs.declared.tag.message.TheConstants as message_
 use Rattle.protox_generate.specs.LocationWords.{Path, part, nth, commented, bare, option_list}
 use Rattle.protox_generate.specs.Options.{default_of, json_name_of, options_left}
 use Rattle.protox_generate.specs.Siblings.{total, each_after}
-use Rattle.protox_generate.specs.Spans.{body_span, value_span}
+use Rattle.protox_ast.specs.Spans.{body_span, value_span}
 
 -- a field: the locations from its own path on, those of the message that stands for a group from that message's path on,
 -- and how many messages it brings, a map's entry message among them

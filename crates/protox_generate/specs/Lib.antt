@@ -3,7 +3,6 @@ pub mod Sorting
 pub mod Siblings
 pub mod Numbers
 pub mod Head
-pub mod Spans
 pub mod Values
 pub mod Options
 pub mod Ranges

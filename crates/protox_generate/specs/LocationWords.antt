@@ -17,7 +17,7 @@ use Rattle.protox_descriptor.specs.declared.tag.message.reserved_range.TheConsta
 use Rattle.protox_generate.specs.Options.{OptionStatement, listed}
 use Rattle.protox_generate.specs.Ranges.{extension_ranges, reserved_names, reserved_ranges}
 use Rattle.protox_generate.specs.Siblings.{each_after}
-use Rattle.protox_generate.specs.Spans.{body_span, end_span, range_span, start_span}
+use Rattle.protox_ast.specs.Spans.{body_span, end_span, range_span, start_span}
 
 abbrev pub Path : Type 0
 Path = List ℤ

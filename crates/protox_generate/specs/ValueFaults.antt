@@ -8,7 +8,7 @@ use Rattle.protox_ast.specs.Printed.{int_text, value_text}
 use Rattle.protox_ast.specs.declared.ast.Int.{Int}
 use Rattle.protox_ast.specs.declared.ast.OptionValue.{OptionValue}
 use Rattle.protox_ast.specs.declared.ast.OptionValue.TheVariants as value
-use Rattle.protox_generate.specs.Spans.{value_span}
+use Rattle.protox_ast.specs.Spans.{value_span}
 use Rattle.protox_generate.specs.Values.{Interval, is_in, any_64, Wanted, a_float, an_integer, a_bool, a_text, some_bytes, anything, as_bool, as_float_text}
 
 -- the faults, each at the value

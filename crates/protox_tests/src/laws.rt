@@ -1,9 +1,12 @@
 //! The laws at the marks that are used: none, and places.
 ghost use Rattle.protox_grammar.specs.Grammar as grammar;
+ghost use Rattle.protox_grammar.specs.MarkLaws as marks;
 ghost use Rattle.protox_grammar.specs.OneOfThree as three;
 ghost use Rattle.protox_fault.specs.Faults.{Span};
 
-use protox_grammar::{accepts, ended, one_of_three, one_tree, too_deep, unexpected};
+use protox_grammar::{
+    accepts, ended, marks_change_nothing, one_of_three, one_tree, too_deep, unexpected,
+};
 
 fn without_marks()
     ensures one_tree { grammar.OneTree (Unit {0}) }
@@ -38,8 +41,16 @@ fn with_places()
     ended(&place);
 }
 
+fn with_either()
+    ensures outcome { marks.SameOutcome Span (Unit {0}) }
+    ensures steps { marks.SameSteps Span (Unit {0}) }
+{
+    marks_change_nothing(&(0usize..0), &());
+}
+
 #[test]
 fn laws_at_marks() {
     without_marks();
     with_places();
+    with_either();
 }

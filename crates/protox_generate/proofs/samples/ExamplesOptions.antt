@@ -18,7 +18,7 @@ use Rattle.protox_generate.specs.Lines.{span_numbers}
 use Rattle.protox_generate.specs.Locations.{file_locations}
 use Rattle.protox_generate.specs.Options.{uninterpreted, default_of, json_name_of, options_left}
 use Rattle.protox_generate.specs.Sorting.{sorted, path_before}
-use Rattle.protox_generate.specs.Spans.{body_span, parts_span}
+use Rattle.protox_ast.specs.Spans.{body_span, parts_span}
 use Rattle.protox_generate.specs.Values.{default_text, wanted}
 use Rattle.protox_generate.proofs.samples.Files.{FileTree, Another, filled, table}
 use Rattle.protox_generate.proofs.samples.Written as w

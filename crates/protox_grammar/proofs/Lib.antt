@@ -53,4 +53,6 @@ pub mod samples
 pub mod part
 pub mod Loops
 pub mod Shows
+pub mod Telling
+pub mod Shown
 pub mod Tests

@@ -6,6 +6,7 @@ pub mod Rules
 pub mod Bodies
 pub mod Reads
 pub mod Noted
+pub mod Told
 pub mod CheckLaws
 pub mod MarkLaws
 pub mod Grammar

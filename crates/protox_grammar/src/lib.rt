@@ -9,6 +9,8 @@ ghost use Rattle.protox_grammar.specs.TruthLaws as truth;
 ghost use Rattle.protox_grammar.specs.CheckLaws as checks;
 ghost use Rattle.protox_grammar.specs.MarkLaws as marks;
 
+pub mod note;
+
 /// No rows are the spelling of two trees that keep the keyword rules.
 pub fn one_tree<M>(_mark: &M)
     ensures { grammar.OneTree M }

@@ -21,7 +21,7 @@ use Rattle.protox_grammar.proofs.Shows.{Shows, seq-shows, mapped-shows, either-s
 use Rattle.protox_grammar.proofs.Tests.{mark-class, words-class, scalar-class}
 use Rattle.protox_grammar.proofs.part.Messages as messages
 use Rattle.protox_rows.specs.Reads.{declared}
-use Rattle.protox_rows.proofs.Declared.{mapped_from-shows}
+use Rattle.protox_grammar.proofs.Shown.{mapped_from-shows}
 use Rattle.protox_rows.proofs.Same.{here, word, sign, ident-shows, typename-shows, int-shows, semicolon-class}
 use Rattle.protox_messages.specs.Reads as reads
 

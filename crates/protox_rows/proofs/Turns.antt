@@ -1,5 +1,5 @@
 -- One turn of a loop that reads while the next row passes a test.
-use Rattle.std.proofs.Common.{◌≡◌, ◌<◌, Bool, true, false, eqb, [], ◌∷◌, length, Result, Ok, refl, sym, ◌∙◌, arith}
+use Rattle.std.proofs.Common.{◌≡◌, ◌<◌, Bool, true, false, eqb, [], ◌∷◌, ◌++◌, length, Result, Ok, refl, sym, ap, ◌∙◌, append-nil, append_assoc, arith}
 use Rattle.std.proofs.lemmas.Bool.{eqb-true}
 use Rattle.protox_ast.specs.Places.{Place}
 use Rattle.protox_lexeme.specs.Shapes.{Shape, Rows}
@@ -7,6 +7,11 @@ use Rattle.protox_grammar.specs.Reader.{Reader, Refusal, head_in, star, gathered
 use Rattle.protox_grammar.proofs.Loops.{goes_on, stops, is_done}
 use Rattle.protox_rows.specs.declared.refused.Refused.{Refused}
 use Rattle.protox_rows.specs.declared.refused.Refused.TheVariants.{OutOfMemory, At}
+use Rattle.protox_grammar.specs.Class.{Set, in_set}
+use Rattle.protox_grammar.specs.Told as told
+use Rattle.protox_grammar.specs.Told.{then_notes}
+use Rattle.protox_grammar.proofs.Telling.{star_notes, notes-turn, notes-done}
+use Rattle.protox_rows.specs.Notes.{AddsTo}
 use Rattle.protox_rows.specs.Outcome.{Fails}
 use Rattle.protox_rows.specs.Reads.{anything}
 
@@ -40,3 +45,26 @@ none_left (x ∷ xs) e = absurd (omega (arith, eqb-true (length (x ∷ xs)) 0 e)
 pub all_read : (xs : Rows Place) → eqb (length xs) 0 ≡ true → xs ≡ []
 all_read [] e = refl
 all_read (x ∷ xs) e = absurd (omega (arith, eqb-true (length (x ∷ xs)) 0 e))
+
+-- ---- what is noted in a turn
+
+module _ {A : Type 0} (P : Set) (a : Reader Place A) (f : Rows Place → told.Notes) (eats : Consumes a) where
+  abbrev all_notes : Rows Place → told.Notes
+  all_notes = star_notes (in_set P) a f
+
+  -- what is left to be noted, in place of what was noted
+  pub more-notes : (old before new all : told.Notes) (xs ys : Rows Place) (x : A) → head_in (in_set P) xs ≡ true → a xs ≡ Ok (x, ys)
+      → new ≡ before ++ f xs → before ++ all_notes xs ≡ old ++ all → new ++ all_notes ys ≡ old ++ all
+  more-notes old before new all xs ys x test read added so_far =
+      ap (λ v. v ++ all_notes ys) added ∙ append_assoc before (f xs) (all_notes ys)
+      ∙ ap (λ v. before ++ (f xs ++ then_notes all_notes v)) (sym read) ∙ ap (λ v. before ++ v) (sym (notes-turn (in_set P) a f eats xs test)) ∙ so_far
+
+  pub last-notes : (e : Refused) (old before new all : told.Notes) (xs : Rows Place) → head_in (in_set P) xs ≡ true → Fails e (a xs)
+      → AddsTo e before (f xs) new → before ++ all_notes xs ≡ old ++ all → AddsTo e old all new
+  last-notes OutOfMemory old before new all xs test fails added so_far = tt
+  last-notes (At left expected) old before new all xs test fails added so_far =
+      added ∙ ap (λ v. before ++ v) (sym (append-nil (f xs))) ∙ ap (λ v. before ++ (f xs ++ then_notes all_notes v)) (sym fails)
+      ∙ ap (λ v. before ++ v) (sym (notes-turn (in_set P) a f eats xs test)) ∙ so_far
+
+  pub no-notes : (old before all : told.Notes) (xs : Rows Place) → head_in (in_set P) xs ≡ false → before ++ all_notes xs ≡ old ++ all → before ≡ old ++ all
+  no-notes old before all xs test so_far = sym (append-nil before) ∙ ap (λ v. before ++ v) (sym (notes-done (in_set P) a f eats xs test)) ∙ so_far

@@ -1,4 +1,6 @@
 pub mod Rows
+pub mod Names
+pub mod Strings
 pub mod Reads
 pub mod Outcome
 pub mod Notes

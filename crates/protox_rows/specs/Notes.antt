@@ -9,11 +9,11 @@ use Rattle.protox_rows.specs.declared.refused.Refused.{Refused}
 use Rattle.protox_rows.specs.declared.refused.Refused.TheVariants.{OutOfMemory, At}
 
 -- unless memory ran out, these were added
-abbrev pub AddsTo : Refused → List Note → List Note → List Note → Type 0
+abbrev pub AddsTo : {N : Type 0} → Refused → List N → List N → List N → Type 0
 AddsTo OutOfMemory old added new = Unit {0}
 AddsTo (At left expected) old added new = new ≡ old ++ added
 
-abbrev pub Adds : {X : Type 0} → Result X Refused → List Note → List Note → List Note → Type 0
+abbrev pub Adds : {N X : Type 0} → Result X Refused → List N → List N → List N → Type 0
 Adds (Err e) old added new = AddsTo e old added new
 Adds (Ok x) old added new = new ≡ old ++ added
 

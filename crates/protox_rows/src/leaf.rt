@@ -1,7 +1,7 @@
 //! Single rows.
 
 ghost use Rattle.std.specs.Prelude.{◌≡◌, length};
-ghost use Rattle.protox_ast.specs.part.Ast.{join};
+ghost use Rattle.protox_ast.specs.Ast.{join};
 ghost use Rattle.protox_grammar.specs.Reader.{is_token, head_in, fixed};
 ghost use Rattle.protox_lexeme.specs.Shapes.{Ident, Mark};
 ghost use Rattle.protox_lex.specs.TableView.{shape_of_lent};

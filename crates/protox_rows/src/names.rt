@@ -1,27 +1,31 @@
-//! Names and numbers.
+//! Names, numbers, types and labels.
 
-ghost use Rattle.std.specs.Prelude.{◌≡◌, ◌<◌, IfOk, length};
-ghost use Rattle.protox_ast.specs.part.Ast.{dotted_start, last_place, span_if_any};
-ghost use Rattle.protox_grammar.specs.Reader.{mapped, optional};
+ghost use Rattle.std.specs.Prelude.{◌≡◌, ◌<◌, IfOk, length, option_map};
+ghost use Rattle.protox_ast.specs.Ast.{last_place, scalar, span_if_any};
 ghost use Rattle.protox_ast.specs.Spelling.{dot, minus};
 ghost use Rattle.protox_ast.specs.declared.ast.Ident as ident_type;
+ghost use Rattle.protox_grammar.specs.Class.{in_set, only};
+ghost use Rattle.protox_grammar.specs.Reader.{fixed, mapped, optional};
+ghost use Rattle.protox_grammar.specs.Rules.{find_scalar, all_scalars};
+ghost use Rattle.protox_lexeme.specs.Shapes.{Mark};
 ghost use Rattle.protox_rows.specs.Outcome.{Gives};
-ghost use Rattle.protox_rows.specs.Reads.{ident_at, more_part_at, parts_at, name_span, typename_at, integer_at, int_at, is_mark, sign};
+ghost use Rattle.protox_rows.specs.Names as rule;
 
+use crate::class::{DOT, MINUS, OPTIONAL, REQUIRED, sees, sees_scalar};
 use crate::expected::Expected;
-use crate::leaf::{copied, expect_mark, join, refused, sees_mark};
+use crate::leaf::{copied, expect_mark, expect_word, join, refused};
 use crate::refused::Refused;
 use crate::rows::Unread;
-use protox_ast::ast::{FullIdent, Ident, Int, TypeName};
+use protox_ast::ast::{FieldLabel, FullIdent, Ident, Int, Ty, TypeName};
 use protox_descriptor::values::{Items, Text};
 use protox_lex::error::Span;
 use protox_lex::lex::Token;
 use std::alloc::Global;
 
 /// ident
-#[tactic(auto, unfolding(protox_grammar::specs::Reader::leaf, crate::specs::Reads::ident_at))]
+#[tactic(auto, unfolding(protox_grammar::specs::Reader::leaf, crate::specs::Names::ident))]
 pub fn ident(alloc: Global, rows: &mut Unread<'_, '_>, expected: Expected) -> Result<Ident, Refused>
-    ensures { Gives (λ x. x) result rows.new (ident_at rows.old) }
+    ensures { Gives (λ x. x) result rows.new ((rule.ident).code rows.old) }
 {
     if let Some((first, rest)) = rows.split() {
         if let Ok(Token::Ident(text)) = first.token() {
@@ -34,28 +38,28 @@ pub fn ident(alloc: Global, rows: &mut Unread<'_, '_>, expected: Expected) -> Re
     Err(refused(rows, expected))
 }
 
-#[tactic(auto, unfolding(crate::specs::Reads::more_part_at))]
+#[tactic(auto, unfolding(crate::specs::Names::more_part))]
 fn more_part(alloc: Global, rows: &mut Unread<'_, '_>) -> Result<Ident, Refused>
-    ensures { Gives (λ x. x) result rows.new (more_part_at rows.old) }
+    ensures { Gives (λ x. x) result rows.new ((rule.more_part).code rows.old) }
 {
     expect_mark(rows, b'.', Expected::Dot)?;
     ident(alloc, rows, Expected::Ident)
 }
 
 /// fullident = ident ("." ident)*
-#[tactic(auto, unfolding(crate::specs::Reads::parts_at))]
-fn parts(
+#[tactic(auto, unfolding(crate::specs::Names::fullident))]
+fn fullident(
     alloc: Global,
     rows: &mut Unread<'_, '_>,
     expected: Expected,
 ) -> Result<Items<Ident>, Refused>
-    ensures read { Gives (λ x. x) result rows.new (parts_at rows.old) }
+    ensures read { Gives (λ x. x) result rows.new ((rule.fullident).code rows.old) }
     ensures some { IfOk result (λ x. 0 < length x) }
 {
     let first = ident(alloc, rows, expected)?;
     let mut parts = Items::new(alloc);
     parts.push(first)?;
-    'more: while sees_mark(rows, b'.') {
+    'more: while sees(rows, DOT) {
         let part = more_part(alloc, rows)?;
         parts.push(part)?;
     }
@@ -75,7 +79,7 @@ fn last_part(first: &Span, parts: &[Ident]) -> Span
 
 // From the dot or the first part to the last.
 fn name_span(dot: &Option<Span>, parts: &[Ident]) -> Span
-    ensures { result ≡ name_span dot.now parts.now }
+    ensures { result ≡ rule.name_span dot.now parts.now }
 {
     match parts {
         [] => 0..0,
@@ -90,9 +94,9 @@ fn name_span(dot: &Option<Span>, parts: &[Ident]) -> Span
 }
 
 fn dot_if_any(rows: &mut Unread<'_, '_>) -> Result<Option<Span>, Refused>
-    ensures { Gives (λ x. x) result rows.new (mapped span_if_any (optional (is_mark dot) (sign dot)) rows.old) }
+    ensures { Gives (λ x. x) result rows.new (mapped span_if_any (optional (in_set (only 42)) (fixed (Mark dot))) rows.old) }
 {
-    if sees_mark(rows, b'.') {
+    if sees(rows, DOT) {
         let dot = expect_mark(rows, b'.', Expected::Dot)?;
         return Ok(Some(dot.span()));
     }
@@ -108,25 +112,25 @@ fn first_part(dot: &Option<Span>, expected: Expected) -> Expected {
 }
 
 /// typename = "."? fullident
-#[tactic(auto, unfolding(crate::specs::Reads::typename_at))]
+#[tactic(auto, unfolding(crate::specs::Names::typename))]
 pub fn typename(
     alloc: Global,
     rows: &mut Unread<'_, '_>,
     expected: Expected,
 ) -> Result<(TypeName, Span), Refused>
-    ensures { Gives (λ x. (x.0, x.1)) result rows.new (typename_at rows.old) }
+    ensures { Gives (λ x. (x.0, x.1)) result rows.new ((rule.typename).code rows.old) }
 {
     let leading_dot = dot_if_any(rows)?;
-    let parts = parts(alloc, rows, first_part(&leading_dot, expected))?;
+    let parts = fullident(alloc, rows, first_part(&leading_dot, expected))?;
     let span = name_span(&leading_dot, parts.as_slice());
     let name = FullIdent::from_parts(parts.into_vec());
     Ok((TypeName { leading_dot, name }, span))
 }
 
 /// integer
-#[tactic(auto, unfolding(protox_grammar::specs::Reader::leaf, crate::specs::Reads::integer_at))]
-fn integer(rows: &mut Unread<'_, '_>) -> Result<(u64, Span), Refused>
-    ensures { Gives (λ x. (x.0, x.1)) result rows.new (integer_at rows.old) }
+#[tactic(auto, unfolding(protox_grammar::specs::Reader::leaf, crate::specs::Names::integer))]
+pub fn integer(rows: &mut Unread<'_, '_>) -> Result<(u64, Span), Refused>
+    ensures { Gives (λ x. (x.0, x.1)) result rows.new ((rule.integer).code rows.old) }
 {
     if let Some((first, rest)) = rows.split() {
         if let Ok(Token::IntLiteral(value)) = first.token() {
@@ -137,10 +141,31 @@ fn integer(rows: &mut Unread<'_, '_>) -> Result<(u64, Span), Refused>
     Err(refused(rows, Expected::Int))
 }
 
-fn minus_if_any(rows: &mut Unread<'_, '_>) -> Result<Option<Span>, Refused>
-    ensures { Gives (λ x. x) result rows.new (mapped span_if_any (optional (is_mark minus) (sign minus)) rows.old) }
+/// float
+#[tactic(auto, unfolding(protox_grammar::specs::Reader::leaf, crate::specs::Names::float))]
+pub fn float(
+    alloc: Global,
+    rows: &mut Unread<'_, '_>,
+    expected: Expected,
+) -> Result<(Text, Span), Refused>
+    ensures { Gives (λ x. (x.0, x.1)) result rows.new ((rule.float).code rows.old) }
 {
-    if sees_mark(rows, b'-') {
+    if let Some((first, rest)) = rows.split() {
+        if let Ok(Token::FloatLiteral(text)) = first.token() {
+            let value = Text::copy(alloc, text.0.as_str())?;
+            let span = first.span();
+            *rows = rest;
+            return Ok((value, span));
+        }
+    }
+    Err(refused(rows, expected))
+}
+
+/// "-"?
+pub fn minus_if_any(rows: &mut Unread<'_, '_>) -> Result<Option<Span>, Refused>
+    ensures { Gives (λ x. x) result rows.new (mapped span_if_any (optional (in_set (only 43)) (fixed (Mark minus))) rows.old) }
+{
+    if sees(rows, MINUS) {
         let minus = expect_mark(rows, b'-', Expected::Minus)?;
         return Ok(Some(minus.span()));
     }
@@ -148,9 +173,9 @@ fn minus_if_any(rows: &mut Unread<'_, '_>) -> Result<Option<Span>, Refused>
 }
 
 /// int = "-"? integer
-#[tactic(auto, unfolding(crate::specs::Reads::int_at))]
+#[tactic(auto, unfolding(crate::specs::Names::int))]
 pub fn int(rows: &mut Unread<'_, '_>) -> Result<Int, Refused>
-    ensures { Gives (λ x. x) result rows.new (int_at rows.old) }
+    ensures { Gives (λ x. x) result rows.new ((rule.int).code rows.old) }
 {
     let minus = minus_if_any(rows)?;
     let (value, number) = integer(rows)?;
@@ -163,4 +188,76 @@ pub fn int(rows: &mut Unread<'_, '_>) -> Result<Int, Refused>
         value,
         span,
     })
+}
+
+// The scalar type that the word names.
+fn scalar_type(word: &str) -> Option<Ty>
+    ensures { result ≡ option_map scalar (find_scalar all_scalars word.now) }
+{
+    match word {
+        "double" => Some(Ty::Double),
+        "float" => Some(Ty::Float),
+        "int32" => Some(Ty::Int32),
+        "int64" => Some(Ty::Int64),
+        "uint32" => Some(Ty::Uint32),
+        "uint64" => Some(Ty::Uint64),
+        "sint32" => Some(Ty::Sint32),
+        "sint64" => Some(Ty::Sint64),
+        "fixed32" => Some(Ty::Fixed32),
+        "fixed64" => Some(Ty::Fixed64),
+        "sfixed32" => Some(Ty::Sfixed32),
+        "sfixed64" => Some(Ty::Sfixed64),
+        "bool" => Some(Ty::Bool),
+        "string" => Some(Ty::String),
+        "bytes" => Some(Ty::Bytes),
+        _ => None,
+    }
+}
+
+#[tactic(auto, unfolding(protox_grammar::specs::Reader::leaf, crate::specs::Names::scalar))]
+fn scalar(rows: &mut Unread<'_, '_>) -> Result<(Ty, Span), Refused>
+    ensures { Gives (λ x. (x.0, x.1)) result rows.new ((rule.scalar).code rows.old) }
+{
+    if let Some((first, rest)) = rows.split() {
+        if let Ok(Token::Ident(word)) = first.token() {
+            if let Some(ty) = scalar_type(word) {
+                *rows = rest;
+                return Ok((ty, first.span()));
+            }
+        }
+    }
+    Err(refused(rows, Expected::Type))
+}
+
+/// type = one of the 15 scalar words | typename
+#[tactic(auto, unfolding(crate::specs::Names::field_type))]
+pub fn field_type(
+    alloc: Global,
+    rows: &mut Unread<'_, '_>,
+    expected: Expected,
+) -> Result<(Ty, Span), Refused>
+    ensures { Gives (λ x. (x.0, x.1)) result rows.new ((rule.field_type).code rows.old) }
+{
+    if sees_scalar(rows) {
+        return scalar(rows);
+    }
+    let (name, span) = typename(alloc, rows, expected)?;
+    Ok((Ty::Named(name), span))
+}
+
+/// label = "optional" | "required" | "repeated"
+#[tactic(auto, unfolding(crate::specs::Names::label))]
+pub fn label(rows: &mut Unread<'_, '_>) -> Result<(FieldLabel, Span), Refused>
+    ensures { Gives (λ x. x) result rows.new ((rule.label).code rows.old) }
+{
+    if sees(rows, OPTIONAL) {
+        let word = expect_word(rows, "optional", Expected::MessageBody)?;
+        return Ok((FieldLabel::Optional, word.span()));
+    }
+    if sees(rows, REQUIRED) {
+        let word = expect_word(rows, "required", Expected::MessageBody)?;
+        return Ok((FieldLabel::Required, word.span()));
+    }
+    let word = expect_word(rows, "repeated", Expected::MessageBody)?;
+    Ok((FieldLabel::Repeated, word.span()))
 }

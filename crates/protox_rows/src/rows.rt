@@ -7,7 +7,7 @@ ghost use Rattle.protox_comments.specs.Attributing.{attribution_of};
 ghost use Rattle.protox_lex.specs.TableView.{shape_of_lent};
 ghost use Rattle.protox_lexeme.specs.Tokens.{shape_of};
 ghost use Rattle.protox_rows.specs.Rows.{IsFirst, IsSplit, bare_row, shape_of_row};
-ghost use Rattle.protox_ast.specs.part.Ast.{comments, join};
+ghost use Rattle.protox_ast.specs.Ast.{comments, join};
 ghost use Rattle.protox_rows.specs.Reads.{declared};
 
 use crate::leaf::join;
@@ -206,8 +206,8 @@ impl<'t, 'a> Unread<'t, 'a> {
     }
 }
 
-// The comments of a declaration that begins with one row, and that ends or opens its body with another.
-fn comments_between(
+/// The comments of a declaration that begins with one row, and that ends or opens its body with another.
+pub fn comments_between(
     alloc: Global,
     first: &RowAt<'_, '_>,
     last: &RowAt<'_, '_>,

@@ -21,7 +21,7 @@ use Rattle.protox_grammar.proofs.Tests.{word-class, words-class}
 use Rattle.protox_grammar.proofs.Parts as parts
 use Rattle.protox_grammar.proofs.part.Messages as messages
 use Rattle.protox_rows.specs.Reads as base
-use Rattle.protox_rows.proofs.Declared.{mapped_from-shows}
+use Rattle.protox_grammar.proofs.Shown.{mapped_from-shows}
 use Rattle.protox_rows.proofs.Same.{here, word, sign, strings-shows, semicolon-class}
 use Rattle.protox_messages.proofs.Same.{message-shows}
 use Rattle.protox_syntax.specs.Reads as reads

@@ -1,5 +1,5 @@
 use Rattle.std.proofs.Common.{◌≡◌, drop}
-use Rattle.protox_ast.specs.part.Ast.{last_place}
+use Rattle.protox_ast.specs.Ast.{last_place}
 use Rattle.protox_ast.specs.declared.ast.Ident.{Ident}
 use Rattle.protox_rows.proofs.names.last_part.Given as goal
 

@@ -1,0 +1,168 @@
+-- MACHINERY. What the parser notes of the steps of reading: the faults of the nodes that are checked, and where an aggregate begins and
+-- ends, each with how many rows are left.
+use Rattle.std.specs.Prelude.{ℕ, suc, List, [], ◌∷◌, ◌++◌, length, Bool, true, false, ◌&&◌, ◌||◌, ◌==◌, if◌then◌else◌, Option, Some, None, Result, Ok, Err}
+use Rattle.std.specs.Char.{is_ascii_uppercase, is_ascii_alphabetic, is_ascii_alphanumeric}
+use Rattle.std.specs.List.{list_all}
+use Rattle.protox_fault.specs.Faults.{Span}
+use Rattle.protox_fault.specs.declared.error.ParseErrorKind.{ParseErrorKind}
+use Rattle.protox_fault.specs.declared.error.ParseErrorKind.TheVariants as fault
+use Rattle.protox_lexeme.specs.Shapes.{Shape, Invalid, Rows}
+use Rattle.protox_ast.specs.AstParts.{text_of, strings_value, strings_span}
+use Rattle.protox_ast.specs.CheckedNodes.{CheckedNode, ASyntax, AnImport, AReservedName, AGroupName, APackageAgain, ATooDeep}
+use Rattle.protox_ast.specs.Checks.{is_known_syntax, is_text, is_import_path, package_span}
+use Rattle.protox_ast.specs.Places.{Place}
+use Rattle.protox_ast.specs.Tree as t
+use Rattle.protox_grammar.specs.Reader.{Refusal, head_in}
+use Rattle.protox_grammar.specs.Steps.{Event, ANode, APackage, AKeyword, ADeepBody, ADeeperBody, AnOpenBrace, ACloseBrace, Token, Note, Steps}
+use Rattle.protox_grammar.specs.declared.note.Note as note_type
+use Rattle.protox_grammar.specs.declared.note.Noted.TheVariants.{Fault, TextFormat}
+
+abbrev pub Notes : Type 0
+Notes = List note_type.Note
+
+-- ---- the faults of a node, in the order in which they are found
+
+-- this fault, where the test says no
+abbrev pub unless_so : Bool → ParseErrorKind → List ParseErrorKind
+unless_so so wrong = if so then [] else wrong ∷ []
+
+abbrev pub syntax_faults : List ℕ → Span → List ParseErrorKind
+syntax_faults value span = unless_so (is_known_syntax value) (fault.UnknownSyntax span (text_of value))
+
+abbrev pub text_faults : List ℕ → Span → List ParseErrorKind
+text_faults value span = unless_so (is_text value) (fault.InvalidUtf8String span)
+
+abbrev pub path_faults : List ℕ → Span → List ParseErrorKind
+path_faults path span = unless_so (is_import_path path) (fault.InvalidImport span)
+
+abbrev pub is_ident_byte : ℕ → Bool
+is_ident_byte b = is_ascii_alphanumeric b || b == 95
+
+abbrev pub is_ident : List ℕ → Bool
+is_ident [] = false
+is_ident (b ∷ bs) = is_ascii_alphabetic b && list_all is_ident_byte bs
+
+abbrev pub ident_faults : List ℕ → Span → List ParseErrorKind
+ident_faults name span = unless_so (is_ident name) (fault.InvalidIdentifier span)
+
+abbrev pub is_group_name : List ℕ → Bool
+is_group_name [] = false
+is_group_name (b ∷ bs) = is_ascii_uppercase b && list_all is_ident_byte bs
+
+abbrev pub group_faults : List ℕ → Span → List ParseErrorKind
+group_faults name span = unless_so (is_group_name name) (fault.InvalidGroupName span)
+
+-- ---- notes, with the rows behind the node
+
+abbrev pub is_invalid : Shape → Bool
+is_invalid Invalid = true
+is_invalid _ = false
+
+-- A fault is noted once the row behind the node is read, too. Where this is invalid, that is the only fault there.
+abbrev pub one_note : ParseErrorKind → Rows Place → Notes
+one_note wrong xs = if head_in is_invalid xs then [] else record { left = length xs; noted = Fault wrong } ∷ []
+
+abbrev pub noted : List ParseErrorKind → Rows Place → Notes
+noted [] xs = []
+noted (f ∷ fs) xs = one_note f xs ++ noted fs xs
+
+-- before the row behind is read
+abbrev pub at_once : List ParseErrorKind → Rows Place → Notes
+at_once [] xs = []
+at_once (f ∷ fs) xs = record { left = suc (length xs); noted = Fault f } ∷ at_once fs xs
+
+abbrev pub syntax_notes : List ℕ × Span → Rows Place → Notes
+syntax_notes x xs = noted (syntax_faults x.0 x.1) xs
+
+abbrev pub import_notes : List ℕ × Span → Rows Place → Notes
+import_notes x xs = noted (text_faults x.0 x.1) xs ++ noted (path_faults (text_of x.0) x.1) xs
+
+abbrev pub name_notes : List ℕ × Span → Rows Place → Notes
+name_notes x xs = noted (text_faults x.0 x.1) xs ++ noted (ident_faults (text_of x.0) x.1) xs
+
+abbrev pub group_notes : List ℕ × Span → Rows Place → Notes
+group_notes x xs = at_once (group_faults x.0 x.1) xs
+
+abbrev pub span_of : Place → Span
+span_of place = place.span
+
+abbrev pub package_notes : Span → Span → Rows Place → Notes
+package_notes first again xs = one_note (fault.DuplicatePackage first again) xs
+
+abbrev pub deep_notes : Span → Rows Place → Notes
+deep_notes keyword xs = one_note (fault.MessageNestingTooDeep keyword) xs
+
+abbrev pub node_notes : CheckedNode Place → Rows Place → Notes
+node_notes (ASyntax x) xs = syntax_notes (strings_value x, strings_span x) xs
+node_notes (AnImport x) xs = import_notes (strings_value x, strings_span x) xs
+node_notes (AReservedName x) xs = name_notes (strings_value x, strings_span x) xs
+node_notes (AGroupName x) xs = group_notes (x.0, x.1.span) xs
+node_notes (APackageAgain first again) xs = package_notes (package_span span_of first) (package_span span_of again) xs
+node_notes (ATooDeep keyword open_at) xs = deep_notes keyword.span xs
+
+-- Behind the `{` of an aggregate the rows are seen otherwise, up to its `}`.
+abbrev pub brace_notes : Bool → Rows Place → Notes
+brace_notes opens xs = record { left = suc (length xs); noted = TextFormat opens } ∷ []
+
+-- ---- notes of steps
+
+-- the rows behind the first
+abbrev pub behind : Rows Place → Rows Place
+behind [] = []
+behind (r ∷ rs) = rs
+
+-- What is noted of steps that are taken among these rows. Here is the first package statement so far, if there is one, and the word of
+-- the message or group that was read last.
+abbrev pub told : Option (t.Package Place) → Place → Steps Place → Rows Place → Notes
+told first keyword [] xs = []
+told first keyword (Token r ∷ l) xs = told first keyword l (behind xs)
+told first keyword (Note (ANode x) ∷ l) xs = node_notes x xs ++ told first keyword l xs
+told None keyword (Note (APackage x) ∷ l) xs = told (Some x) keyword l xs
+told (Some first) keyword (Note (APackage x) ∷ l) xs = node_notes (APackageAgain first x) xs ++ told (Some first) keyword l xs
+told first keyword (Note (AKeyword m) ∷ l) xs = told first m l xs
+told first keyword (Note (ADeepBody m) ∷ l) xs = node_notes (ATooDeep keyword m) xs ++ told first keyword l xs
+told first keyword (Note (ADeeperBody m) ∷ l) xs = told first keyword l xs
+told first keyword (Note (AnOpenBrace m) ∷ l) xs = brace_notes true xs ++ told first keyword l xs
+told first keyword (Note (ACloseBrace m) ∷ l) xs = brace_notes false xs ++ told first keyword l xs
+
+-- the rows behind those that are taken
+abbrev pub past : Steps Place → Rows Place → Rows Place
+past [] xs = xs
+past (Token r ∷ l) xs = past l (behind xs)
+past (Note e ∷ l) xs = past l xs
+
+-- the first package statement, and the word read last, behind an event
+abbrev pub or_else : Option (t.Package Place) → t.Package Place → Option (t.Package Place)
+or_else None x = Some x
+or_else (Some first) x = Some first
+
+abbrev pub first_with : Option (t.Package Place) → Event Place → Option (t.Package Place)
+first_with first (APackage x) = or_else first x
+first_with first _ = first
+
+abbrev pub keyword_with : Place → Event Place → Place
+keyword_with keyword (AKeyword m) = m
+keyword_with keyword _ = keyword
+
+-- and behind steps
+abbrev pub first_behind : Option (t.Package Place) → Steps Place → Option (t.Package Place)
+first_behind first [] = first
+first_behind first (Token r ∷ l) = first_behind first l
+first_behind first (Note e ∷ l) = first_behind (first_with first e) l
+
+abbrev pub keyword_behind : Place → Steps Place → Place
+keyword_behind keyword [] = keyword
+keyword_behind keyword (Token r ∷ l) = keyword_behind keyword l
+keyword_behind keyword (Note e ∷ l) = keyword_behind (keyword_with keyword e) l
+
+-- ---- notes of readers
+
+-- what is noted once something was read
+abbrev pub checked : {A : Type 0} → (A → Rows Place → Notes) → Result (A × Rows Place) Refusal → Notes
+checked notes (Ok x) = notes x.0 x.1
+checked notes (Err e) = []
+
+-- what is noted of the rows behind what was read
+abbrev pub then_notes : {A : Type 0} → (Rows Place → Notes) → Result (A × Rows Place) Refusal → Notes
+then_notes more (Ok x) = more x.1
+then_notes more (Err e) = []

@@ -1,0 +1,99 @@
+-- MACHINERY. Names, numbers, types and labels, as the code reads them.
+use Rattle.std.specs.Prelude.{◌≡◌, ℕ, List, [], ◌∷◌, map, Option, Some, None, option_map, is_some, codes}
+use Rattle.std.proofs.Common.{refl, ap}
+use Rattle.protox_fault.specs.Faults.{Span}
+use Rattle.protox_ast.specs.Tree as tree
+use Rattle.protox_ast.specs.Spelling as s
+use Rattle.protox_ast.specs.Ast as ast
+use Rattle.protox_ast.specs.Places.{Place}
+use Rattle.protox_ast.specs.declared.ast.Ident as ident_type
+use Rattle.protox_ast.specs.declared.ast.TypeName as type_name
+use Rattle.protox_ast.specs.declared.ast.Int as int_type
+use Rattle.protox_ast.specs.declared.ast.Ty.{Ty}
+use Rattle.protox_ast.specs.declared.ast.Ty.TheVariants as ty
+use Rattle.protox_ast.specs.declared.ast.FieldLabel.TheVariants as field_label
+use Rattle.protox_grammar.specs.Class.{only}
+use Rattle.protox_grammar.specs.Reader.{see_word, see_integer, see_float}
+use Rattle.protox_grammar.specs.Rule as rule
+use Rattle.protox_grammar.specs.Rules as r
+use Rattle.protox_grammar.proofs.Shows.{two, three}
+use Rattle.protox_grammar.proofs.Shown.{Silent, both, seen, named, renamed, choice, optional, list_of, the, sign, one}
+
+-- ---- names
+
+unfoldable pub ident : Silent r.ident ast.ident
+ident = seen ast.ident (one see_word)
+
+unfoldable pub more_part : Silent (rule.seq (r.sign s.dot) r.ident) (λ y. ast.ident y.1)
+more_part = seen (λ x. x.1) (both (sign s.dot) ident)
+
+unfoldable pub fullident : Silent r.fullident ast.fullident
+unfolding r.fullident
+fullident = renamed _ (λ x. refl) (list_of (only 42) ident more_part)
+
+-- from the dot or the first part to the last
+abbrev pub name_span : Option Span → List ident_type.Ident → Span
+name_span d [] = record { start = 0; end = 0 }
+name_span d (i ∷ is) = ast.join (ast.dotted_start d i.span) (ast.last_place (λ (x : ident_type.Ident). x.span) i.span is)
+
+last-part : (span : Span) (xs : List (Place × tree.Word Place)) → ast.last_place (λ (x : ident_type.Ident). x.span) span (map (λ (y : Place × tree.Word Place). ast.ident y.1) xs) ≡ ast.last_place (λ (y : Place × tree.Word Place). y.1.1.span) span xs
+last-part span [] = refl
+last-part span (x ∷ xs) = last-part x.1.1.span xs
+
+abbrev pub name_and_span : tree.TypeName Place → type_name.TypeName × Span
+name_and_span x = (ast.typename x, ast.typename_span x)
+
+abbrev pub dotted : Option Place → List ident_type.Ident → type_name.TypeName × Span
+dotted d n = (record { leading_dot = ast.span_if_any d; name = n }, name_span (ast.span_if_any d) n)
+
+pub dotted-is : (d : Option Place) (n : tree.FullIdent Place) → dotted (option_map (λ m. m) d) (ast.fullident n) ≡ name_and_span (record { leading_dot = d; name = n })
+dotted-is None n = ap (λ e. (ast.typename (record { leading_dot = None; name = n }), ast.join n.first.1.span e)) (last-part n.first.1.span n.others)
+dotted-is (Some m) n = ap (λ e. (ast.typename (record { leading_dot = Some m; name = n }), ast.join m.span e)) (last-part n.first.1.span n.others)
+
+unfoldable pub typename : Silent r.typename name_and_span
+unfolding r.typename
+typename = named _ (λ x. dotted x.0 x.1) (λ x. dotted-is x.0 x.1) (both (optional (only 42) (sign s.dot)) fullident)
+
+-- ---- numbers
+
+abbrev pub with_span : {X : Type 0} → X × Place → X × Span
+with_span x = (x.0, x.1.span)
+
+unfoldable pub integer : Silent r.integer with_span
+integer = seen with_span (one see_integer)
+
+unfoldable pub float : Silent r.float with_span
+float = seen with_span (one see_float)
+
+abbrev pub signed : Option Place → ℕ × Span → int_type.Int
+signed d n = record { negative = is_some d; value = n.0; span = ast.signed_span (ast.span_if_any d) n.1 }
+
+pub signed-is : (d : Option Place) (n : tree.Number Place) → signed (option_map (λ m. m) d) (with_span n) ≡ ast.int (record { sign = d; number = n })
+signed-is None n = refl
+signed-is (Some m) n = refl
+
+unfoldable pub int : Silent r.int ast.int
+unfolding r.int
+int = named _ (λ x. signed x.0 x.1) (λ x. signed-is x.0 x.1) (both (optional (only 43) (sign s.minus)) integer)
+
+-- ---- types and labels
+
+abbrev pub scalar_and_span : tree.Scalar × Place → Ty × Span
+scalar_and_span x = (ast.scalar x.0, x.1.span)
+
+unfoldable pub scalar : Silent r.scalar scalar_and_span
+scalar = seen scalar_and_span (one r.see_scalar)
+
+abbrev pub type_and_span : tree.FieldType Place → Ty × Span
+type_and_span x = (ast.type x, ast.type_span x)
+
+unfoldable pub field_type : Silent r.type type_and_span
+unfolding r.type
+field_type = renamed r.to_type (two _ _ (λ x. refl) (λ x. refl)) (choice r.scalar_set scalar (seen (λ x. (ty.Named x.0, x.1)) typename))
+
+unfoldable pub label : Silent r.label ast.label
+unfolding r.label
+label = renamed r.to_label (three _ _ (λ x. refl) (λ x. refl) (λ x. refl))
+    (choice (only 13) (seen (λ (p : Place). (field_label.Optional, p.span)) (the (codes "optional")))
+    (choice (only 14) (seen (λ (p : Place). (field_label.Required, p.span)) (the (codes "required")))
+    (seen (λ (p : Place). (field_label.Repeated, p.span)) (the (codes "repeated")))))

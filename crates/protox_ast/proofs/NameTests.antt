@@ -30,15 +30,18 @@ by-test : {P : Type 0} (b : Bool) → Decides b P → ((P → ⊥) → ⊥) → 
 by-test true d h = d.0 refl
 by-test false d h = absurd (h (λ p. true≢false (sym (d.1 p))))
 
+pub ident-decides : (b : ℕ) (bs : List ℕ) → Decides (is_ascii_alphabetic b && list_all (λ c. is_ascii_alphanumeric c || (c == 95)) bs) (IsIdent (b ∷ bs))
+ident-decides b bs =
+    Decides-and (is_ascii_alphabetic b) (list_all (λ c. is_ascii_alphanumeric c || (c == 95)) bs)
+    (Decides-or (is_in_range 65 90 b) (is_in_range 97 122 b) (range-decides 65 90 b) (range-decides 97 122 b)) (bytes-decide bs)
+
+pub group-name-decides : (b : ℕ) (bs : List ℕ) → Decides (is_ascii_uppercase b && list_all (λ c. is_ascii_alphanumeric c || (c == 95)) bs) (IsGroupName (b ∷ bs))
+group-name-decides b bs = Decides-and (is_ascii_uppercase b) (list_all (λ c. is_ascii_alphanumeric c || (c == 95)) bs) (range-decides 65 90 b) (bytes-decide bs)
+
 pub ident-if : (name : List ℕ) → ((IsIdent name → ⊥) → ⊥) → IsIdent name
 ident-if [] h = h (λ x. x)
-ident-if (b ∷ bs) h =
-    by-test (is_ascii_alphabetic b && list_all (λ c. is_ascii_alphanumeric c || (c == 95)) bs)
-    (Decides-and (is_ascii_alphabetic b) (list_all (λ c. is_ascii_alphanumeric c || (c == 95)) bs)
-    (Decides-or (is_in_range 65 90 b) (is_in_range 97 122 b) (range-decides 65 90 b) (range-decides 97 122 b)) (bytes-decide bs)) h
+ident-if (b ∷ bs) h = by-test (is_ascii_alphabetic b && list_all (λ c. is_ascii_alphanumeric c || (c == 95)) bs) (ident-decides b bs) h
 
 pub group-name-if : (name : List ℕ) → ((IsGroupName name → ⊥) → ⊥) → IsGroupName name
 group-name-if [] h = h (λ x. x)
-group-name-if (b ∷ bs) h =
-    by-test (is_ascii_uppercase b && list_all (λ c. is_ascii_alphanumeric c || (c == 95)) bs)
-    (Decides-and (is_ascii_uppercase b) (list_all (λ c. is_ascii_alphanumeric c || (c == 95)) bs) (range-decides 65 90 b) (bytes-decide bs)) h
+group-name-if (b ∷ bs) h = by-test (is_ascii_uppercase b && list_all (λ c. is_ascii_alphanumeric c || (c == 95)) bs) (group-name-decides b bs) h

@@ -55,4 +55,5 @@ pub mod Loops
 pub mod Shows
 pub mod Telling
 pub mod Shown
+pub mod Opened
 pub mod Tests

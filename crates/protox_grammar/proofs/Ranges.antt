@@ -77,7 +77,7 @@ module _ {M : Type 0} (m : M) where
       (λ x h. (tt, parts.each-all _ (λ y. (tt, tt)) x.others)) (λ x h. tt) (λ x h. h)
       (seq-laws range-laws (times-laws (only 53) (seq-laws (mark-laws m s.comma 53 refl) range-laws refl) refl refl) refl)) refl refl
 
-  name-laws : Lawful {M = M} (r.noted_strings AReservedName) false (only 41) (only 41)
+  pub name-laws : Lawful {M = M} (r.noted_strings AReservedName) false (only 41) (only 41)
   name-laws = parts.noted_strings-laws m AReservedName (λ x. refl) (λ x. refl)
 
   pub names-laws : Lawful {M = M} r.names false (only 41) (among (41 ∷ 53 ∷ []))

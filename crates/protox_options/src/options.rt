@@ -144,11 +144,12 @@ pub fn option(
     alloc: Global,
     notes: &mut Vec<Note>,
     rows: &mut Unread<'_, '_>,
+    expected: Expected,
 ) -> Result<OptionStatement, Refused>
     ensures read { Gives (λ x. x) result rows.new ((rule.option).code rows.old) }
     ensures notes { Adds result notes.old.items ((rule.option).notes rows.old) notes.new.items }
 {
-    let start = expect_word(rows, "option", Expected::Statement)?;
+    let start = expect_word(rows, "option", expected)?;
     let body = body(alloc, notes, rows)?;
     let end = expect_mark(rows, b';', Expected::Semicolon)?;
     let comments = comments_between(alloc, &start, &end)?;
@@ -158,4 +159,12 @@ pub fn option(
         comments,
         span,
     })
+}
+
+/// What may stand behind a number, where a list may.
+pub fn after_list(options: &Option<OptionList>) -> Expected {
+    match options {
+        Some(_) => Expected::Semicolon,
+        None => Expected::SemicolonOrOptions,
+    }
 }

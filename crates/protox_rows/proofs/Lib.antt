@@ -1,3 +1,5 @@
 pub mod Turns
 pub mod PlacedRows
 pub mod Same
+pub mod Naming
+pub mod Texts

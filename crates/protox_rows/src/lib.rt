@@ -1,6 +1,7 @@
 //! What every rule of the grammar is read with: rows, names, numbers and strings, notes of faults.
 #![tactic(auto)]
 
+pub mod checks;
 pub mod class;
 pub mod expected;
 pub mod leaf;

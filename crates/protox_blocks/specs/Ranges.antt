@@ -1,0 +1,89 @@
+-- MACHINERY. Ranges, reserved and extensions statements, as the code reads and notes them.
+use Rattle.std.specs.Prelude.{◌≡◌, List, [], ◌∷◌, map, Option, Some, None, option_map, ◌⊎◌, codes}
+use Rattle.std.proofs.Common.{refl, inl, inr}
+use Rattle.protox_ast.specs.Tree as tree
+use Rattle.protox_ast.specs.Spelling as s
+use Rattle.protox_ast.specs.Ast as ast
+use Rattle.protox_ast.specs.CheckedNodes.{AReservedName}
+use Rattle.protox_ast.specs.Places.{Place}
+use Rattle.protox_ast.specs.declared.ast.Ident.{Ident}
+use Rattle.protox_ast.specs.declared.ast.ReservedRange.{ReservedRange}
+use Rattle.protox_ast.specs.declared.ast.ReservedRangeEnd.{ReservedRangeEnd}
+use Rattle.protox_ast.specs.declared.ast.ReservedRangeEnd.TheVariants as range_ends
+use Rattle.protox_ast.specs.declared.ast.ReservedKind.TheVariants as reserved_kinds
+use Rattle.protox_grammar.specs.Class.{only, among}
+use Rattle.protox_grammar.specs.Rule as rule
+use Rattle.protox_grammar.specs.Rule.{on_sum}
+use Rattle.protox_grammar.specs.Rules as r
+use Rattle.protox_grammar.specs.Told.{name_notes}
+use Rattle.protox_grammar.proofs.Shows.{two}
+use Rattle.protox_grammar.proofs.Shown.{Silent, Noting, both, seen, named, renamed, choice, peek, the, sign, list_of, list_view}
+use Rattle.protox_rows.specs.Names.{int}
+use Rattle.protox_rows.specs.Strings.{checked_strings}
+use Rattle.protox_options.specs.Options.{list_if_any}
+
+-- ---- ranges
+
+abbrev pub range_end_seen : tree.RangeEnd Place → ReservedRangeEnd
+range_end_seen x = ast.range_end (Some x)
+
+pub range_end-is : (x : Place × (tree.Int Place ⊎ Place)) → on_sum (λ i. range_ends.Int (ast.int i)) (λ (p : Place). range_ends.Max p.span) x.1 ≡ range_end_seen (r.to_range_end x)
+range_end-is (m, inl i) = refl
+range_end-is (m, inr p) = refl
+
+unfoldable pub range_end : Silent r.range_end range_end_seen
+unfolding r.range_end
+range_end = renamed r.to_range_end range_end-is
+    (seen (λ x. x.1) (both (the (codes "to")) (choice (among (39 ∷ 43 ∷ [])) (seen range_ends.Int int) (seen (λ (p : Place). range_ends.Max p.span) (the (codes "max"))))))
+
+abbrev pub made_range : tree.Int Place × (tree.RangeEnd Place ⊎ Unit {0}) → ReservedRange
+made_range x = record { start = ast.int x.0; end = on_sum range_end_seen (λ u. range_ends.None) x.1 }
+
+pub range-is : (x : tree.Int Place × (tree.RangeEnd Place ⊎ Unit {0})) → made_range x ≡ ast.range (r.to_range x)
+range-is (i, inl e) = refl
+range-is (i, inr u) = refl
+
+-- "to" and what is behind it, or else a mark that ends the range
+unfoldable pub stop : Silent (rule.choice (only 36) r.range_end (rule.peek (among (53 ∷ 56 ∷ [])))) (on_sum range_end_seen (λ u. range_ends.None))
+stop = choice (only 36) range_end (seen (λ u. range_ends.None) (peek (among (53 ∷ 56 ∷ []))))
+
+unfoldable pub range : Silent r.range ast.range
+unfolding r.range
+range = named r.to_range (λ x. record { start = x.0; end = x.1 }) range-is (both int stop)
+
+unfoldable pub more_range : Silent (rule.seq (r.sign s.comma) r.range) (λ y. ast.range y.1)
+more_range = seen (λ x. x.1) (both (sign s.comma) range)
+
+unfoldable pub ranges : Silent r.ranges ast.ranges
+unfolding r.ranges
+ranges = renamed _ (λ x. refl) (list_of (only 53) range more_range)
+
+-- ---- reserved names
+
+unfoldable pub reserved_name : Noting (r.noted_strings AReservedName) ast.reserved_name
+reserved_name = seen (λ x. record { value = ast.text_of x.0; span = x.1 }) (checked_strings AReservedName name_notes (λ x rest. refl))
+
+unfoldable pub more_name : Noting (rule.seq (r.sign s.comma) (r.noted_strings AReservedName)) (λ y. ast.reserved_name y.1)
+more_name = seen (λ x. x.1) (both (sign s.comma) reserved_name)
+
+abbrev pub names_seen : tree.Names Place → List Ident
+names_seen x = ast.reserved_name x.first ∷ map (λ y. ast.reserved_name y.1) x.others
+
+unfoldable pub names : Noting r.names names_seen
+unfolding r.names
+names = renamed _ (λ x. refl) (list_of (only 53) reserved_name more_name)
+
+-- ---- statements
+
+unfoldable pub reserved_kind : Noting r.reserved_kind ast.reserved_kind
+unfolding r.reserved_kind
+reserved_kind = renamed r.to_reserved_kind (two _ _ (λ x. refl) (λ x. refl)) (choice (among (39 ∷ 43 ∷ [])) (seen reserved_kinds.Ranges ranges) (seen reserved_kinds.Names names))
+
+unfoldable pub reserved : Noting r.reserved ast.reserved
+unfolding r.reserved
+reserved = named _ (λ x. record { kind = x.1.0; comments = ast.comments x.0 x.1.1; span = ast.join x.0.span x.1.1.span }) (λ x. refl) (both (the (codes "reserved")) (both reserved_kind (sign s.semicolon)))
+
+unfoldable pub extensions : Noting r.extensions ast.extensions
+unfolding r.extensions
+extensions = named _ (λ x. record { ranges = x.1.0; options = x.1.1.0; comments = ast.comments x.0 x.1.1.1; span = ast.join x.0.span x.1.1.1.span }) (λ x. refl)
+    (both (the (codes "extensions")) (both ranges (both list_if_any (sign s.semicolon))))

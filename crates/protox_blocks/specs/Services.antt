@@ -1,0 +1,110 @@
+-- MACHINERY. Services and their methods, as the code reads and notes them.
+use Rattle.std.specs.Prelude.{◌≡◌, List, [], ◌∷◌, ◌++◌, map, Option, Some, None, option_map, ◌⊎◌, codes}
+use Rattle.std.specs.List.{filter_map}
+use Rattle.std.proofs.Common.{refl, sym, ap, ◌∙◌, append-nil, append_assoc, inl, inr}
+use Rattle.protox_fault.specs.Faults.{Span}
+use Rattle.protox_ast.specs.Tree as tree
+use Rattle.protox_ast.specs.Spelling as s
+use Rattle.protox_ast.specs.Ast as ast
+use Rattle.protox_ast.specs.Places.{Place}
+use Rattle.protox_ast.specs.declared.ast.TypeName.{TypeName}
+use Rattle.protox_ast.specs.declared.ast.Option as option_type
+use Rattle.protox_ast.specs.declared.ast.Method.{Method}
+use Rattle.protox_grammar.specs.Class.{only, but, among}
+use Rattle.protox_grammar.specs.Reader.{folded}
+use Rattle.protox_grammar.specs.Rule as rule
+use Rattle.protox_grammar.specs.Rules as r
+use Rattle.protox_grammar.proofs.Shows.{two, three}
+use Rattle.protox_grammar.proofs.Shown.{Silent, Noting, both, seen, named, renamed, choice, gather, the, sign}
+use Rattle.protox_rows.specs.Names.{ident, typename}
+use Rattle.protox_options.specs.Options.{option}
+use Rattle.protox_blocks.specs.declared.services.ServiceElement as element_type
+use Rattle.protox_blocks.specs.declared.services.ServiceElement.TheVariants as element_of
+use Rattle.protox_blocks.specs.declared.services.ServiceParts.{ServiceParts}
+
+-- ---- methods
+
+abbrev pub rpc_type_seen : tree.RpcType Place → Option Span × TypeName
+rpc_type_seen x = (ast.span_if_any x.stream, ast.typename x.name)
+
+unfoldable pub rpc_type : Silent r.rpc_type rpc_type_seen
+unfolding r.rpc_type
+rpc_type = renamed r.to_rpc_type (two _ _ (λ x. refl) (λ x. refl))
+    (choice (among (9 ∷ [])) (seen (λ x. (Some x.0.span, x.1.0)) (both (the (codes "stream")) typename)) (seen (λ x. (None, x.0)) typename))
+
+unfoldable pub rpc_element : Noting r.rpc_element ast.rpc_option
+unfolding r.rpc_element
+rpc_element = renamed r.to_rpc_element (two _ _ (λ x. refl) (λ x. refl)) (choice (only 56) (seen (λ m. None) (sign s.semicolon)) (seen Some option))
+
+abbrev pub add_option : List option_type.Option → Option option_type.Option → List option_type.Option
+add_option xs None = xs
+add_option xs (Some x) = xs ++ x ∷ []
+
+pub options-gathered : (a : List option_type.Option) (xs : List (tree.RpcElement Place)) → folded add_option a (map ast.rpc_option xs) ≡ a ++ filter_map ast.rpc_option xs
+options-gathered a [] = sym (append-nil a)
+options-gathered a (tree.rpc_empty m ∷ xs) = options-gathered a xs
+options-gathered a (tree.rpc_option x ∷ xs) = options-gathered (a ++ ast.option x ∷ []) xs ∙ append_assoc a (ast.option x ∷ []) (filter_map ast.rpc_option xs)
+
+unfoldable pub rpc_elements : Noting (rule.times (but 48) r.rpc_element) (filter_map ast.rpc_option)
+rpc_elements = gather (but 48) add_option [] (λ xs. options-gathered [] xs) rpc_element
+
+-- its options, and where it ends
+abbrev pub rpc_end_seen : tree.RpcEnd Place → List option_type.Option × Place
+rpc_end_seen x = (ast.rpc_options x, ast.rpc_last x)
+
+unfoldable pub rpc_end : Noting r.rpc_end rpc_end_seen
+unfolding r.rpc_end
+rpc_end = renamed r.to_rpc_end (two _ _ (λ x. refl) (λ x. refl))
+    (choice (only 56) (seen (λ m. ([], m)) (sign s.semicolon)) (seen (λ x. (x.1.0, x.1.1)) (both (sign s.open_brace) (both rpc_elements (sign s.close_brace)))))
+
+unfoldable pub rpc : Noting r.rpc ast.rpc
+unfolding r.rpc
+rpc = named _ (λ x. record {
+  name = x.1.0;
+  input_ty = x.1.1.1.0.1;
+  output_ty = x.1.1.1.1.1.1.1.0.1;
+  options = x.1.1.1.1.1.1.1.1.1.0;
+  client_streaming = x.1.1.1.0.0;
+  server_streaming = x.1.1.1.1.1.1.1.0.0;
+  comments = ast.comments x.0 x.1.1.1.1.1.1.1.1.1.1;
+  span = ast.join x.0.span x.1.1.1.1.1.1.1.1.1.1.span;
+}) (λ x. refl)
+    (both (the (codes "rpc")) (both ident (both (sign s.open_paren) (both rpc_type (both (sign s.close_paren) (both (the (codes "returns"))
+    (both (sign s.open_paren) (both rpc_type (both (sign s.close_paren) rpc_end)))))))))
+
+-- ---- services
+
+abbrev pub element_seen : tree.ServiceElement Place → element_type.ServiceElement
+element_seen (tree.service_empty m) = element_of.Empty
+element_seen (tree.service_option x) = element_of.Option (ast.option x)
+element_seen (tree.service_rpc x) = element_of.Rpc (ast.rpc x)
+
+unfoldable pub service_element : Noting r.service_element element_seen
+unfolding r.service_element
+service_element = renamed r.to_service_element (three _ _ (λ x. refl) (λ x. refl) (λ x. refl))
+    (choice (only 56) (seen (λ m. element_of.Empty) (sign s.semicolon)) (choice (only 6) (seen element_of.Option option) (seen element_of.Rpc rpc)))
+
+abbrev pub add : ServiceParts → element_type.ServiceElement → ServiceParts
+add p element_of.Empty = p
+add p (element_of.Option x) = record p { options = p.options ++ x ∷ [] }
+add p (element_of.Rpc x) = record p { methods = p.methods ++ x ∷ [] }
+
+abbrev pub parts_of : List option_type.Option → List Method → ServiceParts
+parts_of a b = record { options = a; methods = b }
+
+abbrev pub parts_seen : List (tree.ServiceElement Place) → ServiceParts
+parts_seen xs = parts_of (filter_map ast.service_option xs) (filter_map ast.service_rpc xs)
+
+pub gathered : (a : List option_type.Option) (b : List Method) (xs : List (tree.ServiceElement Place)) → folded add (parts_of a b) (map element_seen xs) ≡ parts_of (a ++ filter_map ast.service_option xs) (b ++ filter_map ast.service_rpc xs)
+gathered a b [] = rw (append-nil a, append-nil b) refl
+gathered a b (tree.service_empty m ∷ xs) = gathered a b xs
+gathered a b (tree.service_option x ∷ xs) = gathered (a ++ ast.option x ∷ []) b xs ∙ ap (λ v. parts_of v (b ++ filter_map ast.service_rpc xs)) (append_assoc a (ast.option x ∷ []) (filter_map ast.service_option xs))
+gathered a b (tree.service_rpc x ∷ xs) = gathered a (b ++ ast.rpc x ∷ []) xs ∙ ap (λ v. parts_of (a ++ filter_map ast.service_option xs) v) (append_assoc b (ast.rpc x ∷ []) (filter_map ast.service_rpc xs))
+
+unfoldable pub service_elements : Noting (rule.times (but 48) r.service_element) parts_seen
+service_elements = gather (but 48) add (parts_of [] []) (λ xs. gathered [] [] xs) service_element
+
+unfoldable pub service : Noting r.service ast.service
+unfolding r.service
+service = named _ (λ x. record { name = x.1.0; options = x.1.1.1.0.options; methods = x.1.1.1.0.methods; comments = ast.comments x.0 x.1.1.0; span = ast.join x.0.span x.1.1.1.1.span }) (λ x. refl)
+    (both (the (codes "service")) (both ident (both (sign s.open_brace) (both service_elements (sign s.close_brace)))))

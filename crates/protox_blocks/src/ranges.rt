@@ -1,0 +1,234 @@
+//! Ranges, reserved and extensions statements.
+
+ghost use Rattle.std.specs.Prelude.{◌≡◌, ◌∷◌, ◌++◌, [], IfOk, OnOk};
+ghost use Rattle.protox_ast.specs.Ast.{text_of};
+ghost use Rattle.protox_grammar.specs.Class.{among, in_set};
+ghost use Rattle.protox_grammar.specs.Reader.{peek};
+ghost use Rattle.protox_grammar.specs.Told.{name_notes};
+ghost use Rattle.protox_rows.specs.Outcome.{Gives};
+ghost use Rattle.protox_rows.specs.Notes.{Adds};
+ghost use Rattle.protox_blocks.specs.Ranges as rule;
+
+use protox_ast::ast::{
+    Extensions, Ident, OptionList, Reserved, ReservedKind, ReservedRange, ReservedRangeEnd,
+};
+use protox_descriptor::values::{Items, Text};
+use protox_grammar::note::Note;
+use protox_lex::error::Span;
+use protox_options::options::list_if_any;
+use protox_rows::checks::{check_ident, check_text};
+use protox_rows::class::{COMMA, INTEGER, MINUS, SEMICOLON, TO, sees, sees_any};
+use protox_rows::expected::Expected;
+use protox_rows::leaf::{expect_mark, expect_word, refused};
+use protox_rows::names::int;
+use protox_rows::refused::Refused;
+use protox_rows::rows::{Unread, comments_between, span_between};
+use protox_rows::strings::{strings, text_of};
+use std::alloc::{AllocError, Global};
+
+// "to" (int | "max")
+#[tactic(auto, unfolding(crate::specs::Ranges::range_end))]
+fn range_end(rows: &mut Unread<'_, '_>) -> Result<ReservedRangeEnd, Refused>
+    ensures { Gives (λ x. x) result rows.new ((rule.range_end).code rows.old) }
+{
+    expect_word(rows, "to", Expected::AfterStart)?;
+    if sees_any(rows, &[INTEGER, MINUS]) {
+        let bound = int(rows)?;
+        return Ok(ReservedRangeEnd::Int(bound));
+    }
+    let max = expect_word(rows, "max", Expected::IntOrMax)?;
+    Ok(ReservedRangeEnd::Max(max.span()))
+}
+
+// A range without "to" ends here: a comma or a semicolon comes next.
+fn ended(rows: &mut Unread<'_, '_>) -> Result<(), Refused>
+    ensures { Gives (λ x. tt) result rows.new (peek (in_set (among (53 ∷ 56 ∷ []))) rows.old) }
+{
+    if rows.is_empty() || sees_any(rows, &[COMMA, SEMICOLON]) {
+        return Ok(());
+    }
+    Err(refused(rows, Expected::AfterStart))
+}
+
+#[tactic(auto, unfolding(crate::specs::Ranges::stop))]
+fn stop(rows: &mut Unread<'_, '_>) -> Result<ReservedRangeEnd, Refused>
+    ensures { Gives (λ x. x) result rows.new ((rule.stop).code rows.old) }
+{
+    if sees(rows, TO) {
+        return range_end(rows);
+    }
+    ended(rows)?;
+    Ok(ReservedRangeEnd::None)
+}
+
+/// range = int ("to" (int | "max"))?
+#[tactic(auto, unfolding(crate::specs::Ranges::range))]
+fn range(rows: &mut Unread<'_, '_>) -> Result<ReservedRange, Refused>
+    ensures { Gives (λ x. x) result rows.new ((rule.range).code rows.old) }
+{
+    let start = int(rows)?;
+    let end = stop(rows)?;
+    Ok(ReservedRange { start, end })
+}
+
+#[tactic(auto, unfolding(crate::specs::Ranges::more_range))]
+fn more_range(rows: &mut Unread<'_, '_>) -> Result<ReservedRange, Refused>
+    ensures { Gives (λ x. x) result rows.new ((rule.more_range).code rows.old) }
+{
+    expect_mark(rows, b',', Expected::Comma)?;
+    range(rows)
+}
+
+/// range ("," range)*
+#[tactic(auto, unfolding(crate::specs::Ranges::ranges))]
+fn ranges(alloc: Global, rows: &mut Unread<'_, '_>) -> Result<Items<ReservedRange>, Refused>
+    ensures { Gives (λ x. x) result rows.new ((rule.ranges).code rows.old) }
+{
+    let first = range(rows)?;
+    let mut ranges = Items::new(alloc);
+    ranges.push(first)?;
+    'more: while sees(rows, COMMA) {
+        let range = more_range(rows)?;
+        ranges.push(range)?;
+    }
+    Ok(ranges)
+}
+
+// The text of a name, which is checked.
+fn checked_name(
+    alloc: Global,
+    notes: &mut Vec<Note>,
+    rows: &Unread<'_, '_>,
+    bytes: &[u8],
+    span: &Span,
+) -> Result<Text, AllocError>
+    ensures text { IfOk result (λ t. t ≡ text_of bytes.now) }
+    ensures notes { OnOk result (notes.new.items ≡ notes.old.items ++ name_notes (bytes.now, span.now) rows.now) }
+{
+    check_text(notes, rows, bytes, span)?;
+    let text = text_of(alloc, bytes)?;
+    check_ident(notes, rows, text.as_str(), span)?;
+    Ok(text)
+}
+
+/// string+, as the name that it is.
+#[tactic(auto, unfolding(crate::specs::Ranges::reserved_name))]
+fn reserved_name(
+    alloc: Global,
+    notes: &mut Vec<Note>,
+    rows: &mut Unread<'_, '_>,
+    expected: Expected,
+) -> Result<Ident, Refused>
+    ensures read { Gives (λ x. x) result rows.new ((rule.reserved_name).code rows.old) }
+    ensures notes { Adds result notes.old.items ((rule.reserved_name).notes rows.old) notes.new.items }
+{
+    let (bytes, span) = strings(alloc, rows, expected)?;
+    let value = checked_name(alloc, notes, rows, &bytes, &span)?;
+    Ok(Ident { value, span })
+}
+
+#[tactic(auto, unfolding(crate::specs::Ranges::more_name))]
+fn more_name(
+    alloc: Global,
+    notes: &mut Vec<Note>,
+    rows: &mut Unread<'_, '_>,
+) -> Result<Ident, Refused>
+    ensures read { Gives (λ x. x) result rows.new ((rule.more_name).code rows.old) }
+    ensures notes { Adds result notes.old.items ((rule.more_name).notes rows.old) notes.new.items }
+{
+    expect_mark(rows, b',', Expected::CommaOrSemicolon)?;
+    reserved_name(alloc, notes, rows, Expected::StringLiteral)
+}
+
+/// string+ ("," string+)*
+#[tactic(auto, unfolding(crate::specs::Ranges::names))]
+fn names(
+    alloc: Global,
+    notes: &mut Vec<Note>,
+    rows: &mut Unread<'_, '_>,
+) -> Result<Items<Ident>, Refused>
+    ensures read { Gives (λ x. x) result rows.new ((rule.names).code rows.old) }
+    ensures notes { Adds result notes.old.items ((rule.names).notes rows.old) notes.new.items }
+{
+    let first = reserved_name(alloc, notes, rows, Expected::ReservedItem)?;
+    let mut names = Items::new(alloc);
+    names.push(first)?;
+    'more: while sees(rows, COMMA) {
+        let name = more_name(alloc, notes, rows)?;
+        names.push(name)?;
+    }
+    Ok(names)
+}
+
+#[tactic(auto, unfolding(crate::specs::Ranges::reserved_kind))]
+fn reserved_kind(
+    alloc: Global,
+    notes: &mut Vec<Note>,
+    rows: &mut Unread<'_, '_>,
+) -> Result<ReservedKind, Refused>
+    ensures read { Gives (λ x. x) result rows.new ((rule.reserved_kind).code rows.old) }
+    ensures notes { Adds result notes.old.items ((rule.reserved_kind).notes rows.old) notes.new.items }
+{
+    if sees_any(rows, &[INTEGER, MINUS]) {
+        let ranges = ranges(alloc, rows)?;
+        return Ok(ReservedKind::Ranges(ranges));
+    }
+    let names = names(alloc, notes, rows)?;
+    Ok(ReservedKind::Names(names))
+}
+
+/// reserved = "reserved" (range ("," range)* | string+ ("," string+)*) ";"
+#[tactic(auto, unfolding(crate::specs::Ranges::reserved))]
+pub fn reserved(
+    alloc: Global,
+    notes: &mut Vec<Note>,
+    rows: &mut Unread<'_, '_>,
+    expected: Expected,
+) -> Result<Reserved, Refused>
+    ensures read { Gives (λ x. x) result rows.new ((rule.reserved).code rows.old) }
+    ensures notes { Adds result notes.old.items ((rule.reserved).notes rows.old) notes.new.items }
+{
+    let start = expect_word(rows, "reserved", expected)?;
+    let kind = reserved_kind(alloc, notes, rows)?;
+    let end = expect_mark(rows, b';', Expected::CommaOrSemicolon)?;
+    let comments = comments_between(alloc, &start, &end)?;
+    let span = span_between(&start, &end);
+    Ok(Reserved {
+        kind,
+        comments,
+        span,
+    })
+}
+
+// Behind the ranges a list may stand.
+fn after_ranges(options: &Option<OptionList>) -> Expected {
+    match options {
+        Some(_) => Expected::Semicolon,
+        None => Expected::AfterRange,
+    }
+}
+
+/// extensions = "extensions" range ("," range)* list? ";"
+#[tactic(auto, unfolding(crate::specs::Ranges::extensions))]
+pub fn extensions(
+    alloc: Global,
+    notes: &mut Vec<Note>,
+    rows: &mut Unread<'_, '_>,
+    expected: Expected,
+) -> Result<Extensions, Refused>
+    ensures read { Gives (λ x. x) result rows.new ((rule.extensions).code rows.old) }
+    ensures notes { Adds result notes.old.items ((rule.extensions).notes rows.old) notes.new.items }
+{
+    let start = expect_word(rows, "extensions", expected)?;
+    let ranges = ranges(alloc, rows)?;
+    let options = list_if_any(alloc, notes, rows)?;
+    let end = expect_mark(rows, b';', after_ranges(&options))?;
+    let comments = comments_between(alloc, &start, &end)?;
+    let span = span_between(&start, &end);
+    Ok(Extensions {
+        ranges,
+        options,
+        comments,
+        span,
+    })
+}

@@ -126,6 +126,10 @@ module _ {A B C D : Type 0} {v : Voice} {a : Reader Place A} {b : Reader Place B
     left = before-left x y;
   }
 
+-- what is read, seen further
+abbrev pub body_seen : {A B C : Type 0} {a : Reader Place A} {s : Rows Place → Steps Place} {f : A → B} (to : B → C) → Opened a s f → Opened a s (λ x. to (f x))
+body_seen to x = record { code = mapped to x.code; notes = x.notes; shows = right-shows to x.shows; says = x.says; left = x.left }
+
 abbrev pub word_trace : List ℕ → Rows Place → Steps Place
 word_trace word = note_trace (plain_trace (fixed (Ident word))) (fixed (Ident word)) AKeyword
 

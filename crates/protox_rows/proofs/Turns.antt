@@ -6,7 +6,7 @@ use Rattle.protox_lexeme.specs.Shapes.{Shape, Rows}
 use Rattle.protox_grammar.specs.Reader.{Reader, Refusal, head_in, star, gathered, ◌>>=◌, Consumes}
 use Rattle.protox_grammar.proofs.Loops.{goes_on, stops, is_done}
 use Rattle.protox_rows.specs.declared.refused.Refused.{Refused}
-use Rattle.protox_rows.specs.declared.refused.Refused.TheVariants.{OutOfMemory, At}
+use Rattle.protox_rows.specs.declared.refused.Refused.TheVariants.{OutOfMemory, At, TooDeep}
 use Rattle.protox_grammar.specs.Class.{Set, in_set}
 use Rattle.protox_grammar.specs.Told as told
 use Rattle.protox_grammar.specs.Told.{then_notes}
@@ -22,6 +22,7 @@ module _ {A B : Type 0} (add : B → A → B) (p : Shape → Bool) (a : Reader P
   pub ends : (e : Refused) (b : B) (xs : Rows Place) → head_in p xs ≡ true → Fails e (a xs) → gathered add b (star p a xs) ≡ total → Fails e total
   ends OutOfMemory b xs test read so_far = tt
   ends (At left expected) b xs test read so_far = sym so_far ∙ stops add p a eats b xs _ test read
+  ends (TooDeep left) b xs test read so_far = sym so_far ∙ stops add p a eats b xs _ test read
 
   pub done : (b : B) (xs : Rows Place) → head_in p xs ≡ false → gathered add b (star p a xs) ≡ total → total ≡ Ok (b, xs)
   done b xs test so_far = sym so_far ∙ is_done add p a eats b xs test
@@ -33,6 +34,7 @@ shorter a eats xs ys x e = eats xs (x, ys) e
 pub lifted : {X Y : Type 0} (e : Refused) (read : Result X Refusal) (f : X → Result Y Refusal) → Fails e read → Fails e (read >>= f)
 lifted OutOfMemory read f h = tt
 lifted (At left expected) read f h = rw h refl
+lifted (TooDeep left) read f h = rw h refl
 
 pub some_left : (xs : Rows Place) → eqb (length xs) 0 ≡ false → head_in anything xs ≡ true
 some_left [] e = absurd cc
@@ -63,6 +65,9 @@ module _ {A : Type 0} (P : Set) (a : Reader Place A) (f : Rows Place → told.No
       → AddsTo e before (f xs) new → before ++ all_notes xs ≡ old ++ all → AddsTo e old all new
   last-notes OutOfMemory old before new all xs test fails added so_far = tt
   last-notes (At left expected) old before new all xs test fails added so_far =
+      added ∙ ap (λ v. before ++ v) (sym (append-nil (f xs))) ∙ ap (λ v. before ++ (f xs ++ then_notes all_notes v)) (sym fails)
+      ∙ ap (λ v. before ++ v) (sym (notes-turn (in_set P) a f eats xs test)) ∙ so_far
+  last-notes (TooDeep left) old before new all xs test fails added so_far =
       added ∙ ap (λ v. before ++ v) (sym (append-nil (f xs))) ∙ ap (λ v. before ++ (f xs ++ then_notes all_notes v)) (sym fails)
       ∙ ap (λ v. before ++ v) (sym (notes-turn (in_set P) a f eats xs test)) ∙ so_far
 

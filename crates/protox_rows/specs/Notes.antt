@@ -6,12 +6,13 @@ use Rattle.protox_grammar.specs.Reader.{Refusal, head_in}
 use Rattle.protox_ast.specs.Places.{Place}
 use Rattle.protox_rows.specs.declared.notes.Note.{Note}
 use Rattle.protox_rows.specs.declared.refused.Refused.{Refused}
-use Rattle.protox_rows.specs.declared.refused.Refused.TheVariants.{OutOfMemory, At}
+use Rattle.protox_rows.specs.declared.refused.Refused.TheVariants.{OutOfMemory, At, TooDeep}
 
 -- unless memory ran out, these were added
 abbrev pub AddsTo : {N : Type 0} → Refused → List N → List N → List N → Type 0
 AddsTo OutOfMemory old added new = Unit {0}
 AddsTo (At left expected) old added new = new ≡ old ++ added
+AddsTo (TooDeep left) old added new = new ≡ old ++ added
 
 abbrev pub Adds : {N X : Type 0} → Result X Refused → List N → List N → List N → Type 0
 Adds (Err e) old added new = AddsTo e old added new

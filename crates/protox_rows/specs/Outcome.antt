@@ -1,15 +1,16 @@
 -- MACHINERY. What a function that reads returns, beside what reading gives.
 use Rattle.std.specs.Prelude.{◌≡◌, Result, Ok, Err}
 use Rattle.protox_lexeme.specs.Shapes.{Rows}
-use Rattle.protox_grammar.specs.Reader.{Refusal, Unexpected}
+use Rattle.protox_grammar.specs.Reader.{Refusal, Unexpected, Deep}
 use Rattle.protox_ast.specs.Places.{Place}
 use Rattle.protox_rows.specs.declared.refused.Refused.{Refused}
-use Rattle.protox_rows.specs.declared.refused.Refused.TheVariants.{OutOfMemory, At}
+use Rattle.protox_rows.specs.declared.refused.Refused.TheVariants.{OutOfMemory, At, TooDeep}
 
 -- unless memory ran out
 abbrev pub Fails : {Y : Type 0} → Refused → Result Y Refusal → Type 0
 Fails OutOfMemory read = Unit {0}
 Fails (At left expected) read = read ≡ Err (Unexpected left)
+Fails (TooDeep left) read = read ≡ Err (Deep left)
 
 -- what was read, and the rows that are left
 abbrev pub Gives : {X Y : Type 0} → (X → Y) → Result X Refused → Rows Place → Result (Y × Rows Place) Refusal → Type 0

@@ -6,11 +6,12 @@ ghost use Rattle.protox_rows.specs.declared.refused.Refused.TheVariants.{OutOfMe
 use crate::expected::Expected;
 use std::alloc::{AllocError, AllocFailed};
 
-/// Why rows are not read: memory ran out, or the first of the `left` last ones doesn't fit.
+/// Why rows are not read: memory ran out, or the first of the `left` last ones doesn't fit or opens a body that is too deep.
 #[derive(Debug, Drop)]
 pub enum Refused {
     OutOfMemory,
     At { left: usize, expected: Expected },
+    TooDeep { left: usize },
 }
 
 impl From<AllocError> for Refused {

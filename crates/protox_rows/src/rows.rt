@@ -109,6 +109,16 @@ pub fn span_in(table: &TokenTable<'_>, index: usize) -> Span
 }
 
 impl<'t, 'a> RowAt<'t, 'a> {
+    /// The same row.
+    pub fn again(&self) -> RowAt<'t, 'a>
+        ensures { result ≡ self.now }
+    {
+        RowAt {
+            table: self.table,
+            behind: self.behind,
+        }
+    }
+
     /// The row's token.
     pub fn token(&self) -> Result<&'t Token<'a>, ()>
         ensures { shape_of_lent result ≡ self.now.shape }

@@ -11,7 +11,7 @@ use Rattle.protox_rows.specs.Outcome.{Fails}
 use Rattle.protox_rows.specs.declared.notes.Note.{Note}
 use Rattle.protox_syntax.specs.declared.statement_types.Statement.{Statement}
 use Rattle.protox_rows.specs.declared.refused.Refused.{Refused}
-use Rattle.protox_rows.specs.declared.refused.Refused.TheVariants.{OutOfMemory, At}
+use Rattle.protox_rows.specs.declared.refused.Refused.TheVariants.{OutOfMemory, At, TooDeep}
 use Rattle.protox_syntax.proofs.Same.{statement-eats}
 
 then-same : {A : Type 0} (f g : Rows Place → List Note) (read : Result (A × Rows Place) Refusal) → ((x : A × Rows Place) → read ≡ Ok x → f x.1 ≡ g x.1) → then_notes f read ≡ then_notes g read
@@ -48,6 +48,12 @@ pub last-notes : (e : Refused) (old before new all : List Note) (xs : Rows Place
     → AddsTo e before (statement_notes xs) new → before ++ statements_notes xs ≡ old ++ all → AddsTo e old all new
 last-notes OutOfMemory old before new all xs some fails added so_far = tt
 last-notes (At left expected) old before new all xs some fails added so_far =
+    added
+    ∙ ap (λ v. before ++ v) (sym (append-nil (statement_notes xs)))
+    ∙ ap (λ v. before ++ (statement_notes xs ++ then_notes statements_notes v)) (sym fails)
+    ∙ ap (λ v. before ++ v) (sym (notes-turn xs (some-rows xs some)))
+    ∙ so_far
+last-notes (TooDeep left) old before new all xs some fails added so_far =
     added
     ∙ ap (λ v. before ++ v) (sym (append-nil (statement_notes xs)))
     ∙ ap (λ v. before ++ (statement_notes xs ++ then_notes statements_notes v)) (sym fails)

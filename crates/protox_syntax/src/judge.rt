@@ -150,7 +150,8 @@ fn after_syntax(
     let mut rows = rest;
     match statements(alloc, &mut notes, &mut rows) {
         Ok(found) => finished(alloc, table, size, notes, syntax, found),
-        Err(Refused::OutOfMemory) => Err(SyntaxFailure::OutOfMemory),
+        // No body that is read today stands in another, so none is too deep.
+        Err(Refused::OutOfMemory | Refused::TooDeep { .. }) => Err(SyntaxFailure::OutOfMemory),
         Err(Refused::At { left, expected }) => refused(alloc, table, size, notes, left, expected),
     }
 }
@@ -167,7 +168,8 @@ pub(crate) fn judge(
     let mut notes = Vec::new(alloc);
     let mut rows = Unread::all(table);
     match syntax_if_any(alloc, &mut notes, &mut rows) {
-        Err(Refused::OutOfMemory) => Err(SyntaxFailure::OutOfMemory),
+        // No body that is read today stands in another, so none is too deep.
+        Err(Refused::OutOfMemory | Refused::TooDeep { .. }) => Err(SyntaxFailure::OutOfMemory),
         _ if !notes.is_empty() => stopped(alloc, table, size, notes),
         Err(Refused::At { left, expected }) => refused(alloc, table, size, notes, left, expected),
         Ok(syntax) => after_syntax(alloc, table, size, syntax, rows),

@@ -1,0 +1,60 @@
+-- What stands between the braces of a body takes a row each.
+use Rattle.std.proofs.Common.{◌≡◌, ◌-◌, ℕ, zero, suc, List, [], ◌∷◌, Option, Some, None, Result, Ok, Err, length, ap, refl, arith}
+use Rattle.protox_fault.specs.Faults.{Span}
+use Rattle.protox_lexeme.specs.Shapes.{Row, Rows}
+use Rattle.protox_ast.specs.Keywords as k
+use Rattle.protox_ast.specs.Places.{Place}
+use Rattle.protox_grammar.specs.Bodies as bodies
+use Rattle.protox_grammar.specs.Reader as reader
+use Rattle.protox_grammar.specs.Reader.{Consumes, Refusal, leaf, see_word, ◌>>=◌}
+use Rattle.protox_grammar.proofs.Opened.{sunk_notes}
+use Rattle.protox_grammar.proofs.Reading.{err-ok}
+use Rattle.protox_grammar.proofs.Takes.{bind_ok, ok_is}
+use Rattle.protox_grammar.proofs.Depths as depths
+use Rattle.protox_grammar.proofs.Messages as rules
+use Rattle.protox_grammar.proofs.Shows.{shows-eats}
+use Rattle.protox_options.specs.Options.{here}
+use Rattle.protox_ast.specs.declared.ast.Ident as ident_type
+use Rattle.protox_rows.specs.Names.{ident}
+use Rattle.protox_bodies.specs.Bodies as messages
+
+pub element-eats : (n : ℕ) → Consumes (messages.element_at n)
+element-eats n = shows-eats (rules.element-laws here k.KeepsMbody (bodies.FitsMbody n) (bodies.unsealed n).read (bodies.unsealed n).steps (bodies.unsealed n).trace (depths.body-laws here n)) (messages.element n (messages.mbody_at n)).shows
+
+pub oneof_element-eats : (n : ℕ) → Consumes (messages.oneof_element_at n)
+oneof_element-eats n = shows-eats (rules.oneof_element-laws here k.KeepsMbody (bodies.FitsMbody n) (bodies.unsealed n).read (bodies.unsealed n).steps (bodies.unsealed n).trace (depths.body-laws here n)) (messages.oneof_element n (messages.mbody_at n)).shows
+
+pub extend_element-eats : (n : ℕ) → Consumes (messages.extend_element_at n)
+extend_element-eats n = shows-eats (rules.extend_element-laws here k.KeepsMbody (bodies.FitsMbody n) (bodies.unsealed n).read (bodies.unsealed n).steps (bodies.unsealed n).trace (depths.body-laws here n)) (messages.extend_element n (messages.mbody_at n)).shows
+
+-- ---- levels
+
+-- a level below
+pub one_level : (n : ℕ) → (n ≡ 0 → ⊥) → (w : Span) (xs : Rows Place) → (messages.mbody_at n).notes w xs ≡ messages.braces_notes (n - 1) xs
+unfolding messages.mbody_at
+one_level zero h w xs = absurd (h refl)
+one_level (suc n) h w xs =
+    let same : n ≡ suc n - 1 = omega arith in
+    ap (λ m. messages.braces_notes m xs) same
+
+pub no_level : (n : ℕ) → n ≡ 0 → (w : Span) (xs : Rows Place) → (messages.mbody_at n).notes w xs ≡ sunk_notes w xs
+unfolding messages.mbody_at
+no_level n h w xs = rw h refl
+
+-- ---- an identifier is one row
+
+seen-one : (r : Row Place) (rs : Rows Place) (o : Option (List ℕ)) (x : (List ℕ × Place) × Rows Place) → reader.seen r rs o ≡ Ok x → length (r ∷ rs) ≡ suc (length x.1)
+seen-one r rs (Some v) x e = ap (λ (y : (List ℕ × Place) × Rows Place). suc (length y.1)) (ok_is ((v, r.at), rs) x e)
+seen-one r rs None x e = absurd (err-ok x _ e)
+
+word-one : (xs : Rows Place) (x : (List ℕ × Place) × Rows Place) → leaf see_word xs ≡ Ok x → length xs ≡ suc (length x.1)
+unfolding leaf
+word-one [] x e = absurd (err-ok x _ e)
+word-one (r ∷ rs) x e = seen-one r rs (see_word r.shape) x e
+
+pub ident-one : (xs ys : Rows Place) (i : ident_type.Ident) → (ident).code xs ≡ Ok (i, ys) → length xs ≡ suc (length ys)
+unfolding ident
+ident-one xs ys i e =
+    let p = bind_ok (leaf see_word xs) (λ x. Ok (record { value = x.0.0; span = x.0.1.span }, x.1)) (i, ys) e in
+    let same = ok_is (record { value = p.0.0.0; span = p.0.0.1.span }, p.0.1) (i, ys) p.2 in
+    omega (arith, word-one xs p.0 p.1, ap (λ (y : ident_type.Ident × Rows Place). length y.1) same)

@@ -1,0 +1,388 @@
+-- MACHINERY. What holds bodies of messages and groups, as the code reads and notes it, level by level.
+use Rattle.std.specs.Prelude.{◌≡◌, ℕ, zero, suc, List, [], ◌∷◌, ◌++◌, map, Option, Some, None, option_map, ◌⊎◌, codes}
+use Rattle.std.proofs.Common.{refl, sym, ap, ◌∙◌, append-nil, append_assoc, inl, inr}
+use Rattle.protox_fault.specs.Faults.{Span}
+use Rattle.protox_lexeme.specs.Shapes.{Mark, Rows}
+use Rattle.protox_ast.specs.Tree as tree
+use Rattle.protox_ast.specs.Spelling as s
+use Rattle.protox_ast.specs.Keywords as k
+use Rattle.protox_ast.specs.Aggregates as aggregates
+use Rattle.protox_ast.specs.Ast as ast
+use Rattle.protox_ast.specs.CheckedNodes.{AGroupName}
+use Rattle.protox_ast.specs.Places.{Place}
+use Rattle.protox_ast.specs.declared.ast.Field.{Field}
+use Rattle.protox_ast.specs.declared.ast.FieldLabel.{FieldLabel}
+use Rattle.protox_ast.specs.declared.ast.Int.{Int}
+use Rattle.protox_ast.specs.declared.ast.OptionList.{OptionList}
+use Rattle.protox_ast.specs.declared.ast.FieldKind.TheVariants as kind
+use Rattle.protox_ast.specs.declared.ast.MessageItem.TheVariants as item
+use Rattle.protox_ast.specs.declared.ast.MessageBody.{MessageBody, roll-MessageBody}
+use Rattle.protox_ast.specs.declared.ast.Message.{Message, roll-Message}
+use Rattle.protox_ast.specs.declared.ast.Extend as extend_type
+use Rattle.protox_ast.specs.declared.ast.Extend.{roll-Extend}
+use Rattle.protox_ast.specs.declared.ast.Oneof as oneof_type
+use Rattle.protox_ast.specs.declared.ast.Oneof.{roll-Oneof}
+use Rattle.protox_ast.specs.declared.ast.Option as oneof_lists
+use Rattle.protox_grammar.specs.Class.{only, among, but, in_set}
+use Rattle.protox_grammar.specs.Reader.{Reader, folded, fixed, leaf, see_word}
+use Rattle.protox_grammar.specs.Rule as rule
+use Rattle.protox_grammar.specs.Rules as r
+use Rattle.protox_grammar.specs.Bodies as bodies
+use Rattle.protox_grammar.specs.Steps.{ANode}
+use Rattle.protox_grammar.specs.Told as told
+use Rattle.protox_grammar.proofs.Braced.{int-braced, options-braced}
+use Rattle.protox_grammar.proofs.Depths as depths
+use Rattle.protox_grammar.proofs.Forms.{optional-laws}
+use Rattle.protox_grammar.proofs.Messages as messages
+use Rattle.protox_grammar.proofs.Opened.{Opened, Keeps, keeps-of, plain-keeps, node-keeps, before, body_seen, opened_by, opened, sunk}
+use Rattle.protox_grammar.proofs.Options as options
+use Rattle.protox_grammar.proofs.Parts as parts
+use Rattle.protox_grammar.proofs.Reading.{IsRead}
+use Rattle.protox_grammar.proofs.Shows.{two, three}
+use Rattle.protox_grammar.proofs.Shown.{Noting, both, seen, named, named_from, renamed, choice, gather, shown_by, the, sign}
+use Rattle.protox_rows.specs.Names.{ident, int, typename, label}
+use Rattle.protox_options.specs.Options.{here, list_if_any, option}
+use Rattle.protox_blocks.specs.Enums.{enum_}
+use Rattle.protox_blocks.specs.Ranges.{reserved, extensions}
+use Rattle.protox_bodies.specs.Fields.{Kind, kind_seen, normal, map_field, group_name, field_of, field-is, kind-begins, label-begins, labelled}
+use Rattle.protox_bodies.specs.declared.parts.FieldParts.{FieldParts}
+use Rattle.protox_bodies.specs.declared.parts.Element.{Element}
+use Rattle.protox_bodies.specs.declared.parts.Element.TheVariants as element_of
+use Rattle.protox_bodies.specs.declared.parts.Inside.{Inside}
+use Rattle.protox_bodies.specs.declared.parts.OneofElement as oneof_element_type
+use Rattle.protox_bodies.specs.declared.parts.OneofElement.TheVariants as oneof_element_of
+use Rattle.protox_bodies.specs.declared.parts.OneofInside.{OneofInside}
+
+-- ---- oneofs
+
+abbrev pub oneof_element_seen : tree.OneofElement Place → oneof_element_type.OneofElement
+oneof_element_seen (tree.oneof_empty m) = oneof_element_of.Empty
+oneof_element_seen (tree.oneof_option x) = oneof_element_of.Option (ast.option x)
+oneof_element_seen (tree.oneof_field x) = oneof_element_of.Field (ast.field x)
+
+abbrev pub add_oneof : OneofInside → oneof_element_type.OneofElement → OneofInside
+add_oneof f oneof_element_of.Empty = f
+add_oneof f (oneof_element_of.Option x) = record f { options = f.options ++ x ∷ [] }
+add_oneof f (oneof_element_of.Field x) = record f { fields = f.fields ++ x ∷ [] }
+
+abbrev pub oneof_inside : tree.OneofElements Place → OneofInside
+oneof_inside es = record { options = ast.oneof_options es; fields = ast.oneof_fields es }
+
+abbrev pub no_oneof : OneofInside
+no_oneof = record { options = []; fields = [] }
+
+abbrev pub oneof_of : List (oneof_lists.Option) → List Field → OneofInside
+oneof_of a b = record { options = a; fields = b }
+
+pub oneof-gathered : (a : List (oneof_lists.Option)) (b : List Field) (xs : List (tree.OneofElement Place)) → folded add_oneof (oneof_of a b) (map oneof_element_seen xs) ≡ oneof_of (a ++ ast.oneof_options (bodies.to_oneof_elements xs)) (b ++ ast.oneof_fields (bodies.to_oneof_elements xs))
+oneof-gathered a b [] = rw (append-nil a, append-nil b) refl
+oneof-gathered a b (tree.oneof_empty m ∷ xs) = oneof-gathered a b xs
+oneof-gathered a b (tree.oneof_option x ∷ xs) = oneof-gathered (a ++ ast.option x ∷ []) b xs ∙ ap (λ v. oneof_of v (b ++ ast.oneof_fields (bodies.to_oneof_elements xs))) (append_assoc a (ast.option x ∷ []) _)
+oneof-gathered a b (tree.oneof_field x ∷ xs) = oneof-gathered a (b ++ ast.field x ∷ []) xs ∙ ap (λ v. oneof_of (a ++ ast.oneof_options (bodies.to_oneof_elements xs)) v) (append_assoc b (ast.field x ∷ []) _)
+
+-- ---- extends
+
+abbrev pub extend_element_seen : tree.ExtendElement Place → Option Field
+extend_element_seen (tree.extend_empty m) = None
+extend_element_seen (tree.extend_field x) = Some (ast.field x)
+
+abbrev pub add_field : List Field → Option Field → List Field
+add_field xs None = xs
+add_field xs (Some x) = xs ++ x ∷ []
+
+pub extend-gathered : (a : List Field) (xs : List (tree.ExtendElement Place)) → folded add_field a (map extend_element_seen xs) ≡ a ++ ast.extend_fields (bodies.to_extend_elements xs)
+extend-gathered a [] = sym (append-nil a)
+extend-gathered a (tree.extend_empty m ∷ xs) = extend-gathered a xs
+extend-gathered a (tree.extend_field x ∷ xs) = extend-gathered (a ++ ast.field x ∷ []) xs ∙ append_assoc a (ast.field x ∷ []) _
+
+-- ---- messages
+
+abbrev pub element_seen : tree.Element Place → Element
+element_seen (tree.empty m) = element_of.Empty
+element_seen (tree.field x) = element_of.Item (item.Field (ast.field x))
+element_seen (tree.oneof x) = element_of.Item (item.Oneof (ast.oneof x))
+element_seen (tree.enum x) = element_of.Item (item.Enum (ast.enum x))
+element_seen (tree.message x) = element_of.Item (item.Message (ast.message x))
+element_seen (tree.extend x) = element_of.Item (item.Extend (ast.extend x))
+element_seen (tree.option x) = element_of.Option (ast.option x)
+element_seen (tree.reserved x) = element_of.Reserved (ast.reserved x)
+element_seen (tree.extensions x) = element_of.Extensions (ast.extensions x)
+
+abbrev pub add_element : Inside → Element → Inside
+add_element f element_of.Empty = f
+add_element f (element_of.Item x) = record f { items = f.items ++ x ∷ [] }
+add_element f (element_of.Option x) = record f { options = f.options ++ x ∷ [] }
+add_element f (element_of.Reserved x) = record f { reserved = f.reserved ++ x ∷ [] }
+add_element f (element_of.Extensions x) = record f { extensions = f.extensions ++ x ∷ [] }
+
+abbrev pub nothing_inside : Inside
+nothing_inside = record { items = []; extensions = []; options = []; reserved = [] }
+
+abbrev pub inside : tree.Elements Place → Inside
+inside es = record { items = ast.items es; extensions = ast.extensions_in es; options = ast.options_in es; reserved = ast.reserved_in es }
+
+abbrev pub then_inside : Inside → tree.Elements Place → Inside
+then_inside f es = record { items = f.items ++ ast.items es; extensions = f.extensions ++ ast.extensions_in es; options = f.options ++ ast.options_in es; reserved = f.reserved ++ ast.reserved_in es }
+
+pub element-added : (f : Inside) (e : tree.Element Place) (es : tree.Elements Place) → then_inside (add_element f (element_seen e)) es ≡ then_inside f (tree.elements e es)
+element-added f (tree.empty m) es = refl
+element-added f (tree.field x) es = rw append_assoc refl
+element-added f (tree.oneof x) es = rw append_assoc refl
+element-added f (tree.enum x) es = rw append_assoc refl
+element-added f (tree.message x) es = rw append_assoc refl
+element-added f (tree.extend x) es = rw append_assoc refl
+element-added f (tree.option x) es = rw append_assoc refl
+element-added f (tree.reserved x) es = rw append_assoc refl
+element-added f (tree.extensions x) es = rw append_assoc refl
+
+pub inside-gathered : (f : Inside) (xs : List (tree.Element Place)) → folded add_element f (map element_seen xs) ≡ then_inside f (bodies.to_elements xs)
+inside-gathered f [] = rw (append-nil f.items, append-nil f.extensions, append-nil f.options, append-nil f.reserved) refl
+inside-gathered f (x ∷ xs) = inside-gathered (add_element f (element_seen x)) xs ∙ element-added f x (bodies.to_elements xs)
+
+abbrev pub body_of : Inside → MessageBody
+body_of x = roll-MessageBody (record { items = x.items; extensions = x.extensions; options = x.options; reserved = x.reserved })
+
+-- a body, and where it is opened and closed
+abbrev pub body_and_braces : tree.Mbody Place → MessageBody × (Place × Place)
+body_and_braces b = (ast.mbody b, (ast.body_open b, ast.body_close b))
+
+-- what holds no body, behind a word of its own
+abbrev pub plain_seen : tree.OptionStatement Place ⊎ (tree.Reserved Place ⊎ tree.Extensions Place) → Element
+plain_seen (inl x) = element_of.Option (ast.option x)
+plain_seen (inr (inl x)) = element_of.Reserved (ast.reserved x)
+plain_seen (inr (inr x)) = element_of.Extensions (ast.extensions x)
+
+unfoldable pub plain : Noting (rule.choice (only 6) r.option (rule.choice (only 34) r.reserved r.extensions)) plain_seen
+plain = shown_by (three _ _ (λ x. refl) (λ x. refl) (λ x. refl)) (choice (only 6) (seen element_of.Option option) (choice (only 34) (seen element_of.Reserved reserved) (seen element_of.Extensions extensions)))
+
+-- ---- what stands between a word and its body leaves the word as it is
+
+pub name-keeps : Keeps (r.ident).trace
+name-keeps = plain-keeps (leaf see_word)
+
+pub equals-keeps : Keeps (r.sign s.equals).trace
+equals-keeps = plain-keeps (fixed (Mark s.equals))
+
+pub int-keeps : Keeps (r.int).trace
+int-keeps = keeps-of r.int (parts.int-laws here).traced (λ x. []) int-braced
+
+pub options-keep : Keeps (rule.optional (only 49) r.list).trace
+options-keep = keeps-of (rule.optional (only 49) r.list) (optional-laws (only 49) (options.list-laws here) refl).traced (λ o. aggregates.of_list o) options-braced
+
+pub group_name-keeps : Keeps (rule.noting (λ (x : tree.Word Place). ANode (AGroupName x)) r.ident).trace
+group_name-keeps = node-keeps (r.ident).read (r.ident).trace (λ x. ANode (AGroupName x)) (λ x w. refl) name-keeps
+
+-- ---- what holds bodies of at most n levels
+
+module _ (n : ℕ) (b : Opened (bodies.unsealed n).read (bodies.unsealed n).trace body_and_braces) where
+  -- "=" int list? mbody
+  abbrev pub Numbered : Type 0
+  Numbered = Int × (Option OptionList × (MessageBody × (Place × Place)))
+
+  abbrev pub numbered_seen : Place × (tree.Int Place × (Option (tree.OptionList Place) × tree.Mbody Place)) → Numbered
+  numbered_seen x = (ast.int x.1.0, (option_map ast.list x.1.1.0, body_and_braces x.1.1.1))
+
+  unfoldable pub numbered : Opened (rule.seq (r.sign s.equals) (rule.seq r.int (rule.seq (rule.optional (only 49) r.list) (bodies.mbody_at n)))).read (rule.seq (r.sign s.equals) (rule.seq r.int (rule.seq (rule.optional (only 49) r.list) (bodies.mbody_at n)))).trace numbered_seen
+  numbered = body_seen (λ x. x.1) (before (sign s.equals) equals-keeps (before int int-keeps (before list_if_any options-keep b)))
+
+  unfoldable pub group : Noting (bodies.group (bodies.mbody_at n)) (λ x. kind_seen (tree.group x))
+  unfolding bodies.group
+  group = named bodies.to_group (λ x. (record { name = x.1.0; kind = kind.Group x.0.span x.1.1.1.1.0; number = x.1.1.0; options = x.1.1.1.0 }, x.1.1.1.1.1)) (λ x. refl)
+      (opened_by (codes "group") (before group_name group_name-keeps numbered))
+
+  unfoldable pub field_kind : Noting (bodies.field_kind (bodies.mbody_at n)) kind_seen
+  unfolding bodies.field_kind
+  field_kind = renamed bodies.to_field_kind (two _ _ (two _ _ (λ x. refl) (λ x. refl)) (λ x. refl)) (choice (among (16 ∷ 18 ∷ [])) (choice (only 16) map_field group) normal)
+
+  pub field-seen : (x : (tree.Label Place × tree.FieldKind Place) ⊎ tree.FieldKind Place) (rest : Rows Place) → field_of (s.field (bodies.to_field x) ++ rest) (labelled x) ≡ ast.field (bodies.to_field x)
+  field-seen (inl x) rest = label-begins x.0 x.1 (labelled (inl x)) rest ∙ field-is (Some x.0) x.1
+  field-seen (inr x) rest = kind-begins x (labelled (inr x)) rest ∙ field-is None x
+
+  abbrev pub law : IsRead {M = Place} (bodies.field (bodies.mbody_at n))
+  law = (messages.field-laws here k.KeepsMbody (bodies.FitsMbody n) (bodies.unsealed n).read (bodies.unsealed n).steps (bodies.unsealed n).trace (depths.body-laws here n)).read
+
+  unfoldable pub labelled_kind : Noting (rule.unless (among (13 ∷ 14 ∷ 15 ∷ [])) (rule.seq r.label (bodies.field_kind (bodies.mbody_at n))) (bodies.field_kind (bodies.mbody_at n))) labelled
+  labelled_kind = shown_by (two _ _ (λ x. refl) (λ x. refl)) (choice (among (13 ∷ 14 ∷ 15 ∷ [])) (seen (λ x. (Some x.0, x.1)) (both label field_kind)) (seen (λ x. (None, x)) field_kind))
+
+  unfoldable pub field : Noting (bodies.field (bodies.mbody_at n)) ast.field
+  unfolding bodies.field
+  field = named_from bodies.to_field (bodies.field (bodies.mbody_at n)) law (λ xs. refl) field_of field-seen labelled_kind
+
+  unfoldable pub extend_element : Noting (bodies.extend_element (bodies.mbody_at n)) extend_element_seen
+  unfolding bodies.extend_element
+  extend_element = renamed bodies.to_extend_element (two _ _ (λ x. refl) (λ x. refl)) (choice (only 56) (seen (λ m. None) (sign s.semicolon)) (seen Some field))
+
+  unfoldable pub extend_elements : Noting (bodies.extend_elements (bodies.mbody_at n)) ast.extend_fields
+  unfolding bodies.extend_elements
+  extend_elements = renamed bodies.to_extend_elements (λ xs. refl) (gather (but 48) add_field [] (λ xs. extend-gathered [] xs) extend_element)
+
+  unfoldable pub extend : Noting (bodies.extend (bodies.mbody_at n)) ast.extend
+  unfolding bodies.extend
+  extend = named bodies.to_extend (λ x. roll-Extend (record { extendee = x.1.0.0; fields = x.1.1.1.0; comments = ast.comments x.0 x.1.1.0; span = ast.join x.0.span x.1.1.1.1.span })) (λ x. refl)
+      (both (the (codes "extend")) (both typename (both (sign s.open_brace) (both extend_elements (sign s.close_brace)))))
+
+  unfoldable pub oneof_element : Noting (bodies.oneof_element (bodies.mbody_at n)) oneof_element_seen
+  unfolding bodies.oneof_element
+  oneof_element = renamed bodies.to_oneof_element (three _ _ (λ x. refl) (λ x. refl) (λ x. refl))
+      (choice (only 56) (seen (λ m. oneof_element_of.Empty) (sign s.semicolon)) (choice (among (6 ∷ [])) (seen oneof_element_of.Option option) (seen oneof_element_of.Field field)))
+
+  unfoldable pub oneof_elements : Noting (bodies.oneof_elements (bodies.mbody_at n)) oneof_inside
+  unfolding bodies.oneof_elements
+  oneof_elements = renamed bodies.to_oneof_elements (λ xs. refl) (gather (but 48) add_oneof no_oneof (λ xs. oneof-gathered [] [] xs) oneof_element)
+
+  unfoldable pub oneof : Noting (bodies.oneof (bodies.mbody_at n)) ast.oneof
+  unfolding bodies.oneof
+  oneof = named bodies.to_oneof (λ x. roll-Oneof (record { name = x.1.0; options = x.1.1.1.0.options; fields = x.1.1.1.0.fields; comments = ast.comments x.0 x.1.1.0; span = ast.join x.0.span x.1.1.1.1.span })) (λ x. refl)
+      (both (the (codes "oneof")) (both ident (both (sign s.open_brace) (both oneof_elements (sign s.close_brace)))))
+
+  unfoldable pub message : Noting (bodies.message (bodies.mbody_at n)) ast.message
+  unfolding bodies.message
+  message = named bodies.to_message (λ x. roll-Message (record { name = x.1.0; body = x.1.1.0; comments = ast.comments x.0 x.1.1.1.0; span = ast.join x.0.span x.1.1.1.1.span })) (λ x. refl)
+      (opened_by (codes "message") (before ident name-keeps b))
+
+  -- what begins with a word of its own
+  abbrev pub Specials : Type 0
+  Specials = bodies.Special Place
+
+  abbrev pub special_seen : Specials → Element
+  special_seen (inl x) = element_of.Item (item.Oneof (ast.oneof x))
+  special_seen (inr (inl x)) = element_of.Item (item.Enum (ast.enum x))
+  special_seen (inr (inr (inl x))) = element_of.Item (item.Message (ast.message x))
+  special_seen (inr (inr (inr (inl x)))) = element_of.Item (item.Extend (ast.extend x))
+  special_seen (inr (inr (inr (inr x)))) = plain_seen x
+
+  unfoldable pub special : Noting (bodies.special (bodies.mbody_at n)) special_seen
+  special = shown_by (two _ _ (λ x. refl) (two _ _ (λ x. refl) (two _ _ (λ x. refl) (two _ _ (λ x. refl) (λ x. refl)))))
+      (choice (only 17) (seen (λ x. element_of.Item (item.Oneof x)) oneof)
+      (choice (only 5) (seen (λ x. element_of.Item (item.Enum x)) enum_)
+      (choice (only 12) (seen (λ x. element_of.Item (item.Message x)) message)
+      (choice (only 11) (seen (λ x. element_of.Item (item.Extend x)) extend) plain))))
+
+  pub element-is : (x : Place ⊎ (Specials ⊎ tree.Field Place)) → rule.on_sum (λ m. element_of.Empty) (rule.on_sum special_seen (λ y. element_of.Item (item.Field (ast.field y)))) x ≡ element_seen (bodies.to_element x)
+  element-is (inl m) = refl
+  element-is (inr (inl (inl y))) = refl
+  element-is (inr (inl (inr (inl y)))) = refl
+  element-is (inr (inl (inr (inr (inl y))))) = refl
+  element-is (inr (inl (inr (inr (inr (inl y)))))) = refl
+  element-is (inr (inl (inr (inr (inr (inr (inl y))))))) = refl
+  element-is (inr (inl (inr (inr (inr (inr (inr (inl y)))))))) = refl
+  element-is (inr (inl (inr (inr (inr (inr (inr (inr y)))))))) = refl
+  element-is (inr (inr y)) = refl
+
+  unfoldable pub element : Noting (bodies.element (bodies.mbody_at n)) element_seen
+  unfolding bodies.element
+  element = renamed bodies.to_element element-is
+      (choice (only 56) (seen (λ m. element_of.Empty) (sign s.semicolon)) (choice (among (17 ∷ 5 ∷ 12 ∷ 11 ∷ 6 ∷ 34 ∷ 35 ∷ [])) special (seen (λ x. element_of.Item (item.Field x)) field)))
+
+  unfoldable pub elements : Noting (bodies.elements (bodies.mbody_at n)) inside
+  unfolding bodies.elements
+  elements = renamed bodies.to_elements (λ xs. refl) (gather (but 48) add_element nothing_inside (λ xs. inside-gathered nothing_inside xs) element)
+
+  unfoldable pub mbody : Noting (bodies.mbody (bodies.mbody_at n)) body_and_braces
+  unfolding bodies.mbody
+  mbody = named bodies.to_mbody (λ x. (body_of x.1.0, (x.0, x.1.1))) (λ x. refl) (both (sign s.open_brace) (both elements (sign s.close_brace)))
+
+-- ---- levels
+
+unfoldable pub mbody_at : (n : ℕ) → Opened (bodies.unsealed n).read (bodies.unsealed n).trace body_and_braces
+unfolding bodies.unsealed
+mbody_at zero = sunk body_and_braces
+mbody_at (suc n) = opened (mbody n (mbody_at n))
+
+-- ---- what the code reads and notes with so many levels left
+
+abbrev pub group_at : ℕ → Reader Place (Kind)
+group_at n = (group n (mbody_at n)).code
+
+abbrev pub group_notes : ℕ → Rows Place → told.Notes
+group_notes n = (group n (mbody_at n)).notes
+
+abbrev pub field_kind_at : ℕ → Reader Place (Kind)
+field_kind_at n = (field_kind n (mbody_at n)).code
+
+abbrev pub field_kind_notes : ℕ → Rows Place → told.Notes
+field_kind_notes n = (field_kind n (mbody_at n)).notes
+
+abbrev pub field_at : ℕ → Reader Place (Field)
+field_at n = (field n (mbody_at n)).code
+
+abbrev pub field_notes : ℕ → Rows Place → told.Notes
+field_notes n = (field n (mbody_at n)).notes
+
+abbrev pub extend_element_at : ℕ → Reader Place (Option Field)
+extend_element_at n = (extend_element n (mbody_at n)).code
+
+abbrev pub extend_element_notes : ℕ → Rows Place → told.Notes
+extend_element_notes n = (extend_element n (mbody_at n)).notes
+
+abbrev pub extend_elements_at : ℕ → Reader Place (List Field)
+extend_elements_at n = (extend_elements n (mbody_at n)).code
+
+abbrev pub extend_elements_notes : ℕ → Rows Place → told.Notes
+extend_elements_notes n = (extend_elements n (mbody_at n)).notes
+
+abbrev pub extend_at : ℕ → Reader Place (extend_type.Extend)
+extend_at n = (extend n (mbody_at n)).code
+
+abbrev pub extend_notes : ℕ → Rows Place → told.Notes
+extend_notes n = (extend n (mbody_at n)).notes
+
+abbrev pub oneof_element_at : ℕ → Reader Place (oneof_element_type.OneofElement)
+oneof_element_at n = (oneof_element n (mbody_at n)).code
+
+abbrev pub oneof_element_notes : ℕ → Rows Place → told.Notes
+oneof_element_notes n = (oneof_element n (mbody_at n)).notes
+
+abbrev pub oneof_elements_at : ℕ → Reader Place (OneofInside)
+oneof_elements_at n = (oneof_elements n (mbody_at n)).code
+
+abbrev pub oneof_elements_notes : ℕ → Rows Place → told.Notes
+oneof_elements_notes n = (oneof_elements n (mbody_at n)).notes
+
+abbrev pub oneof_at : ℕ → Reader Place (oneof_type.Oneof)
+oneof_at n = (oneof n (mbody_at n)).code
+
+abbrev pub oneof_notes : ℕ → Rows Place → told.Notes
+oneof_notes n = (oneof n (mbody_at n)).notes
+
+abbrev pub message_at : ℕ → Reader Place (Message)
+message_at n = (message n (mbody_at n)).code
+
+abbrev pub message_notes : ℕ → Rows Place → told.Notes
+message_notes n = (message n (mbody_at n)).notes
+
+abbrev pub element_at : ℕ → Reader Place (Element)
+element_at n = (element n (mbody_at n)).code
+
+abbrev pub element_notes : ℕ → Rows Place → told.Notes
+element_notes n = (element n (mbody_at n)).notes
+
+abbrev pub elements_at : ℕ → Reader Place (Inside)
+elements_at n = (elements n (mbody_at n)).code
+
+abbrev pub elements_notes : ℕ → Rows Place → told.Notes
+elements_notes n = (elements n (mbody_at n)).notes
+
+abbrev pub labelled_kind_at : ℕ → Reader Place (Option (FieldLabel × Span) × Kind)
+labelled_kind_at n = (labelled_kind n (mbody_at n)).code
+
+abbrev pub labelled_kind_notes : ℕ → Rows Place → told.Notes
+labelled_kind_notes n = (labelled_kind n (mbody_at n)).notes
+
+abbrev pub special_at : ℕ → Reader Place Element
+special_at n = (special n (mbody_at n)).code
+
+abbrev pub special_notes : ℕ → Rows Place → told.Notes
+special_notes n = (special n (mbody_at n)).notes
+
+abbrev pub numbered_at : ℕ → Reader Place (Int × (Option OptionList × (MessageBody × (Place × Place))))
+numbered_at n = (numbered n (mbody_at n)).code
+
+abbrev pub numbered_notes : ℕ → Span → Rows Place → told.Notes
+numbered_notes n = (numbered n (mbody_at n)).notes
+
+abbrev pub braces_at : ℕ → Reader Place (MessageBody × (Place × Place))
+braces_at n = (mbody n (mbody_at n)).code
+
+abbrev pub braces_notes : ℕ → Rows Place → told.Notes
+braces_notes n = (mbody n (mbody_at n)).notes

@@ -1,0 +1,557 @@
+//! Fields with groups, oneofs, extends, messages and their bodies. `level` says how many levels of bodies may still be opened.
+
+ghost use Rattle.std.specs.Prelude.{◌≡◌, OnOk};
+ghost use Rattle.protox_grammar.proofs.Opened.{sunk_notes};
+ghost use Rattle.protox_grammar.specs.Bodies.{deep_read};
+ghost use Rattle.protox_ast.specs.Places.{Place};
+ghost use Rattle.protox_rows.specs.Outcome.{Fails, Gives};
+ghost use Rattle.protox_rows.specs.Notes.{Adds, AddsTo};
+ghost use Rattle.protox_bodies.specs.Bodies as rule;
+ghost use Rattle.protox_bodies.specs.Fields.{first_span};
+
+use crate::fields::{group_name, map_field, normal};
+use crate::parts::{Element, FieldParts, Inside, OneofElement, OneofInside};
+use protox_ast::ast::{
+    Extend, Field, FieldKind, FieldLabel, Int, Message, MessageBody, MessageItem, Oneof, OptionList,
+};
+use protox_blocks::enums::enum_;
+use protox_blocks::ranges::{extensions, reserved};
+use protox_descriptor::values::Items;
+use protox_grammar::note::Note;
+use protox_lex::error::{ParseErrorKind, Span};
+use protox_options::options::{list_if_any, option};
+use protox_rows::checks::add_fault;
+use protox_rows::class::{
+    ENUM, EXTEND, EXTENSIONS, GROUP, MAP, MESSAGE, ONEOF, OPTION, OPTIONAL, REPEATED, REQUIRED,
+    RESERVED, RIGHT_BRACE, SEMICOLON, sees, sees_any, sees_other,
+};
+use protox_rows::expected::Expected;
+use protox_rows::leaf::{copied, expect_mark, expect_word, is_mark, join, refused};
+use protox_rows::names::{ident, int, label, typename};
+use protox_rows::refused::Refused;
+use protox_rows::rows::{RowAt, Unread, comments_between, comments_of, span_between};
+use std::alloc::{AllocError, Global};
+
+// Behind a group's number its body or a list may stand.
+fn before_body(options: &Option<OptionList>) -> Expected {
+    match options {
+        Some(_) => Expected::LeftBrace,
+        None => Expected::BraceOrOptions,
+    }
+}
+
+/// "=" int list? mbody
+#[cycle(bodies)]
+#[tactic(auto, unfolding(crate::specs::Bodies::numbered))]
+fn numbered<'t, 'a>(
+    alloc: Global,
+    notes: &mut Vec<Note>,
+    rows: &mut Unread<'t, 'a>,
+    level: usize,
+    word: &Span,
+) -> Result<
+    (
+        Int,
+        Option<OptionList>,
+        (MessageBody, (RowAt<'t, 'a>, RowAt<'t, 'a>)),
+    ),
+    Refused,
+>
+    ensures read { Gives (λ x. (x.0, (x.1, (x.2.0, (x.2.1.0.at, x.2.1.1.at))))) result rows.new (rule.numbered_at level rows.old) }
+    ensures notes { Adds result notes.old.items (rule.numbered_notes level word.now rows.old) notes.new.items }
+{
+    expect_mark(rows, b'=', Expected::Equals)?;
+    let number = int(rows)?;
+    let options = list_if_any(alloc, notes, rows)?;
+    let body = mbody(alloc, notes, rows, level, word, before_body(&options))?;
+    Ok((number, options, body))
+}
+
+/// group = "group" ident "=" int list? mbody
+#[cycle(bodies)]
+#[tactic(auto, unfolding(crate::specs::Bodies::group))]
+fn group<'t, 'a>(
+    alloc: Global,
+    notes: &mut Vec<Note>,
+    rows: &mut Unread<'t, 'a>,
+    level: usize,
+) -> Result<(FieldParts, (RowAt<'t, 'a>, RowAt<'t, 'a>)), Refused>
+    ensures read { Gives (λ x. (x.0, (x.1.0.at, x.1.1.at))) result rows.new (rule.group_at level rows.old) }
+    ensures notes { Adds result notes.old.items (rule.group_notes level rows.old) notes.new.items }
+{
+    let start = expect_word(rows, "group", Expected::Type)?;
+    let ty_span = start.span();
+    let name = group_name(alloc, notes, rows)?;
+    let (number, options, (body, braces)) = numbered(alloc, notes, rows, level, &ty_span)?;
+    let parts = FieldParts {
+        name,
+        kind: FieldKind::Group { ty_span, body },
+        number,
+        options,
+    };
+    Ok((parts, braces))
+}
+
+/// map | group | normal
+#[cycle(bodies)]
+#[tactic(auto, unfolding(crate::specs::Bodies::field_kind))]
+fn field_kind<'t, 'a>(
+    alloc: Global,
+    notes: &mut Vec<Note>,
+    rows: &mut Unread<'t, 'a>,
+    level: usize,
+    expected: Expected,
+) -> Result<(FieldParts, (RowAt<'t, 'a>, RowAt<'t, 'a>)), Refused>
+    ensures read { Gives (λ x. (x.0, (x.1.0.at, x.1.1.at))) result rows.new (rule.field_kind_at level rows.old) }
+    ensures notes { Adds result notes.old.items (rule.field_kind_notes level rows.old) notes.new.items }
+{
+    if !sees_any(rows, &[MAP, GROUP]) {
+        return normal(alloc, notes, rows, expected);
+    }
+    if sees(rows, MAP) {
+        return map_field(alloc, notes, rows);
+    }
+    group(alloc, notes, rows, level)
+}
+
+fn first_span(rows: &Unread<'_, '_>) -> Span
+    ensures { result ≡ first_span rows.now }
+{
+    match rows.first() {
+        Some(first) => first.span(),
+        None => 0..0,
+    }
+}
+
+// A label, if there is one, and the field behind it.
+#[cycle(bodies)]
+#[tactic(auto, unfolding(crate::specs::Bodies::labelled_kind))]
+fn labelled_kind<'t, 'a>(
+    alloc: Global,
+    notes: &mut Vec<Note>,
+    rows: &mut Unread<'t, 'a>,
+    level: usize,
+    expected: Expected,
+) -> Result<
+    (
+        Option<(FieldLabel, Span)>,
+        (FieldParts, (RowAt<'t, 'a>, RowAt<'t, 'a>)),
+    ),
+    Refused,
+>
+    ensures read { Gives (λ x. (x.0, (x.1.0, (x.1.1.0.at, x.1.1.1.at)))) result rows.new (rule.labelled_kind_at level rows.old) }
+    ensures notes { Adds result notes.old.items (rule.labelled_kind_notes level rows.old) notes.new.items }
+{
+    if sees_any(rows, &[OPTIONAL, REQUIRED, REPEATED]) {
+        let label = label(rows)?;
+        let kind = field_kind(alloc, notes, rows, level, Expected::Type)?;
+        return Ok((Some(label), kind));
+    }
+    let kind = field_kind(alloc, notes, rows, level, expected)?;
+    Ok((None, kind))
+}
+
+/// field = label? (map | group | normal)
+#[cycle(bodies)]
+#[tactic(auto, unfolding(crate::specs::Bodies::field))]
+fn field(
+    alloc: Global,
+    notes: &mut Vec<Note>,
+    rows: &mut Unread<'_, '_>,
+    level: usize,
+    expected: Expected,
+) -> Result<Field, Refused>
+    ensures read { Gives (λ x. x) result rows.new (rule.field_at level rows.old) }
+    ensures notes { Adds result notes.old.items (rule.field_notes level rows.old) notes.new.items }
+{
+    let begun = rows.again();
+    let start = first_span(&begun);
+    let (label, (parts, (last, end))) = labelled_kind(alloc, notes, rows, level, expected)?;
+    let comments = comments_of(alloc, &begun, &last)?;
+    let span = join(&start, &end.span());
+    let FieldParts {
+        name,
+        kind,
+        number,
+        options,
+    } = parts;
+    Ok(Field {
+        label,
+        name,
+        kind,
+        number,
+        options,
+        comments,
+        span,
+    })
+}
+
+/// ";" | option | field
+#[cycle(bodies)]
+#[tactic(auto, unfolding(crate::specs::Bodies::oneof_element))]
+fn oneof_element(
+    alloc: Global,
+    notes: &mut Vec<Note>,
+    rows: &mut Unread<'_, '_>,
+    level: usize,
+) -> Result<OneofElement, Refused>
+    ensures read { Gives (λ x. x) result rows.new (rule.oneof_element_at level rows.old) }
+    ensures notes { Adds result notes.old.items (rule.oneof_element_notes level rows.old) notes.new.items }
+{
+    if sees(rows, SEMICOLON) {
+        expect_mark(rows, b';', Expected::Semicolon)?;
+        return Ok(OneofElement::Empty);
+    }
+    if sees_any(rows, &[OPTION]) {
+        let option = option(alloc, notes, rows, Expected::OneofBody)?;
+        return Ok(OneofElement::Option(option));
+    }
+    let field = field(alloc, notes, rows, level, Expected::OneofBody)?;
+    Ok(OneofElement::Field(field))
+}
+
+fn put_in_oneof(inside: &mut OneofInside, element: OneofElement) -> Result<(), AllocError>
+    ensures { OnOk result (inside.new ≡ rule.add_oneof inside.old element) }
+{
+    match element {
+        OneofElement::Empty => Ok(()),
+        OneofElement::Option(option) => inside.options.push(option),
+        OneofElement::Field(field) => inside.fields.push(field),
+    }
+}
+
+#[cycle(bodies)]
+#[tactic(auto, unfolding(crate::specs::Bodies::oneof_elements))]
+fn oneof_elements(
+    alloc: Global,
+    notes: &mut Vec<Note>,
+    rows: &mut Unread<'_, '_>,
+    level: usize,
+) -> Result<OneofInside, Refused>
+    ensures read { Gives (λ x. x) result rows.new (rule.oneof_elements_at level rows.old) }
+    ensures notes { Adds result notes.old.items (rule.oneof_elements_notes level rows.old) notes.new.items }
+{
+    let mut inside = OneofInside {
+        options: Items::new(alloc),
+        fields: Items::new(alloc),
+    };
+    'oneof: while sees_other(rows, RIGHT_BRACE) {
+        let element = oneof_element(alloc, notes, rows, level)?;
+        put_in_oneof(&mut inside, element)?;
+    }
+    Ok(inside)
+}
+
+/// oneof = "oneof" ident "{" (";" | option | field)* "}"
+#[cycle(bodies)]
+#[tactic(auto, unfolding(crate::specs::Bodies::oneof))]
+fn oneof(
+    alloc: Global,
+    notes: &mut Vec<Note>,
+    rows: &mut Unread<'_, '_>,
+    level: usize,
+) -> Result<Oneof, Refused>
+    ensures read { Gives (λ x. x) result rows.new (rule.oneof_at level rows.old) }
+    ensures notes { Adds result notes.old.items (rule.oneof_notes level rows.old) notes.new.items }
+{
+    let start = expect_word(rows, "oneof", Expected::MessageBody)?;
+    let name = ident(alloc, rows, Expected::Ident)?;
+    let open = expect_mark(rows, b'{', Expected::LeftBrace)?;
+    let inside = oneof_elements(alloc, notes, rows, level)?;
+    let close = expect_mark(rows, b'}', Expected::OneofBody)?;
+    let comments = comments_between(alloc, &start, &open)?;
+    let span = span_between(&start, &close);
+    let OneofInside { options, fields } = inside;
+    Ok(Oneof {
+        name,
+        options,
+        fields,
+        comments,
+        span,
+    })
+}
+
+/// ";" | field
+#[cycle(bodies)]
+#[tactic(auto, unfolding(crate::specs::Bodies::extend_element))]
+fn extend_element(
+    alloc: Global,
+    notes: &mut Vec<Note>,
+    rows: &mut Unread<'_, '_>,
+    level: usize,
+) -> Result<Option<Field>, Refused>
+    ensures read { Gives (λ x. x) result rows.new (rule.extend_element_at level rows.old) }
+    ensures notes { Adds result notes.old.items (rule.extend_element_notes level rows.old) notes.new.items }
+{
+    if sees(rows, SEMICOLON) {
+        expect_mark(rows, b';', Expected::Semicolon)?;
+        return Ok(None);
+    }
+    let field = field(alloc, notes, rows, level, Expected::ExtendBody)?;
+    Ok(Some(field))
+}
+
+fn put_in_extend(fields: &mut Items<Field>, element: Option<Field>) -> Result<(), AllocError>
+    ensures { OnOk result (fields.new ≡ rule.add_field fields.old element) }
+{
+    match element {
+        None => Ok(()),
+        Some(field) => fields.push(field),
+    }
+}
+
+#[cycle(bodies)]
+#[tactic(auto, unfolding(crate::specs::Bodies::extend_elements))]
+fn extend_elements(
+    alloc: Global,
+    notes: &mut Vec<Note>,
+    rows: &mut Unread<'_, '_>,
+    level: usize,
+) -> Result<Items<Field>, Refused>
+    ensures read { Gives (λ x. x) result rows.new (rule.extend_elements_at level rows.old) }
+    ensures notes { Adds result notes.old.items (rule.extend_elements_notes level rows.old) notes.new.items }
+{
+    let mut fields = Items::new(alloc);
+    'extend: while sees_other(rows, RIGHT_BRACE) {
+        let element = extend_element(alloc, notes, rows, level)?;
+        put_in_extend(&mut fields, element)?;
+    }
+    Ok(fields)
+}
+
+/// extend = "extend" typename "{" (";" | field)* "}"
+#[cycle(bodies)]
+#[tactic(auto, unfolding(crate::specs::Bodies::extend))]
+pub fn extend(
+    alloc: Global,
+    notes: &mut Vec<Note>,
+    rows: &mut Unread<'_, '_>,
+    level: usize,
+) -> Result<Extend, Refused>
+    ensures read { Gives (λ x. x) result rows.new (rule.extend_at level rows.old) }
+    ensures notes { Adds result notes.old.items (rule.extend_notes level rows.old) notes.new.items }
+{
+    let start = expect_word(rows, "extend", Expected::Statement)?;
+    let (extendee, _) = typename(alloc, rows, Expected::TypeName)?;
+    let open = expect_mark(rows, b'{', Expected::DotOrLeftBrace)?;
+    let fields = extend_elements(alloc, notes, rows, level)?;
+    let close = expect_mark(rows, b'}', Expected::ExtendBody)?;
+    let comments = comments_between(alloc, &start, &open)?;
+    let span = span_between(&start, &close);
+    Ok(Extend {
+        extendee,
+        fields,
+        comments,
+        span,
+    })
+}
+
+/// message = "message" ident mbody
+#[cycle(bodies)]
+#[tactic(auto, unfolding(crate::specs::Bodies::message))]
+pub fn message(
+    alloc: Global,
+    notes: &mut Vec<Note>,
+    rows: &mut Unread<'_, '_>,
+    level: usize,
+) -> Result<Message, Refused>
+    ensures read { Gives (λ x. x) result rows.new (rule.message_at level rows.old) }
+    ensures notes { Adds result notes.old.items (rule.message_notes level rows.old) notes.new.items }
+{
+    let start = expect_word(rows, "message", Expected::Statement)?;
+    let word = start.span();
+    let name = ident(alloc, rows, Expected::Ident)?;
+    let (body, (open, close)) = mbody(alloc, notes, rows, level, &word, Expected::LeftBrace)?;
+    let comments = comments_between(alloc, &start, &open)?;
+    let span = span_between(&start, &close);
+    Ok(Message {
+        name,
+        body,
+        comments,
+        span,
+    })
+}
+
+/// oneof | enum | message | extend | option | reserved | extensions
+#[cycle(bodies)]
+#[tactic(auto, unfolding(crate::specs::Bodies::special))]
+fn special(
+    alloc: Global,
+    notes: &mut Vec<Note>,
+    rows: &mut Unread<'_, '_>,
+    level: usize,
+) -> Result<Element, Refused>
+    ensures read { Gives (λ x. x) result rows.new (rule.special_at level rows.old) }
+    ensures notes { Adds result notes.old.items (rule.special_notes level rows.old) notes.new.items }
+{
+    if sees(rows, ONEOF) {
+        let oneof = oneof(alloc, notes, rows, level)?;
+        return Ok(Element::Item(MessageItem::Oneof(oneof)));
+    }
+    if sees(rows, ENUM) {
+        let enumeration = enum_(alloc, notes, rows, Expected::MessageBody)?;
+        return Ok(Element::Item(MessageItem::Enum(enumeration)));
+    }
+    if sees(rows, MESSAGE) {
+        let message = message(alloc, notes, rows, level)?;
+        return Ok(Element::Item(MessageItem::Message(message)));
+    }
+    if sees(rows, EXTEND) {
+        let extend = extend(alloc, notes, rows, level)?;
+        return Ok(Element::Item(MessageItem::Extend(extend)));
+    }
+    plain(alloc, notes, rows)
+}
+
+/// option | reserved | extensions
+#[tactic(auto, unfolding(crate::specs::Bodies::plain))]
+fn plain(
+    alloc: Global,
+    notes: &mut Vec<Note>,
+    rows: &mut Unread<'_, '_>,
+) -> Result<Element, Refused>
+    ensures read { Gives (λ x. x) result rows.new ((rule.plain).code rows.old) }
+    ensures notes { Adds result notes.old.items ((rule.plain).notes rows.old) notes.new.items }
+{
+    if sees(rows, OPTION) {
+        let option = option(alloc, notes, rows, Expected::MessageBody)?;
+        return Ok(Element::Option(option));
+    }
+    if sees(rows, RESERVED) {
+        let reserved = reserved(alloc, notes, rows, Expected::MessageBody)?;
+        return Ok(Element::Reserved(reserved));
+    }
+    let extensions = extensions(alloc, notes, rows, Expected::MessageBody)?;
+    Ok(Element::Extensions(extensions))
+}
+
+/// ";" | field | oneof | enum | message | extend | option | reserved | extensions
+#[cycle(bodies)]
+#[tactic(auto, unfolding(crate::specs::Bodies::element))]
+fn element(
+    alloc: Global,
+    notes: &mut Vec<Note>,
+    rows: &mut Unread<'_, '_>,
+    level: usize,
+) -> Result<Element, Refused>
+    ensures read { Gives (λ x. x) result rows.new (rule.element_at level rows.old) }
+    ensures notes { Adds result notes.old.items (rule.element_notes level rows.old) notes.new.items }
+{
+    if sees(rows, SEMICOLON) {
+        expect_mark(rows, b';', Expected::Semicolon)?;
+        return Ok(Element::Empty);
+    }
+    if sees_any(
+        rows,
+        &[ONEOF, ENUM, MESSAGE, EXTEND, OPTION, RESERVED, EXTENSIONS],
+    ) {
+        return special(alloc, notes, rows, level);
+    }
+    let field = field(alloc, notes, rows, level, Expected::MessageBody)?;
+    Ok(Element::Item(MessageItem::Field(field)))
+}
+
+fn put(inside: &mut Inside, element: Element) -> Result<(), AllocError>
+    ensures { OnOk result (inside.new ≡ rule.add_element inside.old element) }
+{
+    match element {
+        Element::Empty => Ok(()),
+        Element::Item(item) => inside.items.push(item),
+        Element::Option(option) => inside.options.push(option),
+        Element::Reserved(reserved) => inside.reserved.push(reserved),
+        Element::Extensions(extensions) => inside.extensions.push(extensions),
+    }
+}
+
+#[cycle(bodies)]
+#[tactic(auto, unfolding(crate::specs::Bodies::elements))]
+fn elements(
+    alloc: Global,
+    notes: &mut Vec<Note>,
+    rows: &mut Unread<'_, '_>,
+    level: usize,
+) -> Result<Inside, Refused>
+    ensures read { Gives (λ x. x) result rows.new (rule.elements_at level rows.old) }
+    ensures notes { Adds result notes.old.items (rule.elements_notes level rows.old) notes.new.items }
+{
+    let mut inside = Inside {
+        items: Items::new(alloc),
+        extensions: Items::new(alloc),
+        options: Items::new(alloc),
+        reserved: Items::new(alloc),
+    };
+    'more: while sees_other(rows, RIGHT_BRACE) {
+        let element = element(alloc, notes, rows, level)?;
+        put(&mut inside, element)?;
+    }
+    Ok(inside)
+}
+
+// What opens here is too deep: it is noted, and not read.
+#[tactic(auto, unfolding(protox_grammar::specs::Reader::too_deep, protox_grammar::specs::Bodies::deep_read))]
+fn sunk(notes: &mut Vec<Note>, rows: &Unread<'_, '_>, word: &Span, expected: Expected) -> Refused
+    ensures read { Fails result (deep_read {M = Place} rows.now) }
+    ensures notes { AddsTo result notes.old.items (sunk_notes word.now rows.now) notes.new.items }
+{
+    match rows.split() {
+        Some((row, rest)) if is_mark(row.token(), b'{') => {
+            let span = copied(word);
+            match add_fault(notes, &rest, ParseErrorKind::MessageNestingTooDeep { span }) {
+                Ok(()) => Refused::TooDeep { left: rows.len() },
+                Err(_) => Refused::OutOfMemory,
+            }
+        }
+        _ => refused(rows, expected),
+    }
+}
+
+/// mbody = "{" (";" | field | oneof | enum | message | extend | option | reserved | extensions)* "}"
+#[cycle(bodies)]
+#[tactic(auto, unfolding(crate::specs::Bodies::mbody))]
+fn braces<'t, 'a>(
+    alloc: Global,
+    notes: &mut Vec<Note>,
+    rows: &mut Unread<'t, 'a>,
+    level: usize,
+    expected: Expected,
+) -> Result<(MessageBody, (RowAt<'t, 'a>, RowAt<'t, 'a>)), Refused>
+    ensures read { Gives (λ x. (x.0, (x.1.0.at, x.1.1.at))) result rows.new (rule.braces_at level rows.old) }
+    ensures notes { Adds result notes.old.items (rule.braces_notes level rows.old) notes.new.items }
+{
+    let open = expect_mark(rows, b'{', expected)?;
+    let inside = elements(alloc, notes, rows, level)?;
+    let close = expect_mark(rows, b'}', Expected::MessageBody)?;
+    let Inside {
+        items,
+        extensions,
+        options,
+        reserved,
+    } = inside;
+    let body = MessageBody {
+        items,
+        extensions,
+        options,
+        reserved,
+    };
+    Ok((body, (open, close)))
+}
+
+/// A body behind its word, of as many levels as are left.
+#[cycle(bodies)]
+#[tactic(auto, unfolding(crate::specs::Bodies::mbody_at))]
+fn mbody<'t, 'a>(
+    alloc: Global,
+    notes: &mut Vec<Note>,
+    rows: &mut Unread<'t, 'a>,
+    level: usize,
+    word: &Span,
+    expected: Expected,
+) -> Result<(MessageBody, (RowAt<'t, 'a>, RowAt<'t, 'a>)), Refused>
+    ensures read { Gives (λ x. (x.0, (x.1.0.at, x.1.1.at))) result rows.new ((rule.mbody_at level).code rows.old) }
+    ensures notes { Adds result notes.old.items ((rule.mbody_at level).notes word.now rows.old) notes.new.items }
+{
+    if level == 0 {
+        return Err(sunk(notes, rows, word, expected));
+    }
+    braces(alloc, notes, rows, level - 1, expected)
+}

@@ -1,0 +1,155 @@
+//! The kinds of fields that hold no body, and the names of groups.
+
+ghost use Rattle.std.specs.Prelude.{◌≡◌, ◌++◌, OnOk, suc, length};
+ghost use Rattle.protox_grammar.specs.Told.{group_notes, is_group_name};
+ghost use Rattle.protox_rows.specs.Outcome.{Gives};
+ghost use Rattle.protox_rows.specs.Notes.{Adds};
+ghost use Rattle.protox_bodies.specs.Fields as rule;
+
+use crate::parts::FieldParts;
+use protox_ast::ast::{FieldKind, Ident, Int, OptionList, Ty};
+use protox_descriptor::case::is_valid_group_name;
+use protox_grammar::note::{Note, Noted};
+use protox_lex::error::{ParseErrorKind, Span};
+use protox_options::options::{after_list, list_if_any};
+use protox_rows::expected::Expected;
+use protox_rows::leaf::{copied, expect_mark, expect_word};
+use protox_rows::names::{field_type, ident, int};
+use protox_rows::refused::Refused;
+use protox_rows::rows::{RowAt, Unread, span_between};
+use std::alloc::{AllocError, Global};
+
+// Behind a named type the name may go on with a dot.
+fn after_type(ty: &Ty, named: Expected, scalar: Expected) -> Expected {
+    match ty {
+        Ty::Named(_) => named,
+        _ => scalar,
+    }
+}
+
+/// ident "=" int list? ";"
+#[tactic(auto, unfolding(crate::specs::Fields::numbered))]
+fn numbered<'t, 'a>(
+    alloc: Global,
+    notes: &mut Vec<Note>,
+    rows: &mut Unread<'t, 'a>,
+    expected: Expected,
+) -> Result<(Ident, Int, Option<OptionList>, RowAt<'t, 'a>), Refused>
+    ensures read { Gives (λ x. (x.0, (x.1, (x.2, x.3.at)))) result rows.new ((rule.numbered).code rows.old) }
+    ensures notes { Adds result notes.old.items ((rule.numbered).notes rows.old) notes.new.items }
+{
+    let name = ident(alloc, rows, expected)?;
+    expect_mark(rows, b'=', Expected::Equals)?;
+    let number = int(rows)?;
+    let options = list_if_any(alloc, notes, rows)?;
+    let end = expect_mark(rows, b';', after_list(&options))?;
+    Ok((name, number, options, end))
+}
+
+/// normal = type ident "=" int list? ";"
+#[tactic(auto, unfolding(crate::specs::Fields::normal))]
+pub(crate) fn normal<'t, 'a>(
+    alloc: Global,
+    notes: &mut Vec<Note>,
+    rows: &mut Unread<'t, 'a>,
+    expected: Expected,
+) -> Result<(FieldParts, (RowAt<'t, 'a>, RowAt<'t, 'a>)), Refused>
+    ensures read { Gives (λ x. (x.0, (x.1.0.at, x.1.1.at))) result rows.new ((rule.normal).code rows.old) }
+    ensures notes { Adds result notes.old.items ((rule.normal).notes rows.old) notes.new.items }
+{
+    let (ty, ty_span) = field_type(alloc, rows, expected)?;
+    let behind = after_type(&ty, Expected::DotOrIdent, Expected::Ident);
+    let (name, number, options, end) = numbered(alloc, notes, rows, behind)?;
+    let last = end.again();
+    let parts = FieldParts {
+        name,
+        kind: FieldKind::Normal { ty, ty_span },
+        number,
+        options,
+    };
+    Ok((parts, (end, last)))
+}
+
+/// map = "map" "<" type "," type ">" ident "=" int list? ";"
+#[tactic(auto, unfolding(crate::specs::Fields::map_field))]
+pub(crate) fn map_field<'t, 'a>(
+    alloc: Global,
+    notes: &mut Vec<Note>,
+    rows: &mut Unread<'t, 'a>,
+) -> Result<(FieldParts, (RowAt<'t, 'a>, RowAt<'t, 'a>)), Refused>
+    ensures read { Gives (λ x. (x.0, (x.1.0.at, x.1.1.at))) result rows.new ((rule.map_field).code rows.old) }
+    ensures notes { Adds result notes.old.items ((rule.map_field).notes rows.old) notes.new.items }
+{
+    let start = expect_word(rows, "map", Expected::Type)?;
+    expect_mark(rows, b'<', Expected::LeftAngleBracket)?;
+    let (key_ty, key_ty_span) = field_type(alloc, rows, Expected::Type)?;
+    let comma = after_type(&key_ty, Expected::DotOrComma, Expected::Comma);
+    expect_mark(rows, b',', comma)?;
+    let (value_ty, value_ty_span) = field_type(alloc, rows, Expected::Type)?;
+    let angle = after_type(
+        &value_ty,
+        Expected::DotOrRightAngleBracket,
+        Expected::RightAngleBracket,
+    );
+    let close = expect_mark(rows, b'>', angle)?;
+    let (name, number, options, end) = numbered(alloc, notes, rows, Expected::Ident)?;
+    let last = end.again();
+    let kind = FieldKind::Map {
+        ty_span: span_between(&start, &close),
+        key_ty,
+        key_ty_span,
+        value_ty,
+        value_ty_span,
+    };
+    let parts = FieldParts {
+        name,
+        kind,
+        number,
+        options,
+    };
+    Ok((parts, (end, last)))
+}
+
+fn is_group_name(name: &str) -> bool
+    ensures { result ≡ is_group_name name.now }
+{
+    is_valid_group_name(name)
+}
+
+// Whether a group's name, before which so many rows are left, begins with a capital.
+fn check_group_name(
+    notes: &mut Vec<Note>,
+    left: usize,
+    rows: &Unread<'_, '_>,
+    name: &str,
+    span: &Span,
+) -> Result<(), AllocError>
+    requires { left ≡ suc (length rows.now) }
+    ensures { OnOk result (notes.new.items ≡ notes.old.items ++ group_notes (name.now, span.now) rows.now) }
+{
+    if is_group_name(name) {
+        return Ok(());
+    }
+    let span = copied(span);
+    notes.push(Note {
+        left,
+        noted: Noted::Fault(ParseErrorKind::InvalidGroupName { span }),
+    })?;
+    Ok(())
+}
+
+/// ident, as the name of a group, which is checked before the row behind it is read.
+#[tactic(auto, unfolding(crate::specs::Fields::group_name))]
+pub(crate) fn group_name(
+    alloc: Global,
+    notes: &mut Vec<Note>,
+    rows: &mut Unread<'_, '_>,
+) -> Result<Ident, Refused>
+    ensures read { Gives (λ x. x) result rows.new ((rule.group_name).code rows.old) }
+    ensures notes { Adds result notes.old.items ((rule.group_name).notes rows.old) notes.new.items }
+{
+    let left = rows.len();
+    let name = ident(alloc, rows, Expected::Ident)?;
+    check_group_name(notes, left, rows, name.value.as_str(), &name.span)?;
+    Ok(name)
+}

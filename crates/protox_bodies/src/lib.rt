@@ -1,0 +1,6 @@
+//! Reads what recurses: fields, groups, oneofs, extends and messages, at most so many levels deep.
+#![tactic(auto)]
+
+pub mod bodies;
+mod fields;
+mod parts;

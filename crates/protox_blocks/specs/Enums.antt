@@ -68,7 +68,7 @@ parts_seen xs = parts_of (filter_map ast.enum_option xs) (filter_map ast.enum_va
 
 pub gathered : (a : List option_type.Option) (b : List EnumValue) (c : List reserved_type.Reserved) (xs : List (tree.EnumElement Place))
     → folded add (parts_of a b c) (map element_seen xs) ≡ parts_of (a ++ filter_map ast.enum_option xs) (b ++ filter_map ast.enum_value xs) (c ++ filter_map ast.enum_reserved xs)
-gathered a b c [] = rw (append-nil a, append-nil b, append-nil c) refl
+gathered a b c [] = ap (λ v. parts_of v b c) (sym (append-nil a)) ∙ ap (λ v. parts_of (a ++ []) v c) (sym (append-nil b)) ∙ ap (λ v. parts_of (a ++ []) (b ++ []) v) (sym (append-nil c))
 gathered a b c (tree.enum_empty m ∷ xs) = gathered a b c xs
 gathered a b c (tree.enum_option x ∷ xs) = gathered (a ++ ast.option x ∷ []) b c xs ∙ ap (λ v. parts_of v (b ++ filter_map ast.enum_value xs) (c ++ filter_map ast.enum_reserved xs)) (append_assoc a (ast.option x ∷ []) (filter_map ast.enum_option xs))
 gathered a b c (tree.enum_reserved x ∷ xs) = gathered a b (c ++ ast.reserved x ∷ []) xs ∙ ap (λ v. parts_of (a ++ filter_map ast.enum_option xs) (b ++ filter_map ast.enum_value xs) v) (append_assoc c (ast.reserved x ∷ []) (filter_map ast.enum_reserved xs))

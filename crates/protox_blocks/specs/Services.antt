@@ -96,7 +96,7 @@ abbrev pub parts_seen : List (tree.ServiceElement Place) → ServiceParts
 parts_seen xs = parts_of (filter_map ast.service_option xs) (filter_map ast.service_rpc xs)
 
 pub gathered : (a : List option_type.Option) (b : List Method) (xs : List (tree.ServiceElement Place)) → folded add (parts_of a b) (map element_seen xs) ≡ parts_of (a ++ filter_map ast.service_option xs) (b ++ filter_map ast.service_rpc xs)
-gathered a b [] = rw (append-nil a, append-nil b) refl
+gathered a b [] = ap (λ v. parts_of v b) (sym (append-nil a)) ∙ ap (λ v. parts_of (a ++ []) v) (sym (append-nil b))
 gathered a b (tree.service_empty m ∷ xs) = gathered a b xs
 gathered a b (tree.service_option x ∷ xs) = gathered (a ++ ast.option x ∷ []) b xs ∙ ap (λ v. parts_of v (b ++ filter_map ast.service_rpc xs)) (append_assoc a (ast.option x ∷ []) (filter_map ast.service_option xs))
 gathered a b (tree.service_rpc x ∷ xs) = gathered a (b ++ ast.rpc x ∷ []) xs ∙ ap (λ v. parts_of (a ++ filter_map ast.service_option xs) v) (append_assoc b (ast.rpc x ∷ []) (filter_map ast.service_rpc xs))

@@ -15,7 +15,10 @@ use Rattle.protox_ast.specs.declared.ast.FieldLabel.{FieldLabel}
 use Rattle.protox_ast.specs.declared.ast.Int.{Int}
 use Rattle.protox_ast.specs.declared.ast.OptionList.{OptionList}
 use Rattle.protox_ast.specs.declared.ast.FieldKind.TheVariants as kind
+use Rattle.protox_ast.specs.declared.ast.MessageItem as item_type
 use Rattle.protox_ast.specs.declared.ast.MessageItem.TheVariants as item
+use Rattle.protox_ast.specs.declared.ast.Extensions as extensions_type
+use Rattle.protox_ast.specs.declared.ast.Reserved as reserved_type
 use Rattle.protox_ast.specs.declared.ast.MessageBody.{MessageBody, roll-MessageBody}
 use Rattle.protox_ast.specs.declared.ast.Message.{Message, roll-Message}
 use Rattle.protox_ast.specs.declared.ast.Extend as extend_type
@@ -75,7 +78,7 @@ abbrev pub oneof_of : List (oneof_lists.Option) → List Field → OneofInside
 oneof_of a b = record { options = a; fields = b }
 
 pub oneof-gathered : (a : List (oneof_lists.Option)) (b : List Field) (xs : List (tree.OneofElement Place)) → folded add_oneof (oneof_of a b) (map oneof_element_seen xs) ≡ oneof_of (a ++ ast.oneof_options (bodies.to_oneof_elements xs)) (b ++ ast.oneof_fields (bodies.to_oneof_elements xs))
-oneof-gathered a b [] = rw (append-nil a, append-nil b) refl
+oneof-gathered a b [] = ap (λ v. oneof_of v b) (sym (append-nil a)) ∙ ap (λ v. oneof_of (a ++ []) v) (sym (append-nil b))
 oneof-gathered a b (tree.oneof_empty m ∷ xs) = oneof-gathered a b xs
 oneof-gathered a b (tree.oneof_option x ∷ xs) = oneof-gathered (a ++ ast.option x ∷ []) b xs ∙ ap (λ v. oneof_of v (b ++ ast.oneof_fields (bodies.to_oneof_elements xs))) (append_assoc a (ast.option x ∷ []) _)
 oneof-gathered a b (tree.oneof_field x ∷ xs) = oneof-gathered a (b ++ ast.field x ∷ []) xs ∙ ap (λ v. oneof_of (a ++ ast.oneof_options (bodies.to_oneof_elements xs)) v) (append_assoc b (ast.field x ∷ []) _)
@@ -124,19 +127,29 @@ inside es = record { items = ast.items es; extensions = ast.extensions_in es; op
 abbrev pub then_inside : Inside → tree.Elements Place → Inside
 then_inside f es = record { items = f.items ++ ast.items es; extensions = f.extensions ++ ast.extensions_in es; options = f.options ++ ast.options_in es; reserved = f.reserved ++ ast.reserved_in es }
 
+abbrev pub inside_of : List item_type.MessageItem → List extensions_type.Extensions → List oneof_lists.Option → List reserved_type.Reserved → Inside
+inside_of a b c d = record { items = a; extensions = b; options = c; reserved = d }
+
+-- one more item, option, statement
+pub item-added : (f : Inside) (y : item_type.MessageItem) (xs : List item_type.MessageItem) (es : tree.Elements Place) → inside_of ((f.items ++ y ∷ []) ++ xs) (f.extensions ++ ast.extensions_in es) (f.options ++ ast.options_in es) (f.reserved ++ ast.reserved_in es)
+    ≡ inside_of (f.items ++ y ∷ xs) (f.extensions ++ ast.extensions_in es) (f.options ++ ast.options_in es) (f.reserved ++ ast.reserved_in es)
+item-added f y xs es = ap (λ v. inside_of v (f.extensions ++ ast.extensions_in es) (f.options ++ ast.options_in es) (f.reserved ++ ast.reserved_in es)) (append_assoc f.items (y ∷ []) xs)
+
 pub element-added : (f : Inside) (e : tree.Element Place) (es : tree.Elements Place) → then_inside (add_element f (element_seen e)) es ≡ then_inside f (tree.elements e es)
 element-added f (tree.empty m) es = refl
-element-added f (tree.field x) es = rw append_assoc refl
-element-added f (tree.oneof x) es = rw append_assoc refl
-element-added f (tree.enum x) es = rw append_assoc refl
-element-added f (tree.message x) es = rw append_assoc refl
-element-added f (tree.extend x) es = rw append_assoc refl
-element-added f (tree.option x) es = rw append_assoc refl
-element-added f (tree.reserved x) es = rw append_assoc refl
-element-added f (tree.extensions x) es = rw append_assoc refl
+element-added f (tree.field x) es = item-added f (item.Field (ast.field x)) (ast.items es) es
+element-added f (tree.oneof x) es = item-added f (item.Oneof (ast.oneof x)) (ast.items es) es
+element-added f (tree.enum x) es = item-added f (item.Enum (ast.enum x)) (ast.items es) es
+element-added f (tree.message x) es = item-added f (item.Message (ast.message x)) (ast.items es) es
+element-added f (tree.extend x) es = item-added f (item.Extend (ast.extend x)) (ast.items es) es
+element-added f (tree.option x) es = ap (λ v. inside_of (f.items ++ ast.items es) (f.extensions ++ ast.extensions_in es) v (f.reserved ++ ast.reserved_in es)) (append_assoc f.options (ast.option x ∷ []) (ast.options_in es))
+element-added f (tree.reserved x) es = ap (λ v. inside_of (f.items ++ ast.items es) (f.extensions ++ ast.extensions_in es) (f.options ++ ast.options_in es) v) (append_assoc f.reserved (ast.reserved x ∷ []) (ast.reserved_in es))
+element-added f (tree.extensions x) es = ap (λ v. inside_of (f.items ++ ast.items es) v (f.options ++ ast.options_in es) (f.reserved ++ ast.reserved_in es)) (append_assoc f.extensions (ast.extensions x ∷ []) (ast.extensions_in es))
 
 pub inside-gathered : (f : Inside) (xs : List (tree.Element Place)) → folded add_element f (map element_seen xs) ≡ then_inside f (bodies.to_elements xs)
-inside-gathered f [] = rw (append-nil f.items, append-nil f.extensions, append-nil f.options, append-nil f.reserved) refl
+inside-gathered f [] =
+    ap (λ v. inside_of v f.extensions f.options f.reserved) (sym (append-nil f.items)) ∙ ap (λ v. inside_of (f.items ++ []) v f.options f.reserved) (sym (append-nil f.extensions))
+    ∙ ap (λ v. inside_of (f.items ++ []) (f.extensions ++ []) v f.reserved) (sym (append-nil f.options)) ∙ ap (λ v. inside_of (f.items ++ []) (f.extensions ++ []) (f.options ++ []) v) (sym (append-nil f.reserved))
 inside-gathered f (x ∷ xs) = inside-gathered (add_element f (element_seen x)) xs ∙ element-added f x (bodies.to_elements xs)
 
 abbrev pub body_of : Inside → MessageBody

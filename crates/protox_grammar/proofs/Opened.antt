@@ -151,7 +151,7 @@ module _ {B D : Type 0} {b : Reader Place B} {u : Rows Place → Steps Place} {g
   word-none first w xs r =
       told-append first w (plain_trace (fixed (Ident word)) xs) (then_steps r (λ i. Note (AKeyword i.0) ∷ [])) xs
       ∙ ap (λ n. n ++ told (first_behind first (plain_trace (fixed (Ident word)) xs)) (keyword_behind w (plain_trace (fixed (Ident word)) xs)) (then_steps r (λ i. Note (AKeyword i.0) ∷ [])) (past (plain_trace (fixed (Ident word)) xs) xs))
-          ((plain-tells (fixed (Ident word)) (fixed-leaves (Ident word))).says first w xs)
+      ((plain-tells (fixed (Ident word)) (fixed-leaves (Ident word))).says first w xs)
       ∙ none r
     where
       none : (r : Result (Place × Rows Place) Refusal) → told (first_behind first (plain_trace (fixed (Ident word)) xs)) (keyword_behind w (plain_trace (fixed (Ident word)) xs)) (then_steps r (λ i. Note (AKeyword i.0) ∷ [])) (past (plain_trace (fixed (Ident word)) xs) xs) ≡ []

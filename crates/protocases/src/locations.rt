@@ -1,24 +1,40 @@
 //! The lines of locations.
 
-use crate::lines::{Level, write_text, write_texts};
+use crate::lines::{Level, write_bytes};
 use protoscan_run::write_location;
 use protox_parse::descriptor::FileDescriptorProto;
 use protox_parse::descriptor::source_code_info::Location;
+use protox_parse::values::Text;
 use std::alloc::Global;
 use std::io::{self, Write};
+
+fn write_comment<W: Write>(
+    out: &mut W,
+    level: Level,
+    name: &str,
+    comment: Option<&Text>,
+) -> io::Result<()> {
+    match comment {
+        Some(comment) => write_bytes(out, level, name, comment.as_str().as_bytes()),
+        None => Ok(()),
+    }
+}
 
 // Its line, and a line for each of its comments.
 fn write_commented<W: Write>(alloc: Global, out: &mut W, location: &Location) -> io::Result<()> {
     write_location(out, location)?;
     let level = Level { alloc, depth: 1 };
-    write_text(out, level, "leading_comments", &location.leading_comments)?;
-    write_text(out, level, "trailing_comments", &location.trailing_comments)?;
-    write_texts(
+    write_comment(out, level, "leading_comments", location.leading_comments())?;
+    write_comment(
         out,
         level,
-        "leading_detached_comments",
-        &location.leading_detached_comments,
-    )
+        "trailing_comments",
+        location.trailing_comments(),
+    )?;
+    for comment in location.leading_detached_comments() {
+        write_comment(out, level, "leading_detached_comments", Some(comment))?;
+    }
+    Ok(())
 }
 
 /// A line for each location, and below it a line for each of its comments.

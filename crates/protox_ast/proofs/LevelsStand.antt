@@ -1,6 +1,6 @@
 -- What stands in each level of a tree, list by list.
-use Rattle.std.proofs.Common.{◌≡◌, ℕ, List, [], ◌∷◌, ◌++◌, map, flat_map, subst}
-use Rattle.protox_fault.specs.Faults.{Span, span_from}
+use Rattle.std.proofs.Common.{ℕ, List, [], ◌∷◌, ◌++◌, map, flat_map, subst}
+use Rattle.protox_fault.specs.Faults.{Span}
 use Rattle.protox_ast.specs.declared.ast.Extend.{Extend, out-Extend}
 use Rattle.protox_ast.specs.declared.ast.Field.{Field, out-Field}
 use Rattle.protox_ast.specs.declared.ast.File.{File}
@@ -9,7 +9,8 @@ use Rattle.protox_ast.specs.declared.ast.MessageBody.{MessageBody, out-MessageBo
 use Rattle.protox_ast.specs.declared.ast.Oneof.{Oneof, out-Oneof}
 use Rattle.protox_ast.specs.Keywords.{Each}
 use Rattle.protox_ast.specs.Siblings.{SpansStand, SiblingsStand, place_if_any, type_name_spans, list_span, list_siblings, option_spans, option_siblings, extension_ranges, extensions_siblings, range_statement, reserved_ranges, name_statement, reserved_names, reserved_siblings, Siblings, inside_body, SiblingKind, AField, AMessage, AnEnum, AOneof, AnExtend, AnExtension, AService, Node, node_spans, inside_all, brought, nodes, syntax_span, package_span, package_siblings, import_siblings, file_node, FileStands}
-use Rattle.protox_ast.specs.Steps.{of_kind, of_item, of_field, of_message, of_body, of_oneof, of_extend, body-gives, message-gives, field-gives, oneof-gives, extend-gives}
+use Rattle.protox_ast.specs.Steps.{of_kind, of_item, of_field, of_message, of_body, of_oneof, of_extend}
+use Rattle.protox_ast.proofs.Levels.{body-gives, message-gives, field-gives, oneof-gives, extend-gives}
 use Rattle.protox_ast.proofs.SpansStand.{each-front, each-back}
 
 abbrev pub body_items : MessageBody → List Node

@@ -1,10 +1,12 @@
 pub mod BlocksStand
 pub mod FilesStand
+pub mod Levels
 pub mod LevelsStand
 pub mod Membership
 pub mod MessagesStand
 pub mod NamePlaces
 pub mod NameTests
+pub mod Nothing
 pub mod PartsStand
 pub mod Siblings
 pub mod SpansStand

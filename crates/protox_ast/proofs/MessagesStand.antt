@@ -20,7 +20,8 @@ use Rattle.protox_ast.specs.Tree as t
 use Rattle.protox_ast.specs.Spelling as s
 use Rattle.protox_ast.specs.Places.{Place}
 use Rattle.protox_ast.specs.Ast as ast
-use Rattle.protox_ast.specs.Steps.{of_item, of_field, of_message, of_body, of_oneof, of_extend, body-gives, message-gives, field-gives, item-field, item-enum, item-message, item-extend, item-oneof, kind-normal, kind-group, kind-map}
+use Rattle.protox_ast.specs.Steps.{of_item, of_field, of_message, of_body, of_oneof, of_extend}
+use Rattle.protox_ast.proofs.Levels.{body-gives, message-gives, field-gives, item-field, item-enum, item-message, item-extend, item-oneof, kind-normal, kind-group, kind-map}
 use Rattle.protox_ast.specs.Siblings.{Siblings, SiblingsStand, siblings, option_spans, option_siblings, extensions_siblings, extension_ranges, reserved_siblings, SiblingKind, AField, AMessage, AnEnum, AOneof, AnExtend, AnExtension, AService, Node, OfKind, nodes, inside_field, of_field_kind, field_brings, message_brings, enum_brings, oneof_brings, extend_brings, service_brings, enum_node, service_node}
 use Rattle.protox_ast.proofs.Standing.{Stand, stand-after}
 use Rattle.protox_ast.proofs.SpansStand.{each-append, each-so, siblings-wider, Hold, End, IsNode, Lists, begin-first, begin-front, end-last, end-back, none, nothing, past, token, both, before, after, whole, last-list, more-lists, lists-within, lists-node, HoldAll, spans-only, kinds-lists, all-none, all-past, all-before, all-after}

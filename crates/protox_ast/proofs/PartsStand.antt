@@ -4,13 +4,16 @@ use Rattle.std.specs.Prelude.{option_map}
 use Rattle.std.proofs.lemmas.List.{append-nil}
 use Rattle.protox_fault.specs.Faults.{Span}
 use Rattle.protox_lexeme.specs.Shapes.{Mark, Row, Rows}
+use Rattle.protox_ast.specs.declared.ast.Ident.{Ident}
 use Rattle.protox_ast.specs.declared.ast.Reserved.{Reserved}
 use Rattle.protox_ast.specs.Tree as t
 use Rattle.protox_ast.specs.Spelling as s
 use Rattle.protox_ast.specs.Places.{Place}
 use Rattle.protox_ast.specs.Ast as ast
+use Rattle.protox_ast.specs.Names.{name_span}
 use Rattle.protox_ast.specs.Siblings.{Siblings, siblings, span_if_any, ident_spans, type_name_spans, type_siblings, part_siblings, value_siblings, body_siblings, list_span, list_siblings, range_siblings, end_if_any, option_siblings, reserved_siblings, extensions_siblings, extension_ranges, range_statement, reserved_ranges, name_statement, reserved_names}
 use Rattle.protox_ast.specs.Spans.{part_span, value_span, body_span, range_span, end_place}
+use Rattle.protox_ast.proofs.NamePlaces.{last-mapped}
 use Rattle.protox_ast.proofs.SpansStand.{Hold, Begin, End, IsNode, begin-first, begin-front, end-last, end-back, end-many, none, nothing, one, past, token, both, after, leaf, whole, token-node, Lists, last-list, more-lists, spans-only}
 
 -- ---- lists
@@ -36,8 +39,10 @@ idents (x ∷ xs) = past _ (token _ (idents xs))
 pub fullident-hold : (x : t.FullIdent Place) → Hold (s.fullident x) (ident_spans (ast.fullident x)) []
 fullident-hold x = token _ (idents x.others)
 
-pub fullident-end : (x : t.FullIdent Place) → End (s.fullident x) (ast.last_part x).end
-fullident-end x = end-many (λ (y : Place × t.Word Place). y.1.1.span) s.dot_ident (λ y. end-back (_ ∷ []) _ (end-last _)) (s.ident x.first) x.first.1.span (end-last _) x.others
+pub fullident-end : (x : t.FullIdent Place) → End (s.fullident x) (name_span (ast.fullident x)).end
+fullident-end x =
+    subst (λ (last : Span). End (s.fullident x) last.end) (sym (last-mapped (λ (y : Place × t.Word Place). ast.ident y.1) (λ (part : Ident). part.span) x.first.1.span x.others))
+    (end-many (λ (y : Place × t.Word Place). y.1.1.span) s.dot_ident (λ y. end-back (_ ∷ []) _ (end-last _)) (s.ident x.first) x.first.1.span (end-last _) x.others)
 
 pub typename-hold : (x : t.TypeName Place) → Hold (s.typename x) (type_name_spans (ast.typename x)) []
 typename-hold x = dotted x.leading_dot
@@ -49,19 +54,23 @@ typename-hold x = dotted x.leading_dot
 typename-begin : (x : t.TypeName Place) → Begin (s.typename x) (ast.typename_span x).start
 typename-begin x = dotted x.leading_dot
   where
-    dotted : (dot : Option Place) → Begin (s.maybe (s.sign s.dot) dot ++ s.fullident x.name) (ast.dotted_start (ast.span_if_any dot) x.name.first.1.span).start
+    dotted : (dot : Option Place) → Begin (s.maybe (s.sign s.dot) dot ++ s.fullident x.name) (ast.join_if_any (ast.span_if_any dot) (name_span (ast.fullident x.name))).start
     dotted None = begin-first _ _
     dotted (Some m) = begin-first _ _
 
 typename-end : (x : t.TypeName Place) → End (s.typename x) (ast.typename_span x).end
-typename-end x = end-back (s.maybe (s.sign s.dot) x.leading_dot) (s.fullident x.name) (fullident-end x.name)
+typename-end x = dotted x.leading_dot
+  where
+    dotted : (dot : Option Place) → End (s.maybe (s.sign s.dot) dot ++ s.fullident x.name) (ast.join_if_any (ast.span_if_any dot) (name_span (ast.fullident x.name))).end
+    dotted None = fullident-end x.name
+    dotted (Some m) = end-back (_ ∷ []) (s.fullident x.name) (fullident-end x.name)
 
 pub typename-node : (x : t.TypeName Place) → IsNode (s.typename x) (ast.typename_span x) (siblings (ast.typename_span x) (type_name_spans (ast.typename x)) ∷ [])
 typename-node x = whole (ast.typename_span x) (typename-begin x) (typename-end x) (typename-hold x)
 
 -- ---- numbers and strings
 
-pub signed-node : (sign : Option Place) (r : Row Place) → IsNode (s.maybe (s.sign s.minus) sign ++ (r ∷ [])) (ast.signed_span (ast.span_if_any sign) r.at.span) []
+pub signed-node : (sign : Option Place) (r : Row Place) → IsNode (s.maybe (s.sign s.minus) sign ++ (r ∷ [])) (ast.join_if_any (ast.span_if_any sign) r.at.span) []
 signed-node None r = token-node r
 signed-node (Some m) r = leaf (ast.join m.span r.at.span) (begin-first _ _) (end-back (_ ∷ []) _ (end-last r))
 
@@ -74,7 +83,7 @@ strings-node x = leaf (ast.strings_span x) (begin-first _ _) (end-many (λ (y : 
 -- ---- options
 
 pub value-node : (x : t.Value Place) → IsNode (s.value x) (value_span (ast.value x)) (value_siblings (ast.value x))
-value-node (t.constant sign (t.ident x)) = whole (ast.signed_span (ast.span_if_any sign) x.1.span) (signed-node sign (_)).begin (signed-node sign (_)).end (signed sign)
+value-node (t.constant sign (t.ident x)) = whole (ast.join_if_any (ast.span_if_any sign) x.1.span) (signed-node sign (_)).begin (signed-node sign (_)).end (signed sign)
   where
     signed : (sign : Option Place) → Hold (s.maybe (s.sign s.minus) sign ++ s.ident x) (x.1.span ∷ []) []
     signed None = one _

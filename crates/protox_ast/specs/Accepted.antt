@@ -1,20 +1,17 @@
 -- When a source is accepted, and which syntax tree it gives.
-use Rattle.std.specs.Prelude.{◌≡◌, ◌≢◌, ◌≤◌, ℕ, nat_le, Bool, ◌&&◌, List, [], length}
-use Rattle.std.specs.List.{list_any}
-use Rattle.protox_fault.specs.Faults.{LiesIn, faults_in}
+use Rattle.std.specs.Prelude.{◌≡◌, ◌≢◌, ◌≤◌, ℕ, List, [], length}
+use Rattle.protox_fault.specs.Faults.{LiesIn}
 use Rattle.protox_fault.specs.declared.error.SyntaxFailure.{SyntaxFailure}
 use Rattle.protox_fault.specs.declared.error.SyntaxFailure.TheVariants.{Faults, OutOfMemory}
-use Rattle.protox_lexeme.specs.Shapes.{Invalid}
-use Rattle.protox_lexeme.specs.Lexemes.{Lexeme, cut}
+use Rattle.protox_lexeme.specs.Lexemes.{cut}
 use Rattle.protox_lexeme.specs.Table.{table_of}
 use Rattle.protox_ast.specs.Places.{Place, placed}
 use Rattle.protox_ast.specs.Tree as t
 use Rattle.protox_ast.specs.Keywords.{Each}
 use Rattle.protox_ast.specs.Spells.{Spells}
 use Rattle.protox_ast.specs.Depth.{depth}
-use Rattle.protox_ast.specs.ReadYet.{IsReadYet}
-use Rattle.protox_ast.specs.Aggregates.{aggregates}
 use Rattle.protox_ast.specs.Checks.{NothingWrong}
+use Rattle.protox_ast.specs.Fronts.{AreClean}
 use Rattle.protox_ast.specs.Ast as ast
 use Rattle.protox_ast.specs.declared.ast.File as file_type
 
@@ -22,27 +19,14 @@ use Rattle.protox_ast.specs.declared.ast.File as file_type
 abbrev pub Fits : List ℕ → Type 0
 Fits source = length source ≤ 2147483647
 
--- the lexeme stands between these braces
-abbrev pub is_between : Lexeme → Place × Place → Bool
-is_between x braces = nat_le braces.0.span.end x.start && nat_le x.stop braces.1.span.start
-
--- the lexeme stands in an aggregate of the file
-abbrev pub is_in_aggregate : t.File Place → Lexeme → Bool
-is_in_aggregate f x = list_any (is_between x) (aggregates f)
-
--- A lexeme is a token, a comment or a newline, and has no fault. A `#` comment and a float suffix are none in an aggregate.
-abbrev pub IsClean : t.File Place → Lexeme → Type 0
-IsClean f x = (faults_in (is_in_aggregate f x) x.faults ≡ []) × (x.shape ≡ Invalid → ⊥)
-
--- The source fits the length limit, has no lexical fault, and its tokens spell the tree, which is at most 31 levels deep; nothing is wrong with it that
--- is checked while it is read, and it holds only what the parser reads today.
+-- The source fits the length limit, its lexemes are clean, and its tokens spell the tree, which is at most 31 levels deep; and nothing is wrong with
+-- it that is checked while it is read.
 pub record IsAccepted (source : List ℕ) (f : t.File Place) : Type 0 where
   pub fits : Fits source
   pub spells : Spells (placed (table_of (cut 0 source))) f
-  pub clean : Each (IsClean f) (cut 0 source)
+  pub clean : AreClean (cut 0 source)
   pub levels : depth f ≤ 31
   pub nothing_wrong : NothingWrong f
-  pub read_yet : IsReadYet f
 
 -- the faults of a failure lie in the source, and there are some; or memory ran out
 abbrev pub FaultsLieIn : List ℕ → SyntaxFailure → Type 0

@@ -10,6 +10,7 @@ use Rattle.protox_ast.specs.declared.ast.Package as package_type
 use Rattle.protox_ast.specs.declared.ast.Import as import_type
 use Rattle.protox_ast.specs.declared.ast.Field as field_type
 use Rattle.protox_ast.specs.declared.ast.Field.{roll-Field}
+use Rattle.protox_ast.specs.declared.ast.FieldKind.{FieldKind}
 use Rattle.protox_ast.specs.declared.ast.FieldKind.TheVariants as field_kind
 use Rattle.protox_ast.specs.declared.ast.Reserved as reserved_type
 use Rattle.protox_ast.specs.declared.ast.Extensions as extensions_type
@@ -32,7 +33,7 @@ use Rattle.protox_ast.specs.declared.ast.File as file_type
 use Rattle.protox_ast.specs.Tree as t
 use Rattle.protox_ast.specs.Spelling.{spell}
 use Rattle.protox_ast.specs.Places.{Place}
-pub use Rattle.protox_ast.specs.AstParts.{join, last_place, text_of, ident, fullident, last_part, span_if_any, typename, dotted_start, typename_span, signed_span, int, values, strings_value, run_span, strings_span, syntax_of, file_syntax, import_kind, signed_text, spaced, aggregate_text, value, part, body, list, scalar, type, type_span, dotted_first, type_first, label, label_place, field_first, body_open, body_close, range_end, range, ranges, reserved_name, reserved_kind, first_of, rows_span}
+pub use Rattle.protox_ast.specs.AstParts.{join, join_if_any, last_place, text_of, ident, fullident, span_if_any, typename, typename_span, int, values, strings_value, run_span, strings_span, syntax_of, file_syntax, import_kind, signed_text, spaced, aggregate_text, value, part, body, list, scalar, type, type_span, dotted_first, type_first, label, label_place, field_first, body_open, body_close, range_end, range, ranges, reserved_name, reserved_kind, first_of, rows_span}
 
 -- ---- declarations
 
@@ -136,28 +137,26 @@ service x = record {
 
 -- ---- fields and messages
 
-abbrev pub normal : Option (t.Label Place) → t.Normal Place → field_type.Field
-normal l x = roll-Field (record {
+-- A field of these parts. It begins with its label, or else with its kind's first token; its comments are those before it, and the one behind its
+-- `;` or `{`.
+abbrev pub field_with : Option (t.Label Place) → FieldKind → t.Word Place → t.Int Place → Option (t.OptionList Place) → Place → Place → Place → field_type.Field
+field_with l kind name number options first commented last = roll-Field (record {
   label = option_map label l;
-  name = ident x.name;
-  kind = field_kind.Normal (type x.type) (type_span x.type);
-  number = int x.number;
-  options = option_map list x.options;
-  comments = comments (field_first l (type_first x.type)) x.end;
-  span = join (field_first l (type_first x.type)).span x.end.span;
+  name = ident name;
+  kind = kind;
+  number = int number;
+  options = option_map list options;
+  comments = comments (field_first l first) commented;
+  span = join (field_first l first).span last.span;
 })
+
+abbrev pub normal : Option (t.Label Place) → t.Normal Place → field_type.Field
+normal l x = field_with l (field_kind.Normal (type x.type) (type_span x.type)) x.name x.number x.options (type_first x.type) x.end x.end
 
 -- the span of a map's type goes from `map` to `>`
 abbrev pub map_field : Option (t.Label Place) → t.Map Place → field_type.Field
-map_field l x = roll-Field (record {
-  label = option_map label l;
-  name = ident x.name;
-  kind = field_kind.Map (join x.keyword.span x.close_at.span) (type x.key) (type_span x.key) (type x.value) (type_span x.value);
-  number = int x.number;
-  options = option_map list x.options;
-  comments = comments (field_first l x.keyword) x.end;
-  span = join (field_first l x.keyword).span x.end.span;
-})
+map_field l x =
+    field_with l (field_kind.Map (join x.keyword.span x.close_at.span) (type x.key) (type_span x.key) (type x.value) (type_span x.value)) x.name x.number x.options x.keyword x.end x.end
 
 -- the options, the extensions and the reserved statements of a message
 abbrev pub options_in : t.Elements Place → List option_type.Option
@@ -212,15 +211,7 @@ abbrev mutual
 
   -- the span of a group's type is its word
   pub group : Option (t.Label Place) → t.Group Place → field_type.Field
-  group l (t.group_of keyword name equals_sign number options b) = roll-Field (record {
-    label = option_map label l;
-    name = ident name;
-    kind = field_kind.Group keyword.span (mbody b);
-    number = int number;
-    options = option_map list options;
-    comments = comments (field_first l keyword) (body_open b);
-    span = join (field_first l keyword).span (body_close b).span;
-  })
+  group l (t.group_of keyword name equals_sign number options b) = field_with l (field_kind.Group keyword.span (mbody b)) name number options keyword (body_open b) (body_close b)
 
   pub oneof : t.Oneof Place → oneof_type.Oneof
   oneof (t.oneof_of keyword name open_at es close_at) = roll-Oneof (record {

@@ -28,19 +28,12 @@ use Rattle.protox_ast.specs.declared.ast.ReservedRangeEnd.{ReservedRangeEnd}
 use Rattle.protox_ast.specs.declared.ast.ReservedRangeEnd.TheVariants as range_ends
 use Rattle.protox_ast.specs.declared.ast.ReservedKind.{ReservedKind}
 use Rattle.protox_ast.specs.declared.ast.ReservedKind.TheVariants as reserved_kinds
+use Rattle.protox_ast.specs.Names.{type_name_span}
+pub use Rattle.protox_ast.specs.Basics.{first_of, join, join_if_any, last_place}
 use Rattle.protox_ast.specs.Tree as t
 use Rattle.protox_ast.specs.Places.{Place}
 
--- ---- spans and texts
-
--- from the start of the one to the end of the other
-abbrev pub join : Span → Span → Span
-join a b = record { start = a.start; end = b.end }
-
--- the place of the last of these
-abbrev pub last_place : {A : Type 0} → (A → Span) → Span → List A → Span
-last_place place span [] = span
-last_place place span (x ∷ xs) = last_place place (place x) xs
+-- ---- texts
 
 -- the text of bytes: themselves where they are UTF-8, else each maximal ill-formed piece (Unicode, Table 3-7) is one U+FFFD
 abbrev pub text_of : List ℕ → List ℕ
@@ -54,30 +47,17 @@ ident x = record { value = x.0; span = x.1.span }
 abbrev pub fullident : t.FullIdent Place → List Ident
 fullident x = ident x.first ∷ map (λ y. ident y.1) x.others
 
-abbrev pub last_part : t.FullIdent Place → Span
-last_part x = last_place (λ (y : Place × t.Word Place). y.1.1.span) x.first.1.span x.others
-
 abbrev pub span_if_any : Option Place → Option Span
 span_if_any place = option_map (λ (p : Place). p.span) place
 
 abbrev pub typename : t.TypeName Place → TypeName
 typename x = record { leading_dot = span_if_any x.leading_dot; name = fullident x.name }
 
--- from the leading dot if there is one
-abbrev pub dotted_start : Option Span → Span → Span
-dotted_start None span = span
-dotted_start (Some dot) span = dot
-
 abbrev pub typename_span : t.TypeName Place → Span
-typename_span x = join (dotted_start (span_if_any x.leading_dot) x.name.first.1.span) (last_part x.name)
-
--- from the sign if there is one
-abbrev pub signed_span : Option Span → Span → Span
-signed_span None span = span
-signed_span (Some minus) span = join minus span
+typename_span x = type_name_span (typename x)
 
 abbrev pub int : t.Int Place → Int
-int x = record { negative = is_some x.sign; value = x.number.0; span = signed_span (span_if_any x.sign) x.number.1.span }
+int x = record { negative = is_some x.sign; value = x.number.0; span = join_if_any (span_if_any x.sign) x.number.1.span }
 
 -- ---- strings, syntax, imports
 
@@ -126,9 +106,9 @@ aggregate_text [] = []
 aggregate_text (r ∷ rs) = printed r.shape ++ spaced rs
 
 abbrev pub value : t.Value Place → OptionValue
-value (t.constant sign (t.ident x)) = option_value.Ident (is_some sign) (ident x) (signed_span (span_if_any sign) x.1.span)
-value (t.constant sign (t.integer x)) = option_value.Int (record { negative = is_some sign; value = x.0; span = signed_span (span_if_any sign) x.1.span })
-value (t.constant sign (t.float x)) = option_value.Float (record { value = signed_text sign x.0; span = signed_span (span_if_any sign) x.1.span })
+value (t.constant sign (t.ident x)) = option_value.Ident (is_some sign) (ident x) (join_if_any (span_if_any sign) x.1.span)
+value (t.constant sign (t.integer x)) = option_value.Int (record { negative = is_some sign; value = x.0; span = join_if_any (span_if_any sign) x.1.span })
+value (t.constant sign (t.float x)) = option_value.Float (record { value = signed_text sign x.0; span = join_if_any (span_if_any sign) x.1.span })
 value (t.strings x) = option_value.String (record { value = strings_value x; span = strings_span x })
 value (t.aggregate open_at inside close_at) = option_value.Aggregate (aggregate_text inside) (join open_at.span close_at.span)
 
@@ -219,11 +199,6 @@ reserved_name x = record { value = text_of (strings_value x); span = strings_spa
 abbrev pub reserved_kind : t.ReservedKind Place → ReservedKind
 reserved_kind (t.ranges x) = reserved_kinds.Ranges (ranges x)
 reserved_kind (t.names x) = reserved_kinds.Names (reserved_name x.first ∷ map (λ y. reserved_name y.1) x.others)
-
--- the first of these, if there is any
-abbrev pub first_of : {A : Type 0} → List A → Option A
-first_of [] = None
-first_of (x ∷ xs) = Some x
 
 -- from the first token to the last; without any token from the end of the source to its start
 abbrev pub rows_span : ℕ → Rows Place → Span

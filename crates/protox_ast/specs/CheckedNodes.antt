@@ -1,6 +1,7 @@
 -- The nodes of a file that are checked while it is read.
 use Rattle.std.specs.Prelude.{ℕ, suc, ◌==◌, if◌then◌else◌, List, [], ◌∷◌, ◌++◌, map, Option, Some, None}
 use Rattle.std.specs.List.{flat_map}
+use Rattle.protox_ast.specs.Basics.{last}
 use Rattle.protox_ast.specs.Tree as t
 
 pub data CheckedNode (M : Type 0) : Type 0 where
@@ -123,12 +124,8 @@ checked_nodes f = syntax_nodes f.syntax ++ (flat_map statement_nodes f.statement
 -- ---- where a node ends
 
 -- the last string of a run
-abbrev pub last_string : {M : Type 0} → M → List (t.Text M) → M
-last_string place [] = place
-last_string place (x ∷ xs) = last_string x.1 xs
-
 abbrev pub run_end : {M : Type 0} → t.Strings M → M
-run_end x = last_string x.first.1 x.others
+run_end x = last x.first.1 (map (λ y. y.1) x.others)
 
 -- the last token of a node
 abbrev pub node_end : {M : Type 0} → CheckedNode M → M

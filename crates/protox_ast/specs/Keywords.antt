@@ -1,6 +1,8 @@
 -- Where a word that is a keyword may stand as a name: the keyword rules, and the trees that keep them everywhere.
-use Rattle.std.specs.Prelude.{◌≡◌, ℕ, suc, ◌-◌, List, [], ◌∷◌, Option, Some, None, Bool, true, false, if◌then◌else◌, ◌==◌, codes}
+use Rattle.std.specs.Prelude.{◌≡◌, ◌≤◌, ℕ, suc, List, [], ◌∷◌, map, Option, Some, None, Bool, true, false, if◌then◌else◌, ◌==◌, codes, take}
 use Rattle.protox_lexeme.specs.Shapes.{Shape, Mark, LineComment, BlockComment, Newline, Invalid, Row, Rows}
+pub use Rattle.protox_ast.specs.Basics.{Given, Each}
+use Rattle.protox_ast.specs.Basics.{last}
 use Rattle.protox_ast.specs.Tree as t
 use Rattle.protox_ast.specs.Spelling.{open_brace, close_brace}
 
@@ -76,17 +78,12 @@ BeginsWithNoStream x = Unstreamed x.stream x.name
 
 -- ---- the rule of lists behind ranges
 
--- the last of these ranges
-abbrev pub last : {M : Type 0} → t.Range M → List (M × t.Range M) → t.Range M
-last r [] = r
-last r (x ∷ xs) = last x.1 xs
-
 abbrev pub HasTo : {M : Type 0} → t.Range M → Type 0
 HasTo r = r.stop ≡ None → ⊥
 
 abbrev pub ListedAfterTo : {M : Type 0} → Option (t.OptionList M) → t.Ranges M → Type 0
 ListedAfterTo None x = Unit {0}
-ListedAfterTo (Some l) x = HasTo (last x.first x.others)
+ListedAfterTo (Some l) x = HasTo (last x.first (map (λ y. y.1) x.others))
 
 -- A range without `to` is followed by `,` or `;`: where an extensions statement has an option list, its last range has `to`.
 abbrev pub ListFollowsTo : {M : Type 0} → t.Extensions M → Type 0
@@ -102,17 +99,14 @@ abbrev pub is_close_brace : Shape → Bool
 is_close_brace (Mark byte) = byte == close_brace
 is_close_brace _ = false
 
--- braces match, with so many open before
-abbrev pub balances : {M : Type 0} → ℕ → Rows M → Bool
-balances unclosed [] = unclosed == 0
-balances unclosed (r ∷ rs) =
-    if is_open_brace r.shape then balances (suc unclosed) rs
-    else (if is_close_brace r.shape
-    then (if unclosed == 0 then false else balances (unclosed - 1) rs)
-    else balances unclosed rs)
+-- how many of the rows pass the test
+abbrev pub how_many : {M : Type 0} → (Shape → Bool) → Rows M → ℕ
+how_many test [] = 0
+how_many test (r ∷ rs) = if test r.shape then suc (how_many test rs) else how_many test rs
 
+-- No front has more `}` than `{`, and the whole has as many of each.
 abbrev pub BracesMatch : {M : Type 0} → t.Balanced M → Type 0
-BracesMatch inside = balances 0 inside ≡ true
+BracesMatch inside = ((n : ℕ) → how_many is_close_brace (take n inside) ≤ how_many is_open_brace (take n inside)) × (how_many is_open_brace inside ≡ how_many is_close_brace inside)
 
 -- a word, a number, a string or a mark: no comment, no newline and nothing invalid
 abbrev pub is_significant : Shape → Bool
@@ -126,14 +120,6 @@ abbrev pub IsSignificant : {M : Type 0} → Row M → Type 0
 IsSignificant r = is_significant r.shape ≡ true
 
 -- ---- everywhere in a tree
-
-abbrev pub Given : {A : Type 0} → (A → Type 0) → Option A → Type 0
-Given P None = Unit {0}
-Given P (Some x) = P x
-
-abbrev pub Each : {A : Type 0} → (A → Type 0) → List A → Type 0
-Each P [] = Unit {0}
-Each P (x ∷ xs) = P x × Each P xs
 
 abbrev pub KeepsValue : {M : Type 0} → t.Value M → Type 0
 KeepsValue (t.aggregate o inside c) = BracesMatch inside × Each IsSignificant inside

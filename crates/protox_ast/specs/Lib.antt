@@ -1,3 +1,4 @@
+pub mod Basics
 pub mod Names
 pub mod Numbers
 pub mod Printed
@@ -8,17 +9,18 @@ pub mod Spelling
 pub mod Keywords
 pub mod Depth
 pub mod Spells
-pub mod ReadYet
 pub mod Places
 pub mod AstParts
 pub mod Ast
 pub mod CheckedNodes
 pub mod Checks
-pub mod Fine
 pub mod Aggregates
 pub mod Fronts
 pub mod Truth
 pub mod Accepted
-pub mod part
 pub mod Spans
 pub mod Siblings
+pub mod FieldNumbers
+pub mod Values
+pub mod Options
+pub mod Ranges

@@ -1,25 +1,18 @@
 -- Where names stand and what they say.
 use Rattle.std.specs.Prelude.{ℕ, List, [], ◌∷◌, ◌++◌, flat_map, Some, None}
 use Rattle.protox_fault.specs.Faults.{Span}
+use Rattle.protox_ast.specs.Basics.{join, join_if_any, last_place}
 use Rattle.protox_ast.specs.declared.ast.Ident.{Ident}
 use Rattle.protox_ast.specs.declared.ast.TypeName.{TypeName}
-
--- the last of a first one and the others behind it
-abbrev pub last_of : Ident → List Ident → Ident
-last_of first [] = first
-last_of first (next ∷ others) = last_of next others
 
 -- from the start of the first part to the end of the last one
 abbrev pub name_span : List Ident → Span
 name_span [] = record { start = 0; end = 0 }
-name_span (first ∷ others) = record { start = first.span.start; end = (last_of first others).span.end }
+name_span (first ∷ others) = join first.span (last_place (λ (part : Ident). part.span) first.span others)
 
 -- the same, from the leading dot if there is one
 abbrev pub type_name_span : TypeName → Span
-type_name_span type = elim type.leading_dot as (λ _. Span) [
-  | None ↦ name_span type.name
-  | Some dot ↦ record { start = dot.start; end = (name_span type.name).end }
-]
+type_name_span type = join_if_any type.leading_dot (name_span type.name)
 
 -- a part behind a dot
 abbrev pub dotted_part : Ident → List ℕ

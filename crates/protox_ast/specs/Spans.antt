@@ -1,7 +1,7 @@
 -- Where the parts of options and of ranges stand.
 use Rattle.std.specs.Prelude.{List, [], ◌∷◌}
 use Rattle.protox_fault.specs.Faults.{Span}
-use Rattle.protox_ast.specs.AstParts.{join, last_place}
+use Rattle.protox_ast.specs.Basics.{join, last_place}
 use Rattle.protox_ast.specs.declared.ast.OptionNamePart.{OptionNamePart}
 use Rattle.protox_ast.specs.declared.ast.OptionNamePart.TheVariants as part
 use Rattle.protox_ast.specs.declared.ast.OptionBody.{OptionBody}

@@ -1,6 +1,7 @@
--- What a list of rows is, by the rules of the grammar.
-use Rattle.std.specs.Prelude.{◌≡◌, ℕ, suc, [], ◌∷◌, ◌++◌, length}
-use Rattle.protox_lexeme.specs.Shapes.{Row, Rows}
+-- What a list of tokens is, by the rules of the grammar.
+use Rattle.std.specs.Prelude.{◌≡◌, ◌<◌, ◌≤◌, ℕ, suc, Bool, true, false, List, [], ◌∷◌, ◌++◌, map, length, take}
+use Rattle.std.specs.List.{slice_index_or}
+use Rattle.protox_lexeme.specs.Shapes.{Shape, Str, Invalid, Row, Rows}
 use Rattle.protox_ast.specs.Tree.{File}
 use Rattle.protox_ast.specs.Spelling.{spell}
 use Rattle.protox_ast.specs.Keywords.{KeepsKeywords}
@@ -9,21 +10,41 @@ use Rattle.protox_ast.specs.Keywords.{KeepsKeywords}
 abbrev pub Spells : {M : Type 0} → Rows M → File M → Type 0
 Spells rows f = (rows ≡ spell f) × KeepsKeywords f
 
--- some file begins with these rows
-abbrev pub BeginsFile : {M : Type 0} → Rows M → Type 0
-BeginsFile {M} front = (f : File M) × (more : Rows M) × Spells (front ++ more) f
+-- ---- tokens and their numbers
 
--- At this row, behind which there are `left - 1`, no file goes on: the rows before it begin some file, and with it they begin none.
-pub record IsUnexpected {M : Type 0} (rows : Rows M) (left : ℕ) : Type 0 where
-  pub front : Rows M
-  pub here : Row M
-  pub rest : Rows M
-  pub parts : rows ≡ front ++ (here ∷ rest)
-  pub left_is : left ≡ suc (length rest)
-  pub before : BeginsFile front
-  pub with_it : BeginsFile (front ++ (here ∷ [])) → ⊥
+abbrev pub is_string : Shape → Bool
+is_string (Str value) = true
+is_string _ = false
 
--- the rows begin a file and are none
-pub record IsEnded {M : Type 0} (rows : Rows M) : Type 0 where
-  pub begins : BeginsFile rows
-  pub no_file : (f : File M) → Spells rows f → ⊥
+-- rows without their marks
+abbrev pub shapes : {M : Type 0} → Rows M → List Shape
+shapes rows = map (λ row. row.shape) rows
+
+-- each token marked with its number
+abbrev pub numbered : ℕ → List Shape → Rows ℕ
+numbered n [] = []
+numbered n (s ∷ ss) = record { shape = s; at = n } ∷ numbered (suc n) ss
+
+-- row n; where there is none, one that is no token, with this mark
+abbrev pub row_at : {M : Type 0} → M → Rows M → ℕ → Row M
+row_at none rows n = slice_index_or rows n (record { shape = Invalid; at = none })
+
+-- ---- files that go on
+
+-- The tokens of the file are the first n of these, and any others behind them. Each is marked with its number.
+pub record GoesOn (tokens : List Shape) (n : ℕ) (f : File ℕ) : Type 0 where
+  pub more : List Shape
+  pub there : n ≤ length tokens
+  pub spells : Spells (numbered 0 (take n tokens ++ more)) f
+
+-- some file begins with the first n tokens
+abbrev pub BeginsFile : List Shape → ℕ → Type 0
+BeginsFile tokens n = (f : File ℕ) × GoesOn tokens n f
+
+-- Token n is unexpected: the tokens before it begin some file, and with it they begin none.
+abbrev pub IsUnexpected : List Shape → ℕ → Type 0
+IsUnexpected tokens n = (n < length tokens) × BeginsFile tokens n × (BeginsFile tokens (suc n) → ⊥)
+
+-- The tokens begin a file and are none.
+abbrev pub IsEnded : List Shape → Type 0
+IsEnded tokens = BeginsFile tokens (length tokens) × ((f : File ℕ) → Spells (numbered 0 tokens) f → ⊥)

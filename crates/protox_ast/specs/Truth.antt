@@ -1,20 +1,20 @@
 -- When a fault is true of a source, by its kind: the faults of lexemes, of tokens that no file has there, and of what is checked while a
 -- file is read. Those of the generator stand elsewhere.
-use Rattle.std.specs.Prelude.{◌≡◌, ℕ, zero, suc, Bool, true, false, ◌||◌, ◌⊎◌, List, [], ◌∷◌, ◌++◌, length, Some, Any, codes}
+use Rattle.std.specs.Prelude.{◌≡◌, ℕ, suc, Bool, true, false, ◌||◌, ◌⊎◌, List, ◌∷◌, ◌++◌, length, Some, Any, codes}
 use Rattle.std.specs.Str.{bytes_eq}
 use Rattle.protox_fault.specs.Faults.{Span, span_from}
 use Rattle.protox_lexeme.specs.Lexemes.{Lexeme}
 use Rattle.protox_lexeme.specs.Printed.{printed}
-use Rattle.protox_lexeme.specs.Shapes.{Shape, Str, Invalid, Rows}
+use Rattle.protox_lexeme.specs.Shapes.{Invalid, Row, Rows}
 use Rattle.protox_lexeme.specs.Table.{rows_of}
 use Rattle.protox_fault.specs.declared.error.ParseErrorKind.{ParseErrorKind}
 use Rattle.protox_fault.specs.declared.error.ParseErrorKind.TheVariants as fault
-use Rattle.protox_ast.specs.AstParts.{first_of}
+use Rattle.protox_ast.specs.Basics.{first_of}
 use Rattle.protox_ast.specs.CheckedNodes.{CheckedNode, ASyntax, AnImport, AReservedName, node_end, checked_nodes}
 use Rattle.protox_ast.specs.Checks.{WrongCheckedNode}
-use Rattle.protox_ast.specs.Fronts.{GoesOn, Inside}
+use Rattle.protox_ast.specs.Fronts.{Inside}
 use Rattle.protox_ast.specs.Keywords.{is_significant}
-use Rattle.protox_ast.specs.Spells.{IsUnexpected, IsEnded}
+use Rattle.protox_ast.specs.Spells.{GoesOn, IsUnexpected, IsEnded, is_string, row_at, shapes}
 use Rattle.protox_ast.specs.Tree as t
 
 -- ---- lexemes
@@ -38,10 +38,15 @@ pub record IsFirstOutside (lexemes : List Lexeme) (wrong : ParseErrorKind) : Typ
 
 -- ---- tokens
 
+-- row n of a source
+abbrev pub source_row : Rows Span → ℕ → Row Span
+source_row = row_at (span_from 0 0)
+
 -- A token of this place and this text is unexpected. An invalid character is no token.
 abbrev pub IsUnexpectedThere : List Lexeme → Span → List ℕ → Type 0
 IsUnexpectedThere lexemes span text =
-    (left : ℕ) × (u : IsUnexpected (rows_of lexemes) left) × (span ≡ u.here.at) × (text ≡ printed u.here.shape) × (is_significant u.here.shape ≡ true)
+    (n : ℕ) × IsUnexpected (shapes (rows_of lexemes)) n
+    × (span ≡ (source_row (rows_of lexemes) n).at) × (text ≡ printed (source_row (rows_of lexemes) n).shape) × (is_significant (source_row (rows_of lexemes) n).shape ≡ true)
 
 -- what a string or a comment lacks that doesn't end
 abbrev pub is_terminator : List ℕ → Bool
@@ -51,25 +56,13 @@ is_terminator expected = bytes_eq expected (codes "string terminator") || bytes_
 abbrev pub IsEndThere : List Lexeme → List ℕ → Type 0
 IsEndThere lexemes expected =
     ((is_terminator expected ≡ true) × IsFirstOfLexeme lexemes (fault.UnexpectedEof expected))
-    ⊎ ((is_terminator expected ≡ false) × IsEnded (rows_of lexemes))
+    ⊎ ((is_terminator expected ≡ false) × IsEnded (shapes (rows_of lexemes)))
 
 -- ---- nodes that are checked
 
 -- the span of token n
 abbrev pub token_span : Rows Span → ℕ → Span
-token_span [] n = span_from 0 0
-token_span (row ∷ rows) zero = row.at
-token_span (row ∷ rows) (suc n) = token_span rows n
-
-abbrev pub is_string : Shape → Bool
-is_string (Str value) = true
-is_string _ = false
-
--- token n is a string
-abbrev pub is_string_at : Rows Span → ℕ → Bool
-is_string_at [] n = false
-is_string_at (row ∷ rows) zero = is_string row.shape
-is_string_at (row ∷ rows) (suc n) = is_string_at rows n
+token_span rows n = (source_row rows n).at
 
 abbrev pub is_run : {M : Type 0} → CheckedNode M → Bool
 is_run (ASyntax x) = true
@@ -80,11 +73,11 @@ is_run _ = false
 -- The node ends with token n - 1, and the fault is its. A run of strings is taken whole: no string follows it.
 abbrev pub IsWrongBefore : List Lexeme → ℕ → ParseErrorKind → CheckedNode ℕ → Type 0
 IsWrongBefore lexemes n wrong node =
-    (suc (node_end node) ≡ n) × (is_run node ≡ true → is_string_at (rows_of lexemes) n ≡ false) × WrongCheckedNode (token_span (rows_of lexemes)) node wrong
+    (suc (node_end node) ≡ n) × (is_run node ≡ true → is_string (source_row (rows_of lexemes) n).shape ≡ false) × WrongCheckedNode (token_span (rows_of lexemes)) node wrong
 
 -- Some file that goes on behind the first n tokens has a node that ends with the last of them, and the fault is that node's.
 abbrev pub IsWrongBehind : List Lexeme → ℕ → ParseErrorKind → Type 0
-IsWrongBehind lexemes n wrong = (f : t.File ℕ) × GoesOn lexemes n f × Any (IsWrongBefore lexemes n wrong) (checked_nodes f)
+IsWrongBehind lexemes n wrong = (f : t.File ℕ) × GoesOn (shapes (rows_of lexemes)) n f × Any (IsWrongBefore lexemes n wrong) (checked_nodes f)
 
 abbrev pub IsOfNode : List Lexeme → ParseErrorKind → Type 0
 IsOfNode lexemes wrong = (n : ℕ) × IsWrongBehind lexemes n wrong

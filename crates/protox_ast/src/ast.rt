@@ -8,7 +8,11 @@ use std::marker::Model;
 
 mod names;
 mod numbers;
+mod options;
 mod printed;
+mod ranges;
+mod spans;
+mod strings;
 mod types;
 
 /// The standard optional.

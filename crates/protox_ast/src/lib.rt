@@ -2,3 +2,4 @@
 #![tactic(auto)]
 
 pub mod ast;
+pub mod laws;

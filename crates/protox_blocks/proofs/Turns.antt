@@ -14,10 +14,10 @@ use Rattle.protox_blocks.specs.Ranges.{more_range, more_name}
 use Rattle.protox_blocks.specs.Services.{rpc_element, service_element}
 
 pub more_range-eats : Consumes (more_range).code
-more_range-eats = shows-eats (seq-laws (mark-laws here s.comma 53 refl) (ranges.range-laws here) refl) (more_range).shows
+more_range-eats = shows-eats (seq-laws (mark-laws here s.comma) (ranges.range-laws here) refl) (more_range).shows
 
 pub more_name-eats : Consumes (more_name).code
-more_name-eats = shows-eats (seq-laws (mark-laws here s.comma 53 refl) (ranges.name-laws here) refl) (more_name).shows
+more_name-eats = shows-eats (seq-laws (mark-laws here s.comma) (ranges.name-laws here) refl) (more_name).shows
 
 pub enum_element-eats : Consumes (enum_element).code
 enum_element-eats = shows-eats (enums.enum_element-laws here) (enum_element).shows

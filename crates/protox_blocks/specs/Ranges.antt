@@ -19,6 +19,7 @@ use Rattle.protox_grammar.specs.Told.{name_notes}
 use Rattle.protox_grammar.proofs.Shows.{two}
 use Rattle.protox_grammar.proofs.Shown.{Silent, Noting, both, seen, named, renamed, choice, peek, the, sign, list_of, list_view}
 use Rattle.protox_rows.specs.Names.{int}
+use Rattle.protox_grammar.proofs.NotesLie.{name-lie}
 use Rattle.protox_rows.specs.Strings.{checked_strings}
 use Rattle.protox_options.specs.Options.{list_if_any}
 
@@ -61,7 +62,7 @@ ranges = renamed _ (λ x. refl) (list_of (only 53) range more_range)
 -- ---- reserved names
 
 unfoldable pub reserved_name : Noting (r.noted_strings AReservedName) ast.reserved_name
-reserved_name = seen (λ x. record { value = ast.text_of x.0; span = x.1 }) (checked_strings AReservedName name_notes (λ x rest. refl))
+reserved_name = seen (λ x. record { value = ast.text_of x.0; span = x.1 }) (checked_strings AReservedName name_notes (λ x rest. refl) name-lie)
 
 unfoldable pub more_name : Noting (rule.seq (r.sign s.comma) (r.noted_strings AReservedName)) (λ y. ast.reserved_name y.1)
 more_name = seen (λ x. x.1) (both (sign s.comma) reserved_name)

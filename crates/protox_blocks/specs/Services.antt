@@ -57,20 +57,29 @@ unfolding r.rpc_end
 rpc_end = renamed r.to_rpc_end (two _ _ (λ x. refl) (λ x. refl))
     (choice (only 56) (seen (λ m. ([], m)) (sign s.semicolon)) (seen (λ x. (x.1.0, x.1.1)) (both (sign s.open_brace) (both rpc_elements (sign s.close_brace)))))
 
+-- what an rpc answers with, its options, and where it ends
+abbrev pub Output : Type 0
+Output = (Option Span × TypeName) × (List option_type.Option × Place)
+
+abbrev pub output_seen : Place × (Place × (tree.RpcType Place × (Place × tree.RpcEnd Place))) → Output
+output_seen x = (rpc_type_seen x.1.1.0, rpc_end_seen x.1.1.1.1)
+
+unfoldable pub output : Noting (rule.seq (r.the (codes "returns")) (rule.seq (r.sign s.open_paren) (rule.seq r.rpc_type (rule.seq (r.sign s.close_paren) r.rpc_end)))) output_seen
+output = seen (λ x. (x.1.1.0, x.1.1.1.1)) (both (the (codes "returns")) (both (sign s.open_paren) (both rpc_type (both (sign s.close_paren) rpc_end))))
+
 unfoldable pub rpc : Noting r.rpc ast.rpc
 unfolding r.rpc
 rpc = named _ (λ x. record {
   name = x.1.0;
   input_ty = x.1.1.1.0.1;
-  output_ty = x.1.1.1.1.1.1.1.0.1;
-  options = x.1.1.1.1.1.1.1.1.1.0;
+  output_ty = x.1.1.1.1.1.0.1;
+  options = x.1.1.1.1.1.1.0;
   client_streaming = x.1.1.1.0.0;
-  server_streaming = x.1.1.1.1.1.1.1.0.0;
-  comments = ast.comments x.0 x.1.1.1.1.1.1.1.1.1.1;
-  span = ast.join x.0.span x.1.1.1.1.1.1.1.1.1.1.span;
+  server_streaming = x.1.1.1.1.1.0.0;
+  comments = ast.comments x.0 x.1.1.1.1.1.1.1;
+  span = ast.join x.0.span x.1.1.1.1.1.1.1.span;
 }) (λ x. refl)
-    (both (the (codes "rpc")) (both ident (both (sign s.open_paren) (both rpc_type (both (sign s.close_paren) (both (the (codes "returns"))
-    (both (sign s.open_paren) (both rpc_type (both (sign s.close_paren) rpc_end)))))))))
+    (both (the (codes "rpc")) (both ident (both (sign s.open_paren) (both rpc_type (both (sign s.close_paren) output)))))
 
 -- ---- services
 

@@ -114,6 +114,30 @@ fn rpc_end<'t, 'a>(
     Ok((options, end))
 }
 
+/// "returns" "(" "stream"? typename ")" (";" | "{" (";" | option)* "}")
+#[tactic(auto, unfolding(crate::specs::Services::output))]
+fn output<'t, 'a>(
+    alloc: Global,
+    notes: &mut Vec<Note>,
+    rows: &mut Unread<'t, 'a>,
+) -> Result<
+    (
+        (Option<Span>, TypeName),
+        (Items<OptionStatement>, RowAt<'t, 'a>),
+    ),
+    Refused,
+>
+    ensures read { Gives (λ x. (x.0, (x.1.0, x.1.1.at))) result rows.new ((rule.output).code rows.old) }
+    ensures notes { Adds result notes.old.items ((rule.output).notes rows.old) notes.new.items }
+{
+    expect_word(rows, "returns", Expected::Returns)?;
+    expect_mark(rows, b'(', Expected::LeftParen)?;
+    let ty = rpc_type(alloc, rows)?;
+    expect_mark(rows, b')', Expected::DotOrRightParen)?;
+    let end = rpc_end(alloc, notes, rows)?;
+    Ok((ty, end))
+}
+
 /// rpc = "rpc" ident "(" "stream"? typename ")" "returns" "(" "stream"? typename ")" (";" | "{" (";" | option)* "}")
 #[tactic(auto, unfolding(crate::specs::Services::rpc))]
 fn rpc(alloc: Global, notes: &mut Vec<Note>, rows: &mut Unread<'_, '_>) -> Result<Method, Refused>
@@ -125,11 +149,7 @@ fn rpc(alloc: Global, notes: &mut Vec<Note>, rows: &mut Unread<'_, '_>) -> Resul
     expect_mark(rows, b'(', Expected::LeftParen)?;
     let (client_streaming, input_ty) = rpc_type(alloc, rows)?;
     expect_mark(rows, b')', Expected::DotOrRightParen)?;
-    expect_word(rows, "returns", Expected::Returns)?;
-    expect_mark(rows, b'(', Expected::LeftParen)?;
-    let (server_streaming, output_ty) = rpc_type(alloc, rows)?;
-    expect_mark(rows, b')', Expected::DotOrRightParen)?;
-    let (options, end) = rpc_end(alloc, notes, rows)?;
+    let ((server_streaming, output_ty), (options, end)) = output(alloc, notes, rows)?;
     let comments = comments_between(alloc, &start, &end)?;
     let span = span_between(&start, &end);
     Ok(Method {

@@ -19,6 +19,7 @@ use Rattle.protox_grammar.specs.Rule as rule
 use Rattle.protox_grammar.specs.Rules as r
 use Rattle.protox_grammar.specs.Steps.{ANode}
 use Rattle.protox_grammar.specs.Told.{group_notes}
+use Rattle.protox_grammar.proofs.NotesLie.{group-lie, word-lies}
 use Rattle.protox_grammar.proofs.Shown.{Noting, both, seen, named, the, sign, with_note}
 use Rattle.protox_rows.specs.Names.{ident, int, field_type}
 use Rattle.protox_rows.specs.Reads.{declared}
@@ -64,7 +65,8 @@ map_field = named _ (λ x. (
 
 -- a group's name, which is checked at once
 unfoldable pub group_name : Noting (rule.noting (λ (x : tree.Word Place). ANode (AGroupName x)) r.ident) ast.ident
-group_name = with_note (λ x. ANode (AGroupName x)) (λ i rest. group_notes (i.value, i.span) rest) (λ first w x rest. append-nil (group_notes (x.0, x.1.span) rest)) ident
+group_name = with_note (λ x. ANode (AGroupName x)) (λ i rest. group_notes (i.value, i.span) rest) (λ first w x rest. append-nil (group_notes (x.0, x.1.span) rest))
+    (λ low high xs x q h. group-lie high (x.0.0, x.0.1.span) x.1 (word-lies x.0.1 low high xs x q h)) ident
 
 -- ---- fields
 

@@ -1,44 +1,32 @@
 //! Fields with groups, oneofs, extends, messages and their bodies. `level` says how many levels of bodies may still be opened.
 
-ghost use Rattle.std.specs.Prelude.{◌≡◌, OnOk};
-ghost use Rattle.protox_grammar.proofs.Opened.{sunk_notes};
-ghost use Rattle.protox_grammar.specs.Bodies.{deep_read};
-ghost use Rattle.protox_ast.specs.Places.{Place};
-ghost use Rattle.protox_rows.specs.Outcome.{Fails, Gives};
-ghost use Rattle.protox_rows.specs.Notes.{Adds, AddsTo};
+ghost use Rattle.protox_rows.specs.Outcome.{Gives};
+ghost use Rattle.protox_rows.specs.Notes.{Adds};
 ghost use Rattle.protox_bodies.specs.Bodies as rule;
-ghost use Rattle.protox_bodies.specs.Fields.{first_span};
 
+use crate::around::{before_body, first_span, plain, sunk};
 use crate::fields::{group_name, map_field, normal};
-use crate::parts::{Element, FieldParts, Inside, OneofElement, OneofInside};
+use crate::parts::{
+    Element, FieldParts, Inside, OneofElement, OneofInside, put, put_in_extend, put_in_oneof,
+};
 use protox_ast::ast::{
     Extend, Field, FieldKind, FieldLabel, Int, Message, MessageBody, MessageItem, Oneof, OptionList,
 };
 use protox_blocks::enums::enum_;
-use protox_blocks::ranges::{extensions, reserved};
 use protox_descriptor::values::Items;
 use protox_grammar::note::Note;
-use protox_lex::error::{ParseErrorKind, Span};
+use protox_lex::error::Span;
 use protox_options::options::{list_if_any, option};
-use protox_rows::checks::add_fault;
 use protox_rows::class::{
     ENUM, EXTEND, EXTENSIONS, GROUP, MAP, MESSAGE, ONEOF, OPTION, OPTIONAL, REPEATED, REQUIRED,
     RESERVED, RIGHT_BRACE, SEMICOLON, sees, sees_any, sees_other,
 };
 use protox_rows::expected::Expected;
-use protox_rows::leaf::{copied, expect_mark, expect_word, is_mark, join, refused};
+use protox_rows::leaf::{expect_mark, expect_word, join};
 use protox_rows::names::{ident, int, label, typename};
 use protox_rows::refused::Refused;
 use protox_rows::rows::{RowAt, Unread, comments_between, comments_of, span_between};
-use std::alloc::{AllocError, Global};
-
-// Behind a group's number its body or a list may stand.
-fn before_body(options: &Option<OptionList>) -> Expected {
-    match options {
-        Some(_) => Expected::LeftBrace,
-        None => Expected::BraceOrOptions,
-    }
-}
+use std::alloc::Global;
 
 /// "=" int list? mbody
 #[cycle(bodies)]
@@ -112,15 +100,6 @@ fn field_kind<'t, 'a>(
         return map_field(alloc, notes, rows);
     }
     group(alloc, notes, rows, level)
-}
-
-fn first_span(rows: &Unread<'_, '_>) -> Span
-    ensures { result ≡ first_span rows.now }
-{
-    match rows.first() {
-        Some(first) => first.span(),
-        None => 0..0,
-    }
 }
 
 // A label, if there is one, and the field behind it.
@@ -210,16 +189,6 @@ fn oneof_element(
     Ok(OneofElement::Field(field))
 }
 
-fn put_in_oneof(inside: &mut OneofInside, element: OneofElement) -> Result<(), AllocError>
-    ensures { OnOk result (inside.new ≡ rule.add_oneof inside.old element) }
-{
-    match element {
-        OneofElement::Empty => Ok(()),
-        OneofElement::Option(option) => inside.options.push(option),
-        OneofElement::Field(field) => inside.fields.push(field),
-    }
-}
-
 #[cycle(bodies)]
 #[tactic(auto, unfolding(crate::specs::Bodies::oneof_elements))]
 fn oneof_elements(
@@ -289,15 +258,6 @@ fn extend_element(
     }
     let field = field(alloc, notes, rows, level, Expected::ExtendBody)?;
     Ok(Some(field))
-}
-
-fn put_in_extend(fields: &mut Items<Field>, element: Option<Field>) -> Result<(), AllocError>
-    ensures { OnOk result (fields.new ≡ rule.add_field fields.old element) }
-{
-    match element {
-        None => Ok(()),
-        Some(field) => fields.push(field),
-    }
 }
 
 #[cycle(bodies)]
@@ -403,28 +363,6 @@ fn special(
     plain(alloc, notes, rows)
 }
 
-/// option | reserved | extensions
-#[tactic(auto, unfolding(crate::specs::Bodies::plain))]
-fn plain(
-    alloc: Global,
-    notes: &mut Vec<Note>,
-    rows: &mut Unread<'_, '_>,
-) -> Result<Element, Refused>
-    ensures read { Gives (λ x. x) result rows.new ((rule.plain).code rows.old) }
-    ensures notes { Adds result notes.old.items ((rule.plain).notes rows.old) notes.new.items }
-{
-    if sees(rows, OPTION) {
-        let option = option(alloc, notes, rows, Expected::MessageBody)?;
-        return Ok(Element::Option(option));
-    }
-    if sees(rows, RESERVED) {
-        let reserved = reserved(alloc, notes, rows, Expected::MessageBody)?;
-        return Ok(Element::Reserved(reserved));
-    }
-    let extensions = extensions(alloc, notes, rows, Expected::MessageBody)?;
-    Ok(Element::Extensions(extensions))
-}
-
 /// ";" | field | oneof | enum | message | extend | option | reserved | extensions
 #[cycle(bodies)]
 #[tactic(auto, unfolding(crate::specs::Bodies::element))]
@@ -451,18 +389,6 @@ fn element(
     Ok(Element::Item(MessageItem::Field(field)))
 }
 
-fn put(inside: &mut Inside, element: Element) -> Result<(), AllocError>
-    ensures { OnOk result (inside.new ≡ rule.add_element inside.old element) }
-{
-    match element {
-        Element::Empty => Ok(()),
-        Element::Item(item) => inside.items.push(item),
-        Element::Option(option) => inside.options.push(option),
-        Element::Reserved(reserved) => inside.reserved.push(reserved),
-        Element::Extensions(extensions) => inside.extensions.push(extensions),
-    }
-}
-
 #[cycle(bodies)]
 #[tactic(auto, unfolding(crate::specs::Bodies::elements))]
 fn elements(
@@ -485,24 +411,6 @@ fn elements(
         put(&mut inside, element)?;
     }
     Ok(inside)
-}
-
-// What opens here is too deep: it is noted, and not read.
-#[tactic(auto, unfolding(protox_grammar::specs::Reader::too_deep, protox_grammar::specs::Bodies::deep_read))]
-fn sunk(notes: &mut Vec<Note>, rows: &Unread<'_, '_>, word: &Span, expected: Expected) -> Refused
-    ensures read { Fails result (deep_read {M = Place} rows.now) }
-    ensures notes { AddsTo result notes.old.items (sunk_notes word.now rows.now) notes.new.items }
-{
-    match rows.split() {
-        Some((row, rest)) if is_mark(row.token(), b'{') => {
-            let span = copied(word);
-            match add_fault(notes, &rest, ParseErrorKind::MessageNestingTooDeep { span }) {
-                Ok(()) => Refused::TooDeep { left: rows.len() },
-                Err(_) => Refused::OutOfMemory,
-            }
-        }
-        _ => refused(rows, expected),
-    }
 }
 
 /// mbody = "{" (";" | field | oneof | enum | message | extend | option | reserved | extensions)* "}"

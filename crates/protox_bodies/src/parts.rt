@@ -1,10 +1,14 @@
 //! What is read on the way to the syntax tree.
 
+ghost use Rattle.std.specs.Prelude.{◌≡◌, OnOk};
+ghost use Rattle.protox_bodies.specs.Bodies as rule;
+
 use protox_ast::ast::{
     Extensions, Field, FieldKind, Ident, Int, MessageItem, Opt, Option as OptionStatement,
     OptionList, Reserved,
 };
 use protox_descriptor::values::Items;
+use std::alloc::AllocError;
 
 /// A field without its label, its comments and its span.
 #[derive(Drop)]
@@ -47,4 +51,44 @@ pub(crate) enum OneofElement {
 pub(crate) struct OneofInside {
     pub options: Items<OptionStatement>,
     pub fields: Items<Field>,
+}
+
+/// Adds what stands next in a oneof.
+pub(crate) fn put_in_oneof(
+    inside: &mut OneofInside,
+    element: OneofElement,
+) -> Result<(), AllocError>
+    ensures { OnOk result (inside.new ≡ rule.add_oneof inside.old element) }
+{
+    match element {
+        OneofElement::Empty => Ok(()),
+        OneofElement::Option(option) => inside.options.push(option),
+        OneofElement::Field(field) => inside.fields.push(field),
+    }
+}
+
+/// Adds what stands next in an extend block.
+pub(crate) fn put_in_extend(
+    fields: &mut Items<Field>,
+    element: Option<Field>,
+) -> Result<(), AllocError>
+    ensures { OnOk result (fields.new ≡ rule.add_field fields.old element) }
+{
+    match element {
+        None => Ok(()),
+        Some(field) => fields.push(field),
+    }
+}
+
+/// Adds what stands next in a message.
+pub(crate) fn put(inside: &mut Inside, element: Element) -> Result<(), AllocError>
+    ensures { OnOk result (inside.new ≡ rule.add_element inside.old element) }
+{
+    match element {
+        Element::Empty => Ok(()),
+        Element::Item(item) => inside.items.push(item),
+        Element::Option(option) => inside.options.push(option),
+        Element::Reserved(reserved) => inside.reserved.push(reserved),
+        Element::Extensions(extensions) => inside.extensions.push(extensions),
+    }
 }

@@ -101,7 +101,7 @@ impl Comments {
         ensures ok { OnOk result (self.new ≡ record (state.closed self.old) { open_block = Some (state.block (cow_str_bytes comment.entry) of_lines) }) }
         ensures err { OnErr result (self.new ≡ self.old) }
     {
-        let text = Text::from_string(comment.into_owned(self.alloc)?);
+        let text = Text::from_cow(self.alloc, comment)?;
         self.close_block()?;
         self.open_block = Some(Block { text, of_lines });
         Ok(())
@@ -129,7 +129,7 @@ impl Comments {
                     of_lines: true,
                 },
             ) => {
-                let pushed = text.push_str(comment.as_str());
+                let pushed = text.push_str(self.alloc, comment.as_str());
                 self.open_block = Some(Block {
                     text,
                     of_lines: true,

@@ -1,1 +1,2 @@
 pub mod Pascal
+pub mod Written

@@ -2,7 +2,9 @@
 //! elements. A tree of them is plain data in a contract, with no memory to speak of.
 
 mod items;
+mod numbers;
 mod text;
 
 pub use items::Items;
+pub use numbers::Numbers;
 pub use text::Text;

@@ -1,14 +1,4 @@
-pub mod Bounds
-pub mod DefaultLaw
-pub mod Emission
-pub mod FaultLaw
-pub mod FaultLists
-pub mod LineFacts
-pub mod ListedFaults
-pub mod Membership
+pub mod Wide
+pub mod Standing
 pub mod Outcomes
-pub mod Places
-pub mod Siblings
-pub mod SortedOnce
-pub mod part
 pub mod samples

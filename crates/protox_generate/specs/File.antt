@@ -1,62 +1,24 @@
 -- The descriptor of a file, with its locations.
-use Rattle.std.specs.Prelude.{ℕ, List, [], ◌∷◌, map, Some, None}
-use Rattle.std.specs.List.{flat_map}
-use Rattle.protox_ast.specs.Steps.{of_extend, of_message}
+use Rattle.std.specs.Prelude.{ℕ, List, Some, None}
 use Rattle.protox_ast.specs.declared.ast.File.{File}
-use Rattle.protox_ast.specs.declared.ast.FileItem.{FileItem}
-use Rattle.protox_ast.specs.declared.ast.FileItem.TheVariants as item
-use Rattle.protox_ast.specs.declared.ast.Syntax.{Syntax}
-use Rattle.protox_descriptor.specs.declared.descriptor.DescriptorProto.{DescriptorProto}
-use Rattle.protox_descriptor.specs.declared.descriptor.EnumDescriptorProto.{EnumDescriptorProto}
-use Rattle.protox_descriptor.specs.declared.descriptor.FieldDescriptorProto.{FieldDescriptorProto}
 use Rattle.protox_descriptor.specs.declared.descriptor.FileDescriptorProto.{FileDescriptorProto}
-use Rattle.protox_descriptor.specs.declared.descriptor.ServiceDescriptorProto.{ServiceDescriptorProto}
-use Rattle.protox_generate.specs.Descriptor.{descriptor_steps}
-use Rattle.protox_generate.specs.Enums.{enum_proto}
-use Rattle.protox_generate.specs.Head.{syntax_name, package_name, is_public, is_weak}
-use Rattle.protox_generate.specs.Lines.{span_numbers}
-use Rattle.protox_generate.specs.Locations.{file_locations}
-use Rattle.protox_generate.specs.Options.{bodies_of, options_message}
-use Rattle.protox_generate.specs.Services.{service_proto}
-use Rattle.protox_generate.specs.Siblings.{places}
-use Rattle.protox_generate.specs.Sorting.{sorted, path_before}
-
--- the messages that an item gives: an `extend` gives those of its groups
-abbrev pub item_messages : Syntax → FileItem → List DescriptorProto
-item_messages syntax (item.Message message) = of_message (descriptor_steps syntax) message ∷ []
-item_messages syntax (item.Extend extend) = flat_map (λ gives. gives.nested) (of_extend (descriptor_steps syntax) extend)
-item_messages syntax _ = []
-
-abbrev pub item_enums : FileItem → List EnumDescriptorProto
-item_enums (item.Enum enum) = enum_proto enum ∷ []
-item_enums _ = []
-
-abbrev pub item_services : FileItem → List ServiceDescriptorProto
-item_services (item.Service service) = service_proto service ∷ []
-item_services _ = []
-
-abbrev pub item_extensions : Syntax → FileItem → List FieldDescriptorProto
-item_extensions syntax (item.Extend extend) = map (λ gives. gives.field) (of_extend (descriptor_steps syntax) extend)
-item_extensions syntax _ = []
-
--- what a file of that name gives, apart from where it stands
-abbrev pub file_proto : List ℕ → File → FileDescriptorProto
-file_proto name file = record {
-  name = Some name;
-  «package» = package_name file.«package»;
-  dependency = map (λ statement. statement.value) file.imports;
-  public_dependency = places is_public 0 file.imports;
-  weak_dependency = places is_weak 0 file.imports;
-  message_type = flat_map (item_messages file.syntax) file.items;
-  enum_type = flat_map item_enums file.items;
-  service = flat_map item_services file.items;
-  extension = flat_map (item_extensions file.syntax) file.items;
-  options = options_message (λ options. record { uninterpreted_option = options }) (bodies_of file.options);
-  source_code_info = None;
-  syntax = syntax_name file.syntax;
-}
+use Rattle.protox_describe.specs.File.{file_proto}
+use Rattle.protox_fault.specs.declared.error.SyntaxFailure.{SyntaxFailure}
+use Rattle.protox_fault.specs.declared.error.SyntaxFailure.TheVariants.{Faults, OutOfMemory}
+use Rattle.protox_checks.specs.Checks.{AreListed}
+use Rattle.protox_locate.specs.Lines.{span_numbers}
+use Rattle.protox_locate.specs.Locations.{file_locations}
+use Rattle.protox_locate.specs.Order.{StartsBefore, InOrder}
 
 -- what a file of that name and that source gives
 unfoldable pub file_descriptor : List ℕ → List ℕ → File → FileDescriptorProto
-file_descriptor name source file =
-    record (file_proto name file) { source_code_info = Some (record { location = sorted path_before (file_locations (span_numbers source) file) }) }
+file_descriptor name source file = record (file_proto name file) { source_code_info = Some (record { location = file_locations (span_numbers source) file }) }
+
+-- The locations are sorted by path, and those of equal paths by where they start.
+abbrev pub AreLocated : FileDescriptorProto → Type 0
+AreLocated file = elim file.source_code_info as (λ _. Type 0) [ None ↦ ⊥ | Some info ↦ InOrder StartsBefore info.location ]
+
+-- The faults are listed in the order in which they are found; or memory ran out.
+abbrev pub AreListedAll : File → SyntaxFailure → Type 0
+AreListedAll file (Faults found) = AreListed file found.items
+AreListedAll file OutOfMemory = Unit {0}

@@ -1,5 +1,5 @@
 -- The steps of trees that hold no node that is checked, and no body: what is noted among them are the braces of their aggregates.
-use Rattle.std.proofs.Common.{◌≡◌, List, [], ◌∷◌, ◌++◌, Option, Some, None, refl, sym, ap, ◌∙◌}
+use Rattle.std.proofs.Common.{codes, ◌≡◌, List, [], ◌∷◌, ◌++◌, Option, Some, None, refl, sym, ap, ◌∙◌}
 use Rattle.std.proofs.lemmas.List.{append-nil}
 use Rattle.std.specs.List.{flat_map}
 use Rattle.protox_lexeme.specs.Shapes.{Mark, Rows}
@@ -7,7 +7,7 @@ use Rattle.protox_ast.specs.Tree as t
 use Rattle.protox_ast.specs.Spelling as s
 use Rattle.protox_ast.specs.Aggregates as a
 use Rattle.protox_ast.specs.Aggregates.{Braces}
-use Rattle.protox_grammar.specs.Class.{only, among}
+use Rattle.protox_grammar.specs.Class.{just_word, just_mark, among_marks}
 use Rattle.protox_grammar.specs.Rule.{row, seq, times, choice, peek}
 use Rattle.protox_grammar.specs.Rules as r
 use Rattle.protox_grammar.specs.Steps.{AnOpenBrace, ACloseBrace, Note, Steps, plainly, steps_of_many, steps_of_option}
@@ -84,7 +84,7 @@ module _ {M : Type 0} where
   pub body-braced : (x : t.Body M) → Braced (r.body.steps x) (a.of_body x)
   unfolding r.body
   body-braced x =
-      second (r.part.steps x.first) ((seq (times (only 42) (seq (r.sign s.dot) r.part)) (seq (r.sign s.equals) r.value)).steps (x.others, (x.equals_sign, x.value))) (a.of_body x) (part-braced x.first)
+      second (r.part.steps x.first) ((seq (times (just_mark s.dot) (seq (r.sign s.dot) r.part)) (seq (r.sign s.equals) r.value)).steps (x.others, (x.equals_sign, x.value))) (a.of_body x) (part-braced x.first)
       (second (steps_of_many (seq (r.sign s.dot) r.part).steps x.others) ((seq (r.sign s.equals) r.value).steps (x.equals_sign, x.value)) (a.of_body x) (none-of (seq (r.sign s.dot) r.part).steps (λ y. part-braced y.1) x.others) (value-braced x.value))
 
   pub option-braced : (x : t.OptionStatement M) → Braced (r.option.steps x) (a.of_option x)
@@ -134,13 +134,13 @@ module _ {M : Type 0} where
   range_end-braced (t.up_to m x) = int-braced x
   range_end-braced (t.up_to_max m x) = refl
 
-  pub stop-braced : (o : Option (t.RangeEnd M)) → Braced ((choice (only 36) r.range_end (peek (among (53 ∷ 56 ∷ [])))).steps (r.from_stop o)) []
+  pub stop-braced : (o : Option (t.RangeEnd M)) → Braced ((choice (just_word (codes "to")) r.range_end (peek (among_marks (s.comma ∷ s.semicolon ∷ [])))).steps (r.from_stop o)) []
   stop-braced None = refl
   stop-braced (Some x) = range_end-braced x
 
   pub range-braced : (x : t.Range M) → Braced (r.range.steps x) []
   unfolding r.range
-  range-braced x = both (r.int.steps x.start) ((choice (only 36) r.range_end (peek (among (53 ∷ 56 ∷ [])))).steps (r.from_stop x.stop)) [] [] (int-braced x.start) (stop-braced x.stop)
+  range-braced x = both (r.int.steps x.start) ((choice (just_word (codes "to")) r.range_end (peek (among_marks (s.comma ∷ s.semicolon ∷ [])))).steps (r.from_stop x.stop)) [] [] (int-braced x.start) (stop-braced x.stop)
 
   pub ranges-braced : (x : t.Ranges M) → Braced (r.ranges.steps x) []
   unfolding r.ranges

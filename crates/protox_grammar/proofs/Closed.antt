@@ -10,13 +10,14 @@ use Rattle.protox_grammar.specs.Rule.{Starts, row}
 use Rattle.protox_ast.specs.Spelling.{close_brace}
 use Rattle.protox_ast.specs.Keywords as k
 use Rattle.protox_grammar.specs.Rules.{balanced_at, closed}
+use Rattle.protox_grammar.proofs.Balance.{balances, counted}
 use Rattle.protox_grammar.proofs.Takes.{bind_ok, ok_is}
 use Rattle.protox_grammar.proofs.Laws.{IsSpelled, head-same}
 use Rattle.protox_grammar.proofs.Reading.{IsRead, Took, Begins, left_of, bind_err, ok-err, err-ok, err-left, unexpected-deep, true-false}
 
 -- tokens whose braces match, with so many open before
 record Matches {M : Type 0} (d : ℕ) (t : Rows M) : Type 0 where
-  braces : k.balances d t ≡ true
+  braces : balances d t ≡ true
   tokens : k.Each k.IsSignificant t
 
 abbrev after : {M : Type 0} → Row M → Rows M × Rows M → Result (Rows M × Rows M) Refusal
@@ -42,7 +43,7 @@ close-token (Mark b) h = refl
 close-token _ h = absurd cc
 
 -- where the rows behind count the same, and this one is a token
-goes-on : {M : Type 0} (d d' : ℕ) (r : Row M) → k.is_significant r.shape ≡ true → ((t : Rows M) → k.balances d (r ∷ t) ≡ k.balances d' t)
+goes-on : {M : Type 0} (d d' : ℕ) (r : Row M) → k.is_significant r.shape ≡ true → ((t : Rows M) → balances d (r ∷ t) ≡ balances d' t)
     → ((xs : Rows M) → balanced_at d (r ∷ xs) ≡ (balanced_at d' xs >>= after r)) → Step d r
 goes-on d d' r s f g = goes d' (λ t h. record { braces = sym (f t) ∙ h.braces; tokens = h.tokens.1 }) (λ t h. record { braces = f t ∙ h.braces; tokens = (s, h.tokens) }) g
 
@@ -95,7 +96,7 @@ some-start [] r = refl
 some-start (x ∷ t) r = refl
 
 matches : {M : Type 0} (t : Rows M) → k.BracesMatch t × k.Each k.IsSignificant t → Matches 0 t
-matches t h = record { braces = h.0; tokens = h.1 }
+matches t h = record { braces = (counted t).0 h.0; tokens = h.1 }
 
 pub closed-spelled : {M : Type 0} → IsSpelled {M = M} closed false all none
 closed-spelled {M = M} = record {
@@ -118,7 +119,7 @@ record Found {M : Type 0} (d : ℕ) (xs : Rows M) (x : Rows M × Rows M) : Type 
   shuts : k.is_close_brace last.shape ≡ true
 
 none-open : {M : Type 0} (d : ℕ) → d ≡ 0 → Matches {M = M} d []
-none-open {M = M} d e = record { braces = subst (λ n. k.balances {M = M} n [] ≡ true) (sym e) refl; tokens = tt }
+none-open {M = M} d e = record { braces = subst (λ n. balances {M = M} n [] ≡ true) (sym e) refl; tokens = tt }
 
 found : {M : Type 0} (d : ℕ) (xs : Rows M) (x : Rows M × Rows M) → balanced_at d xs ≡ Ok x → Found d xs x
 unfolding balanced_at
@@ -146,7 +147,7 @@ closers : {M : Type 0} → M → ℕ → Rows M
 closers m zero = []
 closers m (suc d) = shut m ∷ closers m d
 
-closers-balance : {M : Type 0} (m : M) (d : ℕ) → k.balances d (closers m d) ≡ true
+closers-balance : {M : Type 0} (m : M) (d : ℕ) → balances d (closers m d) ≡ true
 unfolding closers
 closers-balance m zero = refl
 closers-balance m (suc d) = let e : suc d - 1 ≡ d = omega arith in let n : eqb (suc d) 0 ≡ false = ne_eqb _ _ (λ h. omega arith) in rw (n, e) (closers-balance m d)
@@ -269,7 +270,7 @@ closed-deep n xs h = never-deep 0 n xs (inside xs (Deep n) h)
 pub closed-read : {M : Type 0} → M → IsRead {M = M} closed
 closed-read {M = M} m = record {
   some = ([], m);
-  some_may = (refl, tt);
+  some_may = ((counted []).1 refl, tt);
   within = λ t h. h;
   takes = took;
   again = λ t z h n. rw (append_assoc t.0 (shut t.1 ∷ []) z, again 0 t.0 t.1 z (matches t.0 h), closes (shut t.1) z refl) refl;
@@ -286,7 +287,7 @@ closed-read {M = M} m = record {
         let at : (f.last.at, f.rest) ≡ q.0 = ok_is (f.last.at, f.rest) q.0 (sym (closes f.last f.rest f.shuts) ∙ ap (reader.fixed (Mark close_brace)) (sym f.next) ∙ q.1) in
         let made : (Rows M × M) × Rows M = ((p.0.0, f.last.at), f.rest) in
         let is : made ≡ x = ap (λ (y : M × Rows M). ((p.0.0, y.0), y.1)) at ∙ ok_is ((p.0.0, q.0.0), q.0.1) x q.2 in
-        let fits : k.BracesMatch p.0.0 × k.Each k.IsSignificant p.0.0 = (f.balanced.braces, f.balanced.tokens) in
+        let fits : k.BracesMatch p.0.0 × k.Each k.IsSignificant p.0.0 = ((counted p.0.0).1 f.balanced.braces, f.balanced.tokens) in
         subst (Took closed xs) is (record {
           parts = f.parts ∙ ap (λ v. p.0.0 ++ v) (f.next ∙ ap (λ r. r ∷ f.rest) (shut-is f.last f.shuts)) ∙ sym (append_assoc p.0.0 (shut f.last.at ∷ []) f.rest);
           fits = fits;
@@ -296,7 +297,7 @@ closed-read {M = M} m = record {
     viable : (xs : Rows M) (e : Refusal) → reader.seq (balanced_at 0) (reader.fixed (Mark close_brace)) xs ≡ Err e → Begins closed xs (left_of e)
     viable xs e h =
         let u = unfinished m 0 xs e (inside xs e h) in
-        record { front = u.front; rest = u.rest; parts = u.parts; left_is = u.left_is; tree = (u.front ++ u.more, m); tree_may = (u.goes_on.braces, u.goes_on.tokens); more = u.more ++ (shut m ∷ []); goes_on = append_assoc u.front u.more (shut m ∷ []) }
+        record { front = u.front; rest = u.rest; parts = u.parts; left_is = u.left_is; tree = (u.front ++ u.more, m); tree_may = ((counted (u.front ++ u.more)).1 u.goes_on.braces, u.goes_on.tokens); more = u.more ++ (shut m ∷ []); goes_on = append_assoc u.front u.more (shut m ∷ []) }
 
     stuck : (d : Refusal) (front : Rows M) (s : Row M) (rest : Rows M) → left_of d ≡ suc (length rest) → reader.seq (balanced_at 0) (reader.fixed (Mark close_brace)) (front ++ (s ∷ rest)) ≡ Err d
         → (t : Rows M × M) (z more : Rows M) → k.BracesMatch t.0 × k.Each k.IsSignificant t.0 → (t.0 ++ (shut t.1 ∷ [])) ++ z ≡ front ++ (s ∷ more) → ⊥

@@ -1,7 +1,7 @@
 -- How bodies are spelled at any depth, and read up to some depth.
 use Rattle.std.proofs.Common.{◌≡◌, ℕ, zero, suc, ◌+◌, ◌≤◌, Bool, true, false, ◌||◌, cond, [], ◌∷◌, ◌++◌, length, Some, None, Ok, Err, refl, sym, ap, subst, ◌∙◌, arith, inl, inr}
 use Rattle.protox_lexeme.specs.Shapes.{Mark, Row, Rows}
-use Rattle.protox_grammar.specs.Class.{only, none}
+use Rattle.protox_grammar.specs.Class.{none, just_mark}
 use Rattle.protox_grammar.specs.Reader.{Reader, Refusal, Unexpected, Deep, is_token, is_string}
 use Rattle.protox_grammar.specs.Steps.{Event, ADeepBody, ADeeperBody, Token, Note, Steps, tokens, plainly, until, has_deep, is_too_deep}
 use Rattle.protox_grammar.proofs.StepLists.{Quiet, until-quiet, until-note, tokens-plainly}
@@ -60,7 +60,7 @@ module _ {M : Type 0} (m : M) where
   body-begins : (x : t.Mbody M) → (o : M) × (more : Rows M) × (s.mbody x ≡ row (Mark s.open_brace) o ∷ more)
   body-begins (t.mbody_of o es c) = (o, s.elements es ++ (row (Mark s.close_brace) c ∷ []), refl)
 
-  empty-starts : (x : t.Mbody M) (z : Rows M) → Starts false (only 47) (s.mbody x)
+  empty-starts : (x : t.Mbody M) (z : Rows M) → Starts false (just_mark s.open_brace) (s.mbody x)
   empty-starts (t.mbody_of o es c) z = refl
 
   zero-once : (x u : t.Mbody M) (y z : Rows M) → At 0 x → At 0 u → s.mbody x ++ y ≡ s.mbody u ++ z → (x ≡ u) × (y ≡ z)
@@ -208,7 +208,7 @@ module _ {M : Type 0} (m : M) where
     unfolding rule.deep_steps
     flat-placed (t.mbody_of o es c) z = (placed-brace (row (Mark s.open_brace) o) o _ refl, placed-plainly (Some (row (Mark s.open_brace) o)) (s.elements es ++ (row (Mark s.close_brace) c ∷ [])) z)
 
-  level-laws : (n : ℕ) → Lawful (level n) false (only 47) none
+  level-laws : (n : ℕ) → Lawful (level n) false (just_mark s.open_brace) none
   unfolding At rule.deep_read rule.mbody
   level-laws zero = record {
     spelled = record { starts = λ x z h. empty-starts x z; follow = λ x z h w. h; ahead = λ x v y z h. h; once = zero-once };
@@ -224,7 +224,7 @@ module _ {M : Type 0} (m : M) where
       }
 
   -- at any depth
-  any-spelled : (F : t.Mbody M → Type 0) (read : Reader M (t.Mbody M)) (steps : t.Mbody M → Steps M) (trace : Rows M → Steps M) → IsSpelled (rule.sealed k.KeepsMbody F read steps trace) false (only 47) none
+  any-spelled : (F : t.Mbody M → Type 0) (read : Reader M (t.Mbody M)) (steps : t.Mbody M → Steps M) (trace : Rows M → Steps M) → IsSpelled (rule.sealed k.KeepsMbody F read steps trace) false (just_mark s.open_brace) none
   any-spelled F read steps trace = record {
     starts = λ x z h. empty-starts x z;
     follow = λ x z h w. h;
@@ -247,7 +247,7 @@ module _ {M : Type 0} (m : M) where
 
   module _ (note : M → Event M) (is-deep : (o : M) → is_too_deep (note o) ≡ true) (is-at : (o : M) → o ≡ event_end (note o)) (no-run : (o : M) → false ≡ is_run_event (note o)) where
     unread-laws : (steps : t.Mbody M → Steps M) (begin : (x : t.Mbody M) → BeginsDeep note (steps x) x) (rows : (x : t.Mbody M) → tokens (steps x) ≡ s.mbody x) (placed : (x : t.Mbody M) (z : Rows M) → k.KeepsMbody x → ArePlaced None (steps x) z)
-        → Lawful (unread note steps) false (only 47) none
+        → Lawful (unread note steps) false (just_mark s.open_brace) none
     unfolding rule.deep_read
     unread-laws steps begin rows placed = record {
       spelled = any-spelled (λ x. ⊥) rule.deep_read steps (rule.deep_trace note);
@@ -275,7 +275,7 @@ module _ {M : Type 0} (m : M) where
     deep-flat : DeepIsWell 0
     deep-flat = (flat-rows note is-at no-run, λ x z h. flat-placed note is-at no-run x z)
 
-    deep-over : (n : ℕ) → Lawful (inner n) false (only 47) none → DeepIsWell (suc n)
+    deep-over : (n : ℕ) → Lawful (inner n) false (just_mark s.open_brace) none → DeepIsWell (suc n)
     unfolding rule.deep_steps rule.mbody
     deep-over n li =
         let l = mbody-laws m k.KeepsMbody (λ x. ⊥) rule.deep_read (rule.deep_steps ADeeperBody n) (rule.deep_trace ADeeperBody) li in (
@@ -283,7 +283,7 @@ module _ {M : Type 0} (m : M) where
           λ x z h. placed-behind x ((rule.mbody (inner n)).steps x) z (deep-begins (suc n) x) (l.traced.placed x z (l.spelled.follow x z (keeps-inner x h) (stops-none z))),
         )
 
-  abbrev inner-of : (n : ℕ) → DeepIsWell ADeeperBody (λ o. refl) (λ o. refl) (λ o. refl) n → Lawful (inner n) false (only 47) none
+  abbrev inner-of : (n : ℕ) → DeepIsWell ADeeperBody (λ o. refl) (λ o. refl) (λ o. refl) n → Lawful (inner n) false (just_mark s.open_brace) none
   inner-of n w = unread-laws ADeeperBody (λ o. refl) (λ o. refl) (λ o. refl) (rule.deep_steps ADeeperBody n) (deep-begins ADeeperBody (λ o. refl) (λ o. refl) (λ o. refl) n) w.0 w.1
 
   deeper-is-well : (n : ℕ) → DeepIsWell ADeeperBody (λ o. refl) (λ o. refl) (λ o. refl) n
@@ -296,7 +296,7 @@ module _ {M : Type 0} (m : M) where
 
   -- ---- how bodies are read, at most so deep
 
-  pub body-laws : (n : ℕ) → Lawful (rule.mbody_at {M = M} n) false (only 47) none
+  pub body-laws : (n : ℕ) → Lawful (rule.mbody_at {M = M} n) false (just_mark s.open_brace) none
   unfolding rule.unsealed rule.mbody
   body-laws zero =
       said-laws {r = unread ADeepBody (λ x. rule.deep_steps ADeepBody (suc (d.mbody_depth x)) x)} s.mbody k.KeepsMbody (rule.FitsMbody 0) (λ x z. k.KeepsMbody x) (λ x. rule.deep_steps ADeepBody (suc (d.mbody_depth x)) x) (λ x. refl) (λ x h. h) (λ x h. h)

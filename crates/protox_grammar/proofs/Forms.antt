@@ -1,8 +1,9 @@
 -- The laws of the forms that the grammar is written in.
-use Rattle.std.proofs.Common.{◌≡◌, ◌<◌, ℕ, ◌+◌, length, subst, Bool, true, false, ◌&&◌, List, [], ◌∷◌, ◌++◌, Option, Some, None, refl, sym, ap, ◌∙◌, inl, inr, ◌⊎◌}
+use Rattle.std.proofs.Common.{◌≡◌, ◌<◌, ℕ, length, subst, Bool, true, false, ◌&&◌, List, [], ◌∷◌, ◌++◌, Option, Some, None, refl, sym, ap, ◌∙◌, inl, inr, ◌⊎◌}
+use Rattle.std.proofs.lemmas.Bool.{eq-eqb}
 use Rattle.protox_grammar.specs.Reader.{Refusal, Unexpected, Deep, is_token}
 use Rattle.protox_lexeme.specs.Shapes.{Shape, Ident, Mark, Rows}
-use Rattle.protox_grammar.specs.Class.{Set, class, keywords, place, marks, byte_place, apart, within, union, none, only, in_set}
+use Rattle.protox_grammar.specs.Class.{Set, class, apart, within, union, none, only, just_word, just_mark, in_set}
 use Rattle.protox_ast.specs.Spelling.{maybe}
 use Rattle.protox_ast.specs.Keywords.{Given}
 use Rattle.protox_grammar.specs.Rule.{Rule, Stops, Starts, fixed, seq, on_sum, nothing, mapped, unless, choice, Closes, to_option, optional, times, named, named_fits, unstarted, noting}
@@ -28,17 +29,17 @@ pub record Lawful {M A : Type 0} (r : Rule M A) (e : Bool) (f g : Set) : Type 0 
   pub read : IsRead r
   pub traced : IsTraced r
 
-pub fixed-laws : {M : Type 0} (m : M) (w : Shape) (i : ℕ) → only i (class w) ≡ true → is_token w w ≡ true → ((s : Shape) → is_token w s ≡ true → s ≡ w) → Lawful {M = M} (fixed w) false (only i) none
-fixed-laws m w i h back exact =
-    let l = fixed-spelled w (only i) h in
+pub fixed-laws : {M : Type 0} (m : M) (w : Shape) → is_token w w ≡ true → ((s : Shape) → is_token w s ≡ true → s ≡ w) → Lawful {M = M} (fixed w) false (only (class w)) none
+fixed-laws m w back exact =
+    let l = fixed-spelled w (only (class w)) (eq-eqb (class w) (class w) refl) in
     let rd = fixed-read m w back exact in
-    record { spelled = l; read = rd; traced = plain-traced (fixed w) false (only i) none l rd (fixed-deep m w back exact) (λ t. refl) (λ xs. refl) }
+    record { spelled = l; read = rd; traced = plain-traced (fixed w) false (only (class w)) none l rd (fixed-deep m w back exact) (λ t. refl) (λ xs. refl) }
 
-pub word-laws : {M : Type 0} (m : M) (w : List ℕ) (i : ℕ) → only i (place keywords w) ≡ true → Lawful {M = M} (fixed (Ident w)) false (only i) none
-word-laws m w i h = fixed-laws m (Ident w) i h (word-back w) (word-exact w)
+pub word-laws : {M : Type 0} (m : M) (w : List ℕ) → Lawful {M = M} (fixed (Ident w)) false (just_word w) none
+word-laws m w = fixed-laws m (Ident w) (word-back w) (word-exact w)
 
-pub mark-laws : {M : Type 0} (m : M) (s i : ℕ) → only i (42 + byte_place marks s) ≡ true → Lawful {M = M} (fixed (Mark s)) false (only i) none
-mark-laws m s i h = fixed-laws m (Mark s) i h (mark-back s) (mark-exact s)
+pub mark-laws : {M : Type 0} (m : M) (s : ℕ) → Lawful {M = M} (fixed (Mark s)) false (just_mark s) none
+mark-laws m s = fixed-laws m (Mark s) (mark-back s) (mark-exact s)
 
 pub seq-laws : {M A B : Type 0} {a : Rule M A} {b : Rule M B} {ea eb : Bool} {fa ga fb gb : Set} → Lawful a ea fa ga → Lawful b eb fb gb → apart fb ga ≡ true → Lawful (seq a b) (ea && eb) (union fa (gated ea fb)) (union gb (gated eb ga))
 seq-laws {a = a} {b = b} {ea = ea} {eb = eb} {fa = fa} {ga = ga} {fb = fb} {gb = gb} la lb d = record {

@@ -59,13 +59,13 @@ module _ (lexemes : List Lexeme) where
   abbrev Same : ℕ → t.File ℕ → Type 0
   Same n f = (open_behind false (steps_by lexemes n) ≡ open_behind false (until n (steps 31 f))) × (has_deep (until n (steps 31 f)) ≡ has_deep (steps_by lexemes n))
 
-  file-tokens : (n : ℕ) (f : t.File ℕ) (go : GoesOn lexemes n f) → tokens (steps 31 f) ≡ numbered 0 (take n all_shapes ++ go.more)
+  file-tokens : (n : ℕ) (f : t.File ℕ) (go : GoesOn (shapes (rows_of lexemes)) n f) → tokens (steps 31 f) ≡ numbered 0 (take n all_shapes ++ go.more)
   file-tokens n f go = (main.laws 0 31).traced.rows f ∙ main.spelling 0 31 f ∙ sym go.spells.0
 
-  file-placed : (n : ℕ) (f : t.File ℕ) → GoesOn lexemes n f → ArePlaced None (steps 31 f) []
+  file-placed : (n : ℕ) (f : t.File ℕ) → GoesOn (shapes (rows_of lexemes)) n f → ArePlaced None (steps 31 f) []
   file-placed n f go = (main.laws 0 31).traced.placed f [] (main.ends-of 0 31 f go.spells.1)
 
-  abbrev goes-before : (m : ℕ) (f : t.File ℕ) → GoesOn lexemes (suc m) f → GoesOn lexemes m f
+  abbrev goes-before : (m : ℕ) (f : t.File ℕ) → GoesOn (shapes (rows_of lexemes)) (suc m) f → GoesOn (shapes (rows_of lexemes)) m f
   goes-before m f go = record {
     more = drop m (take (suc m) all_shapes) ++ go.more;
     there = omega (arith, go.there);
@@ -73,7 +73,7 @@ module _ (lexemes : List Lexeme) where
   }
 
   -- behind a string the braces are those before it
-  behind-string : (m : ℕ) (f : t.File ℕ) (go : GoesOn lexemes (suc m) f) → is_string_row (last_row None (numbered 0 (take (suc m) all_shapes))) ≡ true → is_too_deep_by lexemes (suc m) ≡ false → Same (suc m) f
+  behind-string : (m : ℕ) (f : t.File ℕ) (go : GoesOn (shapes (rows_of lexemes)) (suc m) f) → is_string_row (last_row None (numbered 0 (take (suc m) all_shapes))) ≡ true → is_too_deep_by lexemes (suc m) ≡ false → Same (suc m) f
   behind-string m f go g d =
       let less : m < length all_shapes = omega (arith, go.there, shapes-length (rows_of lexemes)) in
       let there : IsStringAt m (tokens_of lexemes) = last-string m 0 all_shapes None less g in
@@ -96,7 +96,7 @@ module _ (lexemes : List Lexeme) where
       none [] h = absurd cc
       none (s ∷ a) h = absurd cc
 
-  same-braces-at : (n : ℕ) (f : t.File ℕ) (go : GoesOn lexemes n f) → is_too_deep_by lexemes n ≡ false → (g : Bool) → is_string_row (last_row None (numbered 0 (take n all_shapes))) ≡ g → Same n f
+  same-braces-at : (n : ℕ) (f : t.File ℕ) (go : GoesOn (shapes (rows_of lexemes)) n f) → is_too_deep_by lexemes n ≡ false → (g : Bool) → is_string_row (last_row None (numbered 0 (take n all_shapes))) ≡ g → Same n f
   same-braces-at n f go d false e =
       let same = passed.same-steps lexemes n f go (λ h. absurd (differ (is_string_row (last_row None (numbered 0 (take n all_shapes)))) h e)) in
       (ap (open_behind false) same, ap has_deep (sym same))
@@ -108,7 +108,7 @@ module _ (lexemes : List Lexeme) where
   same-braces-at (suc m) f go d true e = behind-string m f go e d
 
   -- the braces that were noted tell whether a file that goes on has the place inside an aggregate
-  told : (n : ℕ) (f : t.File ℕ) (go : GoesOn lexemes n f) → is_too_deep_by lexemes n ≡ false
+  told : (n : ℕ) (f : t.File ℕ) (go : GoesOn (shapes (rows_of lexemes)) n f) → is_too_deep_by lexemes n ≡ false
       → (open_behind false (steps_by lexemes n) ≡ true → Holds (IsIn n) (aggregates f)) × (Holds (IsIn n) (aggregates f) → open_behind false (steps_by lexemes n) ≡ true)
   unfolding rule.file
   told n f go d =
@@ -121,7 +121,7 @@ module _ (lexemes : List Lexeme) where
 
   -- ---- a file that goes on where reading got
 
-  some-file : (n : ℕ) → length (tokens (steps_by lexemes n)) ≡ n → (f : t.File ℕ) × GoesOn lexemes n f
+  some-file : (n : ℕ) → length (tokens (steps_by lexemes n)) ≡ n → (f : t.File ℕ) × GoesOn (shapes (rows_of lexemes)) n f
   some-file n len =
       let l = steps_by lexemes n in
       let j = until-front n (trace 31 (tokens_of lexemes)) in

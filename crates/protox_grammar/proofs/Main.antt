@@ -1,19 +1,20 @@
 -- The laws of a file.
-use Rattle.std.proofs.Common.{◌≡◌, ◌≤◌, ℕ, suc, true, List, [], ◌∷◌, ◌++◌, length, Ok, Err, refl, sym, ap, subst, ◌∙◌, append_assoc, arith, inl, inr}
+use Rattle.std.proofs.Common.{codes, ◌≡◌, ◌≤◌, ℕ, suc, true, List, [], ◌∷◌, ◌++◌, length, Ok, Err, refl, sym, ap, subst, ◌∙◌, append_assoc, arith, inl, inr}
 use Rattle.std.proofs.lemmas.List.{append-nil}
 use Rattle.std.proofs.lemmas.Bool.{cases_lt}
 use Rattle.protox_lexeme.specs.Shapes.{Rows}
-use Rattle.protox_grammar.specs.Class.{Set, all, among}
+use Rattle.protox_grammar.specs.Class.{Set, all, among, word, mark}
 use Rattle.protox_grammar.specs.Rule.{Rule, Stops, Ends}
 use Rattle.protox_grammar.specs.Reader.{Refusal, Unexpected, Deep}
 use Rattle.protox_ast.specs.Tree as t
 use Rattle.protox_ast.specs.Spelling as s
 use Rattle.protox_ast.specs.Keywords as k
 use Rattle.protox_ast.specs.Depth as d
-use Rattle.protox_ast.specs.Spells.{Spells, BeginsFile}
+use Rattle.protox_ast.specs.Spells.{Spells}
 use Rattle.protox_grammar.specs.Bodies as rule
 use Rattle.protox_grammar.specs.Reads.{read}
-use Rattle.protox_grammar.specs.Grammar.{IsUnexpected, OneTree, AcceptsIff, TightUnexpected, TightDeep, TightEnd}
+use Rattle.protox_grammar.specs.Grammar.{OneTree, AcceptsIff}
+use Rattle.protox_grammar.proofs.Stops.{BeginsWith, UnexpectedRow, TooDeepRow, EndedRows}
 use Rattle.protox_grammar.proofs.Takes.{bind_ok, ok_is}
 use Rattle.protox_grammar.proofs.Reading.{Begins, bind_err, ok-err}
 use Rattle.protox_grammar.proofs.Tracing.{opens-of}
@@ -34,7 +35,7 @@ module _ {M : Type 0} (m : M) where
   abbrev pub file_at : ℕ → Rule M (t.File M)
   file_at n = rule.file (rule.mbody_at n)
 
-  pub laws : (n : ℕ) → Lawful (file_at n) true (among (0 ∷ 56 ∷ 2 ∷ 1 ∷ 6 ∷ 11 ∷ 12 ∷ 5 ∷ 7 ∷ [])) all
+  pub laws : (n : ℕ) → Lawful (file_at n) true (among (word (codes "syntax") ∷ mark s.semicolon ∷ word (codes "import") ∷ word (codes "package") ∷ word (codes "option") ∷ word (codes "extend") ∷ word (codes "message") ∷ word (codes "enum") ∷ word (codes "service") ∷ [])) all
   laws n = file-laws m k.KeepsMbody (rule.FitsMbody n) (rule.unsealed n).read (rule.unsealed n).steps (rule.unsealed n).trace (body-laws m n)
 
   pub may-of : (n : ℕ) (f : t.File M) → k.KeepsKeywords f → (file_at n).may f
@@ -96,10 +97,10 @@ module _ {M : Type 0} (m : M) where
     | inr q ↦ absurd (ok-err _ e q.2)
   ]
 
-  begins : (n : ℕ) (xs : Rows M) (left : ℕ) (v : Begins (file_at n) xs left) → BeginsFile v.front
+  begins : (n : ℕ) (xs : Rows M) (left : ℕ) (v : Begins (file_at n) xs left) → BeginsWith v.front
   begins n xs left v = (v.tree, v.more, (sym v.goes_on ∙ spelling n v.tree, of-may n v.tree v.tree_may))
 
-  unexpected-at : (n left : ℕ) (rows : Rows M) → (file_at n).read rows ≡ Err (Unexpected (suc left)) → (v : Begins (file_at n) rows (suc left)) → (rest : Rows M) → v.rest ≡ rest → IsUnexpected rows (suc left)
+  unexpected-at : (n left : ℕ) (rows : Rows M) → (file_at n).read rows ≡ Err (Unexpected (suc left)) → (v : Begins (file_at n) rows (suc left)) → (rest : Rows M) → v.rest ≡ rest → UnexpectedRow rows (suc left)
   unexpected-at n left rows h v [] e = absurd (omega (arith, v.left_is, ap length e))
   unexpected-at n left rows h v (x ∷ rest) e =
       let parts : rows ≡ v.front ++ (x ∷ rest) = v.parts ∙ ap (λ u. v.front ++ u) e in
@@ -116,10 +117,10 @@ module _ {M : Type 0} (m : M) where
             (append-nil ((file_at n).spell b.0) ∙ spelling n b.0 ∙ sym b.2.0 ∙ append_assoc v.front (x ∷ []) b.1);
       }
 
-  pub unexpected : TightUnexpected M
+  pub unexpected : (n left : ℕ) (rows : Rows M) → read n rows ≡ Err (Unexpected (suc left)) → UnexpectedRow rows (suc left)
   unexpected n left rows h = let e = failed-so n rows _ h in let v = (laws n).read.viable rows _ e in unexpected-at n left rows e v v.rest refl
 
-  pub deep : TightDeep M
+  pub deep : (n left : ℕ) (rows : Rows M) → read n rows ≡ Err (Deep (suc left)) → TooDeepRow n rows (suc left)
   deep n left rows h =
       let v = opens-of (file_at n) (laws n).traced (suc left) rows (failed-so n rows _ h) in
       let h' : (file_at n).read (v.front ++ (v.here ∷ v.rest)) ≡ Err (Deep (suc left)) = ap (file_at n).read (sym v.parts) ∙ failed-so n rows _ h in
@@ -141,11 +142,11 @@ module _ {M : Type 0} (m : M) where
   all-front n rows v [] e = v.parts ∙ ap (λ u. v.front ++ u) e ∙ append-nil v.front
   all-front n rows v (x ∷ rest) e = absurd (omega (arith, v.left_is, ap length e))
 
-  pub ended : TightEnd M
+  pub ended : (n : ℕ) (rows : Rows M) → read n rows ≡ Err (Unexpected 0) → EndedRows rows
   ended n rows h =
       let e = failed-so n rows _ h in
       let v = (laws n).read.viable rows _ e in
       record {
-        begins = subst BeginsFile (sym (all-front n rows v v.rest refl)) (begins n rows 0 v);
+        begins = subst BeginsWith (sym (all-front n rows v v.rest refl)) (begins n rows 0 v);
         no_file = λ f g. (laws n).read.short rows e f [] (ends-of n f g.1) (append-nil ((file_at n).spell f) ∙ spelling n f ∙ sym g.0);
       }

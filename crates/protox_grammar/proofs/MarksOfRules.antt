@@ -1,12 +1,12 @@
 -- The rules of the grammar don't depend on the marks of rows.
-use Rattle.std.proofs.Common.{◌≡◌, ℕ, zero, suc, ◌-◌, ◌==◌, [], ◌∷◌, Result, Ok, refl, sym, ap, ◌∙◌}
+use Rattle.std.proofs.Common.{codes, ◌≡◌, ℕ, zero, suc, ◌-◌, ◌==◌, [], ◌∷◌, Result, Ok, refl, sym, ap, ◌∙◌}
 use Rattle.protox_lexeme.specs.Shapes.{Mark, Row, Rows}
 use Rattle.protox_ast.specs.CheckedNodes.{CheckedNode, ASyntax, AnImport, AReservedName, AGroupName}
 use Rattle.protox_ast.specs.Keywords as k
 use Rattle.protox_ast.specs.Spelling as s
 use Rattle.protox_ast.specs.Tree as t
 use Rattle.protox_grammar.specs.Bodies as b
-use Rattle.protox_grammar.specs.Class.{all, among, but, only, union, words}
+use Rattle.protox_grammar.specs.Class.{all, among, only, union, words, just_word, just_mark, but_mark, among_words, among_marks, an_integer, a_float, a_string, mark}
 use Rattle.protox_grammar.specs.MarkLaws.{map_fullident, map_marks, map_node, map_package, map_strings, map_text, map_event, map_steps}
 use Rattle.protox_grammar.specs.Reader as reader
 use Rattle.protox_grammar.specs.Reader.{Refusal, Deep, ◌>>=◌, see_word, see_integer, see_float, see_text}
@@ -61,7 +61,7 @@ module _ {M N : Type 0} (f : M → N) where
 
   strings-alike : IsAlike f r.strings r.strings (λ x y. y ≡ map_strings f x)
   unfolding r.strings
-  strings-alike = named_as-alike f (seq-alike f string-alike (times-alike f string-alike (only 41))) (λ x y. y ≡ map_strings f x)
+  strings-alike = named_as-alike f (seq-alike f string-alike (times-alike f string-alike (only a_string))) (λ x y. y ≡ map_strings f x)
       (λ x y h i. record { first = h.0 i; others = pairwise-map (λ x y. y ≡ map_text f x) (map_text f) (λ x y e. e) x.1 y.1 h.1 i })
 
   noted_strings-alike : (node : t.Strings M → CheckedNode M) (node' : t.Strings N → CheckedNode N) → ((x : t.Strings M) → node' (map_strings f x) ≡ map_node f (node x)) → IsAlike f (r.noted_strings node) (r.noted_strings node') (λ x y. y ≡ map_strings f x)
@@ -69,7 +69,7 @@ module _ {M N : Type 0} (f : M → N) where
 
   fullident-alike : IsAlike f r.fullident r.fullident (λ x y. y ≡ map_fullident f x)
   unfolding r.fullident
-  fullident-alike = named_as-alike f (seq-alike f ident-alike (times-alike f (seq-alike f (fixed-alike f _) ident-alike) (only 42))) (λ x y. y ≡ map_fullident f x)
+  fullident-alike = named_as-alike f (seq-alike f ident-alike (times-alike f (seq-alike f (fixed-alike f _) ident-alike) (just_mark s.dot))) (λ x y. y ≡ map_fullident f x)
       (λ x y h i. record { first = h.0 i; others = pairwise-map _ (λ u. (f u.0, map_text f u.1)) (λ u v e j. (e.0 j, e.1 j)) x.1 y.1 h.1 i })
 
   package-alike : IsAlike f r.«package» r.«package» (λ x y. y ≡ map_package f x)
@@ -79,7 +79,7 @@ module _ {M N : Type 0} (f : M → N) where
 
   typename-alike : IsAlike f r.typename r.typename Unnoted
   unfolding r.typename
-  typename-alike = named-alike f (seq-alike f (optional-alike f (fixed-alike f _) (only 42)) fullident-alike) _ _
+  typename-alike = named-alike f (seq-alike f (optional-alike f (fixed-alike f _) (just_mark s.dot)) fullident-alike) _ _
 
   -- ---- the other rules without bodies
 
@@ -89,11 +89,11 @@ module _ {M N : Type 0} (f : M → N) where
 
   import_kind-alike : IsAlike f r.import_kind r.import_kind Unnoted
   unfolding r.import_kind
-  import_kind-alike = named-alike f (choice-alike f (fixed-alike f _) (fixed-alike f _) (only 3)) _ _
+  import_kind-alike = named-alike f (choice-alike f (fixed-alike f _) (fixed-alike f _) (just_word (codes "weak"))) _ _
 
   import-alike : IsAlike f r.«import» r.«import» Unnoted
   unfolding r.«import»
-  import-alike = named-alike f (seq-alike f (fixed-alike f _) (seq-alike f (optional-alike f import_kind-alike (among (3 ∷ 4 ∷ []))) (seq-alike f (noted_strings-alike AnImport AnImport (λ x. refl)) (fixed-alike f _)))) _ _
+  import-alike = named-alike f (seq-alike f (fixed-alike f _) (seq-alike f (optional-alike f import_kind-alike (among_words (codes "weak" ∷ codes "public" ∷ []))) (seq-alike f (noted_strings-alike AnImport AnImport (λ x. refl)) (fixed-alike f _)))) _ _
 
   part-alike : IsAlike f r.part r.part Unnoted
   unfolding r.part
@@ -101,15 +101,15 @@ module _ {M N : Type 0} (f : M → N) where
 
   constant-alike : IsAlike f r.constant r.constant Unnoted
   unfolding r.constant
-  constant-alike = named-alike f (choice-alike f ident-alike (choice-alike f integer-alike float-alike (only 39)) words) _ _
+  constant-alike = named-alike f (choice-alike f ident-alike (choice-alike f integer-alike float-alike (only an_integer)) words) _ _
 
   value-alike : IsAlike f r.value r.value Unnoted
   unfolding r.value
-  value-alike = named-alike f (choice-alike f (seq-alike f (optional-alike f (fixed-alike f _) (only 43)) constant-alike) (choice-alike f strings-alike (seq-alike f (noting-alike f (fixed-alike f _) _ _ (λ x y e. ap AnOpenBrace e)) (noting-alike f closed-alike _ _ (λ x y e. ap ACloseBrace e))) (only 41)) (union words (among (39 ∷ 40 ∷ 43 ∷ [])))) _ _
+  value-alike = named-alike f (choice-alike f (seq-alike f (optional-alike f (fixed-alike f _) (just_mark s.minus)) constant-alike) (choice-alike f strings-alike (seq-alike f (noting-alike f (fixed-alike f _) _ _ (λ x y e. ap AnOpenBrace e)) (noting-alike f closed-alike _ _ (λ x y e. ap ACloseBrace e))) (only a_string)) (union words (among (an_integer ∷ a_float ∷ mark s.minus ∷ [])))) _ _
 
   body-alike : IsAlike f r.body r.body Unnoted
   unfolding r.body
-  body-alike = named-alike f (seq-alike f part-alike (seq-alike f (times-alike f (seq-alike f (fixed-alike f _) part-alike) (only 42)) (seq-alike f (fixed-alike f _) value-alike))) _ _
+  body-alike = named-alike f (seq-alike f part-alike (seq-alike f (times-alike f (seq-alike f (fixed-alike f _) part-alike) (just_mark s.dot)) (seq-alike f (fixed-alike f _) value-alike))) _ _
 
   option-alike : IsAlike f r.option r.option Unnoted
   unfolding r.option
@@ -117,11 +117,11 @@ module _ {M N : Type 0} (f : M → N) where
 
   list-alike : IsAlike f r.list r.list Unnoted
   unfolding r.list
-  list-alike = named-alike f (seq-alike f (fixed-alike f _) (seq-alike f body-alike (seq-alike f (times-alike f (seq-alike f (fixed-alike f _) body-alike) (only 53)) (fixed-alike f _)))) _ _
+  list-alike = named-alike f (seq-alike f (fixed-alike f _) (seq-alike f body-alike (seq-alike f (times-alike f (seq-alike f (fixed-alike f _) body-alike) (just_mark s.comma)) (fixed-alike f _)))) _ _
 
   int-alike : IsAlike f r.int r.int Unnoted
   unfolding r.int
-  int-alike = named-alike f (seq-alike f (optional-alike f (fixed-alike f _) (only 43)) integer-alike) _ _
+  int-alike = named-alike f (seq-alike f (optional-alike f (fixed-alike f _) (just_mark s.minus)) integer-alike) _ _
 
   type-alike : IsAlike f r.type r.type Unnoted
   unfolding r.type
@@ -129,35 +129,35 @@ module _ {M N : Type 0} (f : M → N) where
 
   label-alike : IsAlike f r.label r.label Unnoted
   unfolding r.label
-  label-alike = named-alike f (choice-alike f (fixed-alike f _) (choice-alike f (fixed-alike f _) (fixed-alike f _) (only 14)) (only 13)) _ _
+  label-alike = named-alike f (choice-alike f (fixed-alike f _) (choice-alike f (fixed-alike f _) (fixed-alike f _) (just_word (codes "required"))) (just_word (codes "optional"))) _ _
 
   normal-alike : IsAlike f r.normal r.normal Unnoted
   unfolding r.normal
-  normal-alike = named-alike f (seq-alike f type-alike (seq-alike f ident-alike (seq-alike f (fixed-alike f _) (seq-alike f int-alike (seq-alike f (optional-alike f list-alike (only 49)) (fixed-alike f _)))))) _ _
+  normal-alike = named-alike f (seq-alike f type-alike (seq-alike f ident-alike (seq-alike f (fixed-alike f _) (seq-alike f int-alike (seq-alike f (optional-alike f list-alike (just_mark s.open_bracket)) (fixed-alike f _)))))) _ _
 
   map-alike : IsAlike f r.map r.map Unnoted
   unfolding r.map
-  map-alike = named-alike f (seq-alike f (fixed-alike f _) (seq-alike f (fixed-alike f _) (seq-alike f type-alike (seq-alike f (fixed-alike f _) (seq-alike f type-alike (seq-alike f (fixed-alike f _) (seq-alike f ident-alike (seq-alike f (fixed-alike f _) (seq-alike f int-alike (seq-alike f (optional-alike f list-alike (only 49)) (fixed-alike f _))))))))))) _ _
+  map-alike = named-alike f (seq-alike f (fixed-alike f _) (seq-alike f (fixed-alike f _) (seq-alike f type-alike (seq-alike f (fixed-alike f _) (seq-alike f type-alike (seq-alike f (fixed-alike f _) (seq-alike f ident-alike (seq-alike f (fixed-alike f _) (seq-alike f int-alike (seq-alike f (optional-alike f list-alike (just_mark s.open_bracket)) (fixed-alike f _))))))))))) _ _
 
   range_end-alike : IsAlike f r.range_end r.range_end Unnoted
   unfolding r.range_end
-  range_end-alike = named-alike f (seq-alike f (fixed-alike f _) (choice-alike f int-alike (fixed-alike f _) (among (39 ∷ 43 ∷ [])))) _ _
+  range_end-alike = named-alike f (seq-alike f (fixed-alike f _) (choice-alike f int-alike (fixed-alike f _) (among (an_integer ∷ mark s.minus ∷ [])))) _ _
 
   range-alike : IsAlike f r.range r.range Unnoted
   unfolding r.range
-  range-alike = named-alike f (seq-alike f int-alike (choice-alike f range_end-alike (peek-alike f (among (53 ∷ 56 ∷ []))) (only 36))) _ _
+  range-alike = named-alike f (seq-alike f int-alike (choice-alike f range_end-alike (peek-alike f (among_marks (s.comma ∷ s.semicolon ∷ []))) (just_word (codes "to")))) _ _
 
   ranges-alike : IsAlike f r.ranges r.ranges Unnoted
   unfolding r.ranges
-  ranges-alike = named-alike f (seq-alike f range-alike (times-alike f (seq-alike f (fixed-alike f _) range-alike) (only 53))) _ _
+  ranges-alike = named-alike f (seq-alike f range-alike (times-alike f (seq-alike f (fixed-alike f _) range-alike) (just_mark s.comma))) _ _
 
   names-alike : IsAlike f r.names r.names Unnoted
   unfolding r.names
-  names-alike = named-alike f (seq-alike f (noted_strings-alike AReservedName AReservedName (λ x. refl)) (times-alike f (seq-alike f (fixed-alike f _) (noted_strings-alike AReservedName AReservedName (λ x. refl))) (only 53))) _ _
+  names-alike = named-alike f (seq-alike f (noted_strings-alike AReservedName AReservedName (λ x. refl)) (times-alike f (seq-alike f (fixed-alike f _) (noted_strings-alike AReservedName AReservedName (λ x. refl))) (just_mark s.comma))) _ _
 
   reserved_kind-alike : IsAlike f r.reserved_kind r.reserved_kind Unnoted
   unfolding r.reserved_kind
-  reserved_kind-alike = named-alike f (choice-alike f ranges-alike names-alike (among (39 ∷ 43 ∷ []))) _ _
+  reserved_kind-alike = named-alike f (choice-alike f ranges-alike names-alike (among (an_integer ∷ mark s.minus ∷ []))) _ _
 
   reserved-alike : IsAlike f r.reserved r.reserved Unnoted
   unfolding r.reserved
@@ -165,31 +165,31 @@ module _ {M N : Type 0} (f : M → N) where
 
   extensions-alike : IsAlike f r.extensions r.extensions Unnoted
   unfolding r.extensions
-  extensions-alike = named-alike f (seq-alike f (fixed-alike f _) (joined-alike f ranges-alike (seq-alike f (optional-alike f list-alike (only 49)) (fixed-alike f _)) r.ListFits r.ListFits)) _ _
+  extensions-alike = named-alike f (seq-alike f (fixed-alike f _) (joined-alike f ranges-alike (seq-alike f (optional-alike f list-alike (just_mark s.open_bracket)) (fixed-alike f _)) r.ListFits r.ListFits)) _ _
 
   evalue-alike : IsAlike f r.evalue r.evalue Unnoted
   unfolding r.evalue
-  evalue-alike = named-alike f (seq-alike f ident-alike (seq-alike f (fixed-alike f _) (seq-alike f int-alike (seq-alike f (optional-alike f list-alike (only 49)) (fixed-alike f _))))) _ _
+  evalue-alike = named-alike f (seq-alike f ident-alike (seq-alike f (fixed-alike f _) (seq-alike f int-alike (seq-alike f (optional-alike f list-alike (just_mark s.open_bracket)) (fixed-alike f _))))) _ _
 
   enum_element-alike : IsAlike f r.enum_element r.enum_element Unnoted
   unfolding r.enum_element
-  enum_element-alike = named-alike f (choice-alike f (fixed-alike f _) (unless-alike f (choice-alike f option-alike reserved-alike (only 6)) evalue-alike (among (6 ∷ 34 ∷ []))) (only 56)) _ _
+  enum_element-alike = named-alike f (choice-alike f (fixed-alike f _) (unless-alike f (choice-alike f option-alike reserved-alike (just_word (codes "option"))) evalue-alike (among_words (codes "option" ∷ codes "reserved" ∷ []))) (just_mark s.semicolon)) _ _
 
   enum-alike : IsAlike f r.enum r.enum Unnoted
   unfolding r.enum
-  enum-alike = named-alike f (seq-alike f (fixed-alike f _) (seq-alike f ident-alike (seq-alike f (fixed-alike f _) (seq-alike f (times-alike f enum_element-alike (but 48)) (fixed-alike f _))))) _ _
+  enum-alike = named-alike f (seq-alike f (fixed-alike f _) (seq-alike f ident-alike (seq-alike f (fixed-alike f _) (seq-alike f (times-alike f enum_element-alike (but_mark s.close_brace)) (fixed-alike f _))))) _ _
 
   rpc_type-alike : IsAlike f r.rpc_type r.rpc_type Unnoted
   unfolding r.rpc_type
-  rpc_type-alike = named-alike f (unless-alike f (seq-alike f (fixed-alike f _) typename-alike) typename-alike (among (9 ∷ []))) _ _
+  rpc_type-alike = named-alike f (unless-alike f (seq-alike f (fixed-alike f _) typename-alike) typename-alike (among_words (codes "stream" ∷ []))) _ _
 
   rpc_element-alike : IsAlike f r.rpc_element r.rpc_element Unnoted
   unfolding r.rpc_element
-  rpc_element-alike = named-alike f (choice-alike f (fixed-alike f _) option-alike (only 56)) _ _
+  rpc_element-alike = named-alike f (choice-alike f (fixed-alike f _) option-alike (just_mark s.semicolon)) _ _
 
   rpc_end-alike : IsAlike f r.rpc_end r.rpc_end Unnoted
   unfolding r.rpc_end
-  rpc_end-alike = named-alike f (choice-alike f (fixed-alike f _) (seq-alike f (fixed-alike f _) (seq-alike f (times-alike f rpc_element-alike (but 48)) (fixed-alike f _))) (only 56)) _ _
+  rpc_end-alike = named-alike f (choice-alike f (fixed-alike f _) (seq-alike f (fixed-alike f _) (seq-alike f (times-alike f rpc_element-alike (but_mark s.close_brace)) (fixed-alike f _))) (just_mark s.semicolon)) _ _
 
   rpc-alike : IsAlike f r.rpc r.rpc Unnoted
   unfolding r.rpc
@@ -197,34 +197,34 @@ module _ {M N : Type 0} (f : M → N) where
 
   service_element-alike : IsAlike f r.service_element r.service_element Unnoted
   unfolding r.service_element
-  service_element-alike = named-alike f (choice-alike f (fixed-alike f _) (choice-alike f option-alike rpc-alike (only 6)) (only 56)) _ _
+  service_element-alike = named-alike f (choice-alike f (fixed-alike f _) (choice-alike f option-alike rpc-alike (just_word (codes "option"))) (just_mark s.semicolon)) _ _
 
   service-alike : IsAlike f r.service r.service Unnoted
   unfolding r.service
-  service-alike = named-alike f (seq-alike f (fixed-alike f _) (seq-alike f ident-alike (seq-alike f (fixed-alike f _) (seq-alike f (times-alike f service_element-alike (but 48)) (fixed-alike f _))))) _ _
+  service-alike = named-alike f (seq-alike f (fixed-alike f _) (seq-alike f ident-alike (seq-alike f (fixed-alike f _) (seq-alike f (times-alike f service_element-alike (but_mark s.close_brace)) (fixed-alike f _))))) _ _
 
   -- ---- rules over the rule of a body
 
   module _ {p : Rule M (t.Mbody M)} {q : Rule N (t.Mbody N)} (g : IsAlike f p q Unnoted) where
     group-alike : IsAlike f (b.group p) (b.group q) Unnoted
     unfolding b.group
-    group-alike = named_fits-alike f (seq-alike f (noting-alike f (fixed-alike f _) _ _ (λ x y e. ap AKeyword e)) (seq-alike f (noting-alike f ident-alike _ _ (λ x y e. ap (λ u. ANode (AGroupName u)) e)) (seq-alike f (fixed-alike f _) (seq-alike f int-alike (seq-alike f (optional-alike f list-alike (only 49)) g))))) _ _
+    group-alike = named_fits-alike f (seq-alike f (noting-alike f (fixed-alike f _) _ _ (λ x y e. ap AKeyword e)) (seq-alike f (noting-alike f ident-alike _ _ (λ x y e. ap (λ u. ANode (AGroupName u)) e)) (seq-alike f (fixed-alike f _) (seq-alike f int-alike (seq-alike f (optional-alike f list-alike (just_mark s.open_bracket)) g))))) _ _
 
     field_kind-alike : IsAlike f (b.field_kind p) (b.field_kind q) Unnoted
     unfolding b.field_kind
-    field_kind-alike = named_fits-alike f (unless-alike f (choice-alike f map-alike group-alike (only 16)) normal-alike (among (16 ∷ 18 ∷ []))) _ _
+    field_kind-alike = named_fits-alike f (unless-alike f (choice-alike f map-alike group-alike (just_word (codes "map"))) normal-alike (among_words (codes "map" ∷ codes "group" ∷ []))) _ _
 
     field-alike : IsAlike f (b.field p) (b.field q) Unnoted
     unfolding b.field
-    field-alike = named_fits-alike f (unless-alike f (seq-alike f label-alike field_kind-alike) field_kind-alike (among (13 ∷ 14 ∷ 15 ∷ []))) _ _
+    field-alike = named_fits-alike f (unless-alike f (seq-alike f label-alike field_kind-alike) field_kind-alike (among_words (codes "optional" ∷ codes "required" ∷ codes "repeated" ∷ []))) _ _
 
     oneof_element-alike : IsAlike f (b.oneof_element p) (b.oneof_element q) Unnoted
     unfolding b.oneof_element
-    oneof_element-alike = named_fits-alike f (choice-alike f (fixed-alike f _) (unless-alike f option-alike field-alike (among (6 ∷ []))) (only 56)) _ _
+    oneof_element-alike = named_fits-alike f (choice-alike f (fixed-alike f _) (unless-alike f option-alike field-alike (among_words (codes "option" ∷ []))) (just_mark s.semicolon)) _ _
 
     oneof_elements-alike : IsAlike f (b.oneof_elements p) (b.oneof_elements q) Unnoted
     unfolding b.oneof_elements
-    oneof_elements-alike = named_fits-alike f (times-alike f oneof_element-alike (but 48)) _ _
+    oneof_elements-alike = named_fits-alike f (times-alike f oneof_element-alike (but_mark s.close_brace)) _ _
 
     oneof-alike : IsAlike f (b.oneof p) (b.oneof q) Unnoted
     unfolding b.oneof
@@ -232,11 +232,11 @@ module _ {M N : Type 0} (f : M → N) where
 
     extend_element-alike : IsAlike f (b.extend_element p) (b.extend_element q) Unnoted
     unfolding b.extend_element
-    extend_element-alike = named_fits-alike f (choice-alike f (fixed-alike f _) field-alike (only 56)) _ _
+    extend_element-alike = named_fits-alike f (choice-alike f (fixed-alike f _) field-alike (just_mark s.semicolon)) _ _
 
     extend_elements-alike : IsAlike f (b.extend_elements p) (b.extend_elements q) Unnoted
     unfolding b.extend_elements
-    extend_elements-alike = named_fits-alike f (times-alike f extend_element-alike (but 48)) _ _
+    extend_elements-alike = named_fits-alike f (times-alike f extend_element-alike (but_mark s.close_brace)) _ _
 
     extend-alike : IsAlike f (b.extend p) (b.extend q) Unnoted
     unfolding b.extend
@@ -247,15 +247,15 @@ module _ {M N : Type 0} (f : M → N) where
     message-alike = named_fits-alike f (seq-alike f (noting-alike f (fixed-alike f _) _ _ (λ x y e. ap AKeyword e)) (seq-alike f ident-alike g)) _ _
 
     special-alike : IsAlike f (b.special p) (b.special q) Unnoted
-    special-alike = choice-alike f oneof-alike (choice-alike f enum-alike (choice-alike f message-alike (choice-alike f extend-alike (choice-alike f option-alike (choice-alike f reserved-alike extensions-alike (only 34)) (only 6)) (only 11)) (only 12)) (only 5)) (only 17)
+    special-alike = choice-alike f oneof-alike (choice-alike f enum-alike (choice-alike f message-alike (choice-alike f extend-alike (choice-alike f option-alike (choice-alike f reserved-alike extensions-alike (just_word (codes "reserved"))) (just_word (codes "option"))) (just_word (codes "extend"))) (just_word (codes "message"))) (just_word (codes "enum"))) (just_word (codes "oneof"))
 
     element-alike : IsAlike f (b.element p) (b.element q) Unnoted
     unfolding b.element
-    element-alike = named_fits-alike f (choice-alike f (fixed-alike f _) (unless-alike f special-alike field-alike (among (17 ∷ 5 ∷ 12 ∷ 11 ∷ 6 ∷ 34 ∷ 35 ∷ []))) (only 56)) _ _
+    element-alike = named_fits-alike f (choice-alike f (fixed-alike f _) (unless-alike f special-alike field-alike (among_words (codes "oneof" ∷ codes "enum" ∷ codes "message" ∷ codes "extend" ∷ codes "option" ∷ codes "reserved" ∷ codes "extensions" ∷ []))) (just_mark s.semicolon)) _ _
 
     elements-alike : IsAlike f (b.elements p) (b.elements q) Unnoted
     unfolding b.elements
-    elements-alike = named_fits-alike f (times-alike f element-alike (but 48)) _ _
+    elements-alike = named_fits-alike f (times-alike f element-alike (but_mark s.close_brace)) _ _
 
     pub mbody-alike : IsAlike f (b.mbody p) (b.mbody q) Unnoted
     unfolding b.mbody
@@ -263,11 +263,11 @@ module _ {M N : Type 0} (f : M → N) where
 
     statement-alike : IsAlike f (b.statement p) (b.statement q) Unnoted
     unfolding b.statement
-    statement-alike = named_fits-alike f (choice-alike f (fixed-alike f _) (choice-alike f import-alike (choice-alike f (noting-alike f package-alike _ _ (λ x y e. ap APackage e)) (choice-alike f option-alike (choice-alike f extend-alike (choice-alike f message-alike (choice-alike f enum-alike service-alike (only 5)) (only 12)) (only 11)) (only 6)) (only 1)) (only 2)) (only 56)) _ _
+    statement-alike = named_fits-alike f (choice-alike f (fixed-alike f _) (choice-alike f import-alike (choice-alike f (noting-alike f package-alike _ _ (λ x y e. ap APackage e)) (choice-alike f option-alike (choice-alike f extend-alike (choice-alike f message-alike (choice-alike f enum-alike service-alike (just_word (codes "enum"))) (just_word (codes "message"))) (just_word (codes "extend"))) (just_word (codes "option"))) (just_word (codes "package"))) (just_word (codes "import"))) (just_mark s.semicolon)) _ _
 
     pub file-alike : IsAlike f (b.file p) (b.file q) Unnoted
     unfolding b.file
-    file-alike = named_fits-alike f (seq-alike f (optional-alike f syntax-alike (only 0)) (times-alike f statement-alike all)) _ _
+    file-alike = named_fits-alike f (seq-alike f (optional-alike f syntax-alike (just_word (codes "syntax"))) (times-alike f statement-alike all)) _ _
 
   -- ---- levels
 

@@ -15,14 +15,12 @@ use Rattle.protox_ast.specs.Spells.{Spells}
 use Rattle.protox_ast.specs.Fronts.{GoesOn, numbered, shapes}
 use Rattle.protox_ast.specs.Truth.{IsWrongBefore, IsWrongBehind, is_run, token_span}
 use Rattle.protox_grammar.specs.Reader.{Refusal, head_in, is_string}
-use Rattle.protox_grammar.specs.Reads.{read}
 use Rattle.protox_grammar.specs.Bodies as rule
 use Rattle.protox_grammar.specs.Steps.{ANode, APackage, AKeyword, ADeepBody, ADeeperBody, AnOpenBrace, ACloseBrace, Token, Note, Steps, tokens, until}
 use Rattle.protox_grammar.specs.Noted.{noted_nodes, steps, trace}
 use Rattle.protox_grammar.specs.CheckLaws.{AllIsNoted, NotedIsTrue, tokens_of, noted_by, steps_by}
-use Rattle.protox_grammar.specs.MarkLaws.{IsSameOutcome}
 use Rattle.protox_grammar.proofs.Marks.{head-same-shapes}
-use Rattle.protox_grammar.proofs.MarkLaws.{same_outcome}
+use Rattle.protox_grammar.proofs.Fronts as fronts
 use Rattle.protox_grammar.proofs.StepLists.{until-all, tokens-append, take-front, until-ends, deep-whole, until-until, until-at-most, until-front}
 use Rattle.protox_grammar.proofs.Main as main
 use Rattle.protox_grammar.proofs.EndsDeep.{stops-ends}
@@ -88,17 +86,9 @@ all_is_noted lexemes n h =
     until-all n (trace 31 xs) (omega (arith, h, ap length c.parts, length-append (tokens (trace 31 xs)) c.rest, numbered-length 0 (shapes (rows_of lexemes)), shapes-length (rows_of lexemes)))
     (stops-ends ((main.file_at 0 31).read xs) (trace 31 xs) ((main.laws 0 31).traced.stops xs))
 
-read-too : (f : t.File ℕ) (other : Result (t.File ℕ) Refusal) → IsSameOutcome (Ok f) other → (g : t.File ℕ) × (other ≡ Ok g)
-read-too f (Ok g) h = (g, refl)
-read-too f (Err e) h = absurd h
-
--- the same file with other marks
+-- the same file with other numbers
 pub remarked : (f : t.File ℕ) → k.KeepsKeywords f → (rows : Rows ℕ) → shapes rows ≡ shapes (s.spell f) → (g : t.File ℕ) × Spells rows g
-remarked f h rows e =
-    let n = d.depth f in
-    let a : read n (s.spell f) ≡ Ok f = (main.accepts_iff 0 n (s.spell f) f).1 ((refl, h), omega arith) in
-    let b = read-too f (read n rows) (subst (λ u. IsSameOutcome u (read n rows)) a (same_outcome n (s.spell f) rows (sym e))) in
-    (b.0, ((main.accepts_iff 0 n rows b.0).0 b.1).0)
+remarked f h rows e = let g = fronts.remarked 0 0 (d.depth f) f h (omega arith) rows e in (g.0, g.1)
 
 module _ (lexemes : List Lexeme) (n : ℕ) (wrong : ParseErrorKind) (e : CheckedNode ℕ) (is-wrong : WrongCheckedNode (token_span (rows_of lexemes)) e wrong) (noted : Holds (λ u. u ≡ e) (noted_by lexemes n)) where
   abbrev xs : Rows ℕ
@@ -190,7 +180,7 @@ module _ (lexemes : List Lexeme) (n : ℕ) (wrong : ParseErrorKind) (e : Checked
     with-file : (f : t.File ℕ) → Spells new_rows f → IsWrongBehind lexemes end wrong
     unfolding rule.file
     with-file f spells =
-        let go : GoesOn lexemes end f = record { more = more; there = there; spells = spells } in
+        let go : GoesOn (shapes (rows_of lexemes)) end f = record { more = more; there = omega (arith, there, shapes-length (rows_of lexemes)); spells = spells } in
         let last : is_string_row (last_row None (numbered 0 (take end all_shapes))) ≡ is_string v.here.shape = ap (λ u. is_string_row (last_row None u)) (ap (numbered 0) take-is ∙ front-is) ∙ ap is_string_row (last-past None v.before v.here []) in
         let run : is_string_row (last_row None (numbered 0 (take end all_shapes))) ≡ true → is_run e ≡ true = λ g. ap is_run (sym node-is) ∙ sym v.facts.1 ∙ sym last ∙ g in
         let same : steps_by lexemes end ≡ until end (steps 31 f) = passed.same-steps lexemes end f go (λ g. next-is _ (run g) ∙ sym (more-is _ (run g))) in

@@ -1,9 +1,9 @@
 -- Tokens that are marked with their numbers.
 use Rattle.std.proofs.Common.{◌≡◌, ◌≤◌, ℕ, zero, suc, ◌+◌, List, [], ◌∷◌, ◌++◌, length, take, drop, refl, ap, ◌∙◌, arith}
 use Rattle.protox_fault.specs.Faults.{Span}
-use Rattle.protox_lexeme.specs.Shapes.{Shape, Ident, Int, Float, Str, Mark, LineComment, BlockComment, Newline, Invalid, Row, Rows}
+use Rattle.protox_lexeme.specs.Shapes.{Shape, Row, Rows}
 use Rattle.protox_ast.specs.Fronts.{numbered, shapes}
-use Rattle.protox_ast.specs.Truth as truth
+use Rattle.protox_ast.specs.Truth.{source_row}
 use Rattle.protox_grammar.specs.Reader.{head_in, is_string}
 use Rattle.protox_grammar.proofs.Laws.{head-same}
 
@@ -43,22 +43,11 @@ pub shapes-length : {M : Type 0} (rows : Rows M) → length (shapes rows) ≡ le
 shapes-length [] = refl
 shapes-length (r ∷ rs) = ap suc (shapes-length rs)
 
-same-test : (s : Shape) → truth.is_string s ≡ is_string s
-same-test (Str t) = refl
-same-test (Ident t) = refl
-same-test (Int t) = refl
-same-test (Float t) = refl
-same-test (Mark t) = refl
-same-test (LineComment t) = refl
-same-test (BlockComment t) = refl
-same-test Newline = refl
-same-test Invalid = refl
-
 -- whether token n is a string
-pub string-at : (rows : Rows Span) (n k : ℕ) → truth.is_string_at rows n ≡ head_in is_string (numbered k (drop n (shapes rows)))
+pub string-at : (rows : Rows Span) (n k : ℕ) → is_string (source_row rows n).shape ≡ head_in is_string (numbered k (drop n (shapes rows)))
 string-at [] zero k = refl
 string-at [] (suc n) k = refl
-string-at (r ∷ rs) zero k = same-test r.shape
+string-at (r ∷ rs) zero k = refl
 string-at (r ∷ rs) (suc n) k = string-at rs n k
 
 pub numbered-front : (n : ℕ) (a : List Shape) (ys zs : Rows ℕ) → numbered n a ≡ ys ++ zs → numbered n (shapes ys) ≡ ys

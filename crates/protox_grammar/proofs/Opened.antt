@@ -1,7 +1,9 @@
 -- A body is read and noted behind the word of its message or group, whose place stands in the fault of one that is too deep.
-use Rattle.std.proofs.Common.{◌≡◌, ℕ, Bool, true, false, cond, List, [], ◌∷◌, ◌++◌, Option, Some, None, Result, Ok, Err, refl, sym, ap, subst, ◌∙◌, append-nil, append_assoc, inl, inr}
-use Rattle.protox_fault.specs.Faults.{Span}
+use Rattle.std.proofs.Common.{◌≡◌, ℕ, Bool, true, false, cond, List, [], ◌∷◌, ◌++◌, length, Option, Some, None, Result, Ok, Err, refl, sym, ap, subst, ◌∙◌, append-nil, append_assoc, inl, inr, arith}
+use Rattle.protox_fault.specs.Faults.{Span, SpanLiesIn}
+use Rattle.protox_fault.specs.declared.error.ParseErrorKind.TheVariants as fault
 use Rattle.protox_lexeme.specs.Shapes.{Shape, Ident, Mark, Row, Rows}
+use Rattle.protox_ast.proofs.Standing.{Stand, in-order}
 use Rattle.protox_ast.specs.Keywords.{Each}
 use Rattle.protox_ast.specs.Places.{Place}
 use Rattle.protox_ast.specs.Spelling as s
@@ -11,23 +13,25 @@ use Rattle.protox_grammar.specs.Reader as reader
 use Rattle.protox_grammar.specs.Reader.{Reader, Refusal, fixed, seq, mapped, head_in, is_token, ◌>>=◌}
 use Rattle.protox_grammar.specs.Rule.{Rule}
 use Rattle.protox_grammar.specs.Steps.{Event, ANode, AKeyword, ADeepBody, AnOpenBrace, ACloseBrace, Token, Note, Steps, plainly, plain_trace, rows_before, then_steps}
-use Rattle.protox_grammar.specs.Told.{Notes, behind, deep_notes, told, past, first_behind, first_with, keyword_behind, checked, then_notes}
+use Rattle.protox_grammar.specs.Told.{Notes, behind, deep_notes, is_invalid, told, past, first_behind, first_with, keyword_behind, checked, then_notes}
+use Rattle.protox_grammar.specs.declared.note.Noted.TheVariants.{Fault}
 use Rattle.protox_grammar.proofs.Braced.{Braced}
 use Rattle.protox_grammar.proofs.Notes.{notes, notes-append, brace_events, IsBrace, events-braces}
 use Rattle.protox_grammar.proofs.Reading.{chosen, err-ok}
 use Rattle.protox_grammar.proofs.Shown.{Shown}
 use Rattle.protox_grammar.proofs.Shows.{Shows, as_is, seq-shows, mapped-shows, right-shows}
 use Rattle.protox_grammar.proofs.Takes.{bind_ok, ok_is}
-use Rattle.protox_grammar.proofs.Telling.{Voice, silent, noting, NotesOf, notes_of, Tells, told-append, past-append, seq_trace, note_trace, fixed-leaves, plain-tells, then-seen}
+use Rattle.protox_grammar.proofs.Telling.{AllLie, Lie, both-lie, cond-lie, then-lie, Voice, silent, noting, NotesOf, notes_of, Tells, told-append, past-append, seq_trace, note_trace, fixed-leaves, plain-tells, then-seen}
 use Rattle.protox_grammar.proofs.Tracing.{IsTraced}
 
--- The notes are those that are told of the steps behind a word at this place.
+-- The notes are those that are told of the steps behind a word at this place. They lie in the source that this and the rows stand in.
 pub record Opened {A B : Type 0} (read : Reader Place A) (trace : Rows Place → Steps Place) (view : A → B) : Type 0 where
   pub code : Reader Place B
   pub notes : Span → Rows Place → Notes
   pub shows : Shows view read code
   pub says : (first : Option (t.Package Place)) (w : Place) (xs : Rows Place) → told first w (trace xs) xs ≡ notes w.span xs
   pub left : (xs : Rows Place) (x : A × Rows Place) → read xs ≡ Ok x → past (trace xs) xs ≡ x.1
+  pub lies : (w : Span) (low high : ℕ) (xs : Rows Place) → SpanLiesIn high w → Stand low high xs → AllLie high (notes w xs)
 
 -- ---- what leaves the word as it is
 
@@ -116,6 +120,11 @@ module _ {A B C D : Type 0} {v : Voice} {a : Reader Place A} {b : Reader Place B
       past-append (s xs) (then_steps (a xs) (λ i. u i.1)) xs ∙ ap (λ r. past (then_steps r (λ i. u i.1)) (past (s xs) xs)) p.1
       ∙ ap (past (u p.0.1)) (x.tells.left xs p.0 p.1) ∙ y.left p.0.1 q.0 q.1 ∙ ap (λ i. i.1) same
 
+  pub before-lie : (x : Shown v a s f) (y : Opened b u g) (w : Span) (low high : ℕ) (xs : Rows Place) → SpanLiesIn high w → Stand low high xs → AllLie high (before_notes v x.notes x.code (y.notes w) xs)
+  before-lie x y w low high xs e h =
+      subst (AllLie high) (before-is v x.notes x.code (y.notes w) xs) (both-lie high (notes_of v x.notes xs) (then_notes (y.notes w) (x.code xs)) (x.tells.lies low high xs h)
+      (subst (AllLie high) (then-seen f a x.code x.shows (y.notes w) xs) (then-lie v a s x.notes x.tells (y.notes w) high (λ m ys k. y.lies w m high ys e k) low xs h)))
+
   -- what stands between the word and the body
   abbrev pub before : Shown v a s f → Keeps s → Opened b u g → Opened {B = C × D} (seq a b) (seq_trace s a u) (λ i. (f i.0, g i.1))
   before x h y = record {
@@ -124,11 +133,21 @@ module _ {A B C D : Type 0} {v : Voice} {a : Reader Place A} {b : Reader Place B
     shows = seq-shows x.shows y.shows;
     says = before-says x h y;
     left = before-left x y;
+    lies = before-lie x y;
   }
 
 -- what is read, seen further
 abbrev pub body_seen : {A B C : Type 0} {a : Reader Place A} {s : Rows Place → Steps Place} {f : A → B} (to : B → C) → Opened a s f → Opened a s (λ x. to (f x))
-body_seen to x = record { code = mapped to x.code; notes = x.notes; shows = right-shows to x.shows; says = x.says; left = x.left }
+body_seen to x = record { code = mapped to x.code; notes = x.notes; shows = right-shows to x.shows; says = x.says; left = x.left; lies = x.lies }
+
+-- a row that stands in a source lies in it, and the rows behind it stand there, too
+pub fixed-stands : (word : Shape) (low high : ℕ) (xs : Rows Place) (x : Place × Rows Place) → fixed word xs ≡ Ok x → Stand low high xs → SpanLiesIn high x.0.span × Stand x.0.span.end high x.1
+unfolding fixed
+fixed-stands word low high [] x e h = absurd (err-ok x _ e)
+fixed-stands word low high (r ∷ rs) x e h = elim (chosen (is_token word r.shape) (Ok (r.at, rs)) (reader.refuse (r ∷ rs)) (Ok x) e) [
+  | inl q ↦ subst (λ (v : Place × Rows Place). SpanLiesIn high v.0.span × Stand v.0.span.end high v.1) (ok_is (r.at, rs) x q.1) ((omega (arith, h.1), in-order r.at.span.end high rs h.2), h.2)
+  | inr q ↦ absurd (err-ok x _ q.1)
+]
 
 abbrev pub word_trace : List ℕ → Rows Place → Steps Place
 word_trace word = note_trace (plain_trace (fixed (Ident word))) (fixed (Ident word)) AKeyword
@@ -178,20 +197,27 @@ module _ {B D : Type 0} {b : Reader Place B} {u : Rows Place → Steps Place} {g
       past-append (word_trace word xs) (then_steps (fixed (Ident word) xs) (λ i. u i.1)) xs ∙ ap (λ r. past (then_steps r (λ i. u i.1)) (past (word_trace word xs) xs)) p.1
       ∙ ap (past (u p.0.1)) (word-past xs p.0 p.1) ∙ y.left p.0.1 q.0 q.1 ∙ ap (λ i. i.1) same
 
+  pub word-lie : Lie word_notes
+  word-lie low high xs h = at (fixed (Ident word) xs) refl
+    where
+      at : (r : Result (Place × Rows Place) Refusal) → fixed (Ident word) xs ≡ r → AllLie high (checked (λ m rest. y.notes m.span rest) r)
+      at (Ok z) q = let p = fixed-stands (Ident word) low high xs z q h in y.lies z.0.span z.0.span.end high z.1 p.0 p.1
+      at (Err d) q = tt
+
   -- the word and what it opens
   abbrev pub opened_by : Shown {B = Place × D} noting (seq (fixed (Ident word)) b) (seq_trace (word_trace word) (fixed (Ident word)) u) (λ i. (i.0, g i.1))
   opened_by = record {
     code = seq (fixed (Ident word)) y.code;
     notes = word_notes;
     shows = seq-shows (as_is (fixed (Ident word))) y.shows;
-    tells = record { says = word-says; left = word-left };
+    tells = record { says = word-says; left = word-left; lies = word-lie };
   }
 
 -- ---- bodies
 
 -- a body whose notes don't depend on its word
 abbrev pub opened : {A B : Type 0} {a : Reader Place A} {s : Rows Place → Steps Place} {f : A → B} → Shown noting a s f → Opened a s f
-opened x = record { code = x.code; notes = λ w. x.notes; shows = x.shows; says = x.tells.says; left = x.tells.left }
+opened x = record { code = x.code; notes = λ w. x.notes; shows = x.shows; says = x.tells.says; left = x.tells.left; lies = λ w low high xs e h. x.tells.lies low high xs h }
 
 -- one that is too deep is not read
 abbrev pub sunk_notes : Span → Rows Place → Notes
@@ -215,5 +241,11 @@ sunk-left (r ∷ rs) x e = elim (chosen (is_token (Mark s.open_brace) r.shape) (
   | inr h ↦ absurd (err-ok x _ h.1)
 ]
 
+pub sunk-lie : (w : Span) (low high : ℕ) (xs : Rows Place) → SpanLiesIn high w → Stand low high xs → AllLie high (sunk_notes w xs)
+sunk-lie w low high [] e h = tt
+sunk-lie w low high (r ∷ rs) e h =
+    cond-lie high (is_token (Mark s.open_brace) r.shape) (deep_notes w rs) []
+    (cond-lie high (head_in is_invalid rs) [] (record { left = length rs; noted = Fault (fault.MessageNestingTooDeep w) } ∷ []) tt (e, tt)) tt
+
 abbrev pub sunk : {B : Type 0} (view : t.Mbody Place → B) → Opened deep_read (deep_trace ADeepBody) view
-sunk view = record { code = mapped view deep_read; notes = sunk_notes; shows = right-shows view (as_is deep_read); says = sunk-says; left = sunk-left }
+sunk view = record { code = mapped view deep_read; notes = sunk_notes; shows = right-shows view (as_is deep_read); says = sunk-says; left = sunk-left; lies = sunk-lie }

@@ -24,7 +24,7 @@ use Rattle.protox_grammar.proofs.Numbers.{numbered-append, numbered-length, numb
 use Rattle.protox_grammar.proofs.Placing.{last_row, is_string_row, last-past}
 
 -- the front and the row behind it, of a source and of a file that goes on there
-module _ (lexemes : List Lexeme) (n : ℕ) (f : t.File ℕ) (go : GoesOn lexemes n f) where
+module _ (lexemes : List Lexeme) (n : ℕ) (f : t.File ℕ) (go : GoesOn (shapes (rows_of lexemes)) n f) where
   abbrev all_shapes : List Shape
   all_shapes = shapes (rows_of lexemes)
 
@@ -53,7 +53,7 @@ module _ (lexemes : List Lexeme) (n : ℕ) (f : t.File ℕ) (go : GoesOn lexemes
       let agree = l.traced.agrees front rest f [] more (main.ends-of 0 31 f go.spells.1) (append-nil ((main.file_at 0 31).spell f) ∙ main.spelling 0 31 f ∙ file-is) alike in
       ap (λ u. until n (trace 31 u)) source-is ∙ ap (λ u. until u (trace 31 (front ++ rest))) (sym front-length) ∙ agree ∙ ap (λ u. until u (steps 31 f)) front-length
 
-module _ (lexemes : List Lexeme) (n : ℕ) (wrong : ParseErrorKind) (f : t.File ℕ) (go : GoesOn lexemes n f) where
+module _ (lexemes : List Lexeme) (n : ℕ) (wrong : ParseErrorKind) (f : t.File ℕ) (go : GoesOn (shapes (rows_of lexemes)) n f) where
   abbrev Q : CheckedNode ℕ → Type 0
   Q = IsWrongBefore lexemes n wrong
 

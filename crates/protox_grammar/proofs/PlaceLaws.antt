@@ -5,11 +5,11 @@ use Rattle.protox_fault.specs.Faults.{Span}
 use Rattle.protox_lexeme.specs.Shapes.{Shape, Rows}
 use Rattle.protox_lexeme.specs.Table.{rows_of, gaps_of}
 use Rattle.protox_ast.specs.Checks.{WrongCheckedNode}
-use Rattle.protox_ast.specs.Fronts.{numbered, shapes}
+use Rattle.protox_ast.specs.Spells.{numbered, row_at, shapes}
 use Rattle.protox_ast.specs.Places.{Place, placed_from, later_gaps}
 use Rattle.protox_ast.specs.Truth.{token_span}
 use Rattle.protox_grammar.specs.CheckLaws.{levels, noted_by, steps_by, tokens_of}
-use Rattle.protox_grammar.specs.MarkLaws.{map_marks, map_node, map_steps, no_place, mark_at, place_at, placed_tokens, placed_steps_by, placed_nodes_by, PlacesAreLookedUp, PlacesHaveSpans, SpansAreLeft, NotedAlike, WrongAlike}
+use Rattle.protox_grammar.specs.MarkLaws.{map_marks, map_node, map_steps, no_place, place_at, placed_tokens, placed_steps_by, placed_nodes_by, PlacesAreLookedUp, PlacesHaveSpans, SpansAreLeft, NotedAlike, WrongAlike}
 use Rattle.protox_grammar.specs.Noted.{noted_nodes, open_behind, trace}
 use Rattle.protox_grammar.specs.Steps.{tokens, until, has_deep}
 use Rattle.protox_grammar.proofs.Marks.{same-length}
@@ -22,7 +22,7 @@ placed-shapes : (first : Bool) (rows : Rows Span) (gaps : List (List Shape)) →
 placed-shapes first [] gaps = refl
 placed-shapes first (r ∷ rs) gaps = ap (λ u. r.shape ∷ u) (placed-shapes false rs (later_gaps gaps))
 
-placed-spans : (first : Bool) (rows : Rows Span) (gaps : List (List Shape)) (n : ℕ) → (mark_at no_place (placed_from first rows gaps) n).span ≡ token_span rows n
+placed-spans : (first : Bool) (rows : Rows Span) (gaps : List (List Shape)) (n : ℕ) → (row_at no_place (placed_from first rows gaps) n).at.span ≡ token_span rows n
 placed-spans first [] gaps n = refl
 placed-spans first (r ∷ rs) gaps zero = refl
 placed-spans first (r ∷ rs) gaps (suc n) = placed-spans false rs (later_gaps gaps) n
@@ -31,7 +31,7 @@ placed-bare : (first : Bool) (rows : Rows Span) (gaps : List (List Shape)) → m
 placed-bare first [] gaps = refl
 placed-bare first (r ∷ rs) gaps = ap (λ u. r ∷ u) (placed-bare false rs (later_gaps gaps))
 
-looked-up : {M : Type 0} (none : M) (ys : Rows M) (k : ℕ) (look : ℕ → M) → ((i j : ℕ) → i ≡ k + j → look i ≡ mark_at none ys j) → map_marks look (numbered k (shapes ys)) ≡ ys
+looked-up : {M : Type 0} (none : M) (ys : Rows M) (k : ℕ) (look : ℕ → M) → ((i j : ℕ) → i ≡ k + j → look i ≡ (row_at none ys j).at) → map_marks look (numbered k (shapes ys)) ≡ ys
 looked-up none [] k look h = refl
 looked-up none (y ∷ ys) k look h =
     λ i. record { shape = y.shape; at = h k 0 (omega arith) i } ∷ looked-up none ys (suc k) look (λ i j e. h i (suc j) (omega (arith, e))) i

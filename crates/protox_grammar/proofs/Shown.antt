@@ -1,6 +1,7 @@
 -- What the code reads and notes beside what a rule of the grammar reads and notes, from one term a rule.
 use Rattle.std.proofs.Common.{◌≡◌, ℕ, suc, Bool, List, [], ◌∷◌, ◌++◌, map, length, Option, Some, None, option_map, Result, Ok, Err, inl, inr, ◌⊎◌, refl, sym, ap, subst, ◌∙◌, append-nil, append_assoc}
 use Rattle.protox_lexeme.specs.Shapes.{Shape, Ident, Mark, Rows}
+use Rattle.protox_ast.proofs.Standing.{Stand}
 use Rattle.protox_ast.specs.Places.{Place}
 use Rattle.protox_ast.specs.Tree as t
 use Rattle.protox_grammar.specs.Class.{Set, in_set}
@@ -14,7 +15,7 @@ use Rattle.protox_grammar.proofs.Reading.{IsRead, chosen, err-ok}
 use Rattle.protox_grammar.proofs.Shows as by_shows
 use Rattle.protox_grammar.proofs.Shows.{Shows, as_is, seq-shows, mapped-shows, either-shows, star-shows, optional-shows, shows-by, left-shows, right-shows}
 use Rattle.protox_grammar.proofs.Telling as telling
-use Rattle.protox_grammar.proofs.Telling.{Voice, silent, noting, NotesOf, notes_of, either_of, Tells, Leaves, plain-tells, fixed-leaves, leaf-leaves, seq_trace, both_notes, seq-tells, mapped-tells, choice_trace, choice_notes, choice-tells, nothing-tells, note_trace, note-tells, times_notes, star-tells}
+use Rattle.protox_grammar.proofs.Telling.{AllLie, Voice, silent, noting, NotesOf, notes_of, either_of, Tells, Leaves, plain-tells, fixed-leaves, leaf-leaves, seq_trace, both_notes, seq-tells, mapped-tells, choice_trace, choice_notes, choice-tells, nothing-tells, note_trace, note-tells, times_notes, star-tells}
 
 -- `code` reads what `read` does, seen by `view`, and `notes` are what is told of its steps.
 pub record Shown {A B : Type 0} (v : Voice) (read : Reader Place A) (trace : Rows Place → Steps Place) (view : A → B) : Type 0 where
@@ -148,14 +149,15 @@ peek-left p (r ∷ rs) x e = elim (chosen (p r.shape) (Ok (tt, r ∷ rs)) (reade
 ]
 
 abbrev pub peek : (G : Set) → Shown silent (reader.peek (in_set G)) (λ xs. []) (λ u. u)
-peek G = record { code = reader.peek (in_set G); notes = tt; shows = as_is (reader.peek (in_set G)); tells = record { says = λ first w xs. refl; left = peek-left (in_set G) } }
+peek G = record { code = reader.peek (in_set G); notes = tt; shows = as_is (reader.peek (in_set G)); tells = record { says = λ first w xs. refl; left = peek-left (in_set G); lies = λ low high xs h. tt } }
 
 -- ---- notes
 
 -- what is noted once something was read
 abbrev pub with_note : {A C : Type 0} {a : Reader Place A} {s : Rows Place → Steps Place} {f : A → C} (event : A → Event Place) (check : C → Rows Place → Notes)
-    → ((first : Option (t.Package Place)) (w : Place) (x : A) (rest : Rows Place) → told first w (Note (event x) ∷ []) rest ≡ check (f x) rest) → Shown silent a s f → Shown noting a (note_trace s a event) f
-with_note {a = a} {s = s} {f = f} event check e x = record { code = x.code; notes = λ xs. checked check (x.code xs); shows = x.shows; tells = note-tells a s f x.code event check e x.shows x.tells }
+    → ((first : Option (t.Package Place)) (w : Place) (x : A) (rest : Rows Place) → told first w (Note (event x) ∷ []) rest ≡ check (f x) rest)
+    → ((low high : ℕ) (xs : Rows Place) (x : A × Rows Place) → a xs ≡ Ok x → Stand low high xs → AllLie high (check (f x.0) x.1)) → Shown silent a s f → Shown noting a (note_trace s a event) f
+with_note {a = a} {s = s} {f = f} event check e safe x = record { code = x.code; notes = λ xs. checked check (x.code xs); shows = x.shows; tells = note-tells a s f x.code event check e safe x.shows x.tells }
 
 -- ---- one, and more of them
 
@@ -209,6 +211,7 @@ module _ {A B C : Type 0} (a : Reader Place A) (b : Reader Place B) (c : Reader 
           let same : seq (seq a b) c xs ≡ Ok (((x.0.0, x.0.1.0), x.0.1.1), x.1) =
           kept (seq (seq a b) c xs) ∙ first-same (λ t. t) (a xs) ∙ ap (λ v. v >>= by_shows.seen (rounded (λ t. t))) e in
           ap (λ l. past l xs) (sym (steps-first (s xs) (a xs))) ∙ h.left xs _ same;
+      lies = h.lies;
     }
       where
         kept : {X : Type 0} (r : Result (X × Rows Place) Refusal) → r ≡ (r >>= by_shows.seen (λ t. t))

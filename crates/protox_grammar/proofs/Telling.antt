@@ -1,7 +1,10 @@
 -- What is noted of the steps of readers, as it is noted by the code that reads: each part notes its own, one behind the other.
 use Rattle.std.proofs.Common.{◌≡◌, ◌<◌, ℕ, zero, suc, ◌-◌, Bool, true, false, cond, List, [], ◌∷◌, ◌++◌, length, take, Option, Some, None, Result, Ok, Err, refl, sym, ap, subst, ◌∙◌, append_assoc, append-nil, arith, inl, inr}
 use Rattle.std.proofs.lemmas.List.{length-append}
+use Rattle.protox_fault.specs.Faults.{LiesIn}
 use Rattle.protox_lexeme.specs.Shapes.{Shape, Row, Rows}
+use Rattle.protox_ast.proofs.Standing.{Stand}
+use Rattle.protox_ast.specs.Keywords.{Each}
 use Rattle.protox_ast.specs.Places.{Place}
 use Rattle.protox_ast.specs.Tree as t
 use Rattle.protox_ast.specs.CheckedNodes.{APackageAgain, ATooDeep}
@@ -9,6 +12,9 @@ use Rattle.protox_grammar.specs.Reader.{Reader, Refusal, head_in, ◌>>=◌, fix
 use Rattle.protox_grammar.specs.Reader as reader
 use Rattle.protox_grammar.specs.Steps.{Event, ANode, APackage, AKeyword, ADeepBody, ADeeperBody, AnOpenBrace, ACloseBrace, Token, Note, Steps, plainly, then_steps, rows_before, plain_trace, star_trace}
 use Rattle.protox_grammar.specs.Told.{Notes, behind, node_notes, brace_notes, told, past, first_behind, keyword_behind, checked, then_notes}
+use Rattle.protox_grammar.specs.declared.note.Note as note_type
+use Rattle.protox_grammar.specs.declared.note.Noted.{Noted}
+use Rattle.protox_grammar.specs.declared.note.Noted.TheVariants.{Fault, TextFormat}
 use Rattle.protox_grammar.proofs.Takes.{bind_ok, ok_is}
 use Rattle.protox_grammar.proofs.Reading.{chosen, err-ok}
 use Rattle.protox_grammar.proofs.StepLists.{take-front}
@@ -46,6 +52,35 @@ past-plainly : (front rest : Rows Place) → past (plainly front) (front ++ rest
 past-plainly [] rest = refl
 past-plainly (r ∷ rs) rest = past-plainly rs rest
 
+-- ---- where what is noted lies
+
+-- a fault that is noted lies in a source of so many bytes
+abbrev pub NotedLies : ℕ → Noted → Type 0
+NotedLies high (Fault f) = LiesIn high f
+NotedLies high (TextFormat on) = Unit {0}
+
+abbrev pub AllLie : ℕ → Notes → Type 0
+AllLie high ns = Each (λ (n : note_type.Note). NotedLies high n.noted) ns
+
+-- What is noted of rows that stand in a source lies in it.
+abbrev pub Lie : (Rows Place → Notes) → Type 0
+Lie f = (low high : ℕ) (xs : Rows Place) → Stand low high xs → AllLie high (f xs)
+
+pub both-lie : (high : ℕ) (xs ys : Notes) → AllLie high xs → AllLie high ys → AllLie high (xs ++ ys)
+both-lie high [] ys h k = k
+both-lie high (x ∷ xs) ys h k = (h.0, both-lie high xs ys h.1 k)
+
+pub cond-lie : (high : ℕ) (b : Bool) (xs ys : Notes) → AllLie high xs → AllLie high ys → AllLie high (cond b xs ys)
+cond-lie high true xs ys h k = h
+cond-lie high false xs ys h k = k
+
+-- rows behind others stand where those do
+pub past-stand : (l : Steps Place) (low high : ℕ) (xs : Rows Place) → Stand low high xs → (m : ℕ) × Stand m high (past l xs)
+past-stand [] low high xs h = (low, h)
+past-stand (Token r ∷ l) low high [] h = past-stand l low high [] h
+past-stand (Token r ∷ l) low high (x ∷ xs) h = past-stand l x.at.span.end high xs h.2
+past-stand (Note e ∷ l) low high xs h = past-stand l low high xs h
+
 -- ---- whether a rule notes anything
 
 pub data Voice : Type 0 where
@@ -66,10 +101,12 @@ abbrev pub either_of : Voice → Voice → Voice
 either_of silent v = v
 either_of noting v = noting
 
--- The notes are those that are told of the steps, whatever was noted before; and the steps go to the rows that are left.
+-- The notes are those that are told of the steps, whatever was noted before; the steps go to the rows that are left; and what is noted lies in the
+-- source that the rows stand in.
 pub record Tells {A : Type 0} (v : Voice) (read : Reader Place A) (trace : Rows Place → Steps Place) (notes : NotesOf v) : Type 0 where
   pub says : (first : Option (t.Package Place)) (w : Place) (xs : Rows Place) → told first w (trace xs) xs ≡ notes_of v notes xs
   pub left : (xs : Rows Place) (x : A × Rows Place) → read xs ≡ Ok x → past (trace xs) xs ≡ x.1
+  pub lies : Lie (notes_of v notes)
 
 -- ---- rules without notes
 
@@ -87,6 +124,7 @@ pub plain-tells : {A : Type 0} (read : Reader Place A) → Leaves read → Tells
 plain-tells read h = record {
   says = λ first w xs. told-plainly first w (rows_before xs (read xs)) xs;
   left = λ xs x e. let k = h xs x e in ap (λ v. past (plainly (rows_before xs v)) xs) e ∙ left-plainly xs k.0 x k.1;
+  lies = λ low high xs h. tt;
 }
 
 abbrev read_as : {A : Type 0} → A × Rows Place → Result (A × Rows Place) Refusal
@@ -166,6 +204,19 @@ checked-then : {A : Type 0} (g : Rows Place → Notes) (r : Result (A × Rows Pl
 checked-then g (Ok x) = refl
 checked-then g (Err e) = refl
 
+-- what is noted behind a reading
+pub after-lie : {A : Type 0} (v : Voice) (a : Reader Place A) (s : Rows Place → Steps Place) (f : NotesOf v) → Tells v a s f → (g : A → Rows Place → Notes) (low high : ℕ) (xs : Rows Place)
+    → ((x : A × Rows Place) → a xs ≡ Ok x → (m : ℕ) → Stand m high x.1 → AllLie high (g x.0 x.1)) → Stand low high xs → AllLie high (checked g (a xs))
+after-lie {A = A} v a s f h g low high xs e stands = at (a xs) refl
+  where
+    at : (r : Result (A × Rows Place) Refusal) → a xs ≡ r → AllLie high (checked g r)
+    at (Ok x) q = let p = past-stand (s xs) low high xs stands in e x q p.0 (subst (Stand p.0 high) (h.left xs x q) p.1)
+    at (Err d) q = tt
+
+pub then-lie : {A : Type 0} (v : Voice) (a : Reader Place A) (s : Rows Place → Steps Place) (f : NotesOf v) → Tells v a s f → (g : Rows Place → Notes) (high : ℕ)
+    → ((low : ℕ) (xs : Rows Place) → Stand low high xs → AllLie high (g xs)) → (low : ℕ) (xs : Rows Place) → Stand low high xs → AllLie high (then_notes g (a xs))
+then-lie v a s f h g high l low xs stands = subst (AllLie high) (checked-then g (a xs)) (after-lie v a s f h (λ x rest. g rest) low high xs (λ x q m k. l m x.1 k) stands)
+
 module _ {A B C : Type 0} (j k : Voice) (a : Reader Place A) (b : Reader Place B) (s u : Rows Place → Steps Place) (f : NotesOf j) (g : NotesOf k) (view : A → C) (c : Reader Place C) where
   pub seq-tells : Shows view a c → Tells j a s f → Tells k b u g → Tells (either_of j k) (seq a b) (seq_trace s a u) (both_notes j k f c g)
   seq-tells shows h l = record {
@@ -178,6 +229,9 @@ module _ {A B C : Type 0} (j k : Voice) (a : Reader Place A) (b : Reader Place B
         let q = bind_ok (b p.0.1) (λ y. Ok ((p.0.0, y.0), y.1)) x p.2 in
         let same : ((p.0.0, q.0.0), q.0.1) ≡ x = ok_is ((p.0.0, q.0.0), q.0.1) x q.2 in
         past-then j a s f h (λ v. u v.1) xs p.0 q.0.1 p.1 (l.left p.0.1 q.0 q.1) ∙ ap (λ v. v.1) same;
+    lies = λ low high xs e.
+        subst (AllLie high) (both-is j k f c g xs) (both-lie high (notes_of j f xs) (then_notes (notes_of k g) (c xs)) (h.lies low high xs e)
+        (subst (AllLie high) (then-seen view a c shows (notes_of k g) xs) (then-lie j a s f h (notes_of k g) high (λ m ys i. l.lies m high ys i) low xs e)));
   }
 
 -- ---- under another name
@@ -189,6 +243,7 @@ mapped-tells v a s f to h = record {
       let p = bind_ok (a xs) (λ y. Ok (to y.0, y.1)) x e in
       let same : (to p.0.0, p.0.1) ≡ x = ok_is (to p.0.0, p.0.1) x p.2 in
       h.left xs p.0 p.1 ∙ ap (λ y. y.1) same;
+  lies = h.lies;
 }
 
 -- ---- one of two
@@ -225,10 +280,11 @@ module _ {A B C : Type 0} (p : Shape → Bool) (j k : Voice) (a : Reader Place A
   choice-tells h l = record {
     says = λ first w xs. split-told (head_in p xs) (s xs) (u xs) xs first w (notes_of j f xs) (notes_of k g xs) (h.says first w xs) (l.says first w xs) ∙ choice-is p j k f g xs;
     left = λ xs x e. choice-left xs (head_in p xs) h l x e;
+    lies = λ low high xs e. subst (AllLie high) (choice-is p j k f g xs) (cond-lie high (head_in p xs) (notes_of j f xs) (notes_of k g xs) (h.lies low high xs e) (l.lies low high xs e));
   }
 
 pub nothing-tells : Tells silent (reader.nothing {M = Place}) (λ xs. []) tt
-nothing-tells = record { says = λ first w xs. refl; left = λ xs x e. ap (λ v. v.1) (ok_is (tt, xs) x e) }
+nothing-tells = record { says = λ first w xs. refl; left = λ xs x e. ap (λ v. v.1) (ok_is (tt, xs) x e); lies = λ low high xs h. tt }
 
 -- ---- a note behind what was read
 
@@ -241,12 +297,16 @@ checked-seen view check (Err e) = refl
 
 pub note-tells : {A C : Type 0} (a : Reader Place A) (s : Rows Place → Steps Place) (view : A → C) (c : Reader Place C) (event : A → Event Place) (check : C → Rows Place → Notes)
     → ((first : Option (t.Package Place)) (w : Place) (x : A) (rest : Rows Place) → told first w (Note (event x) ∷ []) rest ≡ check (view x) rest)
+    → ((low high : ℕ) (xs : Rows Place) (x : A × Rows Place) → a xs ≡ Ok x → Stand low high xs → AllLie high (check (view x.0) x.1))
     → Shows view a c → Tells silent a s tt → Tells noting a (note_trace s a event) (λ xs. checked check (c xs))
-note-tells a s view c event check e shows h = record {
+note-tells a s view c event check e safe shows h = record {
   says = λ first w xs.
       told-then silent a s tt h (λ x. Note (event x.0) ∷ []) (λ x. check (view x.0) x.1) (λ i v x. e i v x.0 x.1) first w xs
       ∙ checked-seen view check (a xs) ∙ ap (checked check) (sym (shows.same xs));
   left = λ xs x q. past-then silent a s tt h (λ v. Note (event v.0) ∷ []) xs x x.1 q refl;
+  lies = λ low high xs k.
+      subst (AllLie high) (checked-seen view check (a xs) ∙ ap (checked check) (sym (shows.same xs)))
+      (after-lie silent a s tt h (λ x rest. check (view x) rest) low high xs (λ x q m g. safe low high xs x q k) k);
 }
 
 -- ---- again and again
@@ -300,9 +360,20 @@ module _ {A C : Type 0} (p : Shape → Bool) (v : Voice) (a : Reader Place A) (s
   star-is : (xs : Rows Place) → notes_at p c (notes_of v f) (suc (length xs)) xs ≡ notes_of v (times_notes p v c f) xs
   star-is xs = times-is p c v f xs
 
+  star-lie : (n : ℕ) → Lie (notes_at p c (notes_of v f) n)
+  star-lie zero low high xs e = tt
+  star-lie (suc n) low high xs e =
+      cond-lie high (head_in p xs) (notes_of v f xs ++ then_notes (notes_at p c (notes_of v f) n) (c xs)) []
+      (both-lie high (notes_of v f xs) (then_notes (notes_at p c (notes_of v f) n) (c xs)) (h.lies low high xs e)
+      (subst (AllLie high) (then-seen view a c shows (notes_at p c (notes_of v f) n) xs) (then-lie v a s f h (notes_at p c (notes_of v f) n) high (λ m ys i. star-lie n m high ys i) low xs e))) tt
+
   pub star-tells : Tells v (star p a) (λ xs. star_trace p a s (suc (length xs)) xs) (times_notes p v c f)
   unfolding star
-  star-tells = record { says = λ first w xs. star-says (suc (length xs)) first w xs ∙ star-is xs; left = λ xs x e. star-left (suc (length xs)) xs x e }
+  star-tells = record {
+    says = λ first w xs. star-says (suc (length xs)) first w xs ∙ star-is xs;
+    left = λ xs x e. star-left (suc (length xs)) xs x e;
+    lies = λ low high xs e. subst (AllLie high) (star-is xs) (star-lie (suc (length xs)) low high xs e);
+  }
 
 -- ---- one turn of a loop that notes
 

@@ -5,7 +5,7 @@ use Rattle.std.proofs.lemmas.Bool.{eqb-true, eq-eqb, ne_eqb, ltb-true}
 use Rattle.std.specs.Prelude.{nat_lt}
 use Rattle.std.specs.Str.{bytes_eq}
 use Rattle.protox_lexeme.specs.Shapes.{Shape, Ident, Int, Float, Str, Mark, LineComment, BlockComment, Newline, Invalid}
-use Rattle.protox_grammar.specs.Class.{class, place, keywords, marks, byte_place, only, among}
+use Rattle.protox_grammar.specs.Class.{class, place, keywords, marks, byte_place, only, among, a_string}
 use Rattle.protox_grammar.specs.Reader.{is_token, any_word, is_word_of, is_string}
 use Rattle.protox_grammar.specs.Rules.{find_scalar, all_scalars, see_scalar, scalar_set}
 use Rattle.protox_ast.specs.Tree as t
@@ -97,7 +97,7 @@ scalar-class (Ident w) = found-any all_scalars w ∙ any-class scalars refl w
 scalar-class (Mark n) = sym (none-past scalars refl (42 + byte_place marks n) (omega arith))
 scalar-class _ = refl
 
-pub string-class : (s : Shape) → is_string s ≡ only 41 (class s)
+pub string-class : (s : Shape) → is_string s ≡ only a_string (class s)
 string-class (Str t) = refl
 string-class (Ident t) = sym (ne_eqb (place keywords t) 41 (λ h. omega (arith, h, place-le keywords t)))
 string-class (Mark b) = sym (ne_eqb (42 + byte_place marks b) 41 (λ h. omega (arith, h)))

@@ -1,6 +1,6 @@
 -- Each rule that has messages in it is its plain form, whatever is said of the bodies in it.
 use Rattle.std.proofs.Common.{◌≡◌, ℕ, true, false, List, [], ◌∷◌, ◌++◌, Option, Some, None, codes, refl, ap, inl, inr, ◌⊎◌}
-use Rattle.protox_grammar.specs.Class.{apart, place, keywords, only, among, but}
+use Rattle.protox_grammar.specs.Class.{apart, place, keywords, among, just_word, just_mark, but_mark, among_words}
 use Rattle.protox_lexeme.specs.Shapes.{Rows}
 use Rattle.protox_grammar.specs.Steps.{Steps}
 use Rattle.protox_grammar.specs.Reader.{Reader}
@@ -79,15 +79,15 @@ module _ {M : Type 0} (m : M) (read : Reader M (t.Mbody M)) (steps : t.Mbody M �
   abbrev bodies : Rule M (t.Mbody M)
   bodies = rule.sealed Q Q read steps trace
 
-  pub group-is : (x : t.Group M) → s.group x ≡ (seq (r.the (codes "group")) (seq r.ident (seq (r.sign s.equals) (seq r.int (seq (optional (only 49) r.list) bodies))))).spell (rule.from_group x)
+  pub group-is : (x : t.Group M) → s.group x ≡ (seq (r.the (codes "group")) (seq r.ident (seq (r.sign s.equals) (seq r.int (seq (optional (just_mark s.open_bracket) r.list) bodies))))).spell (rule.from_group x)
   unfolding rule.group r.int r.list
   group-is (t.group_of a1 a2 a3 a4 a5 a6) = refl
 
-  pub group-obeys : (x : t.Group M) → rule.GroupHas Q x → (seq (r.the (codes "group")) (seq r.ident (seq (r.sign s.equals) (seq r.int (seq (optional (only 49) r.list) bodies))))).may (rule.from_group x)
+  pub group-obeys : (x : t.Group M) → rule.GroupHas Q x → (seq (r.the (codes "group")) (seq r.ident (seq (r.sign s.equals) (seq r.int (seq (optional (just_mark s.open_bracket) r.list) bodies))))).may (rule.from_group x)
   unfolding rule.group r.int r.list
   group-obeys (t.group_of a1 a2 a3 a4 a5 a6) h = (tt, (tt, (tt, (tt, (h.0, h.1)))))
 
-  pub group-allows : (x : t.Group M) → (seq (r.the (codes "group")) (seq r.ident (seq (r.sign s.equals) (seq r.int (seq (optional (only 49) r.list) bodies))))).may (rule.from_group x) → rule.GroupHas Q x
+  pub group-allows : (x : t.Group M) → (seq (r.the (codes "group")) (seq r.ident (seq (r.sign s.equals) (seq r.int (seq (optional (just_mark s.open_bracket) r.list) bodies))))).may (rule.from_group x) → rule.GroupHas Q x
   unfolding rule.group r.int r.list
   group-allows (t.group_of a1 a2 a3 a4 a5 a6) h = (h.1.1.1.1.0, h.1.1.1.1.1)
 
@@ -97,19 +97,19 @@ module _ {M : Type 0} (m : M) (read : Reader M (t.Mbody M)) (steps : t.Mbody M �
   pub group-there : (x : M × (t.Word M × (M × (t.Int M × (Option (t.OptionList M) × t.Mbody M))))) → rule.from_group (rule.to_group x) ≡ x
   group-there (x) = refl
 
-  pub field_kind-is : (x : t.FieldKind M) → s.field_kind x ≡ (unless (among (16 ∷ 18 ∷ [])) (choice (only 16) r.map (rule.group bodies)) r.normal).spell (rule.from_field_kind x)
+  pub field_kind-is : (x : t.FieldKind M) → s.field_kind x ≡ (unless (among_words (codes "map" ∷ codes "group" ∷ [])) (choice (just_word (codes "map")) r.map (rule.group bodies)) r.normal).spell (rule.from_field_kind x)
   unfolding rule.field_kind rule.group r.map r.normal
   field_kind-is (t.map x) = refl
   field_kind-is (t.group x) = refl
   field_kind-is (t.normal x) = refl
 
-  pub field_kind-obeys : (x : t.FieldKind M) → rule.KindHas Q x → (unless (among (16 ∷ 18 ∷ [])) (choice (only 16) r.map (rule.group bodies)) r.normal).may (rule.from_field_kind x)
+  pub field_kind-obeys : (x : t.FieldKind M) → rule.KindHas Q x → (unless (among_words (codes "map" ∷ codes "group" ∷ [])) (choice (just_word (codes "map")) r.map (rule.group bodies)) r.normal).may (rule.from_field_kind x)
   unfolding rule.field_kind rule.group r.map r.normal
   field_kind-obeys (t.map x) h = h
   field_kind-obeys (t.group x) h = h
   field_kind-obeys (t.normal x) h = ((type-rest (codes "map") (codes "group") k.scalars x.type h.0, h.1), normal-stops m (codes "map" ∷ codes "group" ∷ []) refl refl refl x (type-first (codes "map") (codes "group") k.scalars x.type h.0))
 
-  pub field_kind-allows : (x : t.FieldKind M) → (unless (among (16 ∷ 18 ∷ [])) (choice (only 16) r.map (rule.group bodies)) r.normal).may (rule.from_field_kind x) → rule.KindHas Q x
+  pub field_kind-allows : (x : t.FieldKind M) → (unless (among_words (codes "map" ∷ codes "group" ∷ [])) (choice (just_word (codes "map")) r.map (rule.group bodies)) r.normal).may (rule.from_field_kind x) → rule.KindHas Q x
   unfolding rule.field_kind rule.group r.map r.normal
   field_kind-allows (t.map x) h = h
   field_kind-allows (t.group x) h = h
@@ -125,17 +125,17 @@ module _ {M : Type 0} (m : M) (read : Reader M (t.Mbody M)) (steps : t.Mbody M �
   field_kind-there (inl (inr x)) = refl
   field_kind-there (inr x) = refl
 
-  pub field-is : (x : t.Field M) → s.field x ≡ (unless (among (13 ∷ 14 ∷ 15 ∷ [])) (seq r.label (rule.field_kind bodies)) (rule.field_kind bodies)).spell (rule.from_field x)
+  pub field-is : (x : t.Field M) → s.field x ≡ (unless (among_words (codes "optional" ∷ codes "required" ∷ codes "repeated" ∷ [])) (seq r.label (rule.field_kind bodies)) (rule.field_kind bodies)).spell (rule.from_field x)
   unfolding rule.field rule.field_kind r.label
   field-is (t.field_of (Some l) x) = refl
   field-is (t.field_of None x) = refl
 
-  pub field-obeys : (x : t.Field M) → rule.FieldHas Q x → (unless (among (13 ∷ 14 ∷ 15 ∷ [])) (seq r.label (rule.field_kind bodies)) (rule.field_kind bodies)).may (rule.from_field x)
+  pub field-obeys : (x : t.Field M) → rule.FieldHas Q x → (unless (among_words (codes "optional" ∷ codes "required" ∷ codes "repeated" ∷ [])) (seq r.label (rule.field_kind bodies)) (rule.field_kind bodies)).may (rule.from_field x)
   unfolding rule.field rule.field_kind r.label
   field-obeys (t.field_of (Some l) x) h = (tt, h.1)
   field-obeys (t.field_of None x) h = (h.1, kind-stops m (k.labels) refl refl refl refl refl x h.0)
 
-  pub field-allows : (x : t.Field M) → (unless (among (13 ∷ 14 ∷ 15 ∷ [])) (seq r.label (rule.field_kind bodies)) (rule.field_kind bodies)).may (rule.from_field x) → rule.FieldHas Q x
+  pub field-allows : (x : t.Field M) → (unless (among_words (codes "optional" ∷ codes "required" ∷ codes "repeated" ∷ [])) (seq r.label (rule.field_kind bodies)) (rule.field_kind bodies)).may (rule.from_field x) → rule.FieldHas Q x
   unfolding rule.field rule.field_kind r.label
   field-allows (t.field_of (Some l) x) h = (tt, h.1)
   field-allows (t.field_of None x) h = (stops-kind m (k.labels) refl refl refl refl refl x h.1, h.0)
@@ -148,19 +148,19 @@ module _ {M : Type 0} (m : M) (read : Reader M (t.Mbody M)) (steps : t.Mbody M �
   field-there (inl x) = refl
   field-there (inr x) = refl
 
-  pub oneof_element-is : (x : t.OneofElement M) → s.oneof_element x ≡ (choice (only 56) (r.sign s.semicolon) (unless (among (6 ∷ [])) r.option (rule.field bodies))).spell (rule.from_oneof_element x)
+  pub oneof_element-is : (x : t.OneofElement M) → s.oneof_element x ≡ (choice (just_mark s.semicolon) (r.sign s.semicolon) (unless (among_words (codes "option" ∷ [])) r.option (rule.field bodies))).spell (rule.from_oneof_element x)
   unfolding rule.oneof_element rule.field r.option
   oneof_element-is (t.oneof_empty x) = refl
   oneof_element-is (t.oneof_option x) = refl
   oneof_element-is (t.oneof_field x) = refl
 
-  pub oneof_element-obeys : (x : t.OneofElement M) → rule.OneofElementHas Q x → (choice (only 56) (r.sign s.semicolon) (unless (among (6 ∷ [])) r.option (rule.field bodies))).may (rule.from_oneof_element x)
+  pub oneof_element-obeys : (x : t.OneofElement M) → rule.OneofElementHas Q x → (choice (just_mark s.semicolon) (r.sign s.semicolon) (unless (among_words (codes "option" ∷ [])) r.option (rule.field bodies))).may (rule.from_oneof_element x)
   unfolding rule.oneof_element rule.field r.option
   oneof_element-obeys (t.oneof_empty x) h = tt
   oneof_element-obeys (t.oneof_option x) h = h
   oneof_element-obeys (t.oneof_field x) h = (h.1, field-stops m (codes "option" ∷ []) refl refl refl refl refl refl refl refl x h.0)
 
-  pub oneof_element-allows : (x : t.OneofElement M) → (choice (only 56) (r.sign s.semicolon) (unless (among (6 ∷ [])) r.option (rule.field bodies))).may (rule.from_oneof_element x) → rule.OneofElementHas Q x
+  pub oneof_element-allows : (x : t.OneofElement M) → (choice (just_mark s.semicolon) (r.sign s.semicolon) (unless (among_words (codes "option" ∷ [])) r.option (rule.field bodies))).may (rule.from_oneof_element x) → rule.OneofElementHas Q x
   unfolding rule.oneof_element rule.field r.option
   oneof_element-allows (t.oneof_empty x) h = tt
   oneof_element-allows (t.oneof_option x) h = h
@@ -176,17 +176,17 @@ module _ {M : Type 0} (m : M) (read : Reader M (t.Mbody M)) (steps : t.Mbody M �
   oneof_element-there (inr (inl x)) = refl
   oneof_element-there (inr (inr x)) = refl
 
-  pub oneof_elements-is : (x : t.OneofElements M) → s.oneof_elements x ≡ (times (but 48) (rule.oneof_element bodies)).spell (rule.from_oneof_elements x)
+  pub oneof_elements-is : (x : t.OneofElements M) → s.oneof_elements x ≡ (times (but_mark s.close_brace) (rule.oneof_element bodies)).spell (rule.from_oneof_elements x)
   unfolding rule.oneof_elements rule.oneof_element
   oneof_elements-is t.no_oneof_elements = refl
   oneof_elements-is (t.oneof_elements x xs) = ap (λ ys. s.oneof_element x ++ ys) (oneof_elements-is xs)
 
-  pub oneof_elements-obeys : (x : t.OneofElements M) → rule.OneofElementsHas Q x → (times (but 48) (rule.oneof_element bodies)).may (rule.from_oneof_elements x)
+  pub oneof_elements-obeys : (x : t.OneofElements M) → rule.OneofElementsHas Q x → (times (but_mark s.close_brace) (rule.oneof_element bodies)).may (rule.from_oneof_elements x)
   unfolding rule.oneof_elements rule.oneof_element
   oneof_elements-obeys t.no_oneof_elements h = tt
   oneof_elements-obeys (t.oneof_elements x xs) h = (h.0, oneof_elements-obeys xs h.1)
 
-  pub oneof_elements-allows : (x : t.OneofElements M) → (times (but 48) (rule.oneof_element bodies)).may (rule.from_oneof_elements x) → rule.OneofElementsHas Q x
+  pub oneof_elements-allows : (x : t.OneofElements M) → (times (but_mark s.close_brace) (rule.oneof_element bodies)).may (rule.from_oneof_elements x) → rule.OneofElementsHas Q x
   unfolding rule.oneof_elements rule.oneof_element
   oneof_elements-allows t.no_oneof_elements h = tt
   oneof_elements-allows (t.oneof_elements x xs) h = (h.0, oneof_elements-allows xs h.1)
@@ -217,17 +217,17 @@ module _ {M : Type 0} (m : M) (read : Reader M (t.Mbody M)) (steps : t.Mbody M �
   pub oneof-there : (x : M × (t.Word M × (M × (t.OneofElements M × M)))) → rule.from_oneof (rule.to_oneof x) ≡ x
   oneof-there (x) = refl
 
-  pub extend_element-is : (x : t.ExtendElement M) → s.extend_element x ≡ (choice (only 56) (r.sign s.semicolon) (rule.field bodies)).spell (rule.from_extend_element x)
+  pub extend_element-is : (x : t.ExtendElement M) → s.extend_element x ≡ (choice (just_mark s.semicolon) (r.sign s.semicolon) (rule.field bodies)).spell (rule.from_extend_element x)
   unfolding rule.extend_element rule.field
   extend_element-is (t.extend_empty x) = refl
   extend_element-is (t.extend_field x) = refl
 
-  pub extend_element-obeys : (x : t.ExtendElement M) → rule.ExtendElementHas Q x → (choice (only 56) (r.sign s.semicolon) (rule.field bodies)).may (rule.from_extend_element x)
+  pub extend_element-obeys : (x : t.ExtendElement M) → rule.ExtendElementHas Q x → (choice (just_mark s.semicolon) (r.sign s.semicolon) (rule.field bodies)).may (rule.from_extend_element x)
   unfolding rule.extend_element rule.field
   extend_element-obeys (t.extend_empty x) h = tt
   extend_element-obeys (t.extend_field x) h = h
 
-  pub extend_element-allows : (x : t.ExtendElement M) → (choice (only 56) (r.sign s.semicolon) (rule.field bodies)).may (rule.from_extend_element x) → rule.ExtendElementHas Q x
+  pub extend_element-allows : (x : t.ExtendElement M) → (choice (just_mark s.semicolon) (r.sign s.semicolon) (rule.field bodies)).may (rule.from_extend_element x) → rule.ExtendElementHas Q x
   unfolding rule.extend_element rule.field
   extend_element-allows (t.extend_empty x) h = tt
   extend_element-allows (t.extend_field x) h = h
@@ -240,17 +240,17 @@ module _ {M : Type 0} (m : M) (read : Reader M (t.Mbody M)) (steps : t.Mbody M �
   extend_element-there (inl x) = refl
   extend_element-there (inr x) = refl
 
-  pub extend_elements-is : (x : t.ExtendElements M) → s.extend_elements x ≡ (times (but 48) (rule.extend_element bodies)).spell (rule.from_extend_elements x)
+  pub extend_elements-is : (x : t.ExtendElements M) → s.extend_elements x ≡ (times (but_mark s.close_brace) (rule.extend_element bodies)).spell (rule.from_extend_elements x)
   unfolding rule.extend_elements rule.extend_element
   extend_elements-is t.no_extend_elements = refl
   extend_elements-is (t.extend_elements x xs) = ap (λ ys. s.extend_element x ++ ys) (extend_elements-is xs)
 
-  pub extend_elements-obeys : (x : t.ExtendElements M) → rule.ExtendElementsHas Q x → (times (but 48) (rule.extend_element bodies)).may (rule.from_extend_elements x)
+  pub extend_elements-obeys : (x : t.ExtendElements M) → rule.ExtendElementsHas Q x → (times (but_mark s.close_brace) (rule.extend_element bodies)).may (rule.from_extend_elements x)
   unfolding rule.extend_elements rule.extend_element
   extend_elements-obeys t.no_extend_elements h = tt
   extend_elements-obeys (t.extend_elements x xs) h = (h.0, extend_elements-obeys xs h.1)
 
-  pub extend_elements-allows : (x : t.ExtendElements M) → (times (but 48) (rule.extend_element bodies)).may (rule.from_extend_elements x) → rule.ExtendElementsHas Q x
+  pub extend_elements-allows : (x : t.ExtendElements M) → (times (but_mark s.close_brace) (rule.extend_element bodies)).may (rule.from_extend_elements x) → rule.ExtendElementsHas Q x
   unfolding rule.extend_elements rule.extend_element
   extend_elements-allows t.no_extend_elements h = tt
   extend_elements-allows (t.extend_elements x xs) h = (h.0, extend_elements-allows xs h.1)
@@ -299,7 +299,7 @@ module _ {M : Type 0} (m : M) (read : Reader M (t.Mbody M)) (steps : t.Mbody M �
   pub message-there : (x : M × (t.Word M × t.Mbody M)) → rule.from_message (rule.to_message x) ≡ x
   message-there (x) = refl
 
-  pub element-is : (x : t.Element M) → s.element x ≡ (choice (only 56) (r.sign s.semicolon) (unless (among (17 ∷ 5 ∷ 12 ∷ 11 ∷ 6 ∷ 34 ∷ 35 ∷ [])) (rule.special bodies) (rule.field bodies))).spell (rule.from_element x)
+  pub element-is : (x : t.Element M) → s.element x ≡ (choice (just_mark s.semicolon) (r.sign s.semicolon) (unless (among_words (codes "oneof" ∷ codes "enum" ∷ codes "message" ∷ codes "extend" ∷ codes "option" ∷ codes "reserved" ∷ codes "extensions" ∷ [])) (rule.special bodies) (rule.field bodies))).spell (rule.from_element x)
   unfolding rule.element rule.field rule.oneof r.enum rule.message rule.extend r.option r.reserved r.extensions
   element-is (t.empty x) = refl
   element-is (t.field x) = refl
@@ -311,7 +311,7 @@ module _ {M : Type 0} (m : M) (read : Reader M (t.Mbody M)) (steps : t.Mbody M �
   element-is (t.reserved x) = refl
   element-is (t.extensions x) = refl
 
-  pub element-obeys : (x : t.Element M) → rule.ElementHas Q x → (choice (only 56) (r.sign s.semicolon) (unless (among (17 ∷ 5 ∷ 12 ∷ 11 ∷ 6 ∷ 34 ∷ 35 ∷ [])) (rule.special bodies) (rule.field bodies))).may (rule.from_element x)
+  pub element-obeys : (x : t.Element M) → rule.ElementHas Q x → (choice (just_mark s.semicolon) (r.sign s.semicolon) (unless (among_words (codes "oneof" ∷ codes "enum" ∷ codes "message" ∷ codes "extend" ∷ codes "option" ∷ codes "reserved" ∷ codes "extensions" ∷ [])) (rule.special bodies) (rule.field bodies))).may (rule.from_element x)
   unfolding rule.element rule.field rule.oneof r.enum rule.message rule.extend r.option r.reserved r.extensions
   element-obeys (t.empty x) h = tt
   element-obeys (t.field x) h = (h.1, field-stops m (k.in_message) refl refl refl refl refl refl refl refl x h.0)
@@ -323,7 +323,7 @@ module _ {M : Type 0} (m : M) (read : Reader M (t.Mbody M)) (steps : t.Mbody M �
   element-obeys (t.reserved x) h = tt
   element-obeys (t.extensions x) h = h
 
-  pub element-allows : (x : t.Element M) → (choice (only 56) (r.sign s.semicolon) (unless (among (17 ∷ 5 ∷ 12 ∷ 11 ∷ 6 ∷ 34 ∷ 35 ∷ [])) (rule.special bodies) (rule.field bodies))).may (rule.from_element x) → rule.ElementHas Q x
+  pub element-allows : (x : t.Element M) → (choice (just_mark s.semicolon) (r.sign s.semicolon) (unless (among_words (codes "oneof" ∷ codes "enum" ∷ codes "message" ∷ codes "extend" ∷ codes "option" ∷ codes "reserved" ∷ codes "extensions" ∷ [])) (rule.special bodies) (rule.field bodies))).may (rule.from_element x) → rule.ElementHas Q x
   unfolding rule.element rule.field rule.oneof r.enum rule.message rule.extend r.option r.reserved r.extensions
   element-allows (t.empty x) h = tt
   element-allows (t.field x) h = (stops-field m (k.in_message) refl refl refl refl refl refl refl refl x h.1, h.0)
@@ -357,17 +357,17 @@ module _ {M : Type 0} (m : M) (read : Reader M (t.Mbody M)) (steps : t.Mbody M �
   element-there (inr (inl (inr (inr (inr (inr (inr (inl x)))))))) = refl
   element-there (inr (inl (inr (inr (inr (inr (inr (inr x)))))))) = refl
 
-  pub elements-is : (x : t.Elements M) → s.elements x ≡ (times (but 48) (rule.element bodies)).spell (rule.from_elements x)
+  pub elements-is : (x : t.Elements M) → s.elements x ≡ (times (but_mark s.close_brace) (rule.element bodies)).spell (rule.from_elements x)
   unfolding rule.elements rule.element
   elements-is t.no_elements = refl
   elements-is (t.elements x xs) = ap (λ ys. s.element x ++ ys) (elements-is xs)
 
-  pub elements-obeys : (x : t.Elements M) → rule.ElementsHas Q x → (times (but 48) (rule.element bodies)).may (rule.from_elements x)
+  pub elements-obeys : (x : t.Elements M) → rule.ElementsHas Q x → (times (but_mark s.close_brace) (rule.element bodies)).may (rule.from_elements x)
   unfolding rule.elements rule.element
   elements-obeys t.no_elements h = tt
   elements-obeys (t.elements x xs) h = (h.0, elements-obeys xs h.1)
 
-  pub elements-allows : (x : t.Elements M) → (times (but 48) (rule.element bodies)).may (rule.from_elements x) → rule.ElementsHas Q x
+  pub elements-allows : (x : t.Elements M) → (times (but_mark s.close_brace) (rule.element bodies)).may (rule.from_elements x) → rule.ElementsHas Q x
   unfolding rule.elements rule.element
   elements-allows t.no_elements h = tt
   elements-allows (t.elements x xs) h = (h.0, elements-allows xs h.1)
@@ -398,7 +398,7 @@ module _ {M : Type 0} (m : M) (read : Reader M (t.Mbody M)) (steps : t.Mbody M �
   pub mbody-there : (x : M × (t.Elements M × M)) → rule.from_mbody (rule.to_mbody x) ≡ x
   mbody-there (x) = refl
 
-  pub statement-is : (x : t.Statement M) → s.statement x ≡ (choice (only 56) (r.sign s.semicolon) (choice (only 2) r.«import» (choice (only 1) r.«package» (choice (only 6) r.option (choice (only 11) (rule.extend bodies) (choice (only 12) (rule.message bodies) (choice (only 5) r.enum r.service))))))).spell (rule.from_statement x)
+  pub statement-is : (x : t.Statement M) → s.statement x ≡ (choice (just_mark s.semicolon) (r.sign s.semicolon) (choice (just_word (codes "import")) r.«import» (choice (just_word (codes "package")) r.«package» (choice (just_word (codes "option")) r.option (choice (just_word (codes "extend")) (rule.extend bodies) (choice (just_word (codes "message")) (rule.message bodies) (choice (just_word (codes "enum")) r.enum r.service))))))).spell (rule.from_statement x)
   unfolding rule.statement r.«import» r.«package» r.option rule.extend rule.message r.enum r.service
   statement-is (t.an_empty x) = refl
   statement-is (t.an_import x) = refl
@@ -409,7 +409,7 @@ module _ {M : Type 0} (m : M) (read : Reader M (t.Mbody M)) (steps : t.Mbody M �
   statement-is (t.an_enum x) = refl
   statement-is (t.a_service x) = refl
 
-  pub statement-obeys : (x : t.Statement M) → rule.StatementHas Q x → (choice (only 56) (r.sign s.semicolon) (choice (only 2) r.«import» (choice (only 1) r.«package» (choice (only 6) r.option (choice (only 11) (rule.extend bodies) (choice (only 12) (rule.message bodies) (choice (only 5) r.enum r.service))))))).may (rule.from_statement x)
+  pub statement-obeys : (x : t.Statement M) → rule.StatementHas Q x → (choice (just_mark s.semicolon) (r.sign s.semicolon) (choice (just_word (codes "import")) r.«import» (choice (just_word (codes "package")) r.«package» (choice (just_word (codes "option")) r.option (choice (just_word (codes "extend")) (rule.extend bodies) (choice (just_word (codes "message")) (rule.message bodies) (choice (just_word (codes "enum")) r.enum r.service))))))).may (rule.from_statement x)
   unfolding rule.statement r.«import» r.«package» r.option rule.extend rule.message r.enum r.service
   statement-obeys (t.an_empty x) h = tt
   statement-obeys (t.an_import x) h = tt
@@ -420,7 +420,7 @@ module _ {M : Type 0} (m : M) (read : Reader M (t.Mbody M)) (steps : t.Mbody M �
   statement-obeys (t.an_enum x) h = h
   statement-obeys (t.a_service x) h = h
 
-  pub statement-allows : (x : t.Statement M) → (choice (only 56) (r.sign s.semicolon) (choice (only 2) r.«import» (choice (only 1) r.«package» (choice (only 6) r.option (choice (only 11) (rule.extend bodies) (choice (only 12) (rule.message bodies) (choice (only 5) r.enum r.service))))))).may (rule.from_statement x) → rule.StatementHas Q x
+  pub statement-allows : (x : t.Statement M) → (choice (just_mark s.semicolon) (r.sign s.semicolon) (choice (just_word (codes "import")) r.«import» (choice (just_word (codes "package")) r.«package» (choice (just_word (codes "option")) r.option (choice (just_word (codes "extend")) (rule.extend bodies) (choice (just_word (codes "message")) (rule.message bodies) (choice (just_word (codes "enum")) r.enum r.service))))))).may (rule.from_statement x) → rule.StatementHas Q x
   unfolding rule.statement r.«import» r.«package» r.option rule.extend rule.message r.enum r.service
   statement-allows (t.an_empty x) h = tt
   statement-allows (t.an_import x) h = tt

@@ -2,7 +2,7 @@
 use Rattle.std.specs.Prelude.{◌≤◌, ℕ, zero, suc, if◌then◌else◌, List, [], ◌∷◌, Option, Some, None, ◌⊎◌, codes}
 use Rattle.std.proofs.Common.{inl, inr}
 use Rattle.protox_lexeme.specs.Shapes.{Mark, Rows}
-use Rattle.protox_grammar.specs.Class.{only, all, but, among}
+use Rattle.protox_grammar.specs.Class.{all, just_word, just_mark, but_mark, among_words}
 use Rattle.protox_ast.specs.Tree as t
 use Rattle.protox_ast.specs.Spelling as s
 use Rattle.protox_ast.specs.Keywords as k
@@ -99,7 +99,7 @@ from_group (t.group_of m n e i l b) = (m, (n, (e, (i, (l, b)))))
 
 unfoldable pub group : {M : Type 0} → Rule M (t.Mbody M) → Rule M (t.Group M)
 group b = named_fits s.group (GroupHas b.may) (GroupHas b.fits) to_group from_group
-    (seq (noting AKeyword (the (codes "group"))) (seq (noting (λ x. ANode (AGroupName x)) ident) (seq (sign s.equals) (seq int (seq (optional (only 49) list) b)))))
+    (seq (noting AKeyword (the (codes "group"))) (seq (noting (λ x. ANode (AGroupName x)) ident) (seq (sign s.equals) (seq int (seq (optional (just_mark s.open_bracket) list) b)))))
 
 abbrev pub to_field_kind : {M : Type 0} → (t.Map M ⊎ t.Group M) ⊎ t.Normal M → t.FieldKind M
 to_field_kind (inl (inl x)) = t.map x
@@ -113,7 +113,7 @@ from_field_kind (t.normal x) = inr x
 
 unfoldable pub field_kind : {M : Type 0} → Rule M (t.Mbody M) → Rule M (t.FieldKind M)
 field_kind b = named_fits s.field_kind (KindHas b.may) (KindHas b.fits) to_field_kind from_field_kind
-    (unless (among (16 ∷ 18 ∷ [])) (choice (only 16) map (group b)) normal)
+    (unless (among_words (codes "map" ∷ codes "group" ∷ [])) (choice (just_word (codes "map")) map (group b)) normal)
 
 abbrev pub to_field : {M : Type 0} → (t.Label M × t.FieldKind M) ⊎ t.FieldKind M → t.Field M
 to_field (inl x) = t.field_of (Some x.0) x.1
@@ -125,7 +125,7 @@ from_field (t.field_of None x) = inr x
 
 unfoldable pub field : {M : Type 0} → Rule M (t.Mbody M) → Rule M (t.Field M)
 field b = named_fits s.field (FieldHas b.may) (FieldHas b.fits) to_field from_field
-    (unless (among (13 ∷ 14 ∷ 15 ∷ [])) (seq label (field_kind b)) (field_kind b))
+    (unless (among_words k.labels) (seq label (field_kind b)) (field_kind b))
 
 abbrev pub to_oneof_element : {M : Type 0} → M ⊎ (t.OptionStatement M ⊎ t.Field M) → t.OneofElement M
 to_oneof_element (inl x) = t.oneof_empty x
@@ -139,7 +139,7 @@ from_oneof_element (t.oneof_field x) = inr (inr x)
 
 unfoldable pub oneof_element : {M : Type 0} → Rule M (t.Mbody M) → Rule M (t.OneofElement M)
 oneof_element b = named_fits s.oneof_element (OneofElementHas b.may) (OneofElementHas b.fits) to_oneof_element from_oneof_element
-    (choice (only 56) (sign s.semicolon) (unless (among (6 ∷ [])) option (field b)))
+    (choice (just_mark s.semicolon) (sign s.semicolon) (unless (among_words (codes "option" ∷ [])) option (field b)))
 
 abbrev pub to_oneof_elements : {M : Type 0} → List (t.OneofElement M) → t.OneofElements M
 to_oneof_elements [] = t.no_oneof_elements
@@ -150,7 +150,7 @@ from_oneof_elements t.no_oneof_elements = []
 from_oneof_elements (t.oneof_elements x xs) = x ∷ from_oneof_elements xs
 
 unfoldable pub oneof_elements : {M : Type 0} → Rule M (t.Mbody M) → Rule M (t.OneofElements M)
-oneof_elements b = named_fits s.oneof_elements (OneofElementsHas b.may) (OneofElementsHas b.fits) to_oneof_elements from_oneof_elements (times (but 48) (oneof_element b))
+oneof_elements b = named_fits s.oneof_elements (OneofElementsHas b.may) (OneofElementsHas b.fits) to_oneof_elements from_oneof_elements (times (but_mark s.close_brace) (oneof_element b))
 
 abbrev pub to_oneof : {M : Type 0} → M × (t.Word M × (M × (t.OneofElements M × M))) → t.Oneof M
 to_oneof x = t.oneof_of x.0 x.1.0 x.1.1.0 x.1.1.1.0 x.1.1.1.1
@@ -172,7 +172,7 @@ from_extend_element (t.extend_field x) = inr x
 
 unfoldable pub extend_element : {M : Type 0} → Rule M (t.Mbody M) → Rule M (t.ExtendElement M)
 extend_element b = named_fits s.extend_element (ExtendElementHas b.may) (ExtendElementHas b.fits) to_extend_element from_extend_element
-    (choice (only 56) (sign s.semicolon) (field b))
+    (choice (just_mark s.semicolon) (sign s.semicolon) (field b))
 
 abbrev pub to_extend_elements : {M : Type 0} → List (t.ExtendElement M) → t.ExtendElements M
 to_extend_elements [] = t.no_extend_elements
@@ -183,7 +183,7 @@ from_extend_elements t.no_extend_elements = []
 from_extend_elements (t.extend_elements x xs) = x ∷ from_extend_elements xs
 
 unfoldable pub extend_elements : {M : Type 0} → Rule M (t.Mbody M) → Rule M (t.ExtendElements M)
-extend_elements b = named_fits s.extend_elements (ExtendElementsHas b.may) (ExtendElementsHas b.fits) to_extend_elements from_extend_elements (times (but 48) (extend_element b))
+extend_elements b = named_fits s.extend_elements (ExtendElementsHas b.may) (ExtendElementsHas b.fits) to_extend_elements from_extend_elements (times (but_mark s.close_brace) (extend_element b))
 
 abbrev pub to_extend : {M : Type 0} → M × (t.TypeName M × (M × (t.ExtendElements M × M))) → t.Extend M
 to_extend x = t.extend_of x.0 x.1.0 x.1.1.0 x.1.1.1.0 x.1.1.1.1
@@ -232,11 +232,11 @@ from_element (t.reserved x) = inr (inl (inr (inr (inr (inr (inr (inl x)))))))
 from_element (t.extensions x) = inr (inl (inr (inr (inr (inr (inr (inr x)))))))
 
 abbrev pub special : {M : Type 0} → Rule M (t.Mbody M) → Rule M (Special M)
-special b = choice (only 17) (oneof b) (choice (only 5) enum (choice (only 12) (message b) (choice (only 11) (extend b) (choice (only 6) option (choice (only 34) reserved extensions)))))
+special b = choice (just_word (codes "oneof")) (oneof b) (choice (just_word (codes "enum")) enum (choice (just_word (codes "message")) (message b) (choice (just_word (codes "extend")) (extend b) (choice (just_word (codes "option")) option (choice (just_word (codes "reserved")) reserved extensions)))))
 
 unfoldable pub element : {M : Type 0} → Rule M (t.Mbody M) → Rule M (t.Element M)
 element b = named_fits s.element (ElementHas b.may) (ElementHas b.fits) to_element from_element
-    (choice (only 56) (sign s.semicolon) (unless (among (17 ∷ 5 ∷ 12 ∷ 11 ∷ 6 ∷ 34 ∷ 35 ∷ [])) (special b) (field b)))
+    (choice (just_mark s.semicolon) (sign s.semicolon) (unless (among_words k.in_message) (special b) (field b)))
 
 abbrev pub to_elements : {M : Type 0} → List (t.Element M) → t.Elements M
 to_elements [] = t.no_elements
@@ -247,7 +247,7 @@ from_elements t.no_elements = []
 from_elements (t.elements x xs) = x ∷ from_elements xs
 
 unfoldable pub elements : {M : Type 0} → Rule M (t.Mbody M) → Rule M (t.Elements M)
-elements b = named_fits s.elements (ElementsHas b.may) (ElementsHas b.fits) to_elements from_elements (times (but 48) (element b))
+elements b = named_fits s.elements (ElementsHas b.may) (ElementsHas b.fits) to_elements from_elements (times (but_mark s.close_brace) (element b))
 
 abbrev pub to_mbody : {M : Type 0} → M × (t.Elements M × M) → t.Mbody M
 to_mbody x = t.mbody_of x.0 x.1.0 x.1.1
@@ -324,8 +324,8 @@ from_statement (t.a_service x) = inr (inr (inr (inr (inr (inr (inr x))))))
 
 unfoldable pub statement : {M : Type 0} → Rule M (t.Mbody M) → Rule M (t.Statement M)
 statement b = named_fits s.statement (StatementHas b.may) (StatementHas b.fits) to_statement from_statement
-    (choice (only 56) (sign s.semicolon) (choice (only 2) «import» (choice (only 1) (noting APackage «package») (choice (only 6) option (choice (only 11) (extend b) (choice (only 12) (message b) (choice (only 5) enum service)))))))
+    (choice (just_mark s.semicolon) (sign s.semicolon) (choice (just_word (codes "import")) «import» (choice (just_word (codes "package")) (noting APackage «package») (choice (just_word (codes "option")) option (choice (just_word (codes "extend")) (extend b) (choice (just_word (codes "message")) (message b) (choice (just_word (codes "enum")) enum service)))))))
 
 unfoldable pub file : {M : Type 0} → Rule M (t.Mbody M) → Rule M (t.File M)
 file b = named_fits s.spell (FileHas b.may) (FileHas b.fits) (λ x. record { syntax = x.0; statements = x.1 }) (λ x. (x.syntax, x.statements))
-    (seq (optional (only 0) syntax) (times all (statement b)))
+    (seq (optional (just_word (codes "syntax")) syntax) (times all (statement b)))

@@ -9,7 +9,8 @@ use Rattle.protox_fault.specs.declared.error.ParseErrorKind.{ParseErrorKind}
 use Rattle.protox_fault.specs.declared.error.ParseErrorKind.TheVariants.{MessageNestingTooDeep}
 use Rattle.protox_ast.specs.CheckedNodes.{CheckedNode}
 use Rattle.protox_ast.specs.Checks.{WrongCheckedNode}
-use Rattle.protox_ast.specs.Fronts.{Inside, numbered, shapes}
+use Rattle.protox_ast.specs.Fronts.{Inside}
+use Rattle.protox_ast.specs.Spells.{numbered, shapes}
 use Rattle.protox_ast.specs.Truth.{IsTrueOf, IsWrongBefore, IsWrongBehind, token_span}
 use Rattle.protox_grammar.specs.Steps.{Steps, tokens, until, has_deep}
 use Rattle.protox_grammar.specs.Noted.{noted_nodes, open_behind, trace}

@@ -1,21 +1,15 @@
 -- The laws of the grammar: what a list of rows is, and what the reader of the grammar finds.
-use Rattle.std.specs.Prelude.{◌≡◌, ◌↔◌, ◌<◌, ◌≤◌, ℕ, suc, [], ◌∷◌, ◌++◌, length, Ok, Err}
-use Rattle.protox_lexeme.specs.Shapes.{Row, Rows}
+use Rattle.std.specs.Prelude.{◌≡◌, ◌↔◌, ◌<◌, ◌≤◌, ℕ, suc, ◌+◌, List, length, Ok, Err}
+use Rattle.protox_lexeme.specs.Shapes.{Shape, Rows}
 use Rattle.protox_ast.specs.Tree.{File}
 use Rattle.protox_ast.specs.Depth.{depth}
-pub use Rattle.protox_ast.specs.Spells.{Spells, BeginsFile, IsUnexpected, IsEnded}
+use Rattle.protox_ast.specs.Spells.{Spells, GoesOn, BeginsFile, IsUnexpected, IsEnded, shapes}
 use Rattle.protox_grammar.specs.Reader.{Unexpected, Deep}
 use Rattle.protox_grammar.specs.Reads.{read}
 
--- at this row something opens that is too deep: files go on, and all that do have more than n levels
-pub record IsTooDeep {M : Type 0} (n : ℕ) (rows : Rows M) (left : ℕ) : Type 0 where
-  pub front : Rows M
-  pub here : Row M
-  pub rest : Rows M
-  pub parts : rows ≡ front ++ (here ∷ rest)
-  pub left_is : left ≡ suc (length rest)
-  pub begins : BeginsFile (front ++ (here ∷ []))
-  pub deeper : (f : File M) (more : Rows M) → Spells (front ++ (here ∷ more)) f → n < depth f
+-- Token n opens a body that is too deep: files go on behind it, and all that do have more than so many levels.
+abbrev pub IsTooDeep : ℕ → List Shape → ℕ → Type 0
+IsTooDeep levels tokens n = (n < length tokens) × BeginsFile tokens (suc n) × ((f : File ℕ) → GoesOn tokens (suc n) f → levels < depth f)
 
 -- ---- the laws
 
@@ -27,14 +21,14 @@ OneTree M = (rows : Rows M) (f g : File M) → Spells rows f → Spells rows g �
 abbrev pub AcceptsIff : Type 0 → Type 0
 AcceptsIff M = (n : ℕ) (rows : Rows M) (f : File M) → (read n rows ≡ Ok f) ↔ (Spells rows f × (depth f ≤ n))
 
--- before a row that isn't expected there is some file, and with it none
+-- the row with so many left, where reading stops, is unexpected
 abbrev pub TightUnexpected : Type 0 → Type 0
-TightUnexpected M = (n left : ℕ) (rows : Rows M) → read n rows ≡ Err (Unexpected (suc left)) → IsUnexpected rows (suc left)
+TightUnexpected M = (levels left : ℕ) (rows : Rows M) → read levels rows ≡ Err (Unexpected (suc left)) → (n : ℕ) × (n + suc left ≡ length rows) × IsUnexpected (shapes rows) n
 
--- with a row that opens something too deep there is some file, and each such file is deeper
+-- or it opens a body that is too deep
 abbrev pub TightDeep : Type 0 → Type 0
-TightDeep M = (n left : ℕ) (rows : Rows M) → read n rows ≡ Err (Deep (suc left)) → IsTooDeep n rows (suc left)
+TightDeep M = (levels left : ℕ) (rows : Rows M) → read levels rows ≡ Err (Deep (suc left)) → (n : ℕ) × (n + suc left ≡ length rows) × IsTooDeep levels (shapes rows) n
 
 -- rows that ended too soon begin a file and are none
 abbrev pub TightEnd : Type 0 → Type 0
-TightEnd M = (n : ℕ) (rows : Rows M) → read n rows ≡ Err (Unexpected 0) → IsEnded rows
+TightEnd M = (levels : ℕ) (rows : Rows M) → read levels rows ≡ Err (Unexpected 0) → IsEnded (shapes rows)

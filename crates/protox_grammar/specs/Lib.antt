@@ -12,5 +12,4 @@ pub mod MarkLaws
 pub mod Grammar
 pub mod OneOfThree
 pub mod TruthLaws
-pub mod part
 pub mod SpanLaws

@@ -1,6 +1,6 @@
 -- The laws of marks: what is read and what is noted depends on the tokens alone, and not on their marks. The laws of what is noted speak of
 -- tokens that are marked with their numbers. So what is noted of tokens with their places is the same, with each number's place in its stead.
-use Rattle.std.specs.Prelude.{◌≡◌, ◌↔◌, ◌≤◌, ℕ, zero, suc, Bool, List, [], ◌∷◌, map, length, None, Result, Ok, Err, Any}
+use Rattle.std.specs.Prelude.{◌≡◌, ◌↔◌, ◌≤◌, ℕ, Bool, List, [], map, length, None, Result, Ok, Err, Any}
 use Rattle.protox_fault.specs.Faults.{span_from}
 use Rattle.protox_lexeme.specs.Lexemes.{Lexeme}
 use Rattle.protox_lexeme.specs.Shapes.{Rows}
@@ -8,8 +8,8 @@ use Rattle.protox_lexeme.specs.Table.{rows_of, table_of}
 use Rattle.protox_fault.specs.declared.error.ParseErrorKind.{ParseErrorKind}
 use Rattle.protox_ast.specs.CheckedNodes.{CheckedNode, ASyntax, AnImport, AReservedName, AGroupName, APackageAgain, ATooDeep}
 use Rattle.protox_ast.specs.Checks.{WrongCheckedNode}
-use Rattle.protox_ast.specs.Fronts.{shapes}
 use Rattle.protox_ast.specs.Places.{Place, placed}
+use Rattle.protox_ast.specs.Spells.{row_at, shapes}
 use Rattle.protox_ast.specs.Tree as t
 use Rattle.protox_ast.specs.Truth.{token_span}
 use Rattle.protox_grammar.specs.CheckLaws.{IsNotedBy, is_too_deep_by, levels, noted_by, steps_by, tokens_of}
@@ -85,15 +85,9 @@ placed_tokens lexemes = placed (table_of lexemes)
 abbrev pub no_place : Place
 no_place = record { span = span_from 0 0; detached = []; leading = None; trailing = None }
 
--- the mark of row n, or that of no row
-abbrev pub mark_at : {M : Type 0} → M → Rows M → ℕ → M
-mark_at none [] n = none
-mark_at none (row ∷ rows) zero = row.at
-mark_at none (row ∷ rows) (suc n) = mark_at none rows n
-
 -- the place of token n
 abbrev pub place_at : List Lexeme → ℕ → Place
-place_at lexemes n = mark_at no_place (placed_tokens lexemes) n
+place_at lexemes n = (row_at no_place (placed_tokens lexemes) n).at
 
 -- The tokens with their places are those with their numbers, where each number's place is looked up.
 abbrev pub PlacesAreLookedUp : Type 0

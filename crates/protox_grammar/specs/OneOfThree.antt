@@ -1,24 +1,24 @@
 -- What each list of rows is, in the words of the grammar's definitions alone: just one of three things.
-use Rattle.std.specs.Prelude.{◌≡◌, ◌⊎◌, ℕ}
-use Rattle.protox_lexeme.specs.Shapes.{Rows}
-use Rattle.protox_ast.specs.Spells.{Spells, IsUnexpected, IsEnded}
+use Rattle.std.specs.Prelude.{◌≡◌, ◌⊎◌, ℕ, List}
+use Rattle.protox_lexeme.specs.Shapes.{Shape, Rows}
+use Rattle.protox_ast.specs.Spells.{Spells, IsUnexpected, IsEnded, shapes}
 use Rattle.protox_ast.specs.Tree.{File}
 
 -- the rows are the spelling of some file
 abbrev pub IsSpelling : {M : Type 0} → Rows M → Type 0
 IsSpelling {M} rows = (f : File M) × Spells rows f
 
--- one of the rows is unexpected
-abbrev pub HasUnexpected : {M : Type 0} → Rows M → Type 0
-HasUnexpected rows = (left : ℕ) × IsUnexpected rows left
+-- one of the tokens is unexpected
+abbrev pub HasUnexpected : List Shape → Type 0
+HasUnexpected tokens = (n : ℕ) × IsUnexpected tokens n
 
 -- The rows spell a file, or end too soon, or one of them is unexpected. No two of these hold of the same rows, and no two rows are unexpected.
 pub record IsOneOfThree {M : Type 0} (rows : Rows M) : Type 0 where
-  pub is_one : IsSpelling rows ⊎ (IsEnded rows ⊎ HasUnexpected rows)
-  pub spelling_has_not_ended : IsSpelling rows → IsEnded rows → ⊥
-  pub spelling_has_none_unexpected : IsSpelling rows → HasUnexpected rows → ⊥
-  pub ended_has_none_unexpected : IsEnded rows → HasUnexpected rows → ⊥
-  pub one_place : (left other : ℕ) → IsUnexpected rows left → IsUnexpected rows other → left ≡ other
+  pub is_one : IsSpelling rows ⊎ (IsEnded (shapes rows) ⊎ HasUnexpected (shapes rows))
+  pub spelling_has_not_ended : IsSpelling rows → IsEnded (shapes rows) → ⊥
+  pub spelling_has_none_unexpected : IsSpelling rows → HasUnexpected (shapes rows) → ⊥
+  pub ended_has_none_unexpected : IsEnded (shapes rows) → HasUnexpected (shapes rows) → ⊥
+  pub one_place : (n other : ℕ) → IsUnexpected (shapes rows) n → IsUnexpected (shapes rows) other → n ≡ other
 
 -- so it is for each list of rows
 abbrev pub OneOfThree : Type 0 → Type 0

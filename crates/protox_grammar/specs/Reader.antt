@@ -1,6 +1,7 @@
 -- MACHINERY. Reading rows from left to right, up to the first row that doesn't fit.
-use Rattle.std.specs.Prelude.{◌≡◌, ◌<◌, ℕ, zero, suc, List, [], ◌∷◌, length, Bool, true, false, ◌||◌, if◌then◌else◌, ◌==◌, Option, Some, None, Result, Ok, Err}
+use Rattle.std.specs.Prelude.{◌≡◌, ◌<◌, ℕ, zero, suc, List, [], ◌∷◌, length, Bool, false, ◌||◌, if◌then◌else◌, ◌==◌, Option, Some, None, Result, Ok, Err}
 use Rattle.std.specs.Str.{bytes_eq}
+pub use Rattle.protox_ast.specs.Spells.{is_string}
 use Rattle.protox_lexeme.specs.Shapes.{Shape, Ident, Int, Float, Str, Mark, Row, Rows}
 
 -- why rows are not read: the first of so many that are left doesn't fit, or opens a body that is too deep
@@ -22,10 +23,6 @@ any_word (w ∷ ws) t = bytes_eq t w || any_word ws t
 abbrev pub is_word_of : List (List ℕ) → Shape → Bool
 is_word_of ws (Ident t) = any_word ws t
 is_word_of ws _ = false
-
-abbrev pub is_string : Shape → Bool
-is_string (Str t) = true
-is_string _ = false
 
 infixl 10 ◌>>=◌
 abbrev pub ◌>>=◌ : {A B : Type 0} → Result A Refusal → (A → Result B Refusal) → Result B Refusal

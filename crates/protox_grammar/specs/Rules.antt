@@ -4,7 +4,7 @@ use Rattle.std.proofs.Common.{inl, inr}
 use Rattle.std.specs.Str.{bytes_eq}
 use Rattle.protox_lexeme.specs.Shapes as shape
 use Rattle.protox_lexeme.specs.Shapes.{Shape, Ident, Str, Mark, Rows}
-use Rattle.protox_grammar.specs.Class.{Set, only, but, words, among, union}
+use Rattle.protox_grammar.specs.Class.{Set, mark, an_integer, a_float, a_string, only, among, just_word, just_mark, but_mark, among_words, among_marks, union, words}
 use Rattle.protox_ast.specs.Tree as t
 use Rattle.protox_ast.specs.Spelling as s
 use Rattle.protox_ast.specs.Keywords as k
@@ -74,11 +74,11 @@ abbrev pub scalar : {M : Type 0} → Rule M (t.Scalar × M)
 scalar = leaf see_scalar scalar_shape
 
 abbrev pub scalar_set : Set
-scalar_set = among (19 ∷ 20 ∷ 21 ∷ 22 ∷ 23 ∷ 24 ∷ 25 ∷ 26 ∷ 27 ∷ 28 ∷ 29 ∷ 30 ∷ 31 ∷ 32 ∷ 33 ∷ [])
+scalar_set = among_words k.scalars
 
 unfoldable pub strings : {M : Type 0} → Rule M (t.Strings M)
 strings = named s.strings free (λ x. record { first = x.0; others = x.1 }) (λ x. (x.first, x.others))
-    (seq string (times (only 41) string))
+    (seq string (times (only a_string) string))
 
 -- strings that are checked
 abbrev pub noted_strings : {M : Type 0} → (t.Strings M → CheckedNode M) → Rule M (t.Strings M)
@@ -98,15 +98,15 @@ from_import_kind (t.«public» a) = inr a
 
 unfoldable pub import_kind : {M : Type 0} → Rule M (t.ImportKind M)
 import_kind = named s.import_kind free to_import_kind from_import_kind
-    (choice (only 3) (the (codes "weak")) (the (codes "public")))
+    (choice (just_word (codes "weak")) (the (codes "weak")) (the (codes "public")))
 
 unfoldable pub «import» : {M : Type 0} → Rule M (t.Import M)
 «import» = named s.«import» free (λ x. record { keyword = x.0; kind = x.1.0; value = x.1.1.0; end = x.1.1.1 }) (λ x. (x.keyword, (x.kind, (x.value, x.end))))
-    (seq (the (codes "import")) (seq (optional (among (3 ∷ 4 ∷ [])) import_kind) (seq (noted_strings AnImport) (sign s.semicolon))))
+    (seq (the (codes "import")) (seq (optional (among_words (codes "weak" ∷ codes "public" ∷ [])) import_kind) (seq (noted_strings AnImport) (sign s.semicolon))))
 
 unfoldable pub fullident : {M : Type 0} → Rule M (t.FullIdent M)
 fullident = named s.fullident free (λ x. record { first = x.0; others = x.1 }) (λ x. (x.first, x.others))
-    (seq ident (times (only 42) (seq (sign s.dot) ident)))
+    (seq ident (times (just_mark s.dot) (seq (sign s.dot) ident)))
 
 unfoldable pub «package» : {M : Type 0} → Rule M (t.Package M)
 «package» = named s.«package» free (λ x. record { keyword = x.0; name = x.1.0; end = x.1.1 }) (λ x. (x.keyword, (x.name, x.end)))
@@ -114,7 +114,7 @@ unfoldable pub «package» : {M : Type 0} → Rule M (t.Package M)
 
 unfoldable pub typename : {M : Type 0} → Rule M (t.TypeName M)
 typename = named s.typename free (λ x. record { leading_dot = x.0; name = x.1 }) (λ x. (x.leading_dot, x.name))
-    (seq (optional (only 42) (sign s.dot)) fullident)
+    (seq (optional (just_mark s.dot) (sign s.dot)) fullident)
 
 abbrev pub to_part : {M : Type 0} → t.Word M ⊎ (M × (t.TypeName M × M)) → t.Part M
 to_part (inl x) = t.plain_part x
@@ -140,7 +140,7 @@ from_constant (t.float a) = inr (inr a)
 
 unfoldable pub constant : {M : Type 0} → Rule M (t.Constant M)
 constant = named s.constant free to_constant from_constant
-    (choice words ident (choice (only 39) integer float))
+    (choice words ident (choice (only an_integer) integer float))
 
 abbrev pub to_value : {M : Type 0} → (Option M × t.Constant M) ⊎ (t.Strings M ⊎ (M × (Rows M × M))) → t.Value M
 to_value (inl x) = t.constant x.0 x.1
@@ -154,11 +154,11 @@ from_value (t.aggregate a b c) = inr (inr ((a, (b, c))))
 
 unfoldable pub value : {M : Type 0} → Rule M (t.Value M)
 value = named s.value k.KeepsValue to_value from_value
-    (choice (union words (among (39 ∷ 40 ∷ 43 ∷ []))) (seq (optional (only 43) (sign s.minus)) constant) (choice (only 41) strings (seq (noting AnOpenBrace (sign s.open_brace)) (noting (λ x. ACloseBrace x.1) closed))))
+    (choice (union words (among (an_integer ∷ a_float ∷ mark s.minus ∷ []))) (seq (optional (just_mark s.minus) (sign s.minus)) constant) (choice (only a_string) strings (seq (noting AnOpenBrace (sign s.open_brace)) (noting (λ x. ACloseBrace x.1) closed))))
 
 unfoldable pub body : {M : Type 0} → Rule M (t.Body M)
 body = named s.body k.KeepsBody (λ x. record { first = x.0; others = x.1.0; equals_sign = x.1.1.0; value = x.1.1.1 }) (λ x. (x.first, (x.others, (x.equals_sign, x.value))))
-    (seq part (seq (times (only 42) (seq (sign s.dot) part)) (seq (sign s.equals) value)))
+    (seq part (seq (times (just_mark s.dot) (seq (sign s.dot) part)) (seq (sign s.equals) value)))
 
 unfoldable pub option : {M : Type 0} → Rule M (t.OptionStatement M)
 option = named s.option k.KeepsOption (λ x. record { keyword = x.0; body = x.1.0; end = x.1.1 }) (λ x. (x.keyword, (x.body, x.end)))
@@ -166,11 +166,11 @@ option = named s.option k.KeepsOption (λ x. record { keyword = x.0; body = x.1.
 
 unfoldable pub list : {M : Type 0} → Rule M (t.OptionList M)
 list = named s.list k.KeepsList (λ x. record { open_at = x.0; first = x.1.0; others = x.1.1.0; close_at = x.1.1.1 }) (λ x. (x.open_at, (x.first, (x.others, x.close_at))))
-    (seq (sign s.open_bracket) (seq body (seq (times (only 53) (seq (sign s.comma) body)) (sign s.close_bracket))))
+    (seq (sign s.open_bracket) (seq body (seq (times (just_mark s.comma) (seq (sign s.comma) body)) (sign s.close_bracket))))
 
 unfoldable pub int : {M : Type 0} → Rule M (t.Int M)
 int = named s.int free (λ x. record { sign = x.0; number = x.1 }) (λ x. (x.sign, x.number))
-    (seq (optional (only 43) (sign s.minus)) integer)
+    (seq (optional (just_mark s.minus) (sign s.minus)) integer)
 
 abbrev pub to_type : {M : Type 0} → (t.Scalar × M) ⊎ t.TypeName M → t.FieldType M
 to_type (inl x) = t.scalar x.0 x.1
@@ -196,7 +196,7 @@ from_label (t.repeated a) = inr (inr a)
 
 unfoldable pub label : {M : Type 0} → Rule M (t.Label M)
 label = named s.label free to_label from_label
-    (choice (only 13) (the (codes "optional")) (choice (only 14) (the (codes "required")) (the (codes "repeated"))))
+    (choice (just_word (codes "optional")) (the (codes "optional")) (choice (just_word (codes "required")) (the (codes "required")) (the (codes "repeated"))))
 
 -- a normal field whose type may still begin with `map` or `group`
 abbrev pub NormalAlone : {M : Type 0} → t.Normal M → Type 0
@@ -204,11 +204,11 @@ NormalAlone x = k.TypeBeginsWithNone k.scalars x.type × k.Given k.KeepsList x.o
 
 unfoldable pub normal : {M : Type 0} → Rule M (t.Normal M)
 normal = named s.normal NormalAlone (λ x. record { type = x.0; name = x.1.0; equals_sign = x.1.1.0; number = x.1.1.1.0; options = x.1.1.1.1.0; end = x.1.1.1.1.1 }) (λ x. (x.type, (x.name, (x.equals_sign, (x.number, (x.options, x.end))))))
-    (seq type (seq ident (seq (sign s.equals) (seq int (seq (optional (only 49) list) (sign s.semicolon))))))
+    (seq type (seq ident (seq (sign s.equals) (seq int (seq (optional (just_mark s.open_bracket) list) (sign s.semicolon))))))
 
 unfoldable pub map : {M : Type 0} → Rule M (t.Map M)
 map = named s.map k.KeepsMap (λ x. record { keyword = x.0; open_at = x.1.0; key = x.1.1.0; comma_at = x.1.1.1.0; value = x.1.1.1.1.0; close_at = x.1.1.1.1.1.0; name = x.1.1.1.1.1.1.0; equals_sign = x.1.1.1.1.1.1.1.0; number = x.1.1.1.1.1.1.1.1.0; options = x.1.1.1.1.1.1.1.1.1.0; end = x.1.1.1.1.1.1.1.1.1.1 }) (λ x. (x.keyword, (x.open_at, (x.key, (x.comma_at, (x.value, (x.close_at, (x.name, (x.equals_sign, (x.number, (x.options, x.end)))))))))))
-    (seq (the (codes "map")) (seq (sign s.open_angle) (seq type (seq (sign s.comma) (seq type (seq (sign s.close_angle) (seq ident (seq (sign s.equals) (seq int (seq (optional (only 49) list) (sign s.semicolon)))))))))))
+    (seq (the (codes "map")) (seq (sign s.open_angle) (seq type (seq (sign s.comma) (seq type (seq (sign s.close_angle) (seq ident (seq (sign s.equals) (seq int (seq (optional (just_mark s.open_bracket) list) (sign s.semicolon)))))))))))
 
 -- `to` comes before both
 abbrev pub to_range_end : {M : Type 0} → M × (t.Int M ⊎ M) → t.RangeEnd M
@@ -220,7 +220,7 @@ from_range_end (t.up_to m x) = (m, inl x)
 from_range_end (t.up_to_max m x) = (m, inr x)
 
 unfoldable pub range_end : {M : Type 0} → Rule M (t.RangeEnd M)
-range_end = named s.range_end free to_range_end from_range_end (seq (the (codes "to")) (choice (among (39 ∷ 43 ∷ [])) int (the (codes "max"))))
+range_end = named s.range_end free to_range_end from_range_end (seq (the (codes "to")) (choice (among (an_integer ∷ mark s.minus ∷ [])) int (the (codes "max"))))
 
 abbrev pub to_range : {M : Type 0} → t.Int M × (t.RangeEnd M ⊎ Unit {0}) → t.Range M
 to_range (i, inl e) = record { start = i; stop = Some e }
@@ -235,15 +235,15 @@ from_range x = (x.start, from_stop x.stop)
 
 -- without `to` the next token is `,` or `;`
 unfoldable pub range : {M : Type 0} → Rule M (t.Range M)
-range = named s.range free to_range from_range (seq int (choice (only 36) range_end (peek (among (53 ∷ 56 ∷ [])))))
+range = named s.range free to_range from_range (seq int (choice (just_word (codes "to")) range_end (peek (among_marks (s.comma ∷ s.semicolon ∷ [])))))
 
 unfoldable pub ranges : {M : Type 0} → Rule M (t.Ranges M)
 ranges = named s.ranges free (λ x. record { first = x.0; others = x.1 }) (λ x. (x.first, x.others))
-    (seq range (times (only 53) (seq (sign s.comma) range)))
+    (seq range (times (just_mark s.comma) (seq (sign s.comma) range)))
 
 unfoldable pub names : {M : Type 0} → Rule M (t.Names M)
 names = named s.names free (λ x. record { first = x.0; others = x.1 }) (λ x. (x.first, x.others))
-    (seq (noted_strings AReservedName) (times (only 53) (seq (sign s.comma) (noted_strings AReservedName))))
+    (seq (noted_strings AReservedName) (times (just_mark s.comma) (seq (sign s.comma) (noted_strings AReservedName))))
 
 abbrev pub to_reserved_kind : {M : Type 0} → t.Ranges M ⊎ t.Names M → t.ReservedKind M
 to_reserved_kind (inl x) = t.ranges x
@@ -255,7 +255,7 @@ from_reserved_kind (t.names a) = inr a
 
 unfoldable pub reserved_kind : {M : Type 0} → Rule M (t.ReservedKind M)
 reserved_kind = named s.reserved_kind free to_reserved_kind from_reserved_kind
-    (choice (among (39 ∷ 43 ∷ [])) ranges names)
+    (choice (among (an_integer ∷ mark s.minus ∷ [])) ranges names)
 
 unfoldable pub reserved : {M : Type 0} → Rule M (t.Reserved M)
 reserved = named s.reserved free (λ x. record { keyword = x.0; kind = x.1.0; end = x.1.1 }) (λ x. (x.keyword, (x.kind, x.end)))
@@ -267,14 +267,14 @@ ListFits x y = k.ListedAfterTo y.0 x
 
 unfoldable pub extensions : {M : Type 0} → Rule M (t.Extensions M)
 extensions = named s.extensions k.KeepsExtensions (λ x. record { keyword = x.0; ranges = x.1.0; options = x.1.1.0; end = x.1.1.1 }) (λ x. (x.keyword, (x.ranges, (x.options, x.end))))
-    (seq (the (codes "extensions")) (joined ListFits ranges (seq (optional (only 49) list) (sign s.semicolon))))
+    (seq (the (codes "extensions")) (joined ListFits ranges (seq (optional (just_mark s.open_bracket) list) (sign s.semicolon))))
 
 abbrev pub EvalueAlone : {M : Type 0} → t.Evalue M → Type 0
 EvalueAlone x = k.Given k.KeepsList x.options
 
 unfoldable pub evalue : {M : Type 0} → Rule M (t.Evalue M)
 evalue = named s.evalue EvalueAlone (λ x. record { name = x.0; equals_sign = x.1.0; number = x.1.1.0; options = x.1.1.1.0; end = x.1.1.1.1 }) (λ x. (x.name, (x.equals_sign, (x.number, (x.options, x.end)))))
-    (seq ident (seq (sign s.equals) (seq int (seq (optional (only 49) list) (sign s.semicolon)))))
+    (seq ident (seq (sign s.equals) (seq int (seq (optional (just_mark s.open_bracket) list) (sign s.semicolon)))))
 
 abbrev pub to_enum_element : {M : Type 0} → M ⊎ ((t.OptionStatement M ⊎ (t.Reserved M)) ⊎ t.Evalue M) → t.EnumElement M
 to_enum_element (inl x) = t.enum_empty x
@@ -290,11 +290,11 @@ from_enum_element (t.enum_value x) = inr (inr x)
 
 unfoldable pub enum_element : {M : Type 0} → Rule M (t.EnumElement M)
 enum_element = named s.enum_element k.KeepsEnumElement to_enum_element from_enum_element
-    (choice (only 56) (sign s.semicolon) (unless (among (6 ∷ 34 ∷ [])) (choice (only 6) option reserved) evalue))
+    (choice (just_mark s.semicolon) (sign s.semicolon) (unless (among_words (codes "option" ∷ codes "reserved" ∷ [])) (choice (just_word (codes "option")) option reserved) evalue))
 
 unfoldable pub enum : {M : Type 0} → Rule M (t.Enum M)
 enum = named s.enum k.KeepsEnum (λ x. record { keyword = x.0; name = x.1.0; open_at = x.1.1.0; elements = x.1.1.1.0; close_at = x.1.1.1.1 }) (λ x. (x.keyword, (x.name, (x.open_at, (x.elements, x.close_at)))))
-    (seq (the (codes "enum")) (seq ident (seq (sign s.open_brace) (seq (times (but 48) enum_element) (sign s.close_brace)))))
+    (seq (the (codes "enum")) (seq ident (seq (sign s.open_brace) (seq (times (but_mark s.close_brace) enum_element) (sign s.close_brace)))))
 
 abbrev pub to_rpc_type : {M : Type 0} → (M × t.TypeName M) ⊎ t.TypeName M → t.RpcType M
 to_rpc_type (inl x) = record { stream = Some x.0; name = x.1 }
@@ -308,7 +308,7 @@ abbrev pub from_rpc_type : {M : Type 0} → t.RpcType M → (M × t.TypeName M) 
 from_rpc_type x = streamed x.stream x.name
 
 unfoldable pub rpc_type : {M : Type 0} → Rule M (t.RpcType M)
-rpc_type = named s.rpc_type k.BeginsWithNoStream to_rpc_type from_rpc_type (unless (among (9 ∷ [])) (seq (the (codes "stream")) typename) typename)
+rpc_type = named s.rpc_type k.BeginsWithNoStream to_rpc_type from_rpc_type (unless (among_words (codes "stream" ∷ [])) (seq (the (codes "stream")) typename) typename)
 
 abbrev pub to_rpc_element : {M : Type 0} → M ⊎ t.OptionStatement M → t.RpcElement M
 to_rpc_element (inl x) = t.rpc_empty x
@@ -320,7 +320,7 @@ from_rpc_element (t.rpc_option a) = inr a
 
 unfoldable pub rpc_element : {M : Type 0} → Rule M (t.RpcElement M)
 rpc_element = named s.rpc_element k.KeepsRpcElement to_rpc_element from_rpc_element
-    (choice (only 56) (sign s.semicolon) option)
+    (choice (just_mark s.semicolon) (sign s.semicolon) option)
 
 abbrev pub to_rpc_end : {M : Type 0} → M ⊎ (M × (List (t.RpcElement M) × M)) → t.RpcEnd M
 to_rpc_end (inl x) = t.rpc_semicolon x
@@ -332,7 +332,7 @@ from_rpc_end (t.rpc_braces a b c) = inr ((a, (b, c)))
 
 unfoldable pub rpc_end : {M : Type 0} → Rule M (t.RpcEnd M)
 rpc_end = named s.rpc_end k.KeepsRpcEnd to_rpc_end from_rpc_end
-    (choice (only 56) (sign s.semicolon) (seq (sign s.open_brace) (seq (times (but 48) rpc_element) (sign s.close_brace))))
+    (choice (just_mark s.semicolon) (sign s.semicolon) (seq (sign s.open_brace) (seq (times (but_mark s.close_brace) rpc_element) (sign s.close_brace))))
 
 unfoldable pub rpc : {M : Type 0} → Rule M (t.Rpc M)
 rpc = named s.rpc k.KeepsRpc (λ x. record { keyword = x.0; name = x.1.0; input_open = x.1.1.0; input = x.1.1.1.0; input_close = x.1.1.1.1.0; returns_at = x.1.1.1.1.1.0; output_open = x.1.1.1.1.1.1.0; output = x.1.1.1.1.1.1.1.0; output_close = x.1.1.1.1.1.1.1.1.0; end = x.1.1.1.1.1.1.1.1.1 }) (λ x. (x.keyword, (x.name, (x.input_open, (x.input, (x.input_close, (x.returns_at, (x.output_open, (x.output, (x.output_close, x.end))))))))))
@@ -350,8 +350,8 @@ from_service_element (t.service_rpc a) = inr (inr a)
 
 unfoldable pub service_element : {M : Type 0} → Rule M (t.ServiceElement M)
 service_element = named s.service_element k.KeepsServiceElement to_service_element from_service_element
-    (choice (only 56) (sign s.semicolon) (choice (only 6) option rpc))
+    (choice (just_mark s.semicolon) (sign s.semicolon) (choice (just_word (codes "option")) option rpc))
 
 unfoldable pub service : {M : Type 0} → Rule M (t.Service M)
 service = named s.service k.KeepsService (λ x. record { keyword = x.0; name = x.1.0; open_at = x.1.1.0; elements = x.1.1.1.0; close_at = x.1.1.1.1 }) (λ x. (x.keyword, (x.name, (x.open_at, (x.elements, x.close_at)))))
-    (seq (the (codes "service")) (seq ident (seq (sign s.open_brace) (seq (times (but 48) service_element) (sign s.close_brace)))))
+    (seq (the (codes "service")) (seq ident (seq (sign s.open_brace) (seq (times (but_mark s.close_brace) service_element) (sign s.close_brace)))))

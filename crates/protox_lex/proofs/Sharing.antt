@@ -15,16 +15,17 @@ use Rattle.protox_lex.specs.declared.shared_rows.NumberedRow.{NumberedRow}
 use Rattle.protox_lexeme.specs.declared.token.Token.{Token}
 use Rattle.protox_fault.specs.Faults.{Span, span_from}
 use Rattle.protox_lexeme.specs.Shapes.{Shape, Mark, Newline, Row}
-use Rattle.protox_lex.specs.Sharing.{kept_at, shape_at, len_at, row_by, rows_by, AreKept, AreMarks, AreShared, AreLines, AreThere, gap_at}
+use Rattle.protox_lex.specs.Sharing.{kept_at, shape_at, len_at, row_by, rows_by, AreKept, AreMarks, AreClassed, AreShared, AreLines, AreThere, gap_at}
 use Rattle.protox_lex.specs.TableView.{shapes_of_lent}
+use Rattle.protox_lexeme.specs.TokenClass.{class, no_token}
 use Rattle.protox_lexeme.specs.Tokens.{shape_of, shape_of_result}
 
 -- what is kept stays
 kept_stays : (tokens more : List KeptToken) (number : ℕ) → number < length tokens → kept_at (tokens ++ more) number ≡ kept_at tokens number
-kept_stays tokens more number l = get_or-append tokens more record { token = Err tt; len = 0 } number l
+kept_stays tokens more number l = get_or-append tokens more record { token = Err tt; len = 0; class = no_token } number l
 
 kept_last : (tokens : List KeptToken) (token : KeptToken) → kept_at (tokens ++ token ∷ []) (length tokens) ≡ token
-kept_last tokens token = get_or-append_seam tokens token [] record { token = Err tt; len = 0 }
+kept_last tokens token = get_or-append_seam tokens token [] record { token = Err tt; len = 0; class = no_token }
 
 -- a row, by what is kept for it
 abbrev row_with : ℕ → KeptToken → Row Span
@@ -43,7 +44,14 @@ known_push tokens rows row shape len e size = map-append (row_by tokens) rows (r
 
 pub shared_known : (tokens : List KeptToken) (rows : List NumberedRow) (marks : List (Option ℕ)) (recent : List ℕ) (row : NumberedRow) → AreShared tokens rows marks recent → row.token < length tokens
     → AreShared tokens (rows ++ row ∷ []) marks recent
-shared_known tokens rows marks recent row s l = record { kept = All-push (λ (r : NumberedRow). r.token < length tokens) rows row s.kept l; marks_are = s.marks_are; bytes = s.bytes; slots = s.slots }
+shared_known tokens rows marks recent row s l = record { kept = All-push (λ (r : NumberedRow). r.token < length tokens) rows row s.kept l; marks_are = s.marks_are; classed = s.classed; bytes = s.bytes; slots = s.slots }
+
+-- the class of what is kept
+abbrev HasClass : KeptToken → Type 0
+HasClass t = t.class ≡ class (shape_of_result t.token)
+
+pub class_found : (tokens : List KeptToken) (number : ℕ) → AreClassed tokens → number < length tokens → (kept_at tokens number).class ≡ class (shape_at tokens number)
+class_found tokens number h l = h number record { token = Err tt; len = 0; class = no_token } l
 
 -- a row of one more token
 pub rows_push : (tokens : List KeptToken) (token : KeptToken) (rows : List NumberedRow) (row : NumberedRow) → AreKept tokens rows → row.token ≡ length tokens
@@ -64,15 +72,15 @@ marks_push tokens token marks h byte number e =
     (omega (arith, l, length-append tokens (token ∷ [])), ap (λ k. shape_of_result k.token) (kept_stays tokens (token ∷ []) number l) ∙ s)
 
 pub shared_push : (tokens : List KeptToken) (token : KeptToken) (rows : List NumberedRow) (marks : List (Option ℕ)) (recent : List ℕ) (row : NumberedRow) → AreShared tokens rows marks recent → row.token ≡ length tokens
-    → AreShared (tokens ++ token ∷ []) (rows ++ row ∷ []) marks recent
-shared_push tokens token rows marks recent row s e = record { kept = kept_push tokens token rows row s.kept e; marks_are = marks_push tokens token marks s.marks_are; bytes = s.bytes; slots = s.slots }
+    → HasClass token → AreShared (tokens ++ token ∷ []) (rows ++ row ∷ []) marks recent
+shared_push tokens token rows marks recent row s e of = record { kept = kept_push tokens token rows row s.kept e; marks_are = marks_push tokens token marks s.marks_are; classed = All-push HasClass tokens token s.classed of; bytes = s.bytes; slots = s.slots }
 
 -- one more token, and no row of it yet
 pub shared_more : (tokens : List KeptToken) (token : KeptToken) (rows : List NumberedRow) (marks : List (Option ℕ)) (recent : List ℕ) → AreShared tokens rows marks recent
-    → AreShared (tokens ++ token ∷ []) rows marks recent
-shared_more tokens token rows marks recent s =
+    → HasClass token → AreShared (tokens ++ token ∷ []) rows marks recent
+shared_more tokens token rows marks recent s of =
     let size = length-append tokens (token ∷ []) in
-    record { kept = λ k d l. (let below = s.kept k d l in omega (arith, size)); marks_are = marks_push tokens token marks s.marks_are; bytes = s.bytes; slots = s.slots }
+    record { kept = λ k d l. (let below = s.kept k d l in omega (arith, size)); marks_are = marks_push tokens token marks s.marks_are; classed = All-push HasClass tokens token s.classed of; bytes = s.bytes; slots = s.slots }
 
 -- a row of a mark that is kept from now on
 marks_first : (tokens : List KeptToken) (token : KeptToken) (marks : List (Option ℕ)) (byte : ℕ) → AreMarks tokens marks → shape_of_result token.token ≡ Mark byte → byte < length marks
@@ -88,12 +96,13 @@ marks_first tokens token marks byte h s l b number e = elim (cases_Bool (eqb b b
 ]
 
 pub shared_first : (tokens : List KeptToken) (token : KeptToken) (rows : List NumberedRow) (marks : List (Option ℕ)) (recent : List ℕ) (row : NumberedRow) (byte number : ℕ) → AreShared tokens rows marks recent → row.token ≡ number → number ≡ length tokens
-    → shape_of_result token.token ≡ Mark byte → byte < 256 → AreShared (tokens ++ token ∷ []) (rows ++ row ∷ []) (set marks byte (Some number)) recent
-shared_first tokens token rows marks recent row byte number s t e shape l =
+    → shape_of_result token.token ≡ Mark byte → byte < 256 → HasClass token → AreShared (tokens ++ token ∷ []) (rows ++ row ∷ []) (set marks byte (Some number)) recent
+shared_first tokens token rows marks recent row byte number s t e shape l of =
     let P : ℕ → Type 0 = λ number. AreMarks (tokens ++ token ∷ []) (set marks byte (Some number)) in
     record {
       kept = kept_push tokens token rows row s.kept (t ∙ e);
       marks_are = subst P (sym e) (marks_first tokens token marks byte s.marks_are shape (omega (arith, l, s.bytes)));
+      classed = All-push HasClass tokens token s.classed of;
       bytes = length-set marks byte (Some number) ∙ s.bytes;
       slots = s.slots;
     }
@@ -177,6 +186,7 @@ pub nothing_shared : (tokens : List KeptToken) (rows : List NumberedRow) (marks 
     → AreShared tokens rows marks recent
 nothing_shared tokens rows marks recent t r m size = record {
   kept = rw r (λ k d l. absurd (omega arith));
+  classed = rw t (λ k d l. absurd (omega arith));
   marks_are = λ byte number e. absurd (never 256 byte number (sym (ap (λ ms. slice_index_or ms byte None) m) ∙ e));
   bytes = ap length m ∙ (let none : Option ℕ = None in length-replicate 256 none);
   slots = size;

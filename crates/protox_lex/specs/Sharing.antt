@@ -7,11 +7,12 @@ use Rattle.protox_lexeme.specs.declared.token.Token.{Token}
 use Rattle.protox_fault.specs.Faults.{Span, span_from}
 use Rattle.protox_lex.specs.Grouping.{Grouped}
 use Rattle.protox_lexeme.specs.Shapes.{Shape, Mark, Newline, Row, Rows}
+use Rattle.protox_lexeme.specs.TokenClass.{class, no_token}
 use Rattle.protox_lexeme.specs.Tokens.{shape_of, shape_of_result}
 
 -- what is kept by that number
 abbrev pub kept_at : List KeptToken → ℕ → KeptToken
-kept_at tokens number = slice_index_or tokens number record { token = Err tt; len = 0 }
+kept_at tokens number = slice_index_or tokens number record { token = Err tt; len = 0; class = no_token }
 
 abbrev pub shape_at : List KeptToken → ℕ → Shape
 shape_at tokens number = shape_of_result (kept_at tokens number).token
@@ -34,10 +35,15 @@ AreKept tokens rows = All (λ (row : NumberedRow). row.token < length tokens) ro
 abbrev pub AreMarks : List KeptToken → List (Option ℕ) → Type 0
 AreMarks tokens marks = (byte number : ℕ) → slice_index_or marks byte None ≡ Some number → (number < length tokens) × (shape_at tokens number ≡ Mark byte)
 
+-- Each token is kept with its class.
+abbrev pub AreClassed : List KeptToken → Type 0
+AreClassed tokens = All (λ (t : KeptToken). t.class ≡ class (shape_of_result t.token)) tokens
+
 -- what is true of shared rows
 pub record AreShared (tokens : List KeptToken) (rows : List NumberedRow) (marks : List (Option ℕ)) (recent : List ℕ) : Type 0 where
   pub kept : AreKept tokens rows
   pub marks_are : AreMarks tokens marks
+  pub classed : AreClassed tokens
   pub bytes : length marks ≡ 256
   pub slots : length recent ≡ 4096
 

@@ -4,6 +4,7 @@ ghost use Rattle.std.specs.Option.{option_map};
 ghost use Rattle.protox_fault.specs.Faults.{span_from};
 ghost use Rattle.protox_lexeme.specs.Lexicon.{is_mark};
 ghost use Rattle.protox_lexeme.specs.Shapes.{Mark};
+ghost use Rattle.protox_lexeme.specs.TokenClass.{class};
 ghost use Rattle.protox_lex.specs.Sharing.{shape_at, len_at, AreMarks};
 ghost use Rattle.protox_lex.specs.TableView.{shape_of_lent};
 ghost use Rattle.protox_lexeme.specs.Tokens.{shape_of, shape_of_result};
@@ -11,6 +12,7 @@ ghost use Rattle.protox_lexeme.specs.Tokens.{shape_of, shape_of_result};
 use crate::laws::tokens_are_equal_by_shape;
 use protox_fault::error::Span;
 use protox_lexeme::bytes::byte_at;
+use protox_lexeme::class::class_of_result;
 use protox_lexeme::token::{Token, mark_of};
 use std::alloc::{AllocError, Global};
 use std::marker::Model;
@@ -22,11 +24,12 @@ pub(crate) struct NumberedRow {
     pub token: u32,
 }
 
-/// A token, and how many bytes it has in the source.
+/// A token, how many bytes it has in the source, and its class.
 #[derive(Drop)]
 pub(crate) struct KeptToken<'a> {
     pub token: Result<Token<'a>, ()>,
     pub len: u32,
+    pub class: u8,
 }
 
 // How many words and integers are remembered.
@@ -152,17 +155,25 @@ fn next_row(
     Ok((numbered(number, start)?, len as u32))
 }
 
+// A token as it is kept: its class is found once.
+fn kept_token<'a>(token: Result<Token<'a>, ()>, len: u32) -> KeptToken<'a>
+    ensures token { result.token ≡ token.entry }
+    ensures len { result.len ≡ len }
+    ensures class { result.class ≡ class (shape_of_result result.token) }
+{
+    let class = class_of_result(&token);
+    KeptToken { token, len, class }
+}
+
 // The mark that is this byte, as it is kept.
 fn kept_mark(byte: u8, len: u32) -> KeptToken<'static>
     requires { is_mark byte ≡ true }
     ensures shape { shape_of_result result.token ≡ Mark byte }
     ensures len { result.len ≡ len }
+    ensures class { result.class ≡ class (shape_of_result result.token) }
 {
     match mark_of(byte) {
-        Some(token) => KeptToken {
-            token: Ok(token),
-            len,
-        },
+        Some(token) => kept_token(Ok(token), len),
         None => unreachable!(),
     }
 }
@@ -208,6 +219,15 @@ impl<'a> SharedRows<'a> {
         }
     }
 
+    /// The class of a row's token. None past the last.
+    #[tactic(auto, using(crate::proofs::Sharing::class_found))]
+    pub(crate) fn class(&self, index: usize) -> Option<u8>
+        ensures { result ≡ option_map (λ row. class row.shape) (slice_get self.now index) }
+    {
+        let row = self.rows.get(index)?;
+        Some(self.tokens[row.token as usize].class)
+    }
+
     /// The span of a row, or None past the last.
     pub(crate) fn span(&self, index: usize) -> Option<Span>
         ensures { result ≡ option_map (λ row. row.at) (slice_get self.now index) }
@@ -228,7 +248,7 @@ impl<'a> SharedRows<'a> {
         ensures { OnOk result (self.new ≡ self.old ++ record { shape = shape_of_result token.entry; at = span_from start (start + len) } ∷ []) }
     {
         let (row, len) = next_row(&self.tokens, start, len)?;
-        self.tokens.push(KeptToken { token, len })?;
+        self.tokens.push(kept_token(token, len))?;
         self.rows.push(row)?;
         Ok(())
     }

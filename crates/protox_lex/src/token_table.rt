@@ -5,6 +5,7 @@ ghost use Rattle.protox_fault.specs.Faults.{faults_in};
 ghost use Rattle.protox_lexeme.specs.Gaps.{IsGap};
 ghost use Rattle.protox_lexeme.specs.Lexemes as spec;
 ghost use Rattle.protox_lexeme.specs.Table.{table_of};
+ghost use Rattle.protox_lexeme.specs.TokenClass.{class};
 ghost use Rattle.protox_lex.specs.TableView.{shape_of_lent, shapes_of_lent};
 ghost use Rattle.protox_lexeme.specs.Tokens.{shape_of};
 
@@ -63,6 +64,13 @@ impl<'a> TokenTable<'a> {
         ensures { option_map shape_of_lent result ≡ option_map (λ row. row.shape) (slice_get self.now.rows k) }
     {
         self.rows.token(k)
+    }
+
+    /// The class of row `k`, a number of `protox_lexeme::class`. None from `rows()` on.
+    pub fn class(&self, k: usize) -> Option<u8>
+        ensures { result ≡ option_map (λ row. class row.shape) (slice_get self.now.rows k) }
+    {
+        self.rows.class(k)
     }
 
     /// The span of row `k`. None from `rows()` on.

@@ -17,3 +17,4 @@ pub mod BlockExtent
 pub mod Extents
 pub mod Places
 pub mod FaultPlaces
+pub mod Keywords

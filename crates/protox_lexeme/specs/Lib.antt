@@ -1,6 +1,8 @@
 pub mod Shapes
 pub mod LexemeFaults
 pub mod Tokens
+pub mod TokenClass
+pub mod WordSlot
 pub mod Printed
 pub mod Pattern
 pub mod Lexicon

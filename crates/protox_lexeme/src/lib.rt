@@ -3,6 +3,7 @@
 
 mod block_comment;
 pub mod bytes;
+pub mod class;
 mod comment;
 mod comment_text;
 pub mod fault_list;

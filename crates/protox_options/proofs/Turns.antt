@@ -9,8 +9,8 @@ use Rattle.protox_grammar.proofs.Shows.{shows-eats}
 use Rattle.protox_options.specs.Options.{here, more_part, more_body}
 
 pub more_part-eats : Consumes (more_part).code
-more_part-eats = shows-eats (seq-laws (mark-laws here s.dot 42 refl) (options.part-laws here) refl) (more_part).shows
+more_part-eats = shows-eats (seq-laws (mark-laws here s.dot) (options.part-laws here) refl) (more_part).shows
 
 pub more_body-eats : Consumes (more_body).code
 unfolding r.body
-more_body-eats = shows-eats (seq-laws (mark-laws here s.comma 53 refl) (options.body-laws here) refl) (more_body).shows
+more_body-eats = shows-eats (seq-laws (mark-laws here s.comma) (options.body-laws here) refl) (more_body).shows

@@ -102,10 +102,10 @@ closed = record {
 }
 
 unfoldable pub opened : Noting (rule.noting AnOpenBrace (r.sign s.open_brace)) (λ m. m)
-opened = with_note AnOpenBrace (λ m rest. brace_notes true rest) (λ first w x rest. refl) (sign s.open_brace)
+opened = with_note AnOpenBrace (λ m rest. brace_notes true rest) (λ first w x rest. refl) (λ low high xs x q h. (tt, tt)) (sign s.open_brace)
 
 unfoldable pub noted_closed : Noting (rule.noting (λ (x : Rows Place × Place). ACloseBrace x.1) r.closed) text_and_brace
-noted_closed = with_note (λ x. ACloseBrace x.1) (λ x rest. brace_notes false rest) (λ first w x rest. refl) closed
+noted_closed = with_note (λ x. ACloseBrace x.1) (λ x rest. brace_notes false rest) (λ first w x rest. refl) (λ low high xs x q h. (tt, tt)) closed
 
 -- its text, and its place with the braces
 abbrev pub aggregate_and_span : Place × (Rows Place × Place) → List ℕ × Span

@@ -17,7 +17,7 @@ use protox_descriptor::values::{Items, Text};
 use protox_grammar::note::{Note, Noted};
 use protox_lex::error::Span;
 use protox_lex::lex::Token;
-use protox_rows::class::{FLOAT, INTEGER, MINUS, STRING, class_of, is_among, sees, sees_below};
+use protox_rows::class::{FLOAT, INTEGER, MINUS, STRING, is_among, sees, sees_below};
 use protox_rows::expected::Expected;
 use protox_rows::leaf::{copied, is_mark, join, refused};
 use protox_rows::names::{float, ident, integer, minus_if_any};
@@ -60,7 +60,7 @@ fn negated(alloc: Global, text: &Text) -> Result<Text, AllocError>
     ensures { IfOk result (λ t. t ≡ 45 ∷ text.now) }
 {
     let mut value = Text::copy(alloc, "-")?;
-    value.push_str(text.as_str())?;
+    value.push_str(alloc, text.as_str())?;
     Ok(value)
 }
 
@@ -165,10 +165,10 @@ fn print_on(
     ensures { OnOk result (text.new ≡ text.old ++ rule.print_on first (shape_of token.now)) }
 {
     if !first {
-        text.push_str(" ")?;
+        text.push_str(alloc, " ")?;
     }
     let printed = token.to_string(alloc)?;
-    text.push_str(printed.as_str())
+    text.push_str(alloc, printed.as_str())
 }
 
 /// The text up to the brace that closes: its tokens, with a space between each two.
@@ -269,7 +269,7 @@ fn sees_constant(rows: &Unread<'_, '_>) -> bool
 {
     match rows.first() {
         Some(first) => {
-            let class = class_of(first.token());
+            let class = first.class();
             class < INTEGER || is_among(class, &[INTEGER, FLOAT, MINUS])
         }
         None => false,

@@ -8,7 +8,7 @@ use Rattle.protox_ast.specs.Places.{Place}
 use Rattle.protox_ast.specs.Tree as tree
 use Rattle.protox_ast.specs.declared.ast.File.{File}
 use Rattle.protox_descriptor.specs.declared.descriptor.FileDescriptorProto.{FileDescriptorProto}
-use Rattle.protox_generate.specs.Faults.{IsFaultless, Wrong}
+use Rattle.protox_checks.specs.Faults.{IsFaultless, Wrong}
 use Rattle.protox_generate.specs.File.{file_descriptor}
 use Rattle.protox_fault.specs.declared.error.ParseErrorKind.{ParseErrorKind}
 use Rattle.protox_parse.specs.Failures.{AreWrongOf, IsOutOfMemory}

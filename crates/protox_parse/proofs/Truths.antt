@@ -8,7 +8,7 @@ use Rattle.protox_ast.specs.Keywords.{Each}
 use Rattle.protox_ast.specs.Places.{Place}
 use Rattle.protox_ast.specs.Tree as t
 use Rattle.protox_descriptor.specs.declared.descriptor.FileDescriptorProto.{FileDescriptorProto}
-use Rattle.protox_generate.specs.Faults.{Wrong}
+use Rattle.protox_checks.specs.Faults.{Wrong}
 use Rattle.protox_parse.specs.Failures.{AreWrongOf, IsRefusalOf}
 use Rattle.protox_parse.specs.Truth.{IsTrueOfSource, AreTrue}
 use Rattle.protox_parse.specs.declared.failure.ParseFailure.{ParseFailure}

@@ -6,7 +6,7 @@ use Rattle.protox_ast.specs.Accepted.{Fits}
 pub use Rattle.protox_ast.specs.AstParts.{first_of}
 use Rattle.protox_ast.specs.Keywords.{Each}
 use Rattle.protox_ast.specs.declared.ast.File.{File}
-use Rattle.protox_generate.specs.Faults.{Wrong}
+use Rattle.protox_checks.specs.Faults.{Wrong}
 use Rattle.protox_parse.specs.Refusal.{Refusal}
 use Rattle.protox_parse.specs.declared.failure.ParseFailure.{ParseFailure}
 use Rattle.protox_parse.specs.declared.failure.ParseFailure.TheVariants.{Refused, OutOfMemory}

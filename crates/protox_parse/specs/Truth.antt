@@ -12,7 +12,7 @@ use Rattle.protox_ast.specs.Places.{Place, placed}
 use Rattle.protox_ast.specs.Spells.{Spells}
 use Rattle.protox_ast.specs.Tree as t
 use Rattle.protox_ast.specs.Truth.{IsTrueOf}
-use Rattle.protox_generate.specs.Faults.{Wrong}
+use Rattle.protox_checks.specs.Faults.{Wrong}
 use Rattle.protox_parse.specs.declared.failure.ParseFailure.{ParseFailure}
 use Rattle.protox_parse.specs.declared.failure.ParseFailure.TheVariants.{Refused, OutOfMemory}
 

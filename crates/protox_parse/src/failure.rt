@@ -5,7 +5,7 @@ ghost use Rattle.protox_ast.specs.Accepted as accepted;
 ghost use Rattle.protox_ast.specs.Accepted.{Fits, FaultsLieIn};
 ghost use Rattle.protox_ast.specs.Keywords.{Each};
 ghost use Rattle.protox_ast.specs.declared.ast.File.{File};
-ghost use Rattle.protox_generate.specs.Faults.{AreWrong, IsFaultless};
+ghost use Rattle.protox_checks.specs.Faults.{AreWrong, IsFaultless};
 ghost use Rattle.protox_fault.specs.Faults.{LiesIn, span_of};
 ghost use Rattle.protox_parse.specs.Failures.{AreWrongOf, IsOutOfMemory, IsRefusalOf, first_of};
 

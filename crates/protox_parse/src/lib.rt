@@ -6,8 +6,8 @@ ghost use Rattle.std.specs.Prelude.{◌≡◌, ◌≤◌, ◌↔◌, IsTrue, IfO
 ghost use Rattle.protox_ast.specs.Accepted.{Fits, IsAccepted, IsFileOf};
 ghost use Rattle.protox_ast.specs.Ast as ast_of;
 ghost use Rattle.protox_ast.specs.Tree as tree;
-ghost use Rattle.protox_generate.specs.Faults.{IsFaultless};
-ghost use Rattle.protox_generate.specs.File.{file_descriptor};
+ghost use Rattle.protox_checks.specs.Faults.{IsFaultless};
+ghost use Rattle.protox_generate.specs.File.{file_descriptor, AreLocated};
 ghost use Rattle.protox_ast.specs.Places.{Place};
 ghost use Rattle.protox_parse.specs.Failures.{AreWrongOf, IsOutOfMemory, IsRefusalOf};
 ghost use Rattle.protox_parse.specs.Truth.{AreTrue};
@@ -45,6 +45,7 @@ fn translated(
     requires { IsFileOf source.now file }
     ensures found { IfOk result (λ d. IsFaultless file × (d ≡ file_descriptor name.now source.now file)) }
     ensures only { IsFaultless file → MatchResult result (λ d. d ≡ file_descriptor name.now source.now file) IsOutOfMemory }
+    ensures located { IfOk result AreLocated }
     ensures refused { IfErr result (IsRefusalOf name.now source.now) }
     ensures wrong { IfErr result (AreWrongOf file) }
 {
@@ -64,6 +65,8 @@ pub fn parse(alloc: Global, name: &str, source: &str) -> Result<FileDescriptorPr
     // Such a source is answered so, unless memory ran out.
     ensures only { (f : tree.File Place) → IsAccepted source.now f → IsFaultless (ast_of.file (length source.now) f)
         → MatchResult result (λ d. d ≡ file_descriptor name.now source.now (ast_of.file (length source.now) f)) IsOutOfMemory }
+    // Its locations are sorted by path, and those of equal paths by where they start.
+    ensures located { IfOk result AreLocated }
     // A refusal names its file and holds its source, and its faults lie in it.
     ensures refused { IfErr result (IsRefusalOf name.now source.now) }
     // Where the source's tokens spell a tree that is accepted, each fault is one of its syntax tree.

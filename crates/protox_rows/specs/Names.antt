@@ -1,6 +1,6 @@
 -- MACHINERY. Names, numbers, types and labels, as the code reads them.
 use Rattle.std.specs.Prelude.{◌≡◌, ℕ, List, [], ◌∷◌, map, Option, Some, None, option_map, is_some, codes}
-use Rattle.std.proofs.Common.{refl, ap}
+use Rattle.std.proofs.Common.{refl}
 use Rattle.protox_fault.specs.Faults.{Span}
 use Rattle.protox_ast.specs.Tree as tree
 use Rattle.protox_ast.specs.Spelling as s
@@ -34,11 +34,7 @@ fullident = renamed _ (λ x. refl) (list_of (only 42) ident more_part)
 -- from the dot or the first part to the last
 abbrev pub name_span : Option Span → List ident_type.Ident → Span
 name_span d [] = record { start = 0; end = 0 }
-name_span d (i ∷ is) = ast.join (ast.dotted_start d i.span) (ast.last_place (λ (x : ident_type.Ident). x.span) i.span is)
-
-last-part : (span : Span) (xs : List (Place × tree.Word Place)) → ast.last_place (λ (x : ident_type.Ident). x.span) span (map (λ (y : Place × tree.Word Place). ast.ident y.1) xs) ≡ ast.last_place (λ (y : Place × tree.Word Place). y.1.1.span) span xs
-last-part span [] = refl
-last-part span (x ∷ xs) = last-part x.1.1.span xs
+name_span d (i ∷ is) = ast.join_if_any d (ast.join i.span (ast.last_place (λ (x : ident_type.Ident). x.span) i.span is))
 
 abbrev pub name_and_span : tree.TypeName Place → type_name.TypeName × Span
 name_and_span x = (ast.typename x, ast.typename_span x)
@@ -47,8 +43,8 @@ abbrev pub dotted : Option Place → List ident_type.Ident → type_name.TypeNam
 dotted d n = (record { leading_dot = ast.span_if_any d; name = n }, name_span (ast.span_if_any d) n)
 
 pub dotted-is : (d : Option Place) (n : tree.FullIdent Place) → dotted (option_map (λ m. m) d) (ast.fullident n) ≡ name_and_span (record { leading_dot = d; name = n })
-dotted-is None n = ap (λ e. (ast.typename (record { leading_dot = None; name = n }), ast.join n.first.1.span e)) (last-part n.first.1.span n.others)
-dotted-is (Some m) n = ap (λ e. (ast.typename (record { leading_dot = Some m; name = n }), ast.join m.span e)) (last-part n.first.1.span n.others)
+dotted-is None n = refl
+dotted-is (Some m) n = refl
 
 unfoldable pub typename : Silent r.typename name_and_span
 unfolding r.typename
@@ -66,7 +62,7 @@ unfoldable pub float : Silent r.float with_span
 float = seen with_span (one see_float)
 
 abbrev pub signed : Option Place → ℕ × Span → int_type.Int
-signed d n = record { negative = is_some d; value = n.0; span = ast.signed_span (ast.span_if_any d) n.1 }
+signed d n = record { negative = is_some d; value = n.0; span = ast.join_if_any (ast.span_if_any d) n.1 }
 
 pub signed-is : (d : Option Place) (n : tree.Number Place) → signed (option_map (λ m. m) d) (with_span n) ≡ ast.int (record { sign = d; number = n })
 signed-is None n = refl

@@ -13,39 +13,10 @@ use Rattle.protox_fault.specs.Faults.{Span}
 use Rattle.protox_rows.specs.Names as names
 use Rattle.protox_rows.specs.Strings as runs
 
-abbrev pub Reads : Type 0 → Type 0
-Reads A = Reader Place A
-
-abbrev pub is_word : List ℕ → Shape → Bool
-is_word w = is_token (Ident w)
-
-abbrev pub is_mark : ℕ → Shape → Bool
-is_mark b = is_token (Mark b)
-
 abbrev pub anything : Shape → Bool
 anything s = true
-
-abbrev pub the : List ℕ → Reads Place
-the w = fixed (Ident w)
-
-abbrev pub sign : ℕ → Reads Place
-sign b = fixed (Mark b)
 
 -- The comments of a declaration that begins with the first of these rows, and ends or opens its body at a place.
 abbrev pub declared : Rows Place → Place → Comments
 declared [] last = record { leading_detached_comments = []; leading_comment = None; trailing_comment = last.trailing }
 declared (r ∷ rs) last = comments r.at last
-
--- ---- what rules of names and strings read
-
-abbrev pub ident_at : Reads ident_type.Ident
-ident_at = (names.ident).code
-
-abbrev pub typename_at : Reads (type_name.TypeName × Span)
-typename_at = (names.typename).code
-
-abbrev pub int_at : Reads int_type.Int
-int_at = (names.int).code
-
-abbrev pub strings_at : Reads (List ℕ × Span)
-strings_at = (runs.strings).code

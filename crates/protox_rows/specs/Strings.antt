@@ -1,7 +1,7 @@
 -- MACHINERY. Runs of strings, as the code reads and checks them.
 use Rattle.std.specs.Prelude.{◌≡◌, ℕ, List, [], ◌∷◌, ◌++◌, map, Option}
 use Rattle.std.proofs.Common.{sym, ap, ◌∙◌, append-nil, append_assoc}
-use Rattle.protox_fault.specs.Faults.{Span}
+use Rattle.protox_fault.specs.Faults.{Span, SpanLiesIn}
 use Rattle.protox_lexeme.specs.Shapes.{Rows}
 use Rattle.protox_ast.specs.Tree as tree
 use Rattle.protox_ast.specs.Ast as ast
@@ -12,6 +12,8 @@ use Rattle.protox_grammar.specs.Reader.{folded, see_text}
 use Rattle.protox_grammar.specs.Rules as r
 use Rattle.protox_grammar.specs.Steps.{ANode, Note}
 use Rattle.protox_grammar.specs.Told.{Notes, node_notes, told}
+use Rattle.protox_grammar.proofs.NotesLie.{run-lies}
+use Rattle.protox_grammar.proofs.Telling.{AllLie}
 use Rattle.protox_grammar.proofs.Shown.{Silent, Noting, both, seen, named, times, one, with_note}
 use Rattle.protox_rows.specs.Names.{with_span}
 
@@ -41,5 +43,7 @@ strings = named _ (λ x. folded more_string x.0 x.1) (λ x. strings-is x.0 x.1) 
 
 -- a run whose node is checked
 abbrev pub checked_strings : (node : tree.Strings Place → CheckedNode Place) (check : List ℕ × Span → Rows Place → Notes)
-    → ((x : tree.Strings Place) (rest : Rows Place) → node_notes (node x) rest ≡ check (joined x) rest) → Noting (r.noted_strings node) joined
-checked_strings node check e = with_note (λ x. ANode (node x)) check (λ first w x rest. append-nil (node_notes (node x) rest) ∙ e x rest) strings
+    → ((x : tree.Strings Place) (rest : Rows Place) → node_notes (node x) rest ≡ check (joined x) rest) → ((high : ℕ) (x : List ℕ × Span) (rest : Rows Place) → SpanLiesIn high x.1 → AllLie high (check x rest))
+    → Noting (r.noted_strings node) joined
+checked_strings node check e lie =
+    with_note (λ x. ANode (node x)) check (λ first w x rest. append-nil (node_notes (node x) rest) ∙ e x rest) (λ low high xs x q h. lie high (joined x.0) x.1 (run-lies x.0.first.1 low high xs x q h)) strings

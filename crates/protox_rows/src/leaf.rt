@@ -72,26 +72,6 @@ fn is_mark_token(token: &Token<'_>, mark: u8) -> bool
     }
 }
 
-/// Whether this word comes next.
-pub fn sees_word(rows: &Unread<'_, '_>, word: &str) -> bool
-    ensures { result ≡ head_in (is_token (Ident word.now)) rows.now }
-{
-    match rows.first() {
-        Some(first) => is_word(first.token(), word),
-        None => false,
-    }
-}
-
-/// Whether this mark comes next.
-pub fn sees_mark(rows: &Unread<'_, '_>, mark: u8) -> bool
-    ensures { result ≡ head_in (is_token (Mark mark)) rows.now }
-{
-    match rows.first() {
-        Some(first) => is_mark(first.token(), mark),
-        None => false,
-    }
-}
-
 /// The first of these rows doesn't fit.
 pub fn refused(rows: &Unread<'_, '_>, expected: Expected) -> Refused
     ensures { result ≡ Refused.At (length rows.now) expected }

@@ -6,7 +6,6 @@ pub mod class;
 pub mod expected;
 pub mod leaf;
 pub mod names;
-pub mod notes;
 pub mod refused;
 pub mod rows;
 pub mod strings;

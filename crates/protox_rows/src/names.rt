@@ -48,7 +48,7 @@ fn more_part(alloc: Global, rows: &mut Unread<'_, '_>) -> Result<Ident, Refused>
 
 /// fullident = ident ("." ident)*
 #[tactic(auto, unfolding(crate::specs::Names::fullident))]
-fn fullident(
+pub fn fullident(
     alloc: Global,
     rows: &mut Unread<'_, '_>,
     expected: Expected,
@@ -57,7 +57,7 @@ fn fullident(
     ensures some { IfOk result (λ x. 0 < length x) }
 {
     let first = ident(alloc, rows, expected)?;
-    let mut parts = Items::new(alloc);
+    let mut parts = Items::with_capacity(alloc, 1)?;
     parts.push(first)?;
     'more: while sees(rows, DOT) {
         let part = more_part(alloc, rows)?;

@@ -5,11 +5,13 @@ ghost use Rattle.protox_ast.specs.Places.{placed};
 ghost use Rattle.protox_lexeme.specs.Gaps.{IsGap, attribution};
 ghost use Rattle.protox_comments.specs.Attributing.{attribution_of};
 ghost use Rattle.protox_lex.specs.TableView.{shape_of_lent};
+ghost use Rattle.protox_lexeme.specs.TokenClass.{class};
 ghost use Rattle.protox_lexeme.specs.Tokens.{shape_of};
 ghost use Rattle.protox_rows.specs.Rows.{IsFirst, IsSplit, bare_row, shape_of_row};
 ghost use Rattle.protox_ast.specs.Ast.{comments, join};
 ghost use Rattle.protox_rows.specs.Reads.{declared};
 
+use crate::class::INVALID;
 use crate::leaf::join;
 use protox_ast::ast::Comments;
 use protox_descriptor::values::Items;
@@ -98,6 +100,17 @@ fn token_in<'t, 'a>(table: &'t TokenTable<'a>, index: usize) -> Result<&'t Token
     }
 }
 
+// The class of a row's token. Where the table has no row, it is that of what is no token.
+#[inline(always)]
+fn class_in(table: &TokenTable<'_>, index: usize) -> u8
+    ensures { result ≡ class (slice_index_or table.now.rows index bare_row).shape }
+{
+    match table.class(index) {
+        Some(class) => class,
+        None => INVALID,
+    }
+}
+
 /// The span of a row. Where the table has none, it is empty.
 pub fn span_in(table: &TokenTable<'_>, index: usize) -> Span
     ensures { result ≡ (slice_index_or table.now.rows index bare_row).at }
@@ -124,6 +137,14 @@ impl<'t, 'a> RowAt<'t, 'a> {
         ensures { shape_of_lent result ≡ self.now.shape }
     {
         token_in(self.table, self.behind - 1)
+    }
+
+    /// The class of the row's token.
+    #[inline(always)]
+    pub fn class(&self) -> u8
+        ensures { result ≡ class self.now.shape }
+    {
+        class_in(self.table, self.behind - 1)
     }
 
     /// The comments of the gap before it.

@@ -54,5 +54,5 @@ pub fn text_of(alloc: Global, bytes: &[u8]) -> Result<Text, AllocError>
     ensures { IfOk result (λ t. t ≡ text_of bytes.now) }
 {
     let text = bytes.to_str_lossy(alloc)?;
-    Ok(Text::from_string(text.into_owned(alloc)?))
+    Text::from_cow(alloc, text)
 }

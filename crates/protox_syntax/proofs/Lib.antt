@@ -1,11 +1,10 @@
-pub mod Same
-pub mod Spans
 pub mod Texts
-pub mod NotesTurns
+pub mod Spans
+pub mod Turns
 pub mod Weaving
-pub mod TableFaults
-pub mod Fine
-pub mod NotesLie
-pub mod Refusals
+pub mod Entries
+pub mod Reading
+pub mod Modes
+pub mod SyntaxNotes
 pub mod Judged
 pub mod Accepts

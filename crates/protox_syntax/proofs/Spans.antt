@@ -3,7 +3,7 @@ use Rattle.std.proofs.Common.{◌≡◌, ℕ, suc, ◌-◌, ◌≤◌, true, fal
 use Rattle.std.proofs.lemmas.Bool.{eqb-true, eqb-false}
 use Rattle.protox_fault.specs.Faults.{Span}
 use Rattle.protox_lexeme.specs.Shapes.{Shape, Row, Rows}
-use Rattle.protox_ast.specs.part.Ast.{join, last_place, rows_span}
+use Rattle.protox_ast.specs.AstParts.{join, last_place, rows_span}
 use Rattle.protox_ast.specs.Places.{Place, later_gaps, placed_from}
 use Rattle.protox_syntax.specs.Judging.{bare_span}
 

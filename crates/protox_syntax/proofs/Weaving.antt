@@ -1,79 +1,196 @@
 -- What the list of faults holds.
-use Rattle.std.proofs.Common.{◌≡◌, ◌≤◌, ◌<◌, ◌+◌, ◌-◌, ℕ, zero, suc, List, [], ◌∷◌, ◌++◌, length, refl, sym, ap, subst, ◌∙◌, arith, inl, inr}
-use Rattle.std.proofs.lemmas.Bool.{cases_lt}
+use Rattle.std.proofs.Common.{◌≡◌, ◌↔◌, ◌≤◌, ◌<◌, ◌+◌, ◌-◌, ℕ, zero, suc, Bool, true, false, cond, List, [], ◌∷◌, ◌++◌, length, refl, sym, ap, subst, ◌∙◌, arith, inl, inr}
+use Rattle.std.proofs.lemmas.Bool.{cases_lt, lt-ltb, le-ltb}
 use Rattle.std.proofs.lemmas.List.{length-append}
-use Rattle.std.specs.Prelude.{slice_index_or}
+use Rattle.std.specs.Prelude.{slice_index_or, nat_lt}
+use Rattle.protox_fault.specs.Faults.{LiesIn, faults_in}
 use Rattle.protox_fault.specs.declared.error.ParseErrorKind.{ParseErrorKind}
 use Rattle.protox_ast.specs.Keywords.{Each}
-use Rattle.protox_rows.specs.declared.notes.Note.{Note}
-use Rattle.protox_syntax.specs.Weave.{Progress, progress, released, read_to, to_read, with_fault, noted_in, play, beginning, weave}
+use Rattle.protox_grammar.specs.Told.{Notes}
+use Rattle.protox_grammar.specs.declared.note.Note.{Note}
+use Rattle.protox_grammar.specs.declared.note.Noted.{Noted}
+use Rattle.protox_grammar.specs.declared.note.Noted.TheVariants.{Fault, TextFormat}
+use Rattle.protox_grammar.proofs.FineNotes.{IsNoFault, IsFaultless}
+use Rattle.protox_grammar.proofs.NotedModes.{mode_at, mode_of}
+use Rattle.protox_grammar.proofs.Telling.{AllLie, NotedLies}
+use Rattle.protox_syntax.specs.Weave.{Progress, progress, released, read_to, to_read, with_noted, noted_in, play, beginning, weave}
+use Rattle.protox_syntax.proofs.Entries.{append-empty, each-in}
 
-module _ (faults : List (List ParseErrorKind)) (total : ℕ) where
-  play-more : (xs : List Note) (x : Note) (p : Progress) → play faults total (xs ++ x ∷ []) p ≡ noted_in faults total x (play faults total xs p)
-  play-more [] x p = refl
-  play-more (y ∷ ys) x p = play-more ys x (noted_in faults total y p)
-
-  -- one turn of playing the notes
-  pub play-turn : (read pushed : List ParseErrorKind) (n : ℕ) (before start : Progress) (xs : List Note) (x : Note) → progress read n ≡ read_to faults total x.left before → before ≡ play faults total xs start → pushed ≡ read ++ x.fault ∷ [] → progress pushed n ≡ play faults total (xs ++ x ∷ []) start
-  play-turn read pushed n before start xs x reads so_far push =
-      ap (λ v. progress v n) push ∙ ap (λ (p : Progress). with_fault p x.fault) reads ∙ ap (noted_in faults total x) so_far ∙ sym (play-more xs x start)
-
-pub append-empty : {A : Type 0} (xs ys : List A) → xs ++ ys ≡ [] → (xs ≡ []) × (ys ≡ [])
-append-empty [] ys e = (refl, e)
-append-empty (x ∷ xs) ys e = absurd cc
+abbrev Faults : Type 0
+Faults = List ParseErrorKind
 
 pub each-append : {A : Type 0} (P : A → Type 0) (xs ys : List A) → Each P xs → Each P ys → Each P (xs ++ ys)
 each-append P [] ys h k = k
 each-append P (x ∷ xs) ys h k = (h.0, each-append P xs ys h.1 k)
 
-pub each-front : {A : Type 0} (P : A → Type 0) (xs ys : List A) → Each P (xs ++ ys) → Each P xs
-each-front P [] ys h = tt
-each-front P (x ∷ xs) ys h = (h.0, each-front P xs ys h.1)
+-- each note is made where no more rows are left than where the one before it was
+abbrev pub Fall : ℕ → Notes → Type 0
+Fall bound [] = Unit {0}
+Fall bound (n ∷ ns) = (n.left ≤ bound) × Fall n.left ns
 
-module _ (faults : List (List ParseErrorKind)) where
-  -- what is released lies where all faults lie
-  released-each : (P : ParseErrorKind → Type 0) → ((i : ℕ) → Each P (slice_index_or faults i [])) → (low n : ℕ) → Each P (released faults low n)
-  released-each P h low zero = tt
-  released-each P h low (suc n) = each-append P (released faults low n) (slice_index_or faults (low + n) []) (released-each P h low n) (h (low + n))
+module _ (faults : List Faults) (total : ℕ) where
+  play-more : (xs : Notes) (x : Note) (p : Progress) → play faults total (xs ++ x ∷ []) p ≡ noted_in faults total x (play faults total xs p)
+  play-more [] x p = refl
+  play-more (y ∷ ys) x p = play-more ys x (noted_in faults total y p)
 
-  -- where nothing is released, none of the rows has a fault
-  pub released-none : (low n i : ℕ) → released faults low n ≡ [] → i < n → slice_index_or faults (low + i) [] ≡ []
-  released-none low zero i e h = absurd (omega arith)
-  released-none low (suc n) i e h =
-      let both = append-empty (released faults low n) (slice_index_or faults (low + n) []) e in
-      elim (cases_lt i n) [
-        | inl lt ↦ released-none low n i both.0 lt
-        | inr le ↦ let same : n ≡ i = omega arith in subst (λ k. slice_index_or faults (low + k) [] ≡ []) same both.1
+  -- one turn of playing the notes
+  pub play-turn : (read pushed : Faults) (n : ℕ) (on off : Bool) (before start : Progress) (xs : Notes) (x : Note) → progress read n off ≡ read_to faults total x.left before → before ≡ play faults total xs start
+      → progress pushed n on ≡ with_noted x.noted (progress read n off) → progress pushed n on ≡ play faults total (xs ++ x ∷ []) start
+  play-turn read pushed n on off before start xs x reads so_far push =
+      push ∙ ap (with_noted x.noted) reads ∙ ap (noted_in faults total x) so_far ∙ sym (play-more xs x start)
+
+  -- ---- where faults lie
+
+  module _ (high : ℕ) (entries : (i : ℕ) → Each (LiesIn high) (slice_index_or faults i [])) where
+    released-lie : (b : Bool) (low n : ℕ) → Each (LiesIn high) (released b faults low n)
+    released-lie b low zero = tt
+    released-lie b low (suc n) = each-append (LiesIn high) (released b faults low n) (faults_in b (slice_index_or faults (low + n) [])) (released-lie b low n) (each-in (LiesIn high) b (slice_index_or faults (low + n) []) (entries (low + n)))
+
+    read-lie : (left : ℕ) (p : Progress) → Each (LiesIn high) p.errors → Each (LiesIn high) (read_to faults total left p).errors
+    read-lie left p h = each-append (LiesIn high) p.errors (released p.text_format faults p.next (to_read total left p.next)) h (released-lie p.text_format p.next (to_read total left p.next))
+
+    noted-lie : (n : Noted) (p : Progress) → NotedLies high n → Each (LiesIn high) p.errors → Each (LiesIn high) (with_noted n p).errors
+    noted-lie (Fault f) p k h = each-append (LiesIn high) p.errors (f ∷ []) h (k, tt)
+    noted-lie (TextFormat on) p k h = h
+
+    play-lie : (xs : Notes) (p : Progress) → AllLie high xs → Each (LiesIn high) p.errors → Each (LiesIn high) (play faults total xs p).errors
+    play-lie [] p k h = h
+    play-lie (x ∷ xs) p k h = play-lie xs (noted_in faults total x p) k.1 (noted-lie x.noted (read_to faults total x.left p) k.0 (read-lie x.left p h))
+
+    pub weave-lie : (xs : Notes) (left : ℕ) → AllLie high xs → Each (LiesIn high) (weave faults total xs left)
+    weave-lie xs left h = read-lie left (play faults total xs beginning) (play-lie xs beginning h tt)
+
+  -- ---- what stays
+
+  noted-empty : (n : Noted) (p : Progress) → (with_noted n p).errors ≡ [] → IsNoFault n × (p.errors ≡ [])
+  noted-empty (Fault f) p e = absurd (let m = (append-empty p.errors (f ∷ []) e).1 in cc)
+  noted-empty (TextFormat on) p e = (tt, e)
+
+  play-empty : (xs : Notes) (p : Progress) → (play faults total xs p).errors ≡ [] → IsFaultless xs × (p.errors ≡ [])
+  play-empty [] p e = (tt, e)
+  play-empty (x ∷ xs) p e =
+      let k = play-empty xs (noted_in faults total x p) e in
+      let m = noted-empty x.noted (read_to faults total x.left p) k.1 in
+      ((m.0, k.0), (append-empty p.errors (released p.text_format faults p.next (to_read total x.left p.next)) m.1).0)
+
+  -- a fault that is noted is among the faults
+  pub faultless : (xs : Notes) (left : ℕ) → weave faults total xs left ≡ [] → IsFaultless xs
+  faultless xs left e =
+      let p = play faults total xs beginning in
+      (play-empty xs beginning (append-empty p.errors (released p.text_format faults p.next (to_read total left p.next)) e).0).0
+
+  -- ---- rows whose faults are read, in some mode
+
+  abbrev IsSeen : ℕ → Type 0
+  IsSeen k = (b : Bool) × (faults_in b (slice_index_or faults k []) ≡ [])
+
+  pub released-none : (b : Bool) (low n k : ℕ) → released b faults low n ≡ [] → low ≤ k → k < low + n → faults_in b (slice_index_or faults k []) ≡ []
+  released-none b low zero k e h g = absurd (omega (arith, h, g))
+  released-none b low (suc n) k e h g =
+      let both = append-empty (released b faults low n) (faults_in b (slice_index_or faults (low + n) [])) e in
+      elim (cases_lt k (low + n)) [
+        | inl lt ↦ released-none b low n k both.0 h lt
+        | inr le ↦ let same : low + n ≡ k = omega (arith, g, le) in subst (λ v. faults_in b (slice_index_or faults v []) ≡ []) same both.1
       ]
 
-  module _ (total : ℕ) where
-    play-each : (P : ParseErrorKind → Type 0) → ((i : ℕ) → Each P (slice_index_or faults i [])) → (xs : List Note) → Each (λ (x : Note). P x.fault) xs → (p : Progress) → Each P p.errors → Each P (play faults total xs p).errors
-    play-each P h [] k p e = e
-    play-each P h (x ∷ xs) k p e = play-each P h xs k.1 (noted_in faults total x p)
-        (each-append P (p.errors ++ released faults p.next (to_read total x.left p.next)) (x.fault ∷ []) (each-append P p.errors (released faults p.next (to_read total x.left p.next)) e (released-each P h p.next (to_read total x.left p.next))) (k.0, tt))
+  none-released : (b : Bool) (low n : ℕ) → ((k : ℕ) → low ≤ k → k < low + n → faults_in b (slice_index_or faults k []) ≡ []) → released b faults low n ≡ []
+  none-released b low zero h = refl
+  none-released b low (suc n) h = (λ i. none-released b low n (λ k g l. h k g (omega (arith, l))) i ++ h (low + n) (omega arith) (omega arith) i)
 
-    pub weave-each : (P : ParseErrorKind → Type 0) → ((i : ℕ) → Each P (slice_index_or faults i [])) → (xs : List Note) → Each (λ (x : Note). P x.fault) xs → (left : ℕ) → Each P (weave faults total xs left)
-    weave-each P h xs k left = let p = play faults total xs beginning in
-        each-append P p.errors (released faults p.next (to_read total left p.next)) (play-each P h xs k beginning tt) (released-each P h p.next (to_read total left p.next))
+  read-seen : (left k : ℕ) (p : Progress) → (read_to faults total left p).errors ≡ [] → ((k : ℕ) → k < p.next → IsSeen k) → k < (read_to faults total left p).next → IsSeen k
+  read-seen left k p e h g =
+      let none = (append-empty p.errors (released p.text_format faults p.next (to_read total left p.next)) e).1 in
+      elim (cases_lt k p.next) [
+        | inl lt ↦ h k lt
+        | inr le ↦ (p.text_format, released-none p.text_format p.next (to_read total left p.next) k none le g)
+      ]
 
-    play-grows : (xs : List Note) (p : Progress) → length p.errors ≤ length (play faults total xs p).errors
-    play-grows [] p = omega arith
-    play-grows (x ∷ xs) p =
-        let more = play-grows xs (noted_in faults total x p) in
-        let read = p.errors ++ released faults p.next (to_read total x.left p.next) in
-        omega (arith, more, length-append read (x.fault ∷ []), length-append p.errors (released faults p.next (to_read total x.left p.next)))
+  noted-next : (n : Noted) (p : Progress) → (with_noted n p).next ≡ p.next
+  noted-next (Fault f) p = refl
+  noted-next (TextFormat on) p = refl
 
-    -- a note is among the faults
-    pub note-stays : (x : Note) (xs : List Note) (left : ℕ) → weave faults total (x ∷ xs) left ≡ [] → ⊥
-    note-stays x xs left e =
-        let p = play faults total (x ∷ xs) beginning in
-        let none = append-empty p.errors (released faults p.next (to_read total left p.next)) e in
-        let more = play-grows xs (noted_in faults total x beginning) in
-        omega (arith, ap length none.0, more, length-append ([] ++ released faults 0 (to_read total x.left 0)) (x.fault ∷ []))
+  play-seen : (xs : Notes) (k : ℕ) (p : Progress) → (play faults total xs p).errors ≡ [] → ((k : ℕ) → k < p.next → IsSeen k) → k < (play faults total xs p).next → IsSeen k
+  play-seen [] k p e h g = h k g
+  play-seen (x ∷ xs) k p e h g =
+      let m = noted-empty x.noted (read_to faults total x.left p) (play-empty xs (noted_in faults total x p) e).1 in
+      play-seen xs k (noted_in faults total x p) e (λ j l. read-seen x.left j p m.1 h (subst (λ v. j < v) (noted-next x.noted (read_to faults total x.left p)) l)) g
 
-    pub nothing-noted : (xs : List Note) (left : ℕ) → weave faults total xs left ≡ [] → xs ≡ []
-    nothing-noted [] left e = refl
-    nothing-noted (x ∷ xs) left e = absurd (note-stays x xs left e)
+  -- where there is no fault, no row that was read has one in its mode
+  pub weave-seen : (xs : Notes) (left k : ℕ) → weave faults total xs left ≡ [] → k < total - left → IsSeen k
+  weave-seen xs left k e h =
+      let p = play faults total xs beginning in
+      let both = append-empty p.errors (released p.text_format faults p.next (to_read total left p.next)) e in
+      let reach : k < p.next + to_read total left p.next = omega (arith, h) in
+      read-seen left k p e (λ j l. play-seen xs j beginning both.0 (λ i m. absurd (omega (arith, m))) l) reach
 
-    pub weave-none : (left : ℕ) → weave faults total [] left ≡ released faults 0 (total - left)
-    weave-none left = let e : (total - left) - 0 ≡ total - left = omega arith in ap (released faults 0) e
+  -- ---- rows in the modes that are noted
+
+  -- no row from there on has a fault in its mode
+  abbrev pub AreClear : Bool → Notes → ℕ → Type 0
+  AreClear mode notes next = (k : ℕ) → next ≤ k → k < total → faults_in (mode_at mode (total - suc k) notes) (slice_index_or faults k []) ≡ []
+
+  unset : (m : Bool) (left bound : ℕ) (ns : Notes) → Fall bound ns → bound ≤ left → mode_at m left ns ≡ m
+  unset m left bound [] h g = refl
+  unset m left bound (n ∷ ns) h g =
+      ap (λ c. mode_at (cond c (mode_of m n.noted) m) left ns) (le-ltb left n.left (omega (arith, h.0, g))) ∙ unset m left n.left ns h.1 (omega (arith, h.0, g))
+
+  abbrev IsEmptyAt : Notes → Progress → Type 0
+  IsEmptyAt ns p = (read_to faults total 0 (play faults total ns p)).errors ≡ []
+
+  abbrev Clear : Notes → Type 0
+  Clear ns = (e : Faults) (i : ℕ) (m : Bool) → i ≤ total → IsEmptyAt ns (progress e i m) ↔ ((e ≡ []) × AreClear m ns i)
+
+  none-clear : Clear []
+  none-clear e i m le =
+      let all : i + to_read total 0 i ≡ total = omega (arith, le) in (
+        λ g. let both = append-empty e (released m faults i (to_read total 0 i)) g in (both.0, λ k a b. released-none m i (to_read total 0 i) k both.1 a (omega (arith, b, all))),
+        λ g. (λ j. g.0 j ++ none-released m i (to_read total 0 i) (λ k a b. g.1 k a (omega (arith, b, all))) j),
+      )
+
+  abbrev first_note : ℕ → Noted → Note
+  first_note left noted = record { left = left; noted = noted }
+
+  one-clear : (left : ℕ) (v : Noted) (ns : Notes) → IsNoFault v → Fall left ns → Clear ns → Clear (first_note left v ∷ ns)
+  one-clear left (Fault f) ns none fall ih e i m le = absurd none
+  one-clear left (TextFormat on) ns none fall ih e i m le = (forth, back)
+    where
+      c : ℕ
+      c = to_read total left i
+
+      k : IsEmptyAt ns (progress (e ++ released m faults i c) (i + c) on) ↔ ((e ++ released m faults i c ≡ []) × AreClear on ns (i + c))
+      k = ih (e ++ released m faults i c) (i + c) on (omega (arith, le))
+
+      early : (j : ℕ) → i ≤ j → j < i + c → mode_at m (total - suc j) (first_note left (TextFormat on) ∷ ns) ≡ m
+      early j a b =
+          let far : left ≤ total - suc j = omega (arith, a, b) in
+          ap (λ v. mode_at (cond v on m) (total - suc j) ns) (le-ltb (total - suc j) left far) ∙ unset m (total - suc j) left ns fall far
+
+      late : (j : ℕ) → i + c ≤ j → j < total → mode_at m (total - suc j) (first_note left (TextFormat on) ∷ ns) ≡ mode_at on (total - suc j) ns
+      late j a b = let near : total - suc j < left = omega (arith, a, b) in ap (λ v. mode_at (cond v on m) (total - suc j) ns) (lt-ltb (total - suc j) left near)
+
+      forth : IsEmptyAt (first_note left (TextFormat on) ∷ ns) (progress e i m) → (e ≡ []) × AreClear m (first_note left (TextFormat on) ∷ ns) i
+      forth g =
+          let q = k.0 g in
+          let both = append-empty e (released m faults i c) q.0 in (
+            both.0,
+            λ j a b. elim (cases_lt j (i + c)) [
+              | inl lt ↦ subst (λ v. faults_in v (slice_index_or faults j []) ≡ []) (sym (early j a lt)) (released-none m i c j both.1 a lt)
+              | inr ge ↦ subst (λ v. faults_in v (slice_index_or faults j []) ≡ []) (sym (late j ge b)) (q.1 j ge b)
+            ],
+          )
+
+      back : (e ≡ []) × AreClear m (first_note left (TextFormat on) ∷ ns) i → IsEmptyAt (first_note left (TextFormat on) ∷ ns) (progress e i m)
+      back g = k.1 (
+        λ j. g.0 j ++ none-released m i c (λ k a b. subst (λ v. faults_in v (slice_index_or faults k []) ≡ []) (early k a b) (g.1 k a (omega (arith, b, le)))) j,
+        λ j a b. subst (λ v. faults_in v (slice_index_or faults j []) ≡ []) (late j a b) (g.1 j (omega (arith, a)) b),
+      )
+
+  all-clear : (ns : Notes) (bound : ℕ) → IsFaultless ns → Fall bound ns → Clear ns
+  all-clear [] bound f h = none-clear
+  all-clear (n ∷ ns) bound f h = one-clear n.left n.noted ns f.0 h.1 (all-clear ns n.left f.1 h.1)
+
+  -- Where no fault is noted, there is none exactly where no row has one in its mode.
+  pub weave-clear : (ns : Notes) (bound : ℕ) → IsFaultless ns → Fall bound ns → (weave faults total ns 0 ≡ []) ↔ AreClear false ns 0
+  weave-clear ns bound f h =
+      let k = all-clear ns bound f h [] 0 false (omega arith) in
+      (λ g. (k.0 g).1, λ g. k.1 (refl, g))

@@ -5,19 +5,23 @@ use Rattle.protox_fault.specs.Faults.{Span, LiesIn}
 use Rattle.protox_lexeme.specs.Shapes.{Row, Rows}
 use Rattle.protox_lexeme.specs.Lexemes.{cut}
 use Rattle.protox_lexeme.specs.Table.{Table, table_of}
+use Rattle.protox_fault.specs.declared.error.ParseErrorKind.{ParseErrorKind}
 use Rattle.protox_fault.specs.declared.error.SyntaxFailure.{SyntaxFailure}
 use Rattle.protox_fault.specs.declared.error.SyntaxFailure.TheVariants.{Faults, OutOfMemory}
 use Rattle.protox_ast.specs.Accepted.{Fits}
+use Rattle.protox_ast.specs.Ast as ast
+use Rattle.protox_ast.specs.AstParts.{join, last_place, rows_span}
 use Rattle.protox_ast.specs.Keywords.{Each}
-use Rattle.protox_ast.specs.part.Ast.{join, last_place, rows_span}
 use Rattle.protox_ast.specs.Places.{Place, placed}
+use Rattle.protox_ast.specs.Tree as tree
 use Rattle.protox_ast.specs.declared.ast.Comments.{Comments}
 use Rattle.protox_ast.specs.declared.ast.Syntax.{Syntax}
 use Rattle.protox_ast.specs.declared.ast.Syntax.TheVariants.{Proto2}
 use Rattle.protox_ast.specs.declared.ast.File.{File}
-use Rattle.protox_syntax.specs.declared.statement_types.Statements.{Statements}
-use Rattle.protox_syntax.specs.Whole.{whole, all_notes}
-use Rattle.protox_syntax.specs.Weave.{released}
+use Rattle.protox_grammar.specs.Reads.{read}
+use Rattle.protox_syntax.specs.Statements.{levels}
+use Rattle.protox_syntax.specs.Whole.{Whole, all_notes}
+use Rattle.protox_syntax.specs.Weave.{weave}
 
 -- the table of a source of so many bytes, which fits the length limit
 abbrev pub IsTableOf : ℕ → Table → Type 0
@@ -36,30 +40,30 @@ abbrev pub stated_at : Syntax × (Span × Comments) → Span × Comments
 stated_at s = s.1
 
 -- the file of what was read
-abbrev pub made : ℕ → Rows Place → Option (Syntax × (Span × Comments)) × Statements → File
+abbrev pub made : ℕ → Rows Place → Whole → File
 made size rows x = record {
   span = rows_span size rows;
   syntax = syntax_or_default x.0;
   syntax_span = option_map stated_at x.0;
-  «package» = None;
+  «package» = x.1.first;
   imports = x.1.imports;
-  options = [];
+  options = x.1.options;
   items = x.1.items;
 }
 
--- no row and no gap has a fault
-abbrev pub HasNoFault : Table → Type 0
-HasNoFault t = released t.faults 0 (length t.rows + 1) ≡ []
+-- all faults of the rows and of what is noted among them
+abbrev pub all_faults : Table → List ParseErrorKind
+all_faults t = weave t.faults (length t.rows + 1) (all_notes (placed t)) 0
 
--- what was read is all of the rows, without any fault
-abbrev pub IsWhole : Table → Option (Syntax × (Span × Comments)) × Statements → Type 0
-IsWhole t x = (whole (placed t) ≡ Ok x) × (all_notes (placed t) ≡ []) × HasNoFault t
+-- the rows are those of the file, without any fault
+abbrev pub IsWhole : Table → tree.File Place → Type 0
+IsWhole t f = (read levels (placed t) ≡ Ok f) × (all_faults t ≡ [])
 
 abbrev pub JudgesFault : Table → ℕ → SyntaxFailure → Type 0
 JudgesFault t size OutOfMemory = Unit {0}
-JudgesFault t size (Faults v) = (v.items ≡ [] → ⊥) × Each (LiesIn size) v.items × ((x : Option (Syntax × (Span × Comments)) × Statements) → IsWhole t x → ⊥)
+JudgesFault t size (Faults v) = (v.items ≡ [] → ⊥) × Each (LiesIn size) v.items × ((f : tree.File Place) → IsWhole t f → ⊥)
 
 -- a file where all is well, and else faults that lie in the source
 abbrev pub Judges : Table → ℕ → Result File SyntaxFailure → Type 0
-Judges t size (Ok file) = (x : Option (Syntax × (Span × Comments)) × Statements) × IsWhole t x × (file ≡ made size (placed t) x)
+Judges t size (Ok file) = (f : tree.File Place) × IsWhole t f × (file ≡ ast.file size f)
 Judges t size (Err e) = JudgesFault t size e

@@ -1,5 +1,4 @@
-pub mod Reads
-pub mod Notes
+pub mod Statements
 pub mod Whole
 pub mod Weave
 pub mod Judging

@@ -1,20 +1,25 @@
 -- MACHINERY. What reading a whole file gives, and what is noted on the way.
-use Rattle.std.specs.Prelude.{List, ◌++◌, Option, Result, Ok}
+use Rattle.std.specs.Prelude.{◌++◌, Option, None, option_map}
 use Rattle.protox_fault.specs.Faults.{Span}
 use Rattle.protox_lexeme.specs.Shapes.{Rows}
-use Rattle.protox_grammar.specs.Reader.{Refusal, ◌>>=◌}
 use Rattle.protox_ast.specs.Places.{Place}
+use Rattle.protox_ast.specs.Tree as tree
 use Rattle.protox_ast.specs.declared.ast.Comments.{Comments}
 use Rattle.protox_ast.specs.declared.ast.Syntax.{Syntax}
-use Rattle.protox_rows.specs.declared.notes.Note.{Note}
+use Rattle.protox_grammar.specs.Reader.{Reader, seq}
+use Rattle.protox_grammar.specs.Told.{Notes, then_notes}
 use Rattle.protox_syntax.specs.declared.statement_types.Statements.{Statements}
-use Rattle.protox_syntax.specs.Reads.{syntax_if_any_at, statements_at}
-use Rattle.protox_rows.specs.Notes.{then_notes}
-use Rattle.protox_syntax.specs.Notes.{syntax_if_any_notes, statements_notes}
+use Rattle.protox_syntax.specs.Statements.{syntax_if_any, syntax_seen, statements_at, statements_seen, notes_behind}
 
 -- the syntax statement, and what the statements give
-abbrev pub whole : Rows Place → Result (Option (Syntax × (Span × Comments)) × Statements) Refusal
-whole xs = syntax_if_any_at xs >>= λ s. statements_at s.1 >>= λ f. Ok (s.0, f.0)
+abbrev pub Whole : Type 0
+Whole = Option (Syntax × (Span × Comments)) × Statements
 
-abbrev pub all_notes : Rows Place → List Note
-all_notes xs = syntax_if_any_notes xs ++ then_notes statements_notes (syntax_if_any_at xs)
+unfoldable pub whole : Reader Place Whole
+whole = seq syntax_if_any.code statements_at
+
+abbrev pub file_seen : tree.File Place → Whole
+file_seen f = (option_map syntax_seen f.syntax, statements_seen f.statements)
+
+unfoldable pub all_notes : Rows Place → Notes
+all_notes xs = syntax_if_any.notes xs ++ then_notes (notes_behind None) (syntax_if_any.code xs)

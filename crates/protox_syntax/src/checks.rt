@@ -1,14 +1,15 @@
-//! What is checked of a syntax statement and of an import.
+//! What is checked of a syntax statement, of an import and of a package.
 
 ghost use Rattle.std.specs.Prelude.{◌≡◌, ◌++◌, ◌==◌, OnOk};
 ghost use Rattle.std.specs.List.{list_any};
-ghost use Rattle.protox_ast.specs.Checks.{is_known_syntax, is_text, is_import_path, is_plain_component};
-ghost use Rattle.protox_rows.specs.Notes.{noted};
-ghost use Rattle.protox_syntax.specs.Notes.{syntax_faults, text_faults, path_faults};
+ghost use Rattle.protox_ast.specs.Checks.{is_known_syntax, is_import_path, is_plain_component};
+ghost use Rattle.protox_grammar.specs.Told.{noted, path_faults, syntax_notes};
+ghost use Rattle.protox_grammar.proofs.Stated.{again_notes};
 
+use protox_grammar::note::Note;
 use protox_lex::error::{ParseErrorKind, Span};
+use protox_rows::checks::add_fault;
 use protox_rows::leaf::copied;
-use protox_rows::notes::{Note, add_note};
 use protox_rows::rows::Unread;
 use protox_rows::strings::text_of;
 use std::alloc::{AllocError, Global};
@@ -18,15 +19,6 @@ fn is_known_syntax(value: &[u8]) -> bool
     ensures { result ≡ is_known_syntax value.now }
 {
     value == b"proto2".as_slice() || value == b"proto3".as_slice()
-}
-
-fn is_text(bytes: &[u8]) -> bool
-    ensures { result ≡ is_text bytes.now }
-{
-    match str::from_utf8(bytes) {
-        Ok(_) => true,
-        Err(_) => false,
-    }
 }
 
 fn has_backslash(component: &str) -> bool
@@ -56,7 +48,7 @@ pub fn check_syntax(
     value: &[u8],
     span: &Span,
 ) -> Result<(), AllocError>
-    ensures { OnOk result (notes.new.items ≡ notes.old.items ++ noted (syntax_faults value.now span.now) rows.now) }
+    ensures { OnOk result (notes.new.items ≡ notes.old.items ++ syntax_notes (value.now, span.now) rows.now) }
 {
     if is_known_syntax(value) {
         return Ok(());
@@ -65,26 +57,7 @@ pub fn check_syntax(
         span: copied(span),
         syntax: text_of(alloc, value)?,
     };
-    add_note(notes, rows, fault)
-}
-
-/// Whether an import's string is text.
-pub fn check_text(
-    notes: &mut Vec<Note>,
-    rows: &Unread<'_, '_>,
-    value: &[u8],
-    span: &Span,
-) -> Result<(), AllocError>
-    ensures { OnOk result (notes.new.items ≡ notes.old.items ++ noted (text_faults value.now span.now) rows.now) }
-{
-    if is_text(value) {
-        return Ok(());
-    }
-    add_note(
-        notes,
-        rows,
-        ParseErrorKind::InvalidUtf8String { span: copied(span) },
-    )
+    add_fault(notes, rows, fault)
 }
 
 /// Whether an import's text is a path of plain components.
@@ -99,9 +72,29 @@ pub fn check_path(
     if is_import_path(path) {
         return Ok(());
     }
-    add_note(
-        notes,
-        rows,
-        ParseErrorKind::InvalidImport { span: copied(span) },
-    )
+    let span = copied(span);
+    add_fault(notes, rows, ParseErrorKind::InvalidImport { span })
+}
+
+/// Whether a package is the first.
+pub fn check_package(
+    notes: &mut Vec<Note>,
+    rows: &Unread<'_, '_>,
+    first: &Option<Span>,
+    span: &Span,
+) -> Result<(), AllocError>
+    ensures { OnOk result (notes.new.items ≡ notes.old.items ++ again_notes first.now span.now rows.now) }
+{
+    match first {
+        None => Ok(()),
+        Some(first) => {
+            let first = copied(first);
+            let second = copied(span);
+            add_fault(
+                notes,
+                rows,
+                ParseErrorKind::DuplicatePackage { first, second },
+            )
+        }
+    }
 }

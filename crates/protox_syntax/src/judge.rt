@@ -1,23 +1,21 @@
 //! Reads a whole table, and says what is wrong with it.
 
-ghost use Rattle.std.specs.Prelude.{◌≡◌, [], length, Ok, Err, option_map};
+ghost use Rattle.std.specs.Prelude.{◌≡◌, [], Ok, Err, option_map};
 ghost use Rattle.protox_ast.specs.Places.{placed};
-ghost use Rattle.protox_grammar.specs.Reader.{Unexpected};
+ghost use Rattle.protox_grammar.specs.Reader.{Unexpected, Deep};
 ghost use Rattle.protox_syntax.specs.Judging.{IsTableOf, Judges, bare_span, made, syntax_or_default, stated_at};
-ghost use Rattle.protox_syntax.specs.Notes.{syntax_if_any_notes};
-ghost use Rattle.protox_syntax.specs.Reads.{syntax_if_any_at};
+ghost use Rattle.protox_syntax.specs.Statements as rule;
 ghost use Rattle.protox_syntax.specs.Whole.{whole, all_notes};
 
 use crate::progress::{add_refusal, woven};
 use crate::statement_types::Statements;
 use crate::statements::{statements, syntax_if_any};
 use protox_ast::ast::{Comments, File, Syntax};
-use protox_descriptor::values::Items;
+use protox_grammar::note::Note;
 use protox_lex::error::{Span, SyntaxFailure};
 use protox_lex::lex::TokenTable;
 use protox_rows::expected::Expected;
 use protox_rows::leaf::join;
-use protox_rows::notes::Note;
 use protox_rows::refused::Refused;
 use protox_rows::rows::{Unread, span_in};
 use std::alloc::Global;
@@ -51,7 +49,6 @@ fn stated_at(syntax: Option<(Syntax, (Span, Comments))>) -> Option<(Span, Commen
 }
 
 fn made(
-    alloc: Global,
     table: &TokenTable<'_>,
     size: usize,
     syntax: Option<(Syntax, (Span, Comments))>,
@@ -59,14 +56,19 @@ fn made(
 ) -> File
     ensures { result ≡ made size (placed table.now) (syntax, statements) }
 {
-    let Statements { imports, items } = statements;
+    let Statements {
+        first,
+        imports,
+        options,
+        items,
+    } = statements;
     File {
         span: file_span(table, size),
         syntax: syntax_or_default(&syntax),
         syntax_span: stated_at(syntax),
-        package: None,
+        package: first,
         imports,
-        options: Items::new(alloc),
+        options,
         items,
     }
 }
@@ -79,7 +81,7 @@ fn stopped(
     notes: Vec<Note>,
 ) -> Result<File, SyntaxFailure>
     requires table { IsTableOf size table.now }
-    requires notes { notes.items ≡ syntax_if_any_notes (placed table.now) }
+    requires notes { notes.items ≡ (rule.syntax_if_any).notes (placed table.now) }
     requires some { notes.items ≡ [] → ⊥ }
     ensures { Judges table.now size result }
 {
@@ -112,6 +114,24 @@ fn refused(
     Err(SyntaxFailure::Faults(errors))
 }
 
+// A body is too deep: nothing behind its `{` and the token behind that is read.
+fn sunk(
+    alloc: Global,
+    table: &TokenTable<'_>,
+    size: usize,
+    notes: Vec<Note>,
+    left: usize,
+) -> Result<File, SyntaxFailure>
+    requires table { IsTableOf size table.now }
+    requires read { whole (placed table.now) ≡ Err (Deep left) }
+    requires notes { notes.items ≡ all_notes (placed table.now) }
+    ensures { Judges table.now size result }
+{
+    let total = table.rows() + 1;
+    let errors = woven(alloc, table, total, notes, left.saturating_sub(1))?;
+    Err(SyntaxFailure::Faults(errors))
+}
+
 // All rows are read.
 fn finished(
     alloc: Global,
@@ -122,18 +142,19 @@ fn finished(
     statements: Statements,
 ) -> Result<File, SyntaxFailure>
     requires table { IsTableOf size table.now }
-    requires read { whole (placed table.now) ≡ Ok (syntax, statements) }
+    requires read { whole (placed table.now) ≡ Ok ((syntax, statements), []) }
     requires notes { notes.items ≡ all_notes (placed table.now) }
     ensures { Judges table.now size result }
 {
     let total = table.rows() + 1;
     let errors = woven(alloc, table, total, notes, 0)?;
     if errors.is_empty() {
-        return Ok(made(alloc, table, size, syntax, statements));
+        return Ok(made(table, size, syntax, statements));
     }
     Err(SyntaxFailure::Faults(errors))
 }
 
+#[tactic(auto, unfolding(crate::specs::Whole::whole, crate::specs::Whole::all_notes))]
 fn after_syntax(
     alloc: Global,
     table: &TokenTable<'_>,
@@ -142,21 +163,22 @@ fn after_syntax(
     rest: Unread<'_, '_>,
 ) -> Result<File, SyntaxFailure>
     requires table { IsTableOf size table.now }
-    requires read { syntax_if_any_at (placed table.now) ≡ Ok (syntax, rest) }
-    requires notes { syntax_if_any_notes (placed table.now) ≡ [] }
+    requires read { (rule.syntax_if_any).code (placed table.now) ≡ Ok (syntax, rest) }
+    requires notes { (rule.syntax_if_any).notes (placed table.now) ≡ [] }
     ensures { Judges table.now size result }
 {
     let mut notes = Vec::new(alloc);
     let mut rows = rest;
     match statements(alloc, &mut notes, &mut rows) {
         Ok(found) => finished(alloc, table, size, notes, syntax, found),
-        // No body that is read today stands in another, so none is too deep.
-        Err(Refused::OutOfMemory | Refused::TooDeep { .. }) => Err(SyntaxFailure::OutOfMemory),
+        Err(Refused::OutOfMemory) => Err(SyntaxFailure::OutOfMemory),
         Err(Refused::At { left, expected }) => refused(alloc, table, size, notes, left, expected),
+        Err(Refused::TooDeep { left }) => sunk(alloc, table, size, notes, left),
     }
 }
 
 /// The file that the rows spell, or all that is wrong with them.
+#[tactic(auto, unfolding(crate::specs::Whole::whole, crate::specs::Whole::all_notes))]
 pub(crate) fn judge(
     alloc: Global,
     table: &TokenTable<'_>,
@@ -168,10 +190,10 @@ pub(crate) fn judge(
     let mut notes = Vec::new(alloc);
     let mut rows = Unread::all(table);
     match syntax_if_any(alloc, &mut notes, &mut rows) {
-        // No body that is read today stands in another, so none is too deep.
-        Err(Refused::OutOfMemory | Refused::TooDeep { .. }) => Err(SyntaxFailure::OutOfMemory),
+        Err(Refused::OutOfMemory) => Err(SyntaxFailure::OutOfMemory),
         _ if !notes.is_empty() => stopped(alloc, table, size, notes),
         Err(Refused::At { left, expected }) => refused(alloc, table, size, notes, left, expected),
+        Err(Refused::TooDeep { left }) => sunk(alloc, table, size, notes, left),
         Ok(syntax) => after_syntax(alloc, table, size, syntax, rows),
     }
 }

@@ -1,14 +1,14 @@
 //! The list of faults: those of the rows in their order, and among them those that are noted at nodes.
 
-ghost use Rattle.std.specs.Prelude.{◌≡◌, ◌<◌, ◌+◌, ◌++◌, ◌^◌, OnOk, IfOk, Some, option_to_list};
+ghost use Rattle.std.specs.Prelude.{◌≡◌, ℕ, ◌<◌, ◌+◌, ◌++◌, ◌^◌, OnOk, IfOk, Some, false, option_to_list};
 ghost use Rattle.protox_lexeme.specs.Printed.{printed};
 ghost use Rattle.protox_lexeme.specs.Tokens.{shape_of};
-ghost use Rattle.protox_syntax.specs.Weave.{released, progress, read_to, play, beginning, weave, refusal, row_at};
+ghost use Rattle.protox_syntax.specs.Weave.{released, progress, read_to, with_noted, play, weave, refusal, row_at};
 
 use protox_descriptor::values::Text;
+use protox_grammar::note::{Note, Noted};
 use protox_lex::error::{ParseErrorKind, Span};
 use protox_lex::lex::{Token, TokenTable};
-use protox_rows::notes::Note;
 use std::alloc::{AllocError, Global};
 
 // The faults of `count` rows and their gaps, from `low` on.
@@ -17,13 +17,14 @@ fn release(
     table: &TokenTable<'_>,
     low: usize,
     count: usize,
+    text_format: bool,
     errors: &mut Vec<ParseErrorKind>,
 ) -> Result<(), AllocError>
     requires { low + count < 2 ^ 64 }
-    ensures { OnOk result (errors.new.items ≡ errors.old.items ++ released table.now.faults low count) }
+    ensures { OnOk result (errors.new.items ≡ errors.old.items ++ released text_format table.now.faults low count) }
 {
     for k in 0..count {
-        table.release(alloc, low + k, false, errors)?;
+        table.release(alloc, low + k, text_format, errors)?;
     }
     Ok(())
 }
@@ -35,13 +36,31 @@ fn read_to(
     total: usize,
     left: usize,
     next: usize,
+    text_format: bool,
     errors: &mut Vec<ParseErrorKind>,
 ) -> Result<usize, AllocError>
-    ensures { IfOk result (λ n. progress errors.new.items n ≡ read_to table.now.faults total left (progress errors.old.items next)) }
+    ensures { IfOk result (λ n. progress errors.new.items n text_format ≡ read_to table.now.faults total left (progress errors.old.items next text_format)) }
 {
     let count = total.saturating_sub(left).saturating_sub(next);
-    release(alloc, table, next, count, errors)?;
+    release(alloc, table, next, count, text_format, errors)?;
     Ok(next + count)
+}
+
+// A fault is added; or rows are seen as in text format from there on, or no longer.
+fn add_noted(
+    noted: Noted,
+    text_format: bool,
+    errors: &mut Vec<ParseErrorKind>,
+) -> Result<bool, AllocError>
+    ensures { IfOk result (λ on. (n : ℕ) → progress errors.new.items n on ≡ with_noted noted (progress errors.old.items n text_format)) }
+{
+    match noted {
+        Noted::Fault(fault) => {
+            errors.push(fault)?;
+            Ok(text_format)
+        }
+        Noted::TextFormat(on) => Ok(on),
+    }
 }
 
 // The notes in their order, each behind the faults of the rows that are read before it.
@@ -51,15 +70,16 @@ fn play(
     total: usize,
     notes: Vec<Note>,
     errors: &mut Vec<ParseErrorKind>,
-) -> Result<usize, AllocError>
-    ensures { IfOk result (λ n. progress errors.new.items n ≡ play table.now.faults total notes.items (progress errors.old.items 0)) }
+) -> Result<(usize, bool), AllocError>
+    ensures { IfOk result (λ x. progress errors.new.items x.0 x.1 ≡ play table.now.faults total notes.items (progress errors.old.items 0 false)) }
 {
     let mut next = 0;
+    let mut text_format = false;
     'notes: for note in notes {
-        next = read_to(alloc, table, total, note.left, next, errors)?;
-        errors.push(note.fault)?;
+        next = read_to(alloc, table, total, note.left, next, text_format, errors)?;
+        text_format = add_noted(note.noted, text_format, errors)?;
     }
-    Ok(next)
+    Ok((next, text_format))
 }
 
 /// All faults up to where `left` of `total` rows are left, the end of the source among them.
@@ -73,8 +93,8 @@ pub(crate) fn woven(
     ensures { IfOk result (λ es. es.items ≡ weave table.now.faults total notes.items left) }
 {
     let mut errors = Vec::new(alloc);
-    let next = play(alloc, table, total, notes, &mut errors)?;
-    read_to(alloc, table, total, left, next, &mut errors)?;
+    let (next, text_format) = play(alloc, table, total, notes, &mut errors)?;
+    read_to(alloc, table, total, left, next, text_format, &mut errors)?;
     Ok(errors)
 }
 

@@ -1,28 +1,39 @@
 //! The syntax statement, and the statements of a file.
 
-ghost use Rattle.std.specs.Prelude.{◌≡◌, ◌∷◌, ◌++◌, [], codes, OnOk, IfOk};
-ghost use Rattle.protox_grammar.specs.Reader.{any_word, head_in, mapped, optional};
-ghost use Rattle.protox_ast.specs.part.Ast.{syntax_of, text_of};
+ghost use Rattle.std.specs.Prelude.{◌≡◌, ◌++◌, [], OnOk, IfOk, option_map};
+ghost use Rattle.protox_ast.specs.Ast.{syntax_of, text_of};
+ghost use Rattle.protox_grammar.specs.Told.{import_notes};
 ghost use Rattle.protox_rows.specs.Outcome.{Gives};
 ghost use Rattle.protox_rows.specs.Notes.{Adds};
-ghost use Rattle.protox_rows.specs.Reads.{the};
-ghost use Rattle.protox_syntax.specs.Notes.{syntax_value_notes, syntax_notes, syntax_if_any_notes, path_check, path_notes, import_notes, statement_notes, statements_notes};
-ghost use Rattle.protox_syntax.specs.Reads.{add_statement, is_import_kind, import_kind_at, path_at, import_at, statement_at, statements_at, syntax_value_at, syntax_at, syntax_if_any_at};
+ghost use Rattle.protox_syntax.specs.Statements as rule;
 
-use crate::checks::{check_path, check_syntax, check_text};
+use crate::checks::{check_package, check_path, check_syntax};
 use crate::statement_types::{Statement, Statements};
-use protox_ast::ast::{Comments, FileItem, Import, ImportKind, Syntax};
+use protox_ast::ast::{Comments, FileItem, FullIdent, Import, ImportKind, Package, Syntax};
+use protox_blocks::enums::enum_;
+use protox_blocks::services::service;
+use protox_bodies::bodies::{extend, message};
 use protox_descriptor::values::{Items, Text};
+use protox_grammar::note::Note;
 use protox_lex::error::Span;
-use protox_lex::lex::Token;
-use protox_messages::messages::message;
+use protox_options::options::option;
+use protox_rows::checks::check_text;
+use protox_rows::class::{
+    ENUM, EXTEND, IMPORT, MESSAGE, OPTION, PACKAGE, PUBLIC, SEMICOLON, SYNTAX, WEAK, sees, sees_any,
+};
 use protox_rows::expected::Expected;
-use protox_rows::leaf::{expect_mark, expect_word, sees_mark, sees_word};
-use protox_rows::notes::Note;
+use protox_rows::leaf::{copied, expect_mark, expect_word};
+use protox_rows::names::fullident;
 use protox_rows::refused::Refused;
-use protox_rows::rows::{Unread, comments_of, span_between};
+use protox_rows::rows::{Unread, comments_between, span_between};
 use protox_rows::strings::{strings, text_of};
 use std::alloc::{AllocError, Global};
+
+/// How many levels of messages and groups are read.
+pub const MAX_MESSAGE_NESTING_DEPTH: u32 = 31;
+
+// The same, as what is left of it is counted.
+const LEVELS: usize = MAX_MESSAGE_NESTING_DEPTH as usize;
 
 fn syntax_of(value: &[u8]) -> Syntax
     ensures { result ≡ syntax_of value.now }
@@ -35,14 +46,14 @@ fn syntax_of(value: &[u8]) -> Syntax
 }
 
 /// string+, as the syntax that it names.
-#[tactic(auto, unfolding(crate::specs::Reads::syntax_value_at, crate::specs::Notes::syntax_value_notes))]
+#[tactic(auto, unfolding(crate::specs::Statements::syntax_value))]
 fn syntax_value(
     alloc: Global,
     notes: &mut Vec<Note>,
     rows: &mut Unread<'_, '_>,
 ) -> Result<Syntax, Refused>
-    ensures read { Gives (λ x. x) result rows.new (syntax_value_at rows.old) }
-    ensures notes { Adds result notes.old.items (syntax_value_notes rows.old) notes.new.items }
+    ensures read { Gives (λ x. x) result rows.new ((rule.syntax_value).code rows.old) }
+    ensures notes { Adds result notes.old.items ((rule.syntax_value).notes rows.old) notes.new.items }
 {
     let (value, span) = strings(alloc, rows, Expected::String)?;
     check_syntax(alloc, notes, rows, &value, &span)?;
@@ -50,87 +61,59 @@ fn syntax_value(
 }
 
 /// syntax = "syntax" "=" string+ ";"
-#[tactic(auto, unfolding(crate::specs::Reads::syntax_at, crate::specs::Notes::syntax_notes))]
+#[tactic(auto, unfolding(crate::specs::Statements::syntax))]
 fn syntax(
     alloc: Global,
     notes: &mut Vec<Note>,
     rows: &mut Unread<'_, '_>,
 ) -> Result<(Syntax, (Span, Comments)), Refused>
-    ensures read { Gives (λ x. x) result rows.new (syntax_at rows.old) }
-    ensures notes { Adds result notes.old.items (syntax_notes rows.old) notes.new.items }
+    ensures read { Gives (λ x. x) result rows.new ((rule.syntax).code rows.old) }
+    ensures notes { Adds result notes.old.items ((rule.syntax).notes rows.old) notes.new.items }
 {
-    let begun = rows.again();
     let start = expect_word(rows, "syntax", Expected::Syntax)?;
     expect_mark(rows, b'=', Expected::Equals)?;
     let syntax = syntax_value(alloc, notes, rows)?;
     let end = expect_mark(rows, b';', Expected::Semicolon)?;
-    let comments = comments_of(alloc, &begun, &end)?;
+    let comments = comments_between(alloc, &start, &end)?;
     let span = span_between(&start, &end);
     Ok((syntax, (span, comments)))
 }
 
 /// syntax?
-#[tactic(auto, unfolding(crate::specs::Reads::syntax_if_any_at, crate::specs::Notes::syntax_if_any_notes))]
+#[tactic(auto, unfolding(crate::specs::Statements::syntax_if_any))]
 pub(crate) fn syntax_if_any(
     alloc: Global,
     notes: &mut Vec<Note>,
     rows: &mut Unread<'_, '_>,
 ) -> Result<Option<(Syntax, (Span, Comments))>, Refused>
-    ensures read { Gives (λ x. x) result rows.new (syntax_if_any_at rows.old) }
-    ensures notes { Adds result notes.old.items (syntax_if_any_notes rows.old) notes.new.items }
+    ensures read { Gives (λ x. x) result rows.new ((rule.syntax_if_any).code rows.old) }
+    ensures notes { Adds result notes.old.items ((rule.syntax_if_any).notes rows.old) notes.new.items }
 {
-    if sees_word(rows, "syntax") {
+    if sees(rows, SYNTAX) {
         let syntax = syntax(alloc, notes, rows)?;
         return Ok(Some(syntax));
     }
     Ok(None)
 }
 
-fn sees_import_kind(rows: &Unread<'_, '_>) -> bool
-    ensures { result ≡ head_in is_import_kind rows.now }
-{
-    match rows.first() {
-        Some(first) => match first.token() {
-            Ok(Token::Ident(word)) => is_import_word(word),
-            _ => false,
-        },
-        None => false,
-    }
-}
-
-fn is_import_word(word: &str) -> bool
-    ensures { result ≡ any_word (codes "weak" ∷ codes "public" ∷ []) word.now }
-{
-    matches!(word, "weak" | "public")
-}
-
-// This word, as a kind of import.
-fn kind_word(
-    rows: &mut Unread<'_, '_>,
-    word: &str,
-    kind: ImportKind,
-) -> Result<(ImportKind, Span), Refused>
-    ensures { Gives (λ x. x) result rows.new (mapped (λ p. (kind, p.span)) (the word.now) rows.old) }
-{
-    let word = expect_word(rows, word, Expected::WeakOrPublic)?;
-    Ok((kind, word.span()))
-}
-
 /// "weak" | "public"
-#[tactic(auto, unfolding(crate::specs::Reads::import_kind_at))]
+#[tactic(auto, unfolding(crate::specs::Statements::import_kind))]
 fn import_kind(rows: &mut Unread<'_, '_>) -> Result<(ImportKind, Span), Refused>
-    ensures { Gives (λ x. x) result rows.new (import_kind_at rows.old) }
+    ensures { Gives (λ x. x) result rows.new ((rule.import_kind).code rows.old) }
 {
-    if sees_word(rows, "weak") {
-        return kind_word(rows, "weak", ImportKind::Weak);
+    if sees(rows, WEAK) {
+        let word = expect_word(rows, "weak", Expected::WeakOrPublic)?;
+        return Ok((ImportKind::Weak, word.span()));
     }
-    kind_word(rows, "public", ImportKind::Public)
+    let word = expect_word(rows, "public", Expected::WeakOrPublic)?;
+    Ok((ImportKind::Public, word.span()))
 }
 
+#[tactic(auto, unfolding(crate::specs::Statements::import_kind_if_any))]
 fn import_kind_if_any(rows: &mut Unread<'_, '_>) -> Result<Option<(ImportKind, Span)>, Refused>
-    ensures { Gives (λ x. x) result rows.new (optional is_import_kind import_kind_at rows.old) }
+    ensures { Gives (λ x. x) result rows.new ((rule.import_kind_if_any).code rows.old) }
 {
-    if sees_import_kind(rows) {
+    if sees_any(rows, &[WEAK, PUBLIC]) {
         let kind = import_kind(rows)?;
         return Ok(Some(kind));
     }
@@ -154,7 +137,7 @@ fn checked_path(
     span: &Span,
 ) -> Result<Text, AllocError>
     ensures text { IfOk result (λ t. t ≡ text_of bytes.now) }
-    ensures notes { OnOk result (notes.new.items ≡ notes.old.items ++ path_check (bytes.now, span.now) rows.now) }
+    ensures notes { OnOk result (notes.new.items ≡ notes.old.items ++ import_notes (bytes.now, span.now) rows.now) }
 {
     check_text(notes, rows, bytes, span)?;
     let text = text_of(alloc, bytes)?;
@@ -163,15 +146,15 @@ fn checked_path(
 }
 
 /// string+, as the path that it is.
-#[tactic(auto, unfolding(crate::specs::Reads::path_at, crate::specs::Notes::path_notes))]
+#[tactic(auto, unfolding(crate::specs::Statements::path))]
 fn path(
     alloc: Global,
     notes: &mut Vec<Note>,
     rows: &mut Unread<'_, '_>,
     expected: Expected,
 ) -> Result<(Text, Span), Refused>
-    ensures read { Gives (λ x. x) result rows.new (path_at rows.old) }
-    ensures notes { Adds result notes.old.items (path_notes rows.old) notes.new.items }
+    ensures read { Gives (λ x. x) result rows.new ((rule.path).code rows.old) }
+    ensures notes { Adds result notes.old.items ((rule.path).notes rows.old) notes.new.items }
 {
     let (bytes, span) = strings(alloc, rows, expected)?;
     let text = checked_path(alloc, notes, rows, &bytes, &span)?;
@@ -179,21 +162,20 @@ fn path(
 }
 
 /// import = "import" ("weak" | "public")? string+ ";"
-#[tactic(auto, unfolding(crate::specs::Reads::import_at, crate::specs::Notes::import_notes))]
-fn import(
+#[tactic(auto, unfolding(crate::specs::Statements::import_))]
+fn import_(
     alloc: Global,
     notes: &mut Vec<Note>,
     rows: &mut Unread<'_, '_>,
 ) -> Result<Import, Refused>
-    ensures read { Gives (λ x. x) result rows.new (import_at rows.old) }
-    ensures notes { Adds result notes.old.items (import_notes rows.old) notes.new.items }
+    ensures read { Gives (λ x. x) result rows.new ((rule.import_).code rows.old) }
+    ensures notes { Adds result notes.old.items ((rule.import_).notes rows.old) notes.new.items }
 {
-    let begun = rows.again();
     let start = expect_word(rows, "import", Expected::Import)?;
     let kind = import_kind_if_any(rows)?;
     let (value, value_span) = path(alloc, notes, rows, after_import(&kind))?;
     let end = expect_mark(rows, b';', Expected::Semicolon)?;
-    let comments = comments_of(alloc, &begun, &end)?;
+    let comments = comments_between(alloc, &start, &end)?;
     let span = span_between(&start, &end);
     Ok(Import {
         kind,
@@ -204,54 +186,161 @@ fn import(
     })
 }
 
-/// statement = ";" | import | message
-#[tactic(auto, unfolding(crate::specs::Reads::statement_at, crate::specs::Notes::statement_notes))]
-fn statement(
+/// package = "package" fullident ";"
+#[tactic(auto, unfolding(crate::specs::Statements::package_))]
+fn package_(alloc: Global, rows: &mut Unread<'_, '_>) -> Result<Package, Refused>
+    ensures { Gives (λ x. x) result rows.new ((rule.package_).code rows.old) }
+{
+    let start = expect_word(rows, "package", Expected::Statement)?;
+    let parts = fullident(alloc, rows, Expected::Ident)?;
+    let end = expect_mark(rows, b';', Expected::DotOrSemicolon)?;
+    let comments = comments_between(alloc, &start, &end)?;
+    let span = span_between(&start, &end);
+    let name = FullIdent::from_parts(parts.into_vec());
+    Ok(Package {
+        name,
+        comments,
+        span,
+    })
+}
+
+// A package statement, where the first one stands there.
+#[tactic(auto, unfolding(crate::specs::Statements::package_statement))]
+fn package_statement(
+    alloc: Global,
+    notes: &mut Vec<Note>,
+    rows: &mut Unread<'_, '_>,
+    first: &Option<Span>,
+) -> Result<Statement, Refused>
+    ensures read { Gives (λ x. x) result rows.new ((rule.package_statement).code rows.old) }
+    ensures notes { Adds result notes.old.items ((rule.package_statement).notes first.now rows.old) notes.new.items }
+{
+    let package = package_(alloc, rows)?;
+    check_package(notes, rows, first, &package.span)?;
+    Ok(Statement::Package(package))
+}
+
+/// extend | message | enum | service
+#[tactic(auto, unfolding(crate::specs::Statements::item_))]
+fn item_(
     alloc: Global,
     notes: &mut Vec<Note>,
     rows: &mut Unread<'_, '_>,
 ) -> Result<Statement, Refused>
-    ensures read { Gives (λ x. x) result rows.new (statement_at rows.old) }
-    ensures notes { Adds result notes.old.items (statement_notes rows.old) notes.new.items }
+    ensures read { Gives (λ x. x) result rows.new ((rule.item_).code rows.old) }
+    ensures notes { Adds result notes.old.items ((rule.item_).notes rows.old) notes.new.items }
 {
-    if sees_mark(rows, b';') {
+    if sees(rows, EXTEND) {
+        let extend = extend(alloc, notes, rows, LEVELS)?;
+        return Ok(Statement::Item(FileItem::Extend(extend)));
+    }
+    if sees(rows, MESSAGE) {
+        let message = message(alloc, notes, rows, LEVELS)?;
+        return Ok(Statement::Item(FileItem::Message(message)));
+    }
+    if sees(rows, ENUM) {
+        let enum_ = enum_(alloc, notes, rows, Expected::Statement)?;
+        return Ok(Statement::Item(FileItem::Enum(enum_)));
+    }
+    let service = service(alloc, notes, rows, Expected::Statement)?;
+    Ok(Statement::Item(FileItem::Service(service)))
+}
+
+// option | extend | message | enum | service
+#[tactic(auto, unfolding(crate::specs::Statements::declared))]
+fn declared(
+    alloc: Global,
+    notes: &mut Vec<Note>,
+    rows: &mut Unread<'_, '_>,
+) -> Result<Statement, Refused>
+    ensures read { Gives (λ x. x) result rows.new ((rule.declared).code rows.old) }
+    ensures notes { Adds result notes.old.items ((rule.declared).notes rows.old) notes.new.items }
+{
+    if sees(rows, OPTION) {
+        let option = option(alloc, notes, rows, Expected::Statement)?;
+        return Ok(Statement::Option(option));
+    }
+    item_(alloc, notes, rows)
+}
+
+/// statement = ";" | import | package | option | extend | message | enum | service
+#[tactic(auto, unfolding(crate::specs::Statements::statement))]
+fn statement(
+    alloc: Global,
+    notes: &mut Vec<Note>,
+    rows: &mut Unread<'_, '_>,
+    first: &Option<Span>,
+) -> Result<Statement, Refused>
+    ensures read { Gives (λ x. x) result rows.new ((rule.statement).code rows.old) }
+    ensures notes { Adds result notes.old.items ((rule.statement).notes first.now rows.old) notes.new.items }
+{
+    if sees(rows, SEMICOLON) {
         expect_mark(rows, b';', Expected::Semicolon)?;
         return Ok(Statement::Empty);
     }
-    if sees_word(rows, "import") {
-        let import = import(alloc, notes, rows)?;
+    if sees(rows, IMPORT) {
+        let import = import_(alloc, notes, rows)?;
         return Ok(Statement::Import(import));
     }
-    let message = message(alloc, rows)?;
-    Ok(Statement::Message(message))
+    if sees(rows, PACKAGE) {
+        return package_statement(alloc, notes, rows, first);
+    }
+    declared(alloc, notes, rows)
+}
+
+// The place of the first package statement.
+fn first_place(file: &Statements) -> Option<Span>
+    ensures { result ≡ rule.first_place file.now }
+{
+    match &file.first {
+        Some(package) => Some(copied(&package.span)),
+        None => None,
+    }
 }
 
 fn put_statement(file: &mut Statements, statement: Statement) -> Result<(), AllocError>
-    ensures { OnOk result (file.new ≡ add_statement file.old statement) }
+    ensures { OnOk result (file.new ≡ rule.add_statement file.old statement) }
 {
     match statement {
         Statement::Empty => Ok(()),
         Statement::Import(import) => file.imports.push(import),
-        Statement::Message(message) => file.items.push(FileItem::Message(message)),
+        Statement::Package(package) => {
+            put_package(file, package);
+            Ok(())
+        }
+        Statement::Option(option) => file.options.push(option),
+        Statement::Item(item) => file.items.push(item),
+    }
+}
+
+// The first package is kept.
+fn put_package(file: &mut Statements, found: Package)
+    ensures { file.new ≡ record file.old { first = rule.or_package file.old.first found } }
+{
+    if file.first.is_none() {
+        file.first = Some(found);
     }
 }
 
 /// statement*, up to the end or to the first that is refused.
-#[tactic(auto, unfolding(crate::specs::Reads::statements_at, crate::specs::Notes::statements_notes))]
+#[tactic(auto, unfolding(crate::specs::Statements::statements_at))]
 pub(crate) fn statements(
     alloc: Global,
     notes: &mut Vec<Note>,
     rows: &mut Unread<'_, '_>,
 ) -> Result<Statements, Refused>
-    ensures read { Gives (λ x. x) result [] (statements_at rows.old) }
-    ensures notes { Adds result notes.old.items (statements_notes rows.old) notes.new.items }
+    ensures read { Gives (λ x. x) result [] (rule.statements_at rows.old) }
+    ensures notes { Adds result notes.old.items (rule.notes_behind None rows.old) notes.new.items }
 {
     let mut file = Statements {
+        first: None,
         imports: Items::new(alloc),
+        options: Items::new(alloc),
         items: Items::new(alloc),
     };
     'more: while !rows.is_empty() {
-        let statement = statement(alloc, notes, rows)?;
+        let first = first_place(&file);
+        let statement = statement(alloc, notes, rows, &first)?;
         put_statement(&mut file, statement)?;
     }
     Ok(file)

@@ -1,8 +1,9 @@
 //! Names, texts and lists, and the messages of descriptor.proto.
 use protox_parse::case::{is_valid_group_name, is_valid_ident, to_pascal_case};
 use protox_parse::descriptor::field_descriptor_proto::{FieldType, Label};
+use protox_parse::descriptor::source_code_info::Location;
 use protox_parse::descriptor::{DescriptorProto, FileDescriptorProto};
-use protox_parse::values::{Items, Text};
+use protox_parse::values::{Items, Numbers, Text};
 use std::alloc::{AllocError, Global};
 use std::test::Fail;
 
@@ -111,9 +112,34 @@ fn messages_are_equal_by_fields(rt: HostRuntime) -> Result<(), Fail> {
 
 fn grown_text(alloc: Global) -> Result<String, AllocError> {
     let mut text = Text::copy(alloc, "ab")?;
-    text.push_str("c")?;
+    text.push_str(alloc, "c")?;
     let same = text == Text::from_string(String::from_str(alloc, "abc")?);
     format!(in alloc; "{text} {text:?} {} {} {same}", text.len(), text.is_empty())
+}
+
+// A text of 30 bytes that grows beyond them.
+fn long_text(alloc: Global) -> Result<String, AllocError> {
+    let mut text = Text::joined(alloc, "abcdefghijklmno", "pqrstuvwxyzéAB")?;
+    text.push_str(alloc, "C")?;
+    text.push_str(alloc, "D")?;
+    text.into_string(alloc)
+}
+
+fn numbers(alloc: Global) -> Result<String, AllocError> {
+    let few = Numbers::from_slice(alloc, &[1, 2])?;
+    let many = Numbers::joined(alloc, few.as_slice(), &[3, 4, 5, 6, 7, 8])?;
+    let same = few == many;
+    let found = format!(in alloc; "{few:?} {} {} {many:?} {same}", few.len(), few.is_empty())?;
+    format!(in alloc; "{found} {}", many.into_vec(alloc)?.len())
+}
+
+fn location(alloc: Global) -> Result<String, AllocError> {
+    let leading = Some(Text::copy(alloc, " a")?);
+    let (path, span) = (Numbers::few(&[4, 0]), Numbers::few(&[1, 2, 3]));
+    let found = Location::commented(alloc, path, span, leading, None, Items::new(alloc))?;
+    let bare = Location::bare(Numbers::few(&[4, 0]), Numbers::few(&[1, 2, 3]));
+    let told = (found == bare, found.trailing_comments().is_none());
+    format!(in alloc; "{found:?} {told:?}")
 }
 
 fn grown_list(alloc: Global) -> Result<String, AllocError> {
@@ -131,7 +157,24 @@ fn grown_list(alloc: Global) -> Result<String, AllocError> {
 fn texts_and_lists_grow(rt: HostRuntime) -> Result<(), Fail> {
     let text = grown_text(rt.alloc())?;
     assert_eq!(rt; text.as_str(), "abc \"abc\" 3 false true");
+    let long = long_text(rt.alloc())?;
+    assert_eq!(rt; long.as_str(), "abcdefghijklmnopqrstuvwxyzéABCD");
     let list = grown_list(rt.alloc())?;
     assert_eq!(rt; list.as_str(), "[1, 2, 3] 3 Some(3) true 3");
+    Ok(())
+}
+
+#[test]
+fn numbers_and_locations_are_made(rt: HostRuntime) -> Result<(), Fail> {
+    let numbers = numbers(rt.alloc())?;
+    assert_eq!(rt;
+        numbers.as_str(),
+        "[1, 2] 2 false [1, 2, 3, 4, 5, 6, 7, 8] false 8"
+    );
+    let location = location(rt.alloc())?;
+    assert_eq!(rt;
+        location.as_str(),
+        "Location { path: [4, 0], span: [1, 2, 3], leading_comments: Some(\" a\"), trailing_comments: None, leading_detached_comments: [] } (false, true)"
+    );
     Ok(())
 }

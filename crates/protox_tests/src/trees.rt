@@ -2,6 +2,7 @@
 use protox_parse::ast::{self, FullIdent, Ident, Int, Syntax, Ty, TypeName};
 use protox_parse::values::Items;
 use std::alloc::{AllocError, Global};
+use std::fmt::{self, Write};
 use std::test::Fail;
 
 fn ident(alloc: Global, value: &str, start: usize) -> Result<Ident, AllocError> {
@@ -124,5 +125,49 @@ fn strings_print_escaped(rt: HostRuntime) -> Result<(), Fail> {
         found.as_str(),
         "a\\t\\r\\n\\\\\\'\\\"\\000\\377 String { value: \"a\\\\t\\\\r\\\\n\\\\\\\\\\\\'\\\\\\\"\\\\000\\\\377\", span: 3..7 }"
     );
+    Ok(())
+}
+
+// Takes so many writes, and refuses each one behind these.
+#[derive(Drop)]
+struct Few {
+    left: usize,
+}
+
+impl fmt::Write for Few {
+    fn write_str(&mut self, _text: &str) -> fmt::Result {
+        if self.left == 0 {
+            return Err(fmt::Error);
+        }
+        self.left -= 1;
+        Ok(())
+    }
+}
+
+fn is_refused<T: fmt::Display>(value: &T, writes: usize) -> bool {
+    let mut few = Few { left: writes };
+    write!(few, "{value}").is_err()
+}
+
+// How many of the first sixteen numbers of writes are too few, and whether they are below all that are enough.
+fn too_few(alloc: Global) -> Result<(usize, bool), AllocError> {
+    let name = type_name(alloc)?;
+    let mut refused: usize = 0;
+    let mut in_order = true;
+    for writes in 0..16usize {
+        if is_refused(&name, writes) {
+            in_order = in_order && refused == writes;
+            refused = refused.saturating_add(1);
+        }
+    }
+    Ok((refused, in_order))
+}
+
+// What prints fails where what it prints to refuses, and only there.
+#[test]
+fn printing_fails_where_it_is_refused(rt: HostRuntime) -> Result<(), Fail> {
+    let (refused, in_order) = too_few(rt.alloc())?;
+    assert!(rt; in_order);
+    assert!(rt; 0 < refused && refused < 16);
     Ok(())
 }

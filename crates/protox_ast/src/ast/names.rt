@@ -1,8 +1,8 @@
 //! Names: how they are made, and where they stand.
 
-ghost use Rattle.std.specs.Prelude.{◌≡◌, ◌<◌, [], ◌∷◌, length, IfOk};
+ghost use Rattle.std.specs.Prelude.{◌≡◌, ◌<◌, [], ◌∷◌, ◌++◌, length, flat_map, IfOk, OnOk};
 ghost use Rattle.std.specs.String.{string_bytes};
-ghost use Rattle.protox_ast.specs.Names.{name_span, type_name_span};
+ghost use Rattle.protox_ast.specs.Names.{name_span, type_name_span, dotted_part, name_text, type_name_text};
 
 use super::{FullIdent, Ident, TypeName};
 use protox_descriptor::values::{Items, Text};
@@ -21,12 +21,32 @@ impl Ident {
     }
 }
 
+// The room for the parts with a dot between each two, and for one more byte.
+fn room(parts: &[Ident]) -> usize {
+    let mut room: usize = 0;
+    for part in parts {
+        room = room.saturating_add(part.value.len()).saturating_add(1);
+    }
+    room
+}
+
+// Appends each part, with a dot before it.
+fn push_dotted(text: &mut String, parts: &[Ident]) -> Result<(), AllocError>
+    ensures { OnOk result (string_bytes text.new ≡ string_bytes text.old ++ flat_map dotted_part parts.now) }
+{
+    for part in parts {
+        text.push_str(".")?;
+        text.push_str(part.value.as_str())?;
+    }
+    Ok(())
+}
+
 impl FullIdent {
     /// The name of that one part, or `AllocError`.
     pub fn from_ident(alloc: Global, part: Ident) -> Result<FullIdent, AllocError>
         ensures { IfOk result (λ name. name ≡ part ∷ []) }
     {
-        let mut parts = Items::new(alloc);
+        let mut parts = Items::with_capacity(alloc, 1)?;
         parts.push(part)?;
         Ok(FullIdent { parts })
     }
@@ -49,6 +69,22 @@ impl FullIdent {
         self.parts.as_slice()
     }
 
+    /// The name as it is written, with a dot between each two parts. Or `AllocError`.
+    pub fn text(&self, alloc: Global) -> Result<Text, AllocError>
+        ensures { IfOk result (λ text. text ≡ name_text self.now) }
+    {
+        match self.parts() {
+            [only] => Text::copy(alloc, only.value.as_str()),
+            [first, others @ ..] => {
+                let mut whole = String::with_capacity(alloc, room(self.parts()))?;
+                whole.push_str(first.value.as_str())?;
+                push_dotted(&mut whole, others)?;
+                Ok(Text::from_string(whole))
+            }
+            [] => unreachable!(),
+        }
+    }
+
     /// From the start of the first part to the end of the last.
     pub fn span(&self) -> Span
         ensures { result ≡ name_span self.now }
@@ -62,6 +98,17 @@ impl FullIdent {
 }
 
 impl TypeName {
+    /// The name as it is written, with the leading dot if there is one. Or `AllocError`.
+    pub fn text(&self, alloc: Global) -> Result<Text, AllocError>
+        ensures { IfOk result (λ text. text ≡ type_name_text self.now) }
+    {
+        let name = self.name.text(alloc)?;
+        match &self.leading_dot {
+            Some(_) => Text::joined(alloc, ".", name.as_str()),
+            None => Ok(name),
+        }
+    }
+
     /// From the leading dot, or the start of the first part without one, to the end of the last part.
     pub fn span(&self) -> Span
         ensures { result ≡ type_name_span self.now }

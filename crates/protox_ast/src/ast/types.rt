@@ -39,7 +39,7 @@ impl Ty {
         ensures { IfOk result (λ name. name ≡ named_type self.now) }
     {
         match self {
-            Ty::Named(name) => Ok(Some(Text::from_string(format!(in alloc; "{name}")?))),
+            Ty::Named(name) => Ok(Some(name.text(alloc)?)),
             _ => Ok(None),
         }
     }

@@ -1,4 +1,4 @@
-ghost use Rattle.std.specs.Prelude.{◌≡◌, ◌^◌, ◌<◌, [], ◌∷◌, ◌++◌, ◌==◌, take, length, slice_get, IfOk, OnOk, OnErr};
+ghost use Rattle.std.specs.Prelude.{◌≡◌, ◌^◌, ◌<◌, [], ◌∷◌, ◌++◌, ◌==◌, take, length, slice_get, IsOk, IfOk, OnOk, OnErr};
 ghost use Rattle.std.specs.Option.{option_copied};
 ghost use Rattle.std.specs.Slice.Iter.{iter_rest};
 ghost use Rattle.std.specs.Iterator.Adapters.{IterYieldsInOrder, IterYieldsInReverse};
@@ -34,6 +34,23 @@ impl<T> Items<T> {
         Items {
             elements: Vec::new(alloc),
         }
+    }
+
+    /// The empty list, with room for `room` elements. Or `AllocError`.
+    pub fn with_capacity(alloc: Global, room: usize) -> Result<Items<T>, AllocError>
+        ensures value { IfOk result (λ made. made ≡ []) }
+        ensures free { room ≡ 0 → IsOk result }
+    {
+        Ok(Items {
+            elements: Vec::with_capacity(alloc, room)?,
+        })
+    }
+
+    /// Gives back the room that no element takes, if the allocator takes it.
+    pub fn shrink_to_fit(&mut self)
+        ensures { self.new ≡ self.old }
+    {
+        self.elements.shrink_to_fit();
     }
 
     /// The vector as a list, with no copy.

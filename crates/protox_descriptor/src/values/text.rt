@@ -1,85 +1,192 @@
-ghost use Rattle.std.specs.Prelude.{◌≡◌, ℕ, List, [], Some, ◌++◌, ◌==◌, length, IfOk, OnOk, OnErr};
+ghost use Rattle.std.specs.Prelude.{◌≡◌, ◌≤◌, ◌+◌, ℕ, List, [], Some, ◌++◌, ◌==◌, take, length, IsOk, IfOk, OnOk, OnErr, IsUtf8};
+ghost use Rattle.std.specs.Cow.{cow_str_bytes};
 ghost use Rattle.std.specs.String.{string_bytes};
 ghost use Rattle.std.specs.Cmp.Lexicographic.{pointwise};
 ghost use Rattle.std.specs.Cmp.Rules.{comparing};
 ghost use Rattle.std.proofs.Common.{rules};
 
 use std::alloc::{AllocError, Global};
+use std::borrow::CowStr;
 use std::fmt;
 use std::marker::Model;
 
-/// A text that owns its bytes, which are UTF-8. Contracts see it as the list of its bytes.
+/// How many bytes lie in the value itself.
+const SHORT: usize = 30;
+
+// Where the bytes are: the first `len` of an array, or a string.
+#[derive(Drop)]
+enum Held {
+    InPlace { len: u8, bytes: [u8; 30] },
+    InString { content: String },
+}
+
+/// A text that owns its bytes, which are UTF-8. Up to 30 bytes lie in the value itself and take no
+/// memory; more lie in a string. Contracts see it as the list of its bytes.
 #[derive(Drop)]
 pub struct Text {
-    content: String,
+    held: Held,
 }
 
 impl Model for Text {
+    ghost use Rattle.std.specs.Prelude.{List, ℕ};
+
     ghost Value = { List ℕ };
 
-    ghost view = { λ text. string_bytes text.content };
+    ghost use Rattle.protox_descriptor.specs.HeldText.{text_held, IsTextHeld};
+
+    ghost view = { λ text. text_held text.held };
+
+    ghost invariant = { λ text. IsTextHeld text.held };
+}
+
+// The bytes of a text and of one more, with zeros behind them.
+fn filled(front: &[u8], back: &[u8]) -> [u8; 30]
+    requires { length front.now + length back.now ≤ 30 }
+    ensures { take (length front.now + length back.now) result ≡ front.now ++ back.now }
+{
+    let mut array = [0; SHORT];
+    let middle = front.len();
+    let end = middle + back.len();
+    array[..middle].copy_from_slice(front);
+    array[middle..end].copy_from_slice(back);
+    array
+}
+
+// A text and one more in one value. They take no memory.
+fn short(front: &str, back: &str) -> Text
+    requires { length front.now + length back.now ≤ 30 }
+    ensures { result ≡ front.now ++ back.now }
+{
+    Text {
+        held: Held::InPlace {
+            len: (front.len() + back.len()) as u8,
+            bytes: filled(front.as_bytes(), back.as_bytes()),
+        },
+    }
+}
+
+// The bytes as the text that they are.
+fn as_text(bytes: &[u8]) -> &str
+    requires { IsUtf8 bytes.now }
+    ensures { result.now ≡ bytes.now }
+{
+    unsafe { str::from_utf8_unchecked(bytes) }
+}
+
+// One string with room for just both.
+fn string(alloc: Global, front: &str, back: &str) -> Result<String, AllocError>
+    ensures { IfOk result (λ whole. string_bytes whole ≡ front.now ++ back.now) }
+{
+    let mut whole = String::with_capacity(alloc, front.len() + back.len())?;
+    whole.push_str(front)?;
+    whole.push_str(back)?;
+    Ok(whole)
 }
 
 impl Text {
-    /// The empty text. It takes no memory: `alloc` serves later growths.
-    pub fn new(alloc: Global) -> Text
+    /// The empty text. It takes no memory: `alloc` serves other growths.
+    pub fn new(_alloc: Global) -> Text
         ensures { result ≡ [] }
     {
-        Text {
-            content: String::new(alloc),
-        }
+        short("", "")
     }
 
-    /// A text of its own with the bytes of `text`, or `AllocError`.
+    /// A text of its own with the bytes of `text`, or `AllocError`. Up to 30 bytes take no memory.
     pub fn copy(alloc: Global, text: &str) -> Result<Text, AllocError>
-        ensures { IfOk result (λ made. made ≡ text.now) }
+        ensures value { IfOk result (λ made. made ≡ text.now) }
+        ensures free { length text.now ≤ 30 → IsOk result }
     {
-        let content = String::from_str(alloc, text)?;
-        Ok(Text { content })
+        Text::joined(alloc, text, "")
     }
 
-    /// The string as a text, with no copy.
+    /// A text of its own with the bytes of `front` and then those of `back`, or `AllocError`. Up to
+    /// 30 bytes take no memory.
+    pub fn joined(alloc: Global, front: &str, back: &str) -> Result<Text, AllocError>
+        ensures value { IfOk result (λ made. made ≡ front.now ++ back.now) }
+        ensures free { length front.now + length back.now ≤ 30 → IsOk result }
+    {
+        if front.len() + back.len() <= SHORT {
+            return Ok(short(front, back));
+        }
+        let content = string(alloc, front, back)?;
+        Ok(Text {
+            held: Held::InString { content },
+        })
+    }
+
+    /// The string as a text. A short one gives its memory back.
     pub fn from_string(content: String) -> Text
         ensures { result ≡ string_bytes content }
     {
-        Text { content }
+        if content.len() <= SHORT {
+            return short(content.as_str(), "");
+        }
+        Text {
+            held: Held::InString { content },
+        }
     }
 
-    /// The text as a string, with no copy.
-    pub fn into_string(self) -> String
-        ensures { string_bytes result ≡ self }
+    /// A text that is lent or owned, or `AllocError`. Up to 30 bytes take no memory.
+    pub fn from_cow(alloc: Global, text: CowStr<'_>) -> Result<Text, AllocError>
+        ensures { IfOk result (λ made. made ≡ cow_str_bytes text.entry) }
     {
-        let Text { content } = self;
-        content
+        match text {
+            CowStr::Borrowed(text) => Text::copy(alloc, text),
+            CowStr::Owned(text) => Ok(Text::from_string(text)),
+        }
+    }
+
+    /// The text as a string, or `AllocError`. What lies in a string takes no memory.
+    pub fn into_string(self, alloc: Global) -> Result<String, AllocError>
+        ensures { IfOk result (λ string. string_bytes string ≡ self) }
+    {
+        match self.held {
+            Held::InPlace { len, bytes } => String::from_str(
+                alloc,
+                as_text(&bytes[..len as usize]),
+            ),
+            Held::InString { content } => Ok(content),
+        }
     }
 
     /// The text, lent.
     pub fn as_str(&self) -> &str
         ensures { result.now ≡ self.now }
     {
-        self.content.as_str()
+        match &self.held {
+            Held::InPlace { len, bytes } => as_text(&bytes[..*len as usize]),
+            Held::InString { content } => content.as_str(),
+        }
     }
 
     /// The number of bytes.
     pub fn len(&self) -> usize
         ensures { result ≡ length self.now }
     {
-        self.content.len()
+        match &self.held {
+            Held::InPlace { len, .. } => *len as usize,
+            Held::InString { content } => content.len(),
+        }
     }
 
     /// Whether there is no byte.
     pub fn is_empty(&self) -> bool
         ensures { result ≡ (length self.now == 0) }
     {
-        self.content.is_empty()
+        self.len() == 0
     }
 
-    /// Appends `more`. On `AllocError` the text is unchanged.
-    pub fn push_str(&mut self, more: &str) -> Result<(), AllocError>
+    /// Appends `more`. On `AllocError` the text is unchanged. Up to 30 bytes in all take no memory.
+    pub fn push_str(&mut self, alloc: Global, more: &str) -> Result<(), AllocError>
         ensures ok { OnOk result (self.new ≡ self.old ++ more.now) }
         ensures err { OnErr result (self.new ≡ self.old) }
     {
-        self.content.push_str(more)
+        if let Held::InString { content } = &mut self.held {
+            return content.push_str(more);
+        }
+        let grown = Text::joined(alloc, self.as_str(), more)?;
+        *self = grown;
+        Ok(())
     }
 }
 
@@ -101,7 +208,7 @@ impl fmt::Display for Text {
     ghost styled_output = { λ text style. Some (styled_text style text) };
 
     fn fmt<W: fmt::Write>(&self, f: &mut fmt::Formatter<W>) -> fmt::Result {
-        fmt::Display::fmt(&self.content, f)
+        fmt::Display::fmt(&self.as_str(), f)
     }
 }
 
@@ -111,6 +218,6 @@ impl fmt::Debug for Text {
     ghost debug_output = { debug_str };
 
     fn fmt<W: fmt::Write>(&self, f: &mut fmt::Formatter<W>) -> fmt::Result {
-        fmt::Debug::fmt(&self.content, f)
+        fmt::Debug::fmt(&self.as_str(), f)
     }
 }

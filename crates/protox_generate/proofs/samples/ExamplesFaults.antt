@@ -12,9 +12,9 @@ use Rattle.protox_ast.specs.declared.ast.Int.{Int}
 use Rattle.protox_ast.specs.declared.ast.OptionBody.{OptionBody}
 use Rattle.protox_ast.specs.declared.ast.ReservedRangeEnd.TheVariants as range_end
 use Rattle.protox_ast.specs.declared.ast.Service.{Service}
-use Rattle.protox_generate.specs.FieldFaults.{may_be_key}
-use Rattle.protox_generate.specs.Options.{OptionStatement}
-use Rattle.protox_generate.specs.Values.{wanted, a_float, an_integer, a_bool, a_text, some_bytes, anything, signed_32, signed_64, unsigned_32, unsigned_64}
+use Rattle.protox_checks.specs.FieldFaults.{may_be_key}
+use Rattle.protox_ast.specs.Options.{OptionStatement}
+use Rattle.protox_ast.specs.Values.{wanted, a_float, an_integer, a_bool, a_text, some_bytes, anything, signed_32, signed_64, unsigned_32, unsigned_64}
 use Rattle.protox_fault.specs.declared.error.ParseErrorKind.{ParseErrorKind}
 use Rattle.protox_fault.specs.declared.error.ParseErrorKind.TheVariants as fault
 use Rattle.protox_ast.specs.declared.ast.FieldLabel.{FieldLabel}
@@ -24,8 +24,8 @@ use Rattle.protox_ast.specs.declared.ast.OptionValue.{OptionValue}
 use Rattle.protox_ast.specs.declared.ast.OptionValue.TheVariants as value
 use Rattle.protox_ast.specs.declared.ast.Ty.{Ty}
 use Rattle.protox_ast.specs.declared.ast.Ty.TheVariants as ty
-use Rattle.protox_generate.specs.Checks.{file_faults, value_faults}
-use Rattle.protox_generate.specs.Faults.{placed}
+use Rattle.protox_checks.specs.Checks.{file_faults, value_faults}
+use Rattle.protox_checks.specs.Faults.{placed}
 use Rattle.protox_generate.proofs.samples.Files.{FileTree, AMessage, AnExtend, Another, filled, faults-of}
 use Rattle.protox_generate.proofs.samples.Trees as t
 use Rattle.protox_generate.proofs.samples.Trees.{◌&◌}

@@ -13,13 +13,12 @@ use Rattle.std.specs.Fmt.{digits}
 use Rattle.std.specs.Str.{is_utf8, chars}
 use Rattle.std.specs.Char.{encode_utf8}
 use Rattle.std.specs.Str.Lossy.{utf8_valid_len}
-use Rattle.protox_generate.specs.File.{file_proto}
-use Rattle.protox_generate.specs.Lines.{span_numbers}
-use Rattle.protox_generate.specs.Locations.{file_locations}
-use Rattle.protox_generate.specs.Options.{uninterpreted, default_of, json_name_of, options_left}
-use Rattle.protox_generate.specs.Sorting.{sorted, path_before}
+use Rattle.protox_describe.specs.File.{file_proto}
+use Rattle.protox_locate.specs.Lines.{span_numbers}
+use Rattle.protox_locate.specs.Locations.{file_locations}
+use Rattle.protox_ast.specs.Options.{uninterpreted, default_of, json_name_of, options_left}
 use Rattle.protox_ast.specs.Spans.{body_span, parts_span}
-use Rattle.protox_generate.specs.Values.{default_text, wanted}
+use Rattle.protox_ast.specs.Values.{default_text, wanted}
 use Rattle.protox_generate.proofs.samples.Files.{FileTree, Another, filled, table}
 use Rattle.protox_generate.proofs.samples.Written as w
 use Rattle.protox_generate.proofs.samples.Written.{at, word, int, minus, made_message, made_oneof, no_field, no_option}
@@ -50,7 +49,7 @@ two-places : table two_source two_file ≡
 two-places = refl
 
 -- which of them is led by a comment
-two-comments : map (λ (l : Location). l.leading_comments) (sorted path_before (file_locations (span_numbers (codes two_source)) two_file)) ≡ None ∷ None ∷ None ∷ None ∷ Some (codes " x ") ∷ []
+two-comments : map (λ (l : Location). l.leading_comments) (file_locations (span_numbers (codes two_source)) two_file) ≡ None ∷ None ∷ None ∷ None ∷ Some (codes " x ") ∷ []
 two-comments = refl
 
 -- ---- an aggregate

@@ -4,9 +4,9 @@ use Rattle.std.proofs.Common.{◌≡◌, ℕ, List, [], ◌∷◌, Some, None, �
 use Rattle.protox_ast.specs.declared.ast.File.{File}
 use Rattle.protox_ast.specs.declared.ast.ReservedRangeEnd.TheVariants as range_end
 use Rattle.protox_descriptor.specs.declared.descriptor.DescriptorProto.{DescriptorProto, roll-DescriptorProto}
-use Rattle.protox_generate.specs.Enums.{enum_proto}
-use Rattle.protox_generate.specs.Options.{OptionStatement}
-use Rattle.protox_generate.specs.Ranges.{reserved_range}
+use Rattle.protox_describe.specs.Enums.{enum_proto}
+use Rattle.protox_ast.specs.Options.{OptionStatement}
+use Rattle.protox_ast.specs.Ranges.{reserved_range}
 use Rattle.protox_generate.proofs.samples.Files.{FileTree, AMessage, filled, table, table-of, messages, messages-of}
 use Rattle.protox_generate.proofs.samples.Trees as t
 use Rattle.protox_generate.proofs.samples.Trees.{◌&◌}

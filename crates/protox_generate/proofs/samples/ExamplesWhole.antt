@@ -8,8 +8,8 @@ use Rattle.protox_ast.specs.declared.ast.Service.{Service}
 use Rattle.protox_ast.specs.declared.ast.Ty.TheVariants as ty
 use Rattle.protox_descriptor.specs.declared.descriptor.DescriptorProto.{roll-DescriptorProto}
 use Rattle.protox_descriptor.specs.declared.descriptor.options.UninterpretedOption.{UninterpretedOption}
-use Rattle.protox_generate.specs.Checks.{file_faults}
-use Rattle.protox_generate.specs.File.{file_proto}
+use Rattle.protox_checks.specs.Checks.{file_faults}
+use Rattle.protox_describe.specs.File.{file_proto}
 use Rattle.protox_generate.proofs.samples.Files.{FileTree, AMessage, AnExtend, Another, filled, whole_table, whole_table-of, messages, messages-of, extensions, extensions-of, faults-of}
 use Rattle.protox_generate.proofs.samples.Trees as t
 use Rattle.protox_generate.proofs.samples.Trees.{◌&◌}

@@ -1,7 +1,8 @@
 -- Syntax trees that compute: a tree as data, the syntax tree that it makes, and what the levels of that give.
 use Rattle.std.proofs.Common.{◌≡◌, List, [], ◌∷◌, map, Option, refl, ap, ap₂, ◌∙◌}
 use Rattle.protox_fault.specs.Faults.{Span}
-use Rattle.protox_ast.specs.Steps.{Steps, of_message, of_body, of_item, of_field, of_kind, of_oneof, of_extend, item-field, item-enum, item-message, item-extend, item-oneof, kind-normal, kind-group, kind-map}
+use Rattle.protox_ast.specs.Steps.{Steps, of_message, of_body, of_item, of_field, of_kind, of_oneof, of_extend}
+use Rattle.protox_ast.proofs.Levels.{item-field, item-enum, item-message, item-extend, item-oneof, kind-normal, kind-group, kind-map}
 use Rattle.protox_ast.specs.declared.ast.Enum.{Enum}
 use Rattle.protox_ast.specs.declared.ast.Extend.{Extend, roll-Extend}
 use Rattle.protox_ast.specs.declared.ast.Extensions.{Extensions}
@@ -22,7 +23,7 @@ use Rattle.protox_ast.specs.declared.ast.OptionList.{OptionList}
 use Rattle.protox_ast.specs.declared.ast.Reserved.{Reserved}
 use Rattle.protox_ast.specs.declared.ast.Ty.{Ty}
 use Rattle.protox_ast.specs.declared.ast.TypeName.{TypeName}
-use Rattle.protox_generate.specs.Options.{OptionStatement}
+use Rattle.protox_ast.specs.Options.{OptionStatement}
 use Rattle.protox_generate.proofs.samples.Written.{noted}
 
 pub data Sort : Type 0 where

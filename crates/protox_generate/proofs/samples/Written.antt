@@ -28,7 +28,7 @@ use Rattle.protox_descriptor.specs.declared.descriptor.OneofDescriptorProto.{One
 use Rattle.protox_descriptor.specs.declared.descriptor.options.MessageOptions.{MessageOptions}
 use Rattle.protox_descriptor.specs.declared.descriptor.options.UninterpretedOption.{UninterpretedOption}
 use Rattle.protox_descriptor.specs.declared.descriptor.source_code_info.Location.{Location}
-use Rattle.protox_generate.specs.Options.{OptionStatement}
+use Rattle.protox_ast.specs.Options.{OptionStatement}
 
 -- ---- leaves
 

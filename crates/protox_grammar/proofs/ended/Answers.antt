@@ -1,5 +1,5 @@
-use Rattle.protox_grammar.proofs.Main as main
+use Rattle.protox_grammar.proofs.Fronts as fronts
 use Rattle.protox_grammar.proofs.ended.Goals as goal
 
 pub returns : goal.returns
-returns g c = main.ended c.args._mark.now
+returns g c = fronts.ended c.args._mark.now

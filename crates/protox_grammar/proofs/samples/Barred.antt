@@ -1,5 +1,5 @@
 -- For each keyword rule a file that breaks it alone, and words that no rule bars.
-use Rattle.std.proofs.Common.{◌≡◌, ℕ, false, List, [], ◌∷◌, ◌++◌, None, codes, refl}
+use Rattle.std.proofs.Common.{◌≡◌, ℕ, false, List, [], ◌∷◌, ◌++◌, None, codes, refl, arith}
 use Rattle.protox_lexeme.specs.Shapes.{Mark, Newline, Invalid}
 use Rattle.protox_ast.specs.Tree as t
 use Rattle.protox_ast.specs.Spelling as s
@@ -60,11 +60,11 @@ list-last h = h.0.0.0 refl
 
 -- option yes = { } { };
 braces-closed : Breaks (b.file (t.an_option (b.option "yes" (t.aggregate tt (rows (Mark s.close_brace ∷ Mark s.open_brace ∷ [])) tt)) ∷ []))
-braces-closed h = let e = h.0.0 in absurd cc
+braces-closed h = omega (arith, h.0.0.0 1)
 
 -- option yes = { { };
 braces-open : Breaks (b.file (t.an_option (b.option "yes" (t.aggregate tt (rows (Mark s.open_brace ∷ [])) tt)) ∷ []))
-braces-open h = let e = h.0.0 in absurd cc
+braces-open h = omega (arith, h.0.0.1)
 
 -- what is no token stands in no aggregate
 invalid-inside : Breaks (b.file (t.an_option (b.option "yes" (t.aggregate tt (rows (Invalid ∷ [])) tt)) ∷ []))

@@ -1,5 +1,5 @@
 -- Small sources by their lexemes, and files that go on behind their tokens.
-use Rattle.std.proofs.Common.{◌≡◌, ◌≤◌, ℕ, suc, ◌+◌, zero, true, List, [], ◌∷◌, ◌++◌, take, length, None, Result, Ok, Err, codes}
+use Rattle.std.proofs.Common.{◌≡◌, ◌≤◌, ℕ, suc, ◌+◌, zero, true, List, [], ◌∷◌, ◌++◌, take, length, None, Result, Ok, Err, codes, arith}
 use Rattle.protox_fault.specs.Faults.{Span, span_from}
 use Rattle.protox_lexeme.specs.Lexemes.{Lexeme}
 use Rattle.protox_lexeme.specs.Shapes.{Shape, Str, LineComment, Mark, Invalid, Row}
@@ -12,6 +12,7 @@ use Rattle.protox_ast.specs.Tree as t
 use Rattle.protox_grammar.specs.Reader.{Refusal}
 use Rattle.protox_grammar.specs.Reads.{read}
 use Rattle.protox_grammar.proofs.Main as main
+use Rattle.protox_grammar.proofs.Numbers.{shapes-length}
 pub use Rattle.protox_grammar.proofs.samples.Build.{word, number, text}
 
 -- a lexeme at its place, without a fault
@@ -42,8 +43,8 @@ joined xs n more = take n (shapes (rows_of xs)) ++ more
 abbrev pub IsMade : List Shape → Type 0
 IsMade ss = read 40 (numbered 0 ss) ≡ Ok (made ss)
 
-pub goes-on : (xs : List Lexeme) (n : ℕ) (more : List Shape) → n ≤ length (rows_of xs) → IsMade (joined xs n more) → GoesOn xs n (made (joined xs n more))
-goes-on xs n more l e = record { more = more; there = l; spells = ((main.accepts_iff 0 40 (numbered 0 (joined xs n more)) (made (joined xs n more))).0 e).0 }
+pub goes-on : (xs : List Lexeme) (n : ℕ) (more : List Shape) → n ≤ length (rows_of xs) → IsMade (joined xs n more) → GoesOn (shapes (rows_of xs)) n (made (joined xs n more))
+goes-on xs n more l e = record { more = more; there = omega (arith, l, shapes-length (rows_of xs)); spells = ((main.accepts_iff 0 40 (numbered 0 (joined xs n more)) (made (joined xs n more))).0 e).0 }
 
 -- ---- sources
 

@@ -6,6 +6,7 @@ use Rattle.protox_ast.specs.Spelling as s
 use Rattle.protox_ast.specs.Keywords as k
 use Rattle.protox_ast.specs.Depth as d
 use Rattle.protox_ast.specs.Spells.{Spells}
+use Rattle.protox_grammar.proofs.Balance.{counted}
 use Rattle.protox_grammar.proofs.Begin.{among-none}
 use Rattle.protox_grammar.proofs.samples.Build as b
 use Rattle.protox_grammar.proofs.samples.Build.{rows, word, number, float, text}
@@ -83,7 +84,7 @@ options-spelled : Spells (rows (
     ∷ Mark s.close_brace ∷ Mark s.semicolon
     ∷ word "option" ∷ word "e" ∷ Mark s.equals ∷ text "u" ∷ text "v" ∷ Mark s.semicolon
     ∷ word "option" ∷ word "f" ∷ Mark s.equals ∷ Mark s.minus ∷ number 7 ∷ Mark s.semicolon ∷ [])) options
-options-spelled = (refl, (tt, ((refl, (refl, (refl, (refl, (refl, (refl, (refl, (refl, (refl, (refl, (refl, (refl, tt)))))))))))), (tt, (tt, tt)))))
+options-spelled = (refl, (tt, (((counted _).1 refl, (refl, (refl, (refl, (refl, (refl, (refl, (refl, (refl, (refl, (refl, (refl, tt)))))))))))), (tt, (tt, tt)))))
 
 -- message M { oneof o { option yes = yes; message f = 1; group G = 2 { } ; } extend .A { option f = 1; } message M { message M { } } option yes = yes; }
 abbrev bodies : t.File b.NoMark

@@ -1,11 +1,11 @@
 -- Which faults are true of small sources, and which are not.
-use Rattle.std.proofs.Common.{◌≡◌, ◌≢◌, ◌<◌, ◌≤◌, inl, inr, ℕ, suc, true, false, List, [], ◌∷◌, ◌++◌, length, Any, Option, Some, Err, codes, refl, sym, ap, subst, ◌∙◌, arith, true≢false, slice_index_or, is_some, drop}
+use Rattle.std.proofs.Common.{◌≡◌, ◌≢◌, ◌<◌, ◌≤◌, inl, inr, ℕ, zero, suc, true, false, List, [], ◌∷◌, ◌++◌, length, Any, Option, Some, Err, codes, refl, sym, ap, subst, ◌∙◌, arith, true≢false, slice_index_or, is_some, drop}
 use Rattle.std.proofs.lemmas.List.{length-append}
 use Rattle.std.specs.Str.{is_utf8, chars}
 use Rattle.std.specs.Str.Lossy.{utf8_valid_len}
 use Rattle.protox_fault.specs.Faults.{Span, span_from, faults_in}
 use Rattle.protox_lexeme.specs.Lexemes.{Lexeme}
-use Rattle.protox_lexeme.specs.Shapes.{Shape, Int, Mark, Newline, Invalid, Row, Rows}
+use Rattle.protox_lexeme.specs.Shapes.{Shape, Int, Mark, Newline, Invalid}
 use Rattle.protox_lexeme.specs.Table.{rows_of}
 use Rattle.protox_fault.specs.declared.error.ParseErrorKind.{ParseErrorKind}
 use Rattle.protox_fault.specs.declared.error.ParseErrorKind.TheVariants as fault
@@ -17,9 +17,9 @@ use Rattle.protox_ast.specs.Fronts.{Inside, IsCleanBehind, CleanFront}
 use Rattle.protox_ast.specs.Checks.{IsIdent, is_import_path, is_text}
 use Rattle.protox_ast.specs.Keywords.{Each, is_significant}
 use Rattle.protox_ast.specs.Spelling as s
-use Rattle.protox_ast.specs.Spells.{BeginsFile, IsUnexpected}
+use Rattle.protox_ast.specs.Spells.{BeginsFile, IsUnexpected, shapes}
 use Rattle.protox_ast.specs.Tree as t
-use Rattle.protox_ast.specs.Truth.{IsFirstOfLexeme, IsTrueOf, IsWrongBefore, IsWrongBehind}
+use Rattle.protox_ast.specs.Truth.{source_row, IsFirstOfLexeme, IsTrueOf, IsWrongBefore, IsWrongBehind}
 use Rattle.protox_ast.proofs.Membership.{Somewhere, somewhere-from, any-from}
 use Rattle.protox_ast.proofs.Texts.{text-same}
 use Rattle.protox_grammar.specs.Reader as reader
@@ -27,7 +27,7 @@ use Rattle.protox_grammar.specs.Reader.{Unexpected}
 use Rattle.protox_grammar.specs.Rules as r
 use Rattle.protox_grammar.specs.Bodies as rule
 use Rattle.protox_grammar.specs.Reads.{read}
-use Rattle.protox_grammar.proofs.Main as main
+use Rattle.protox_grammar.proofs.Fronts as fronts
 use Rattle.protox_grammar.proofs.Truths.{stop-is-true, end-is-true}
 use Rattle.protox_grammar.proofs.samples.Sources as x
 use Rattle.protox_grammar.proofs.samples.Sources.{made, joined, IsMade, goes-on}
@@ -222,28 +222,17 @@ end-there : IsTrueOf x.unclosed (fault.UnexpectedEof (codes "'}'"))
 end-there = end-is-true x.unclosed 31 (codes "'}'") are_made.message_ends refl
 
 -- `message` isn't unexpected there, as it begins a file
-begins-message : BeginsFile (x.row 0 7 (x.word "message") ∷ [])
-begins-message = begins are_made.message_stops
-  where
-    begins : read 31 (rows_of x.nameless) ≡ Err (Unexpected 2) → BeginsFile (x.row 0 7 (x.word "message") ∷ [])
-    begins e = first (main.unexpected (span_from 0 0) 31 1 (rows_of x.nameless) e)
-      where
-        first : IsUnexpected (rows_of x.nameless) 2 → BeginsFile (x.row 0 7 (x.word "message") ∷ [])
-        first u = subst BeginsFile (one u.front u.here u.rest u.parts (omega (arith, u.left_is))) u.before
-          where
-            one : (front : Rows Span) (here : Row Span) (rest : Rows Span) → rows_of x.nameless ≡ front ++ (here ∷ rest) → length rest ≡ 1 → front ≡ x.row 0 7 (x.word "message") ∷ []
-            one [] here rest e l = absurd (omega (arith, ap length e, l))
-            one (a ∷ []) here rest e l = ap (λ l. slice_index_or l 0 a ∷ []) (sym e)
-            one (a ∷ b ∷ front) here rest e l = absurd (omega (arith, ap length e, length-append front (here ∷ rest), l))
+begins-message : BeginsFile (shapes (rows_of x.nameless)) 1
+begins-message = let u = fronts.unexpected (span_from 0 0) 31 1 (rows_of x.nameless) are_made.message_stops in subst (BeginsFile (shapes (rows_of x.nameless))) (omega (arith, u.1)) u.2.1
 
 message-expected : (expected found : List ℕ) → IsTrueOf x.nameless (fault.UnexpectedToken (span_from 0 7) expected found) → ⊥
-message-expected expected found h = let u = h.1 in not-first u.front u.here u.rest u.parts h.2 u.with_it
+message-expected expected found h = not-first h.0 h.1 h.2
   where
-    not-first : (front : Rows Span) (here : Row Span) (rest : Rows Span) → rows_of x.nameless ≡ front ++ (here ∷ rest) → span_from 0 7 ≡ here.at → (BeginsFile (front ++ (here ∷ [])) → ⊥) → ⊥
-    not-first [] here rest e p w = w (subst (λ r. BeginsFile (r ∷ [])) (ap (λ l. slice_index_or l 0 here) e) begins-message)
-    not-first (a ∷ []) here rest e p w = let z : 0 ≡ 8 = ap (λ v. v.start) p ∙ ap (λ l. (slice_index_or l 1 here).at.start) (sym e) in omega (arith, z)
-    not-first (a ∷ b ∷ []) here rest e p w = let z : 0 ≡ 9 = ap (λ v. v.start) p ∙ ap (λ l. (slice_index_or l 2 here).at.start) (sym e) in omega (arith, z)
-    not-first (a ∷ b ∷ c ∷ front) here rest e p w = absurd (omega (arith, ap length e, length-append front (here ∷ rest)))
+    not-first : (n : ℕ) → IsUnexpected (shapes (rows_of x.nameless)) n → span_from 0 7 ≡ (source_row (rows_of x.nameless) n).at → ⊥
+    not-first zero u p = u.2 begins-message
+    not-first (suc zero) u p = let z : 0 ≡ 8 = ap (λ v. v.start) p in omega (arith, z)
+    not-first (suc (suc zero)) u p = let z : 0 ≡ 9 = ap (λ v. v.start) p in omega (arith, z)
+    not-first (suc (suc (suc n))) u p = omega (arith, u.0)
 
 -- ---- nodes that are checked
 

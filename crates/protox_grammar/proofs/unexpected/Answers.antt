@@ -1,5 +1,5 @@
-use Rattle.protox_grammar.proofs.Main as main
+use Rattle.protox_grammar.proofs.Fronts as fronts
 use Rattle.protox_grammar.proofs.unexpected.Goals as goal
 
 pub returns : goal.returns
-returns g c = main.unexpected c.args._mark.now
+returns g c = fronts.unexpected c.args._mark.now

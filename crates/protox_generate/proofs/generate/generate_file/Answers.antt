@@ -1,27 +1,34 @@
-use Rattle.protox_generate.proofs.Bounds.{file-fits, outcome-lies}
-use Rattle.protox_generate.proofs.Outcomes.{made-all, made-fine, made-found, made-in_order, made-wrong}
+use Rattle.std.proofs.Common.{◌≡◌, [], length, sym, subst}
+use Rattle.protox_ast.specs.Basics.{Each}
+use Rattle.protox_checks.proofs.FaultsLie.{listed-lie}
+use Rattle.protox_checks.specs.Faults.{HasEachWrong}
+use Rattle.protox_fault.specs.Faults.{LiesIn}
+use Rattle.protox_generate.proofs.Outcomes.{none-found, empty-none, some-found}
+use Rattle.protox_generate.proofs.Standing.{file-stands, width-fits, weight-fits, reach-fits}
 use Rattle.protox_generate.proofs.generate.generate_file.Goals as goal
 
-pub generate_within-requires-clause-room : goal.generate_within-requires-clause-room
-generate_within-requires-clause-room c = (file-fits c.args.source.now c.args.ast c.utf8.source c.requires).1
+pub returns-then-not-is_empty-clause-all : goal.returns-then-not-is_empty-clause-all
+returns-then-not-is_empty-clause-all c = subst (HasEachWrong c.args.ast) (sym c.into_vec.ensures) c.in_ok-faults.ensures.all
 
-pub generate_within-requires-clause-reach : goal.generate_within-requires-clause-reach
-generate_within-requires-clause-reach c = (file-fits c.args.source.now c.args.ast c.utf8.source c.requires).2
+pub returns-then-not-is_empty-clause-lie : goal.returns-then-not-is_empty-clause-lie
+returns-then-not-is_empty-clause-lie c =
+    let n = length c.args.source.now in (
+      c.requires.1.fits,
+      subst (λ l. l ≡ [] → ⊥) (sym c.into_vec.ensures) (some-found c.in_ok-faults.faults c.is_empty.result c.is_empty.ensures c.if-not-is_empty.true),
+      subst (Each (LiesIn n)) (sym c.into_vec.ensures) (listed-lie n c.args.ast c.in_ok-faults.faults (file-stands c.args.source.now c.args.ast c.utf8.source c.requires) c.in_ok-faults.ensures.in_order),
+    )
 
-pub returns-clause-found : goal.returns-clause-found
-returns-clause-found c = made-found c.args.name.now c.args.source.now c.args.ast c.requires c.generate_within.result c.generate_within.ensures
+pub described-requires-clause-width : goal.described-requires-clause-width
+described-requires-clause-width c = width-fits c.args.source.now c.args.ast c.utf8.source c.requires
+
+pub described-requires-clause-room : goal.described-requires-clause-room
+described-requires-clause-room c = weight-fits c.args.source.now c.args.ast c.utf8.source c.requires
+
+pub described-requires-clause-reach : goal.described-requires-clause-reach
+described-requires-clause-reach c = reach-fits c.args.source.now c.args.ast c.utf8.source c.requires
+
+pub described-requires-clause-stands : goal.described-requires-clause-stands
+described-requires-clause-stands c = file-stands c.args.source.now c.args.ast c.utf8.source c.requires
 
 pub returns-clause-fine : goal.returns-clause-fine
-returns-clause-fine c = made-fine c.args.name.now c.args.source.now c.args.ast c.requires c.generate_within.result c.generate_within.ensures
-
-pub returns-clause-wrong : goal.returns-clause-wrong
-returns-clause-wrong c = made-wrong c.args.name.now c.args.source.now c.args.ast c.requires c.generate_within.result c.generate_within.ensures
-
-pub returns-clause-all : goal.returns-clause-all
-returns-clause-all c = made-all c.args.name.now c.args.source.now c.args.ast c.requires c.generate_within.result c.generate_within.ensures
-
-pub returns-clause-in_order : goal.returns-clause-in_order
-returns-clause-in_order c = made-in_order c.args.name.now c.args.source.now c.args.ast c.requires c.generate_within.result c.generate_within.ensures
-
-pub returns-clause-lie : goal.returns-clause-lie
-returns-clause-lie c = outcome-lies c.args.source.now c.args.ast c.utf8.source c.requires _ c.generate_within.result c.generate_within.ensures
+returns-clause-fine c = none-found c.args.ast c.in_ok-faults.faults c.in_ok-faults.ensures.in_order (empty-none c.in_ok-faults.faults c.is_empty.result c.is_empty.ensures c.if-not-is_empty.false)

@@ -1,5 +1,5 @@
 use Rattle.std.proofs.Common.{subst}
-use Rattle.protox_generate.specs.Faults.{AreWrong}
+use Rattle.protox_checks.specs.Faults.{AreWrong}
 use Rattle.protox_parse.proofs.Translating.{none-wrong}
 use Rattle.protox_parse.proofs.failure.refused.Goals as goal
 

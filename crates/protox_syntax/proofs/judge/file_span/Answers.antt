@@ -1,5 +1,5 @@
 use Rattle.std.proofs.Common.{◌≤◌, ◌-◌, length, slice_index_or, ap, ◌∙◌, arith}
-use Rattle.protox_ast.specs.part.Ast.{join}
+use Rattle.protox_ast.specs.AstParts.{join}
 use Rattle.protox_rows.specs.Rows.{bare_row}
 use Rattle.protox_syntax.proofs.Spans.{rows-span}
 use Rattle.protox_syntax.proofs.judge.file_span.Goals as goal

@@ -5,4 +5,4 @@ use Rattle.protox_syntax.proofs.judge.made.Goals as goal
 pub returns : goal.returns
 returns c =
     let whole = c.file_span.ensures ∙ sym (placed-span c.args.size c.args.table.now.rows c.args.table.now.gaps) in
-    rw (whole, c.syntax_or_default.ensures, c.stated_at.ensures, c.new.ensures) refl
+    rw (whole, c.syntax_or_default.ensures, c.stated_at.ensures) refl

@@ -1,0 +1,87 @@
+//! What stands around bodies, and holds none.
+
+ghost use Rattle.std.specs.Prelude.{◌≡◌};
+ghost use Rattle.protox_grammar.proofs.Opened.{sunk_notes};
+ghost use Rattle.protox_grammar.specs.Bodies.{deep_read};
+ghost use Rattle.protox_ast.specs.Places.{Place};
+ghost use Rattle.protox_rows.specs.Outcome.{Fails, Gives};
+ghost use Rattle.protox_rows.specs.Notes.{Adds, AddsTo};
+ghost use Rattle.protox_bodies.specs.Bodies as rule;
+ghost use Rattle.protox_bodies.specs.Fields.{first_span};
+
+use crate::parts::Element;
+use protox_ast::ast::OptionList;
+use protox_blocks::ranges::{extensions, reserved};
+use protox_grammar::note::Note;
+use protox_lex::error::{ParseErrorKind, Span};
+use protox_options::options::option;
+use protox_rows::checks::add_fault;
+use protox_rows::class::{OPTION, RESERVED, sees};
+use protox_rows::expected::Expected;
+use protox_rows::leaf::{copied, is_mark, refused};
+use protox_rows::refused::Refused;
+use protox_rows::rows::Unread;
+use std::alloc::Global;
+
+/// The span of the first of these rows.
+pub(crate) fn first_span(rows: &Unread<'_, '_>) -> Span
+    ensures { result ≡ first_span rows.now }
+{
+    match rows.first() {
+        Some(first) => first.span(),
+        None => 0..0,
+    }
+}
+
+/// Behind a group's number its body or a list may stand.
+pub(crate) fn before_body(options: &Option<OptionList>) -> Expected {
+    match options {
+        Some(_) => Expected::LeftBrace,
+        None => Expected::BraceOrOptions,
+    }
+}
+
+/// option | reserved | extensions
+#[tactic(auto, unfolding(crate::specs::Bodies::plain))]
+pub(crate) fn plain(
+    alloc: Global,
+    notes: &mut Vec<Note>,
+    rows: &mut Unread<'_, '_>,
+) -> Result<Element, Refused>
+    ensures read { Gives (λ x. x) result rows.new ((rule.plain).code rows.old) }
+    ensures notes { Adds result notes.old.items ((rule.plain).notes rows.old) notes.new.items }
+{
+    if sees(rows, OPTION) {
+        let option = option(alloc, notes, rows, Expected::MessageBody)?;
+        return Ok(Element::Option(option));
+    }
+    if sees(rows, RESERVED) {
+        let reserved = reserved(alloc, notes, rows, Expected::MessageBody)?;
+        return Ok(Element::Reserved(reserved));
+    }
+    let extensions = extensions(alloc, notes, rows, Expected::MessageBody)?;
+    Ok(Element::Extensions(extensions))
+}
+
+/// What opens here is too deep: it is noted, and not read.
+#[tactic(auto, unfolding(protox_grammar::specs::Reader::too_deep, protox_grammar::specs::Bodies::deep_read))]
+pub(crate) fn sunk(
+    notes: &mut Vec<Note>,
+    rows: &Unread<'_, '_>,
+    word: &Span,
+    expected: Expected,
+) -> Refused
+    ensures read { Fails result (deep_read {M = Place} rows.now) }
+    ensures notes { AddsTo result notes.old.items (sunk_notes word.now rows.now) notes.new.items }
+{
+    match rows.split() {
+        Some((row, rest)) if is_mark(row.token(), b'{') => {
+            let span = copied(word);
+            match add_fault(notes, &rest, ParseErrorKind::MessageNestingTooDeep { span }) {
+                Ok(()) => Refused::TooDeep { left: rows.len() },
+                Err(_) => Refused::OutOfMemory,
+            }
+        }
+        _ => refused(rows, expected),
+    }
+}

@@ -1,0 +1,68 @@
+-- What is wrong with a file that its syntax allows: a relation, without order. What the parser checks stands elsewhere.
+use Rattle.std.specs.Prelude.{ℕ, ◌≡◌, ◌≢◌, false, List, [], Any}
+use Rattle.std.specs.Borrow.{Bor}
+use Rattle.protox_fault.specs.declared.error.ParseErrorKind.{ParseErrorKind}
+use Rattle.protox_fault.specs.declared.error.ParseErrorKind.TheVariants as fault
+use Rattle.protox_fault.specs.declared.error.SyntaxFailure.{SyntaxFailure}
+use Rattle.protox_fault.specs.declared.error.SyntaxFailure.TheVariants as failure
+use Rattle.protox_ast.specs.Keywords.{Each}
+use Rattle.protox_ast.specs.declared.ast.File.{File}
+use Rattle.protox_ast.specs.declared.ast.Syntax.{Syntax}
+use Rattle.protox_checks.specs.FieldFaults.{WrongField}
+use Rattle.protox_checks.specs.Nodes.{Node, AMessageNumber, AnEnumNumber, AField, AJsonName, AnOption, AnEmptyOneof, file_nodes}
+use Rattle.protox_ast.specs.FieldNumbers.{in_message_range}
+use Rattle.protox_checks.specs.ValueFaults.{WrongUninterpreted, WrongValue}
+use Rattle.protox_ast.specs.Values.{a_text, is_in, signed_32}
+
+abbrev pub WrongNode : Syntax → Node → ParseErrorKind → Type 0
+WrongNode syntax (AMessageNumber int) wrong = (in_message_range int ≡ false) × (wrong ≡ fault.InvalidMessageNumber int.span)
+WrongNode syntax (AnEnumNumber int) wrong = (is_in signed_32 int ≡ false) × (wrong ≡ fault.InvalidEnumNumber int.span)
+WrongNode syntax (AField scope field) wrong = WrongField syntax scope field wrong
+WrongNode syntax (AJsonName value) wrong = WrongValue a_text value wrong
+WrongNode syntax (AnOption value) wrong = WrongUninterpreted value wrong
+WrongNode syntax (AnEmptyOneof span) wrong = wrong ≡ fault.EmptyOneof span
+
+-- The fault is that of some node of the file.
+abbrev pub Wrong : File → ParseErrorKind → Type 0
+Wrong file wrong = Any (λ node. WrongNode file.syntax node wrong) (file_nodes file)
+
+-- Nothing is wrong with the file.
+abbrev pub IsFaultless : File → Type 0
+IsFaultless file = (wrong : ParseErrorKind) → Wrong file wrong → ⊥
+
+-- a word, at one place in memory
+abbrev pub placed : List ℕ → Bor (List ℕ)
+placed word = record { ref_ptr = (0, 0); now = word }
+
+-- the fault with the word of its kind at that place
+abbrev pub settled : ParseErrorKind → ParseErrorKind
+settled (fault.InvalidDefault span kind) = fault.InvalidDefault span (placed kind.now)
+settled (fault.InvalidExtendFieldKind span kind) = fault.InvalidExtendFieldKind span (placed kind.now)
+settled (fault.InvalidOneofFieldKind span kind) = fault.InvalidOneofFieldKind span (placed kind.now)
+settled wrong = wrong
+
+-- Both are one fault, apart from where in memory the word of its kind stands.
+abbrev pub IsSame : ParseErrorKind → ParseErrorKind → Type 0
+IsSame a b = settled a ≡ settled b
+
+-- ---- faults that were found
+
+-- Each is wrong of the file.
+abbrev pub EachIsWrong : File → List ParseErrorKind → Type 0
+EachIsWrong file found = Each (Wrong file) found
+
+-- Each that is wrong of the file is among them.
+abbrev pub HasEachWrong : File → List ParseErrorKind → Type 0
+HasEachWrong file found = (wrong : ParseErrorKind) → Wrong file wrong → Any (IsSame wrong) found
+
+-- ---- the faults of a refusal
+
+-- There are some, and each is wrong of the file; or memory ran out.
+abbrev pub AreWrong : File → SyntaxFailure → Type 0
+AreWrong file (failure.Faults found) = (found.items ≢ []) × EachIsWrong file found.items
+AreWrong file failure.OutOfMemory = Unit {0}
+
+-- Each that is wrong of the file is among them; or memory ran out.
+abbrev pub HaveAll : File → SyntaxFailure → Type 0
+HaveAll file (failure.Faults found) = HasEachWrong file found.items
+HaveAll file failure.OutOfMemory = Unit {0}

@@ -1,0 +1,5 @@
+pub mod Left
+pub mod Lists
+pub mod Oneofs
+pub mod Places
+pub mod Texts

@@ -1,0 +1,9 @@
+use Rattle.std.proofs.Common.{◌≡◌, map, take}
+use Rattle.std.specs.List.{flat_map}
+use Rattle.protox_ast.specs.declared.ast.Syntax.{Syntax}
+use Rattle.protox_ast.specs.Steps.{of_item}
+use Rattle.protox_describe.specs.Descriptor.{descriptor_steps, enums_of}
+use Rattle.protox_describe.proofs.items.enums.Given as goal
+
+abbrev pub invariant-loop-item : goal.invariant-loop-item
+invariant-loop-item l = (syntax : Syntax) → l.found ≡ flat_map enums_of (map (of_item (descriptor_steps syntax)) (take l.item-index l.items))

@@ -1,0 +1,9 @@
+pub mod Siblings
+pub mod Head
+pub mod Enums
+pub mod Services
+pub mod Fields
+pub mod Descriptor
+pub mod File
+pub mod Widths
+pub mod Pass

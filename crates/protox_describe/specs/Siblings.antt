@@ -1,0 +1,27 @@
+-- Lists of like siblings: each with those before it, how many there are, and at which places; and of numbers the sum and the largest.
+use Rattle.std.specs.Prelude.{ℕ, ◌+◌, max, Bool, if◌then◌else◌, List, [], ◌∷◌, ◌++◌, ℤ, pos}
+
+-- each element with those before it
+abbrev pub each_after : {A B : Type 0} → (List A → A → List B) → List A → List A → List B
+each_after f before [] = []
+each_after f before (x ∷ xs) = f before x ++ each_after f (before ++ x ∷ []) xs
+
+-- how many pass the test
+abbrev pub count : {A : Type 0} → (A → Bool) → List A → ℕ
+count test [] = 0
+count test (x ∷ xs) = (if test x then 1 else 0) + count test xs
+
+-- the places of those that pass the test, the first element having the place i
+abbrev pub places : {A : Type 0} → (A → Bool) → ℕ → List A → List ℤ
+places test i [] = []
+places test i (x ∷ xs) = if test x then pos i ∷ places test (i + 1) xs else places test (i + 1) xs
+
+-- the sum
+abbrev pub total : List ℕ → ℕ
+total [] = 0
+total (x ∷ xs) = x + total xs
+
+-- the largest
+abbrev pub greatest : List ℕ → ℕ
+greatest [] = 0
+greatest (x ∷ xs) = max x (greatest xs)

@@ -1,0 +1,171 @@
+//! The descriptor of a file.
+
+ghost use Rattle.std.specs.Prelude.{◌≡◌, ◌≤◌, ◌++◌, map, IfOk, OnOk};
+ghost use Rattle.std.specs.List.{flat_map};
+ghost use Rattle.protox_describe.specs.File.{item_messages, item_enums, item_services, item_extensions, file_proto};
+ghost use Rattle.protox_describe.specs.Siblings.{greatest};
+ghost use Rattle.protox_describe.specs.Widths.{file_item_width, file_width};
+
+use crate::enums::enum_proto;
+use crate::head::{dependencies, package_name, public_places, syntax_name, weak_places};
+use crate::items::push_extensions;
+use crate::messages::{push_extend_messages, push_message};
+use crate::options::file_options;
+use crate::services::service_proto;
+use protox_ast::ast::{File, FileItem, Syntax};
+use protox_descriptor::descriptor::{
+    DescriptorProto, EnumDescriptorProto, FieldDescriptorProto, FileDescriptorProto,
+    ServiceDescriptorProto,
+};
+use protox_descriptor::values::{Items, Text};
+use std::alloc::{AllocError, Global};
+
+fn push_messages(
+    alloc: Global,
+    syntax: Syntax,
+    item: &FileItem,
+    found: &mut Items<DescriptorProto>,
+) -> Result<(), AllocError>
+    requires { file_item_width item.now ≤ 2147483647 }
+    ensures { OnOk result (found.new ≡ found.old ++ item_messages syntax item.now) }
+{
+    match item {
+        FileItem::Message(ast) => push_message(alloc, syntax, ast, found),
+        FileItem::Extend(ast) => push_extend_messages(alloc, syntax, ast, found),
+        FileItem::Enum(_) => Ok(()),
+        FileItem::Service(_) => Ok(()),
+    }
+}
+
+fn messages(
+    alloc: Global,
+    syntax: Syntax,
+    items: &[FileItem],
+) -> Result<Items<DescriptorProto>, AllocError>
+    requires { greatest (map file_item_width items.now) ≤ 2147483647 }
+    ensures { IfOk result (λ found. found ≡ flat_map (item_messages syntax) items.now) }
+{
+    let mut found = Items::new(alloc);
+    for item in items {
+        push_messages(alloc, syntax, item, &mut found)?;
+    }
+    Ok(found)
+}
+
+fn push_enums(
+    alloc: Global,
+    item: &FileItem,
+    found: &mut Items<EnumDescriptorProto>,
+) -> Result<(), AllocError>
+    ensures { OnOk result (found.new ≡ found.old ++ item_enums item.now) }
+{
+    match item {
+        FileItem::Enum(ast) => found.push(enum_proto(alloc, ast)?),
+        FileItem::Message(_) => Ok(()),
+        FileItem::Extend(_) => Ok(()),
+        FileItem::Service(_) => Ok(()),
+    }
+}
+
+fn enums(alloc: Global, items: &[FileItem]) -> Result<Items<EnumDescriptorProto>, AllocError>
+    ensures { IfOk result (λ found. found ≡ flat_map item_enums items.now) }
+{
+    let mut found = Items::new(alloc);
+    for item in items {
+        push_enums(alloc, item, &mut found)?;
+    }
+    Ok(found)
+}
+
+fn push_services(
+    alloc: Global,
+    item: &FileItem,
+    found: &mut Items<ServiceDescriptorProto>,
+) -> Result<(), AllocError>
+    ensures { OnOk result (found.new ≡ found.old ++ item_services item.now) }
+{
+    match item {
+        FileItem::Service(ast) => found.push(service_proto(alloc, ast)?),
+        FileItem::Message(_) => Ok(()),
+        FileItem::Extend(_) => Ok(()),
+        FileItem::Enum(_) => Ok(()),
+    }
+}
+
+fn services(alloc: Global, items: &[FileItem]) -> Result<Items<ServiceDescriptorProto>, AllocError>
+    ensures { IfOk result (λ found. found ≡ flat_map item_services items.now) }
+{
+    let mut found = Items::new(alloc);
+    for item in items {
+        push_services(alloc, item, &mut found)?;
+    }
+    Ok(found)
+}
+
+fn push_file_extensions(
+    alloc: Global,
+    syntax: Syntax,
+    item: &FileItem,
+    found: &mut Items<FieldDescriptorProto>,
+) -> Result<(), AllocError>
+    ensures { OnOk result (found.new ≡ found.old ++ item_extensions syntax item.now) }
+{
+    match item {
+        FileItem::Extend(ast) => push_extensions(alloc, syntax, ast, found),
+        FileItem::Message(_) => Ok(()),
+        FileItem::Service(_) => Ok(()),
+        FileItem::Enum(_) => Ok(()),
+    }
+}
+
+fn extensions(
+    alloc: Global,
+    syntax: Syntax,
+    items: &[FileItem],
+) -> Result<Items<FieldDescriptorProto>, AllocError>
+    ensures { IfOk result (λ found. found ≡ flat_map (item_extensions syntax) items.now) }
+{
+    let mut found = Items::new(alloc);
+    for item in items {
+        push_file_extensions(alloc, syntax, item, &mut found)?;
+    }
+    Ok(found)
+}
+
+/// The descriptor of a file of that name, apart from where its parts stand in the source. Or
+/// `AllocError`. A message of the file has no more items, and the file no more imports, than an `i32`
+/// counts.
+pub fn describe_file(
+    alloc: Global,
+    name: &str,
+    ast: &File,
+) -> Result<FileDescriptorProto, AllocError>
+    requires { file_width ast.now ≤ 2147483647 }
+    ensures { IfOk result (λ file. file ≡ file_proto name.now ast.now) }
+{
+    let message_type = messages(alloc, ast.syntax, ast.items.as_slice())?;
+    let enum_type = enums(alloc, ast.items.as_slice())?;
+    let service = services(alloc, ast.items.as_slice())?;
+    let extension = extensions(alloc, ast.syntax, ast.items.as_slice())?;
+    let dependency = dependencies(alloc, ast.imports.as_slice())?;
+    let public_dependency = public_places(alloc, ast.imports.as_slice())?;
+    let weak_dependency = weak_places(alloc, ast.imports.as_slice())?;
+    let options = file_options(alloc, ast.options.as_slice())?;
+    let name = Text::copy(alloc, name)?;
+    let package = package_name(alloc, &ast.package)?;
+    let syntax = syntax_name(alloc, ast.syntax)?;
+    Ok(FileDescriptorProto {
+        name: Some(name),
+        package,
+        dependency,
+        public_dependency,
+        weak_dependency,
+        message_type,
+        enum_type,
+        service,
+        extension,
+        options,
+        source_code_info: None,
+        syntax,
+    })
+}

@@ -1,0 +1,406 @@
+//! What the items of a message give: its fields, extensions, enums and oneofs.
+
+ghost use Rattle.std.specs.Prelude.{◌≡◌, ◌≤◌, ◌+◌, ◌++◌, ◌∷◌, [], map, length, IfOk, OnOk, if◌then◌else◌};
+ghost use Rattle.std.specs.List.{flat_map};
+ghost use Rattle.protox_ast.specs.Steps.{of_extend, of_field, of_item, of_oneof};
+ghost use Rattle.protox_ast.specs.declared.ast.Syntax.{Syntax};
+ghost use Rattle.protox_describe.specs.Descriptor.{descriptor_steps, is_oneof, oneofs_of, synthetic_of, all_oneofs, in_oneof, synthetic_index, fields_of, extensions_of, enums_of, extending};
+ghost use Rattle.protox_describe.specs.Enums.{enum_proto};
+ghost use Rattle.protox_describe.specs.Pass.{item_fields};
+ghost use Rattle.protox_describe.specs.Siblings.{count, each_after};
+
+use crate::enums::enum_proto;
+use crate::fields::{field_proto, is_proto3_optional, synthetic_oneof};
+use crate::options::oneof_options;
+use protox_ast::ast::{Enum, Extend, Field, MessageItem, Oneof, Syntax, TypeName};
+use protox_descriptor::descriptor::{
+    EnumDescriptorProto, FieldDescriptorProto, OneofDescriptorProto,
+};
+use protox_descriptor::values::{Items, Text};
+use std::alloc::{AllocError, Global};
+
+// The places of the next oneof that is written and of the next one that is made.
+#[derive(Clone, Copy)]
+struct Places {
+    written: usize,
+    made: usize,
+}
+
+fn places_after_field(syntax: Syntax, ast: &Field, places: Places) -> Places
+    requires { places.made ≤ 4294967296 }
+    ensures written { result.written ≡ places.written }
+    ensures made { result.made ≡ places.made + length (of_field (descriptor_steps syntax) ast.now).synthetic }
+    ensures one { result.made ≤ places.made + 1 }
+{
+    if is_proto3_optional(syntax, &ast.label) {
+        Places {
+            written: places.written,
+            made: places.made + 1,
+        }
+    } else {
+        places
+    }
+}
+
+// The places behind an item.
+fn places_after(syntax: Syntax, item: &MessageItem, places: Places) -> Places
+    requires written { places.written ≤ 4294967296 }
+    requires made { places.made ≤ 4294967296 }
+    ensures written { result.written ≡ places.written + (if is_oneof (of_item (descriptor_steps syntax) item.now) then 1 else 0) }
+    ensures made { result.made ≡ places.made + length (synthetic_of (of_item (descriptor_steps syntax) item.now)) }
+    ensures one { result.written + result.made ≤ places.written + places.made + 1 }
+{
+    match item {
+        MessageItem::Field(ast) => places_after_field(syntax, ast, places),
+        MessageItem::Oneof(_) => Places {
+            written: places.written + 1,
+            made: places.made,
+        },
+        MessageItem::Message(_) => places,
+        MessageItem::Enum(_) => places,
+        MessageItem::Extend(_) => places,
+    }
+}
+
+fn oneofs_in(item: &MessageItem) -> usize
+    ensures value { (syntax : Syntax) → result ≡ (if is_oneof (of_item (descriptor_steps syntax) item.now) then 1 else 0) }
+    ensures one { result ≤ 1 }
+{
+    match item {
+        MessageItem::Oneof(_) => 1,
+        MessageItem::Field(_) => 0,
+        MessageItem::Message(_) => 0,
+        MessageItem::Enum(_) => 0,
+        MessageItem::Extend(_) => 0,
+    }
+}
+
+// How many oneofs are written.
+fn oneofs_among(items: &[MessageItem]) -> usize
+    ensures value { (syntax : Syntax) → result ≡ count is_oneof (map (of_item (descriptor_steps syntax)) items.now) }
+    ensures within { result ≤ length items.now }
+{
+    let mut oneofs = 0;
+    for item in items {
+        oneofs += oneofs_in(item);
+    }
+    oneofs
+}
+
+// How many of the items are fields.
+fn fields_among(items: &[MessageItem]) -> usize {
+    let mut fields: usize = 0;
+    for item in items {
+        if let MessageItem::Field(_) = item {
+            fields = fields.saturating_add(1);
+        }
+    }
+    fields
+}
+
+// The place of the oneof that is made for a field, if there is one.
+fn synthetic_index(syntax: Syntax, ast: &Field, made: usize) -> Option<i32>
+    requires { made ≤ 2147483647 }
+    ensures { result ≡ synthetic_index made (of_field (descriptor_steps syntax) ast.now) }
+{
+    if is_proto3_optional(syntax, &ast.label) {
+        Some(made as i32)
+    } else {
+        None
+    }
+}
+
+fn push_field(
+    alloc: Global,
+    syntax: Syntax,
+    ast: &Field,
+    oneof_index: Option<i32>,
+    found: &mut Items<FieldDescriptorProto>,
+) -> Result<(), AllocError>
+    ensures { OnOk result (found.new ≡ found.old ++ in_oneof oneof_index (of_field (descriptor_steps syntax) ast.now) ∷ []) }
+{
+    let mut made = field_proto(alloc, syntax, ast)?;
+    made.oneof_index = oneof_index;
+    found.push(made)
+}
+
+fn push_oneof_fields(
+    alloc: Global,
+    syntax: Syntax,
+    ast: &Oneof,
+    oneof_index: Option<i32>,
+    found: &mut Items<FieldDescriptorProto>,
+) -> Result<(), AllocError>
+    ensures { OnOk result (found.new ≡ found.old ++ map (in_oneof oneof_index) (of_oneof (descriptor_steps syntax) ast.now).fields) }
+{
+    for part in ast.fields.as_slice() {
+        push_field(alloc, syntax, part, oneof_index, found)?;
+    }
+    Ok(())
+}
+
+fn push_fields(
+    alloc: Global,
+    syntax: Syntax,
+    item: &MessageItem,
+    places: Places,
+    found: &mut Items<FieldDescriptorProto>,
+) -> Result<(), AllocError>
+    requires written { places.written ≤ 2147483647 }
+    requires made { places.made ≤ 2147483647 }
+    ensures { OnOk result (found.new ≡ found.old ++ item_fields places.written places.made (of_item (descriptor_steps syntax) item.now)) }
+{
+    match item {
+        MessageItem::Field(ast) => push_field(
+            alloc,
+            syntax,
+            ast,
+            synthetic_index(syntax, ast, places.made),
+            found,
+        ),
+        MessageItem::Oneof(ast) => push_oneof_fields(
+            alloc,
+            syntax,
+            ast,
+            Some(places.written as i32),
+            found,
+        ),
+        MessageItem::Message(_) => Ok(()),
+        MessageItem::Enum(_) => Ok(()),
+        MessageItem::Extend(_) => Ok(()),
+    }
+}
+
+/// The fields of a message, those of a oneof where the oneof stands.
+pub(crate) fn fields(
+    alloc: Global,
+    syntax: Syntax,
+    items: &[MessageItem],
+) -> Result<Items<FieldDescriptorProto>, AllocError>
+    requires { length items.now ≤ 2147483647 }
+    ensures { IfOk result (λ fields. let all = map (of_item (descriptor_steps syntax)) items.now in fields ≡ each_after (fields_of (count is_oneof all)) [] all) }
+{
+    let mut found = Items::with_capacity(alloc, fields_among(items))?;
+    let mut places = Places {
+        written: 0,
+        made: oneofs_among(items),
+    };
+    for item in items {
+        push_fields(alloc, syntax, item, places, &mut found)?;
+        places = places_after(syntax, item, places);
+    }
+    Ok(found)
+}
+
+fn extension_field(
+    alloc: Global,
+    syntax: Syntax,
+    extendee: &TypeName,
+    ast: &Field,
+) -> Result<FieldDescriptorProto, AllocError>
+    ensures { IfOk result (λ field. field ≡ (extending extendee.now (of_field (descriptor_steps syntax) ast.now)).field) }
+{
+    let extendee = extendee.text(alloc)?;
+    let mut made = field_proto(alloc, syntax, ast)?;
+    made.extendee = Some(extendee);
+    Ok(made)
+}
+
+/// Appends the fields of an extend block.
+pub(crate) fn push_extensions(
+    alloc: Global,
+    syntax: Syntax,
+    ast: &Extend,
+    found: &mut Items<FieldDescriptorProto>,
+) -> Result<(), AllocError>
+    ensures { OnOk result (found.new ≡ found.old ++ map (λ gives. gives.field) (of_extend (descriptor_steps syntax) ast.now)) }
+{
+    for part in ast.fields.as_slice() {
+        found.push(extension_field(alloc, syntax, &ast.extendee, part)?)?;
+    }
+    Ok(())
+}
+
+fn push_item_extensions(
+    alloc: Global,
+    syntax: Syntax,
+    item: &MessageItem,
+    found: &mut Items<FieldDescriptorProto>,
+) -> Result<(), AllocError>
+    ensures { OnOk result (found.new ≡ found.old ++ extensions_of (of_item (descriptor_steps syntax) item.now)) }
+{
+    match item {
+        MessageItem::Extend(ast) => push_extensions(alloc, syntax, ast, found),
+        MessageItem::Field(_) => Ok(()),
+        MessageItem::Oneof(_) => Ok(()),
+        MessageItem::Message(_) => Ok(()),
+        MessageItem::Enum(_) => Ok(()),
+    }
+}
+
+/// The extensions that a message declares.
+pub(crate) fn extensions(
+    alloc: Global,
+    syntax: Syntax,
+    items: &[MessageItem],
+) -> Result<Items<FieldDescriptorProto>, AllocError>
+    ensures { IfOk result (λ found. found ≡ flat_map extensions_of (map (of_item (descriptor_steps syntax)) items.now)) }
+{
+    let mut found = Items::new(alloc);
+    for item in items {
+        push_item_extensions(alloc, syntax, item, &mut found)?;
+    }
+    Ok(found)
+}
+
+fn push_enum(
+    alloc: Global,
+    ast: &Enum,
+    found: &mut Items<EnumDescriptorProto>,
+) -> Result<(), AllocError>
+    ensures { OnOk result (found.new ≡ found.old ++ enum_proto ast.now ∷ []) }
+{
+    found.push(enum_proto(alloc, ast)?)
+}
+
+fn push_item_enums(
+    alloc: Global,
+    item: &MessageItem,
+    found: &mut Items<EnumDescriptorProto>,
+) -> Result<(), AllocError>
+    ensures { OnOk result ((syntax : Syntax) → found.new ≡ found.old ++ enums_of (of_item (descriptor_steps syntax) item.now)) }
+{
+    match item {
+        MessageItem::Enum(ast) => push_enum(alloc, ast, found),
+        MessageItem::Field(_) => Ok(()),
+        MessageItem::Oneof(_) => Ok(()),
+        MessageItem::Message(_) => Ok(()),
+        MessageItem::Extend(_) => Ok(()),
+    }
+}
+
+/// The enums in a message.
+pub(crate) fn enums(
+    alloc: Global,
+    items: &[MessageItem],
+) -> Result<Items<EnumDescriptorProto>, AllocError>
+    ensures { IfOk result (λ found. (syntax : Syntax) → found ≡ flat_map enums_of (map (of_item (descriptor_steps syntax)) items.now)) }
+{
+    let mut found = Items::new(alloc);
+    for item in items {
+        push_item_enums(alloc, item, &mut found)?;
+    }
+    Ok(found)
+}
+
+fn oneof_proto(alloc: Global, ast: &Oneof) -> Result<OneofDescriptorProto, AllocError>
+    ensures { IfOk result (λ oneof. (syntax : Syntax) → oneof ≡ (of_oneof (descriptor_steps syntax) ast.now).oneof) }
+{
+    let name = Text::copy(alloc, ast.name.value.as_str())?;
+    let options = oneof_options(alloc, ast.options.as_slice())?;
+    Ok(OneofDescriptorProto {
+        name: Some(name),
+        options,
+    })
+}
+
+fn push_oneof(
+    alloc: Global,
+    ast: &Oneof,
+    found: &mut Items<OneofDescriptorProto>,
+) -> Result<(), AllocError>
+    ensures { OnOk result ((syntax : Syntax) → found.new ≡ found.old ++ (of_oneof (descriptor_steps syntax) ast.now).oneof ∷ []) }
+{
+    let made = oneof_proto(alloc, ast)?;
+    found.push(made)?;
+    Ok(())
+}
+
+fn push_item_oneofs(
+    alloc: Global,
+    item: &MessageItem,
+    found: &mut Items<OneofDescriptorProto>,
+) -> Result<(), AllocError>
+    ensures { OnOk result ((syntax : Syntax) → found.new ≡ found.old ++ oneofs_of (of_item (descriptor_steps syntax) item.now)) }
+{
+    match item {
+        MessageItem::Oneof(ast) => push_oneof(alloc, ast, found),
+        MessageItem::Field(_) => Ok(()),
+        MessageItem::Message(_) => Ok(()),
+        MessageItem::Enum(_) => Ok(()),
+        MessageItem::Extend(_) => Ok(()),
+    }
+}
+
+fn push_written(
+    alloc: Global,
+    items: &[MessageItem],
+    found: &mut Items<OneofDescriptorProto>,
+) -> Result<(), AllocError>
+    ensures { OnOk result ((syntax : Syntax) → found.new ≡ found.old ++ flat_map oneofs_of (map (of_item (descriptor_steps syntax)) items.now)) }
+{
+    for item in items {
+        push_item_oneofs(alloc, item, found)?;
+    }
+    Ok(())
+}
+
+fn push_synthetic(
+    alloc: Global,
+    syntax: Syntax,
+    ast: &Field,
+    found: &mut Items<OneofDescriptorProto>,
+) -> Result<(), AllocError>
+    ensures { OnOk result (found.new ≡ found.old ++ (of_field (descriptor_steps syntax) ast.now).synthetic) }
+{
+    if is_proto3_optional(syntax, &ast.label) {
+        found.push(synthetic_oneof(alloc, ast.name.value.as_str())?)
+    } else {
+        Ok(())
+    }
+}
+
+fn push_item_synthetic(
+    alloc: Global,
+    syntax: Syntax,
+    item: &MessageItem,
+    found: &mut Items<OneofDescriptorProto>,
+) -> Result<(), AllocError>
+    ensures { OnOk result (found.new ≡ found.old ++ synthetic_of (of_item (descriptor_steps syntax) item.now)) }
+{
+    match item {
+        MessageItem::Field(ast) => push_synthetic(alloc, syntax, ast, found),
+        MessageItem::Oneof(_) => Ok(()),
+        MessageItem::Message(_) => Ok(()),
+        MessageItem::Enum(_) => Ok(()),
+        MessageItem::Extend(_) => Ok(()),
+    }
+}
+
+fn push_made(
+    alloc: Global,
+    syntax: Syntax,
+    items: &[MessageItem],
+    found: &mut Items<OneofDescriptorProto>,
+) -> Result<(), AllocError>
+    ensures { OnOk result (found.new ≡ found.old ++ flat_map synthetic_of (map (of_item (descriptor_steps syntax)) items.now)) }
+{
+    for item in items {
+        push_item_synthetic(alloc, syntax, item, found)?;
+    }
+    Ok(())
+}
+
+/// The oneofs that are written in a message, and then those that are made for its fields.
+pub(crate) fn oneofs(
+    alloc: Global,
+    syntax: Syntax,
+    items: &[MessageItem],
+) -> Result<Items<OneofDescriptorProto>, AllocError>
+    ensures { IfOk result (λ found. found ≡ all_oneofs (map (of_item (descriptor_steps syntax)) items.now)) }
+{
+    let mut found = Items::new(alloc);
+    push_written(alloc, items, &mut found)?;
+    push_made(alloc, syntax, items, &mut found)?;
+    Ok(found)
+}

@@ -1,6 +1,0 @@
-use Rattle.std.proofs.Common.{◌≡◌, ◌++◌, drop}
-use Rattle.protox_generate.specs.Lines.{starts}
-use Rattle.protox_generate.proofs.lines.starts_of.Given as goal
-
-abbrev pub invariant-loop-i : goal.invariant-loop-i
-invariant-loop-i l = l.found.items ++ starts l.i (drop l.i l.source) ≡ starts 0 l.source

@@ -1,4 +1,0 @@
-pub mod Descriptor
-pub mod Locations
-pub mod Checks
-pub mod File

@@ -1,0 +1,11 @@
+pub mod Fits
+pub mod FitsParts
+pub mod InOrder
+pub mod Keeps
+pub mod Left
+pub mod LineFacts
+pub mod Numbered
+pub mod Order
+pub mod OrderLaw
+pub mod PartPlaces
+pub mod Rows

@@ -1,0 +1,14 @@
+use Rattle.std.proofs.Common.{◌≤◌, ◌+◌, length, map, flat_map, drop}
+use Rattle.protox_descriptor.specs.declared.tag.file.TheConstants.{EXTENSION}
+use Rattle.protox_locate.specs.Bounds.{file_item_reach, file_item_weight, greatest, total}
+use Rattle.protox_locate.specs.Lines.{numbers_at}
+use Rattle.protox_locate.specs.Locations.{item_extensions}
+use Rattle.protox_locate.specs.Walk.{ToCome}
+use Rattle.protox_locate.proofs.declarations.locate_extensions.Given as goal
+
+abbrev pub invariant-loop-item : goal.invariant-loop-item
+invariant-loop-item l = record {
+  located : ToCome l.initial.context l.context EXTENSION 0 l.next (flat_map (item_extensions (numbers_at l.lines)) l.items) (flat_map (item_extensions (numbers_at l.lines)) (drop l.item-index l.items));
+  room : l.next + total (map file_item_weight (drop l.item-index l.items)) ≤ 2147483647;
+  reach : greatest (map file_item_reach (drop l.item-index l.items)) ≤ 2147483647;
+}

@@ -1,0 +1,18 @@
+use Rattle.std.proofs.Common.{◌≡◌, List, [], ◌++◌, ap, sym, subst, ◌∙◌}
+use Rattle.protox_descriptor.specs.declared.descriptor.source_code_info.Location.{Location}
+use Rattle.protox_locate.specs.Lines.{numbers_at}
+use Rattle.protox_locate.specs.Locations.{file_at, file_locations}
+use Rattle.protox_locate.specs.declared.context.Context.{Context}
+use Rattle.protox_locate.specs.Order.{InOrder, StartsBefore}
+use Rattle.protox_locate.proofs.InOrder.{in-order}
+use Rattle.protox_locate.proofs.LineFacts.{numbers-are}
+use Rattle.protox_locate.proofs.file.locate_file.Goals as goal
+
+pub returns-clause-located : goal.returns-clause-located
+returns-clause-located c =
+    let emits = c.in_ok-locate_parts.ensures in
+    emits.locations ∙ ap (λ (x : Context). x.locations ++ file_at (numbers_at c.in_ok-lines.lines) c.args.ast.now x.path) c.new-context.ensures
+    ∙ ap (λ n. file_locations n c.args.ast.now) (numbers-are c.args.source.now c.in_ok-lines.lines c.in_ok-lines.ensures)
+
+pub returns-clause-in_order : goal.returns-clause-in_order
+returns-clause-in_order c stands = subst (InOrder StartsBefore) (sym (returns-clause-located c)) (in-order c.args.source.now _ c.args.ast.now stands)

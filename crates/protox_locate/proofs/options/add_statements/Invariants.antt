@@ -1,0 +1,12 @@
+use Rattle.std.proofs.Common.{◌≤◌, ◌+◌, length, map, flat_map, drop}
+use Rattle.protox_locate.specs.Bounds.{options_reach}
+use Rattle.protox_locate.specs.Lines.{numbers_at}
+use Rattle.protox_locate.specs.LocationWords.{option_place}
+use Rattle.protox_locate.specs.Walk.{ToAdd}
+use Rattle.protox_locate.proofs.options.add_statements.Given as goal
+
+abbrev pub invariant-loop-statement : goal.invariant-loop-statement
+invariant-loop-statement l = record {
+  added : ToAdd l.initial.context l.context l.tag (map (option_place (numbers_at l.lines)) l.statements) (map (option_place (numbers_at l.lines)) (drop l.statement-index l.statements));
+  reach : options_reach (drop l.statement-index l.statements) ≤ 2147483647;
+}

@@ -1,0 +1,13 @@
+use Rattle.std.proofs.Common.{◌≤◌, ◌+◌, length, map, flat_map, drop}
+use Rattle.protox_ast.specs.declared.ast.Reserved.{Reserved}
+use Rattle.protox_locate.specs.Bounds.{greatest, reserved_reach}
+use Rattle.protox_locate.specs.Lines.{numbers_at}
+use Rattle.protox_locate.specs.LocationWords.{range_statement}
+use Rattle.protox_locate.specs.Walk.{ToAdd}
+use Rattle.protox_locate.proofs.ranges.add_range_statements.Given as goal
+
+abbrev pub invariant-loop-statement : goal.invariant-loop-statement
+invariant-loop-statement l = record {
+  added : ToAdd l.initial.context l.context l.tag (flat_map (λ (statement : Reserved). range_statement (numbers_at l.lines) statement statement.kind) l.statements) (flat_map (λ (statement : Reserved). range_statement (numbers_at l.lines) statement statement.kind) (drop l.statement-index l.statements));
+  reach : greatest (map reserved_reach (drop l.statement-index l.statements)) ≤ 2147483647;
+}

@@ -1,0 +1,9 @@
+pub mod Lines
+pub mod LocationWords
+pub mod EnumLocations
+pub mod ServiceLocations
+pub mod FieldLocations
+pub mod Locations
+pub mod Order
+pub mod Bounds
+pub mod Walk

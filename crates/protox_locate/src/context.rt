@@ -1,0 +1,128 @@
+//! Where the walk over a tree is, and what it has located.
+
+ghost use Rattle.std.specs.Prelude.{◌≡◌, ◌≤◌, ◌++◌, ◌∷◌, [], ℤ, pos, length, IfOk, OnOk, List};
+ghost use Rattle.protox_locate.specs.Bounds.{reach};
+ghost use Rattle.protox_locate.specs.Lines.{numbers_at};
+ghost use Rattle.protox_locate.specs.LocationWords.{bare, commented, part};
+ghost use Rattle.protox_locate.specs.Walk.{Emits};
+
+use crate::lines::LineResolver;
+use crate::spans::copied_span;
+use protox_ast::ast::Comments;
+use protox_descriptor::descriptor::source_code_info::Location;
+use protox_descriptor::values::{Items, Numbers, Text};
+use protox_fault::error::Span;
+use std::alloc::{AllocError, Global};
+
+/// The path to the part that is read, and the locations so far.
+#[derive(Drop)]
+pub(crate) struct Context {
+    pub path: Items<i32>,
+    pub locations: Items<Location>,
+}
+
+fn copied_option(alloc: Global, text: &Option<Text>) -> Result<Option<Text>, AllocError>
+    ensures { IfOk result (λ copy. copy ≡ text.now) }
+{
+    match text {
+        None => Ok(None),
+        Some(text) => Ok(Some(Text::copy(alloc, text.as_str())?)),
+    }
+}
+
+fn copied(alloc: Global, texts: &[Text]) -> Result<Items<Text>, AllocError>
+    ensures { IfOk result (λ copies. copies ≡ texts.now) }
+{
+    let mut copies = Vec::with_capacity(alloc, texts.len())?;
+    for text in texts {
+        copies.push(Text::copy(alloc, text.as_str())?)?;
+    }
+    Ok(Items::from_vec(copies))
+}
+
+impl Context {
+    /// The path of a file, and no location.
+    pub fn new(alloc: Global) -> Context
+        ensures { result ≡ record { path = []; locations = [] } }
+    {
+        Context {
+            path: Items::new(alloc),
+            locations: Items::new(alloc),
+        }
+    }
+
+    /// Adds the place of a part, whose path is the current one and then `tags`.
+    pub fn add(
+        &mut self,
+        alloc: Global,
+        lines: &LineResolver,
+        tags: &[i32],
+        span: &Span,
+    ) -> Result<(), AllocError>
+        requires { reach span.now ≤ 2147483647 }
+        ensures { OnOk result (Emits self.old self.new (bare (numbers_at lines.now) (self.old.path ++ tags.now) span.now ∷ [])) }
+    {
+        let path = Numbers::joined(alloc, self.path.as_slice(), tags)?;
+        let span = lines.numbers(copied_span(span));
+        self.locations.push(Location::bare(path, span))
+    }
+
+    /// Adds the place of a declaration with its comments. Its path is the current one and then `tags`.
+    pub fn add_with(
+        &mut self,
+        alloc: Global,
+        lines: &LineResolver,
+        tags: &[i32],
+        span: &Span,
+        comments: &Comments,
+    ) -> Result<(), AllocError>
+        requires { reach span.now ≤ 2147483647 }
+        ensures { OnOk result (Emits self.old self.new (commented (numbers_at lines.now) (self.old.path ++ tags.now) span.now comments.now ∷ [])) }
+    {
+        let leading = copied_option(alloc, &comments.leading_comment)?;
+        let trailing = copied_option(alloc, &comments.trailing_comment)?;
+        let detached = copied(alloc, comments.leading_detached_comments.as_slice())?;
+        let path = Numbers::joined(alloc, self.path.as_slice(), tags)?;
+        let span = lines.numbers(copied_span(span));
+        let location = Location::commented(alloc, path, span, leading, trailing, detached)?;
+        self.locations.push(location)
+    }
+
+    /// Goes down to a child: its tag, and how many like siblings stand before it.
+    pub fn enter(&mut self, tag: i32, index: usize) -> Result<(), AllocError>
+        requires { index ≤ 2147483647 }
+        ensures path { OnOk result (self.new.path ≡ self.old.path ++ tag ∷ pos index ∷ []) }
+        ensures locations { self.new.locations ≡ self.old.locations }
+    {
+        self.path.push(tag)?;
+        self.path.push(index as i32)
+    }
+
+    /// Goes back up.
+    pub fn leave(&mut self)
+        requires { 2 ≤ length self.old.path }
+        ensures path { (front : List ℤ) (tag index : ℤ) → self.old.path ≡ front ++ tag ∷ index ∷ [] → self.new.path ≡ front }
+        ensures locations { self.new.locations ≡ self.old.locations }
+    {
+        let len = self.path.len();
+        self.path.truncate(len - 2);
+    }
+
+    /// Goes down to a part that has no like siblings.
+    pub fn enter_part(&mut self, tag: i32) -> Result<(), AllocError>
+        ensures path { OnOk result (self.new.path ≡ part self.old.path tag) }
+        ensures locations { self.new.locations ≡ self.old.locations }
+    {
+        self.path.push(tag)
+    }
+
+    /// Goes back up from there.
+    pub fn leave_part(&mut self)
+        requires { 1 ≤ length self.old.path }
+        ensures path { (front : List ℤ) (tag : ℤ) → self.old.path ≡ part front tag → self.new.path ≡ front }
+        ensures locations { self.new.locations ≡ self.old.locations }
+    {
+        let len = self.path.len();
+        self.path.truncate(len - 1);
+    }
+}

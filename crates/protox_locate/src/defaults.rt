@@ -1,0 +1,189 @@
+//! The locations of a field's options: its default, its `json_name` and the others.
+
+ghost use Rattle.std.specs.Prelude.{◌≡◌, ◌≤◌, ◌∷◌, codes, find, length, map, OnOk, Some, [], false, not, ◌&&◌};
+ghost use Rattle.protox_ast.specs.Options.{default_of, has_name as is_called, is_name, json_name_of, options_left};
+ghost use Rattle.protox_locate.specs.Bounds.{body_reach, greatest, list_reach, list_weight, reach};
+ghost use Rattle.protox_locate.specs.FieldLocations.{defaulted, json_named};
+ghost use Rattle.protox_locate.specs.Lines.{numbers_at};
+ghost use Rattle.protox_locate.specs.LocationWords.{bare, option_body, option_list, part, siblings_at};
+ghost use Rattle.protox_locate.specs.Walk.{Emits, left};
+
+use crate::context::Context;
+use crate::lines::LineResolver;
+use crate::spans::{body_span, value_span};
+use protox_ast::ast::{Opt, OptionBody, OptionList, OptionNamePart};
+use protox_descriptor::tag::UNINTERPRETED_OPTION;
+use protox_descriptor::tag::field::{DEFAULT_VALUE, JSON_NAME, OPTIONS};
+use std::alloc::{AllocError, Global};
+
+fn is_ident(part: &OptionNamePart, name: &str) -> bool
+    ensures { result ≡ is_name name.now (part.now ∷ []) }
+{
+    match part {
+        OptionNamePart::Ident(ident) => ident.value.as_str() == name,
+        OptionNamePart::Extension(..) => false,
+    }
+}
+
+// Whether the option's name is that one identifier.
+fn has_name(body: &OptionBody, name: &str) -> bool
+    ensures { result ≡ is_called name.now body.now }
+{
+    match body.name.as_slice() {
+        [only] => is_ident(only, name),
+        _ => false,
+    }
+}
+
+// Whether it is the first of that name, where one was taken before or not.
+fn takes(taken: bool, body: &OptionBody, name: &str) -> bool
+    ensures { result ≡ not taken && is_called name.now body.now }
+{
+    if taken { false } else { has_name(body, name) }
+}
+
+/// The value of the default, if there is one.
+pub(crate) fn locate_default(
+    alloc: Global,
+    lines: &LineResolver,
+    context: &mut Context,
+    options: &Opt<OptionList>,
+) -> Result<(), AllocError>
+    requires { list_reach options.now ≤ 2147483647 }
+    ensures { OnOk result (Emits context.old context.new (defaulted (numbers_at lines.now) context.old.path (default_of options.now))) }
+{
+    match options {
+        None => Ok(()),
+        Some(list) => default_in(alloc, lines, context, list.options.as_slice()),
+    }
+}
+
+fn default_in(
+    alloc: Global,
+    lines: &LineResolver,
+    context: &mut Context,
+    bodies: &[OptionBody],
+) -> Result<(), AllocError>
+    requires { greatest (map body_reach bodies.now) ≤ 2147483647 }
+    ensures { OnOk result (Emits context.old context.new (defaulted (numbers_at lines.now) context.old.path (find (is_called (codes "default")) bodies.now))) }
+{
+    for body in bodies {
+        if has_name(body, "default") {
+            let value = value_span(&body.value);
+            return context.add(alloc, lines, &[DEFAULT_VALUE], &value);
+        }
+    }
+    Ok(())
+}
+
+/// The option `json_name`, if there is one, and then its value.
+pub(crate) fn locate_json_name(
+    alloc: Global,
+    lines: &LineResolver,
+    context: &mut Context,
+    options: &Opt<OptionList>,
+) -> Result<(), AllocError>
+    requires { list_reach options.now ≤ 2147483647 }
+    ensures { OnOk result (Emits context.old context.new (json_named (numbers_at lines.now) context.old.path (json_name_of options.now))) }
+{
+    match options {
+        None => Ok(()),
+        Some(list) => json_name_in(alloc, lines, context, list.options.as_slice()),
+    }
+}
+
+fn json_name_in(
+    alloc: Global,
+    lines: &LineResolver,
+    context: &mut Context,
+    bodies: &[OptionBody],
+) -> Result<(), AllocError>
+    requires { greatest (map body_reach bodies.now) ≤ 2147483647 }
+    ensures { OnOk result (Emits context.old context.new (json_named (numbers_at lines.now) context.old.path (find (is_called (codes "json_name")) bodies.now))) }
+{
+    for body in bodies {
+        if has_name(body, "json_name") {
+            return add_json_name(alloc, lines, context, body);
+        }
+    }
+    Ok(())
+}
+
+fn add_json_name(
+    alloc: Global,
+    lines: &LineResolver,
+    context: &mut Context,
+    body: &OptionBody,
+) -> Result<(), AllocError>
+    requires { body_reach body.now ≤ 2147483647 }
+    ensures { OnOk result (Emits context.old context.new (json_named (numbers_at lines.now) context.old.path (Some body.now))) }
+{
+    let whole = body_span(body);
+    let value = value_span(&body.value);
+    context.add(alloc, lines, &[JSON_NAME], &whole)?;
+    context.add(alloc, lines, &[JSON_NAME], &value)
+}
+
+/// The brackets, if there are any, and the options in them that are neither the default nor `json_name`.
+pub(crate) fn locate_others(
+    alloc: Global,
+    lines: &LineResolver,
+    context: &mut Context,
+    options: &Opt<OptionList>,
+) -> Result<(), AllocError>
+    requires room { list_weight options.now ≤ 2147483647 }
+    requires reach { list_reach options.now ≤ 2147483647 }
+    ensures { OnOk result (Emits context.old context.new (option_list (numbers_at lines.now) (part context.old.path OPTIONS) options.now (options_left options.now))) }
+{
+    match options {
+        None => Ok(()),
+        Some(list) => locate_brackets(alloc, lines, context, list),
+    }
+}
+
+fn locate_brackets(
+    alloc: Global,
+    lines: &LineResolver,
+    context: &mut Context,
+    list: &OptionList,
+) -> Result<(), AllocError>
+    requires room { length list.now.options ≤ 2147483647 }
+    requires span { reach list.now.span ≤ 2147483647 }
+    requires reach { greatest (map body_reach list.now.options) ≤ 2147483647 }
+    ensures { OnOk result (Emits context.old context.new (bare (numbers_at lines.now) (part context.old.path OPTIONS) list.now.span ∷ siblings_at (part context.old.path OPTIONS) UNINTERPRETED_OPTION (map (option_body (numbers_at lines.now)) (left false false list.now.options)))) }
+{
+    context.enter_part(OPTIONS)?;
+    context.add(alloc, lines, &[], &list.span)?;
+    number_others(alloc, lines, context, list.options.as_slice())?;
+    context.leave_part();
+    Ok(())
+}
+
+#[tactic(auto, using(crate::proofs::Left::walk))]
+fn number_others(
+    alloc: Global,
+    lines: &LineResolver,
+    context: &mut Context,
+    bodies: &[OptionBody],
+) -> Result<(), AllocError>
+    requires room { length bodies.now ≤ 2147483647 }
+    requires reach { greatest (map body_reach bodies.now) ≤ 2147483647 }
+    ensures { OnOk result (Emits context.old context.new (siblings_at context.old.path UNINTERPRETED_OPTION (map (option_body (numbers_at lines.now)) (left false false bodies.now)))) }
+{
+    let mut next: usize = 0;
+    let mut default = false;
+    let mut json_name = false;
+    for body in bodies {
+        if takes(default, body, "default") {
+            default = true;
+        } else if takes(json_name, body, "json_name") {
+            json_name = true;
+        } else {
+            let tags = [UNINTERPRETED_OPTION, next as i32];
+            let span = body_span(body);
+            context.add(alloc, lines, &tags, &span)?;
+            next += 1;
+        }
+    }
+    Ok(())
+}

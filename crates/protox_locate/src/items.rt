@@ -1,0 +1,217 @@
+//! The locations of what stands in a message, but for the messages in it.
+
+ghost use Rattle.std.specs.Prelude.{◌≡◌, ◌≤◌, ◌+◌, flat_map, map, IfOk, OnOk};
+ghost use Rattle.protox_ast.specs.Steps.{of_item, of_oneof};
+ghost use Rattle.protox_locate.specs.Bounds.{greatest, reaches, total, weights};
+ghost use Rattle.protox_locate.specs.Lines.{numbers_at};
+ghost use Rattle.protox_locate.specs.LocationWords.{each_at, nth, part};
+ghost use Rattle.protox_locate.specs.Locations.{all_of, location_steps};
+ghost use Rattle.protox_locate.specs.Walk.{Emits, Numbers};
+
+use crate::context::Context;
+use crate::enums::enum_at;
+use crate::fields::{extensions_in, fields_in, locate_field};
+use crate::lines::LineResolver;
+use crate::options::locate_options;
+use protox_ast::ast::{MessageItem, Oneof};
+use protox_descriptor::tag::message::{ENUM_TYPE, EXTENSION, FIELD, ONEOF_DECL};
+use protox_descriptor::tag::oneof as oneof_tag;
+use std::alloc::{AllocError, Global};
+
+/// The fields, those of oneofs among them.
+#[tactic(auto, using(crate::proofs::Numbered::walk))]
+pub(crate) fn locate_fields(
+    alloc: Global,
+    lines: &LineResolver,
+    context: &mut Context,
+    items: &[MessageItem],
+) -> Result<(), AllocError>
+    requires room { total (map (of_item weights) items.now) ≤ 2147483647 }
+    requires reach { greatest (map (of_item reaches) items.now) ≤ 2147483647 }
+    ensures { OnOk result (Emits context.old context.new (all_of (λ i. i.fields) context.old.path FIELD (map (of_item (location_steps (numbers_at lines.now))) items.now))) }
+{
+    let mut next: usize = 0;
+    for item in items {
+        next = fields_of(alloc, lines, context, item, next)?;
+    }
+    Ok(())
+}
+
+#[tactic(auto, using(crate::proofs::Numbered::walk))]
+fn fields_of(
+    alloc: Global,
+    lines: &LineResolver,
+    context: &mut Context,
+    item: &MessageItem,
+    first: usize,
+) -> Result<usize, AllocError>
+    requires room { first + of_item weights item.now ≤ 2147483647 }
+    requires reach { of_item reaches item.now ≤ 2147483647 }
+    ensures siblings { IfOk result (λ next. Numbers context.old context.new FIELD first next (of_item (location_steps (numbers_at lines.now)) item.now).fields) }
+    ensures within { IfOk result (λ next. next ≤ first + of_item weights item.now) }
+{
+    match item {
+        MessageItem::Field(field) => {
+            locate_field(alloc, lines, context, field, first)?;
+            Ok(first + 1)
+        }
+        MessageItem::Oneof(oneof) => {
+            fields_in(alloc, lines, context, oneof.fields.as_slice(), first)
+        }
+        MessageItem::Message(_) => Ok(first),
+        MessageItem::Enum(_) => Ok(first),
+        MessageItem::Extend(_) => Ok(first),
+    }
+}
+
+/// The enums.
+#[tactic(auto, using(crate::proofs::Numbered::walk))]
+pub(crate) fn locate_enums(
+    alloc: Global,
+    lines: &LineResolver,
+    context: &mut Context,
+    items: &[MessageItem],
+) -> Result<(), AllocError>
+    requires room { total (map (of_item weights) items.now) ≤ 2147483647 }
+    requires reach { greatest (map (of_item reaches) items.now) ≤ 2147483647 }
+    ensures { OnOk result (Emits context.old context.new (all_of (λ i. i.enums) context.old.path ENUM_TYPE (map (of_item (location_steps (numbers_at lines.now))) items.now))) }
+{
+    let mut next: usize = 0;
+    for item in items {
+        next = enums_of(alloc, lines, context, item, next)?;
+    }
+    Ok(())
+}
+
+#[tactic(auto, using(crate::proofs::Numbered::walk))]
+fn enums_of(
+    alloc: Global,
+    lines: &LineResolver,
+    context: &mut Context,
+    item: &MessageItem,
+    first: usize,
+) -> Result<usize, AllocError>
+    requires room { first + of_item weights item.now ≤ 2147483647 }
+    requires reach { of_item reaches item.now ≤ 2147483647 }
+    ensures siblings { IfOk result (λ next. Numbers context.old context.new ENUM_TYPE first next (of_item (location_steps (numbers_at lines.now)) item.now).enums) }
+    ensures within { IfOk result (λ next. next ≤ first + of_item weights item.now) }
+{
+    match item {
+        MessageItem::Enum(ast) => {
+            enum_at(alloc, lines, context, ENUM_TYPE, ast, first)?;
+            Ok(first + 1)
+        }
+        MessageItem::Field(_) => Ok(first),
+        MessageItem::Oneof(_) => Ok(first),
+        MessageItem::Message(_) => Ok(first),
+        MessageItem::Extend(_) => Ok(first),
+    }
+}
+
+/// The `extend` blocks, at the path of all extensions.
+#[tactic(auto, using(crate::proofs::Numbered::walk))]
+pub(crate) fn locate_blocks(
+    alloc: Global,
+    lines: &LineResolver,
+    context: &mut Context,
+    items: &[MessageItem],
+) -> Result<(), AllocError>
+    requires { greatest (map (of_item reaches) items.now) ≤ 2147483647 }
+    ensures { OnOk result (Emits context.old context.new (each_at (part context.old.path EXTENSION) (flat_map (λ i. i.blocks) (map (of_item (location_steps (numbers_at lines.now))) items.now)))) }
+{
+    for item in items {
+        if let MessageItem::Extend(ast) = item {
+            context.add_with(alloc, lines, &[EXTENSION], &ast.span, &ast.comments)?;
+        }
+    }
+    Ok(())
+}
+
+/// The extensions, of all `extend` blocks together.
+#[tactic(auto, using(crate::proofs::Numbered::walk))]
+pub(crate) fn locate_extensions(
+    alloc: Global,
+    lines: &LineResolver,
+    context: &mut Context,
+    items: &[MessageItem],
+) -> Result<(), AllocError>
+    requires room { total (map (of_item weights) items.now) ≤ 2147483647 }
+    requires reach { greatest (map (of_item reaches) items.now) ≤ 2147483647 }
+    ensures { OnOk result (Emits context.old context.new (all_of (λ i. i.extensions) context.old.path EXTENSION (map (of_item (location_steps (numbers_at lines.now))) items.now))) }
+{
+    let mut next: usize = 0;
+    for item in items {
+        next = extensions_of(alloc, lines, context, item, next)?;
+    }
+    Ok(())
+}
+
+#[tactic(auto, using(crate::proofs::Numbered::walk))]
+fn extensions_of(
+    alloc: Global,
+    lines: &LineResolver,
+    context: &mut Context,
+    item: &MessageItem,
+    first: usize,
+) -> Result<usize, AllocError>
+    requires room { first + of_item weights item.now ≤ 2147483647 }
+    requires reach { of_item reaches item.now ≤ 2147483647 }
+    ensures siblings { IfOk result (λ next. Numbers context.old context.new EXTENSION first next (of_item (location_steps (numbers_at lines.now)) item.now).extensions) }
+    ensures within { IfOk result (λ next. next ≤ first + of_item weights item.now) }
+{
+    match item {
+        MessageItem::Extend(ast) => { extensions_in(alloc, lines, context, EXTENSION, ast, first) }
+        MessageItem::Field(_) => Ok(first),
+        MessageItem::Oneof(_) => Ok(first),
+        MessageItem::Message(_) => Ok(first),
+        MessageItem::Enum(_) => Ok(first),
+    }
+}
+
+/// The oneofs.
+#[tactic(auto, using(crate::proofs::Numbered::walk))]
+pub(crate) fn locate_oneofs(
+    alloc: Global,
+    lines: &LineResolver,
+    context: &mut Context,
+    items: &[MessageItem],
+) -> Result<(), AllocError>
+    requires room { total (map (of_item weights) items.now) ≤ 2147483647 }
+    requires reach { greatest (map (of_item reaches) items.now) ≤ 2147483647 }
+    ensures { OnOk result (Emits context.old context.new (all_of (λ i. i.oneofs) context.old.path ONEOF_DECL (map (of_item (location_steps (numbers_at lines.now))) items.now))) }
+{
+    let mut next: usize = 0;
+    for item in items {
+        if let MessageItem::Oneof(ast) = item {
+            locate_oneof(alloc, lines, context, ast, next)?;
+            next += 1;
+        }
+    }
+    Ok(())
+}
+
+fn locate_oneof(
+    alloc: Global,
+    lines: &LineResolver,
+    context: &mut Context,
+    ast: &Oneof,
+    at: usize,
+) -> Result<(), AllocError>
+    requires at { at ≤ 2147483647 }
+    requires room { of_oneof weights ast.now ≤ 2147483647 }
+    requires reach { of_oneof reaches ast.now ≤ 2147483647 }
+    ensures { OnOk result (Emits context.old context.new ((of_oneof (location_steps (numbers_at lines.now)) ast.now).own (nth context.old.path ONEOF_DECL at))) }
+{
+    context.enter(ONEOF_DECL, at)?;
+    context.add_with(alloc, lines, &[], &ast.span, &ast.comments)?;
+    context.add(alloc, lines, &[oneof_tag::NAME], &ast.name.span)?;
+    locate_options(
+        alloc,
+        lines,
+        context,
+        oneof_tag::OPTIONS,
+        ast.options.as_slice(),
+    )?;
+    context.leave();
+    Ok(())
+}

@@ -1,0 +1,205 @@
+//! The locations of messages, kind by kind of what stands in them.
+
+ghost use Rattle.std.specs.Prelude.{◌≡◌, ◌≤◌, ◌+◌, map, IfOk, OnOk};
+ghost use Rattle.protox_ast.specs.Steps.{of_body, of_field, of_item, of_message};
+ghost use Rattle.protox_ast.specs.declared.ast.MessageBody.{out-MessageBody};
+ghost use Rattle.protox_locate.specs.Bounds.{greatest, reaches, total, weights};
+ghost use Rattle.protox_locate.specs.Lines.{numbers_at};
+ghost use Rattle.protox_locate.specs.Locations.{all_of, from_blocks, location_steps, messages_of as all_messages};
+ghost use Rattle.protox_locate.specs.Walk.{Emits, Numbers};
+
+use crate::context::Context;
+use crate::items::{locate_blocks, locate_enums, locate_extensions, locate_fields, locate_oneofs};
+use crate::lines::LineResolver;
+use crate::options::locate_options;
+use crate::ranges::{locate_extension_ranges, locate_names, locate_ranges};
+use protox_ast::ast::{Field, FieldKind, Message, MessageBody, MessageItem};
+use protox_descriptor::tag::message::{NAME, NESTED_TYPE, OPTIONS, RESERVED_NAME, RESERVED_RANGE};
+use std::alloc::{AllocError, Global};
+
+/// A message, whose path is the current one.
+#[cycle(messages)]
+pub(crate) fn locate_message(
+    alloc: Global,
+    lines: &LineResolver,
+    context: &mut Context,
+    ast: &Message,
+) -> Result<(), AllocError>
+    requires room { of_message weights ast.now ≤ 2147483647 }
+    requires reach { of_message reaches ast.now ≤ 2147483647 }
+    ensures { OnOk result (Emits context.old context.new (of_message (location_steps (numbers_at lines.now)) ast.now context.old.path)) }
+{
+    context.add_with(alloc, lines, &[], &ast.span, &ast.comments)?;
+    context.add(alloc, lines, &[NAME], &ast.name.span)?;
+    locate_body(alloc, lines, context, &ast.body)
+}
+
+#[cycle(messages)]
+fn locate_body(
+    alloc: Global,
+    lines: &LineResolver,
+    context: &mut Context,
+    ast: &MessageBody,
+) -> Result<(), AllocError>
+    requires room { of_body weights ast.now ≤ 2147483647 }
+    requires reach { of_body reaches ast.now ≤ 2147483647 }
+    ensures { OnOk result (Emits context.old context.new (of_body (location_steps (numbers_at lines.now)) ast.now context.old.path)) }
+{
+    let items = ast.items.as_slice();
+    locate_fields(alloc, lines, context, items)?;
+    locate_messages(alloc, lines, context, items)?;
+    locate_enums(alloc, lines, context, items)?;
+    locate_extension_ranges(alloc, lines, context, ast.extensions.as_slice())?;
+    locate_from_blocks(alloc, lines, context, ast)
+}
+
+// What stands in a body, from the `extend` blocks on.
+fn locate_from_blocks(
+    alloc: Global,
+    lines: &LineResolver,
+    context: &mut Context,
+    ast: &MessageBody,
+) -> Result<(), AllocError>
+    requires room { of_body weights ast.now ≤ 2147483647 }
+    requires reach { of_body reaches ast.now ≤ 2147483647 }
+    ensures { OnOk result (Emits context.old context.new (from_blocks (numbers_at lines.now) context.old.path (map (of_item (location_steps (numbers_at lines.now))) (out-MessageBody ast.now).items) (out-MessageBody ast.now).options (out-MessageBody ast.now).reserved)) }
+{
+    let items = ast.items.as_slice();
+    locate_blocks(alloc, lines, context, items)?;
+    locate_extensions(alloc, lines, context, items)?;
+    locate_options(alloc, lines, context, OPTIONS, ast.options.as_slice())?;
+    locate_oneofs(alloc, lines, context, items)?;
+    locate_ranges(
+        alloc,
+        lines,
+        context,
+        RESERVED_RANGE,
+        ast.reserved.as_slice(),
+    )?;
+    locate_names(
+        alloc,
+        lines,
+        context,
+        RESERVED_NAME,
+        ast.reserved.as_slice(),
+    )
+}
+
+// The nested messages, those of groups and the entries of maps among them.
+#[cycle(messages)]
+#[tactic(auto, using(crate::proofs::Numbered::walk))]
+fn locate_messages(
+    alloc: Global,
+    lines: &LineResolver,
+    context: &mut Context,
+    items: &[MessageItem],
+) -> Result<(), AllocError>
+    requires room { total (map (of_item weights) items.now) ≤ 2147483647 }
+    requires reach { greatest (map (of_item reaches) items.now) ≤ 2147483647 }
+    ensures { OnOk result (Emits context.old context.new (all_of (λ i. i.messages) context.old.path NESTED_TYPE (map (of_item (location_steps (numbers_at lines.now))) items.now))) }
+{
+    let mut next: usize = 0;
+    for item in items {
+        next = messages_of(alloc, lines, context, item, next)?;
+    }
+    Ok(())
+}
+
+#[cycle(messages)]
+#[tactic(auto, using(crate::proofs::Numbered::walk))]
+fn messages_of(
+    alloc: Global,
+    lines: &LineResolver,
+    context: &mut Context,
+    item: &MessageItem,
+    first: usize,
+) -> Result<usize, AllocError>
+    requires room { first + of_item weights item.now ≤ 2147483647 }
+    requires reach { of_item reaches item.now ≤ 2147483647 }
+    ensures siblings { IfOk result (λ next. Numbers context.old context.new NESTED_TYPE first next (of_item (location_steps (numbers_at lines.now)) item.now).messages) }
+    ensures within { IfOk result (λ next. next ≤ first + of_item weights item.now) }
+{
+    match item {
+        MessageItem::Field(ast) => message_of(alloc, lines, context, NESTED_TYPE, ast, first),
+        MessageItem::Message(ast) => {
+            context.enter(NESTED_TYPE, first)?;
+            locate_message(alloc, lines, context, ast)?;
+            context.leave();
+            Ok(first + 1)
+        }
+        MessageItem::Extend(ast) => {
+            messages_in(
+                alloc,
+                lines,
+                context,
+                NESTED_TYPE,
+                ast.fields.as_slice(),
+                first,
+            )
+        }
+        MessageItem::Oneof(ast) => {
+            messages_in(
+                alloc,
+                lines,
+                context,
+                NESTED_TYPE,
+                ast.fields.as_slice(),
+                first,
+            )
+        }
+        MessageItem::Enum(_) => Ok(first),
+    }
+}
+
+/// The messages that fields bring, the first of which has the number `first`. Answers that of the
+/// next.
+#[cycle(messages)]
+#[tactic(auto, using(crate::proofs::Numbered::walk))]
+pub(crate) fn messages_in(
+    alloc: Global,
+    lines: &LineResolver,
+    context: &mut Context,
+    tag: i32,
+    fields: &[Field],
+    first: usize,
+) -> Result<usize, AllocError>
+    requires room { first + total (map (of_field weights) fields.now) ≤ 2147483647 }
+    requires reach { greatest (map (of_field reaches) fields.now) ≤ 2147483647 }
+    ensures siblings { IfOk result (λ next. Numbers context.old context.new tag first next (all_messages (map (of_field (location_steps (numbers_at lines.now))) fields.now))) }
+    ensures within { IfOk result (λ next. next ≤ first + total (map (of_field weights) fields.now)) }
+{
+    let mut next = first;
+    for field in fields {
+        next = message_of(alloc, lines, context, tag, field, next)?;
+    }
+    Ok(next)
+}
+
+#[cycle(messages)]
+#[tactic(auto, using(crate::proofs::Numbered::walk))]
+fn message_of(
+    alloc: Global,
+    lines: &LineResolver,
+    context: &mut Context,
+    tag: i32,
+    ast: &Field,
+    first: usize,
+) -> Result<usize, AllocError>
+    requires room { first + of_field weights ast.now ≤ 2147483647 }
+    requires reach { of_field reaches ast.now ≤ 2147483647 }
+    ensures siblings { IfOk result (λ next. Numbers context.old context.new tag first next (of_field (location_steps (numbers_at lines.now)) ast.now).messages) }
+    ensures within { IfOk result (λ next. next ≤ first + of_field weights ast.now) }
+{
+    match &ast.kind {
+        FieldKind::Normal { .. } => Ok(first),
+        FieldKind::Map { .. } => Ok(first + 1),
+        FieldKind::Group { body, .. } => {
+            context.enter(tag, first)?;
+            context.add_with(alloc, lines, &[], &ast.span, &ast.comments)?;
+            context.add(alloc, lines, &[NAME], &ast.name.span)?;
+            locate_body(alloc, lines, context, body)?;
+            context.leave();
+            Ok(first + 1)
+        }
+    }
+}

@@ -1,0 +1,130 @@
+//! The locations of options.
+
+ghost use Rattle.std.specs.Prelude.{◌≡◌, ◌≤◌, ◌∷◌, map, length, OnOk};
+ghost use Rattle.protox_ast.specs.Options.{listed};
+ghost use Rattle.protox_locate.specs.Bounds.{body_reach, greatest, list_reach, list_weight, options_reach, reach};
+ghost use Rattle.protox_locate.specs.Lines.{numbers_at};
+ghost use Rattle.protox_locate.specs.LocationWords.{bare, each_at, option_body, option_list, option_place, option_statement, option_statements, part, siblings_at};
+ghost use Rattle.protox_locate.specs.Walk.{Emits};
+
+use crate::context::Context;
+use crate::lines::LineResolver;
+use crate::spans::body_span;
+use protox_ast::ast::{Opt, Option as OptionStatement, OptionBody, OptionList};
+use protox_descriptor::tag::UNINTERPRETED_OPTION;
+use std::alloc::{AllocError, Global};
+
+/// Option statements, whose path is the current one and then the tag.
+pub(crate) fn locate_options(
+    alloc: Global,
+    lines: &LineResolver,
+    context: &mut Context,
+    tag: i32,
+    statements: &[OptionStatement],
+) -> Result<(), AllocError>
+    requires room { length statements.now ≤ 2147483647 }
+    requires reach { options_reach statements.now ≤ 2147483647 }
+    ensures { OnOk result (Emits context.old context.new (option_statements (numbers_at lines.now) (part context.old.path tag) statements.now)) }
+{
+    add_statements(alloc, lines, context, tag, statements)?;
+    context.enter_part(tag)?;
+    number_statements(alloc, lines, context, statements)?;
+    context.leave_part();
+    Ok(())
+}
+
+#[tactic(auto, using(crate::proofs::Numbered::walk))]
+fn add_statements(
+    alloc: Global,
+    lines: &LineResolver,
+    context: &mut Context,
+    tag: i32,
+    statements: &[OptionStatement],
+) -> Result<(), AllocError>
+    requires { options_reach statements.now ≤ 2147483647 }
+    ensures { OnOk result (Emits context.old context.new (each_at (part context.old.path tag) (map (option_place (numbers_at lines.now)) statements.now))) }
+{
+    for statement in statements {
+        context.add(alloc, lines, &[tag], &statement.span)?;
+    }
+    Ok(())
+}
+
+#[tactic(auto, using(crate::proofs::Numbered::walk))]
+fn number_statements(
+    alloc: Global,
+    lines: &LineResolver,
+    context: &mut Context,
+    statements: &[OptionStatement],
+) -> Result<(), AllocError>
+    requires room { length statements.now ≤ 2147483647 }
+    requires reach { options_reach statements.now ≤ 2147483647 }
+    ensures { OnOk result (Emits context.old context.new (siblings_at context.old.path UNINTERPRETED_OPTION (map (option_statement (numbers_at lines.now)) statements.now))) }
+{
+    let mut next: usize = 0;
+    for statement in statements {
+        let tags = [UNINTERPRETED_OPTION, next as i32];
+        context.add_with(alloc, lines, &tags, &statement.span, &statement.comments)?;
+        next += 1;
+    }
+    Ok(())
+}
+
+/// Options in brackets, if there are any, and all of them. The list's path is the current one and
+/// then the tag.
+pub(crate) fn locate_list(
+    alloc: Global,
+    lines: &LineResolver,
+    context: &mut Context,
+    tag: i32,
+    list: &Opt<OptionList>,
+) -> Result<(), AllocError>
+    requires room { list_weight list.now ≤ 2147483647 }
+    requires reach { list_reach list.now ≤ 2147483647 }
+    ensures { OnOk result (Emits context.old context.new (option_list (numbers_at lines.now) (part context.old.path tag) list.now (listed list.now))) }
+{
+    match list {
+        None => Ok(()),
+        Some(list) => locate_brackets(alloc, lines, context, tag, list),
+    }
+}
+
+fn locate_brackets(
+    alloc: Global,
+    lines: &LineResolver,
+    context: &mut Context,
+    tag: i32,
+    list: &OptionList,
+) -> Result<(), AllocError>
+    requires room { length list.now.options ≤ 2147483647 }
+    requires span { reach list.now.span ≤ 2147483647 }
+    requires reach { greatest (map body_reach list.now.options) ≤ 2147483647 }
+    ensures { OnOk result (Emits context.old context.new (bare (numbers_at lines.now) (part context.old.path tag) list.now.span ∷ siblings_at (part context.old.path tag) UNINTERPRETED_OPTION (map (option_body (numbers_at lines.now)) list.now.options))) }
+{
+    context.enter_part(tag)?;
+    context.add(alloc, lines, &[], &list.span)?;
+    number_bodies(alloc, lines, context, list.options.as_slice())?;
+    context.leave_part();
+    Ok(())
+}
+
+#[tactic(auto, using(crate::proofs::Numbered::walk))]
+fn number_bodies(
+    alloc: Global,
+    lines: &LineResolver,
+    context: &mut Context,
+    bodies: &[OptionBody],
+) -> Result<(), AllocError>
+    requires room { length bodies.now ≤ 2147483647 }
+    requires reach { greatest (map body_reach bodies.now) ≤ 2147483647 }
+    ensures { OnOk result (Emits context.old context.new (siblings_at context.old.path UNINTERPRETED_OPTION (map (option_body (numbers_at lines.now)) bodies.now))) }
+{
+    let mut next: usize = 0;
+    for body in bodies {
+        let tags = [UNINTERPRETED_OPTION, next as i32];
+        let span = body_span(body);
+        context.add(alloc, lines, &tags, &span)?;
+        next += 1;
+    }
+    Ok(())
+}

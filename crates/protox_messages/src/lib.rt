@@ -1,5 +1,0 @@
-//! Reads messages and their fields.
-#![tactic(auto)]
-
-mod fields;
-pub mod messages;

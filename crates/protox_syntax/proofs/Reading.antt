@@ -1,0 +1,179 @@
+-- What the code reads and notes of a file is what the reader of the grammar reads and notes.
+use Rattle.std.proofs.Common.{◌≡◌, ◌≤◌, ◌<◌, ◌+◌, ◌-◌, ℕ, zero, suc, Bool, true, false, ◌||◌, cond, List, [], ◌∷◌, ◌++◌, length, Option, Some, None, Result, Ok, Err, refl, sym, ap, subst, ◌∙◌, arith}
+use Rattle.std.proofs.lemmas.List.{length-append}
+use Rattle.std.specs.Prelude.{slice_get}
+use Rattle.protox_lexeme.specs.Shapes.{Row, Rows}
+use Rattle.protox_ast.proofs.Standing.{Stand}
+use Rattle.protox_fault.specs.declared.error.ParseErrorKind.TheVariants as fault
+use Rattle.protox_ast.specs.Ast as ast
+use Rattle.protox_ast.specs.CheckedNodes.{APackageAgain}
+use Rattle.protox_ast.specs.Places.{Place}
+use Rattle.protox_ast.specs.Spelling.{spell}
+use Rattle.protox_ast.specs.Tree as tree
+use Rattle.protox_grammar.specs.Bodies as bodies
+use Rattle.protox_grammar.specs.Class.{all, only, in_set}
+use Rattle.protox_grammar.specs.Noted.{steps, trace}
+use Rattle.protox_grammar.specs.Reader.{Refusal, Unexpected, Deep, head_in, ◌>>=◌, star}
+use Rattle.protox_grammar.specs.Reads.{read}
+use Rattle.protox_grammar.specs.Rule as rule
+use Rattle.protox_grammar.specs.Rules as r
+use Rattle.protox_grammar.specs.Steps.{ANode, APackage, AKeyword, ADeepBody, ADeeperBody, AnOpenBrace, ACloseBrace, Token, Note, Steps, has_deep, star_trace, then_steps, tokens}
+use Rattle.protox_grammar.specs.declared.note.Note as note_type
+use Rattle.protox_grammar.specs.declared.note.Noted.TheVariants.{Fault}
+use Rattle.protox_grammar.specs.Told.{Notes, behind, node_notes, first_behind, is_invalid, keyword_behind, past, told, then_notes}
+use Rattle.protox_grammar.proofs.FineNotes.{IsFaultless, IsNoFault, faultless-last}
+use Rattle.protox_grammar.proofs.Kept as kept
+use Rattle.protox_grammar.proofs.Main as main
+use Rattle.protox_grammar.proofs.NotedFiles.{file-marks}
+use Rattle.protox_grammar.proofs.Notes.{IsShallow, notes, notes-append, shallow-front}
+use Rattle.protox_grammar.proofs.Reading.{bind_err, map_err, ok-err, err-ok}
+use Rattle.protox_grammar.proofs.Shows.{Shows, left-shows, seq-shows}
+use Rattle.protox_grammar.proofs.Stated.{all-lie, all-says}
+use Rattle.protox_grammar.proofs.StepLists.{EndsDeep}
+use Rattle.protox_grammar.proofs.EndsDeep.{StopsDeep, stops-ends}
+use Rattle.protox_grammar.proofs.Takes.{bind_ok, ok_is}
+use Rattle.protox_grammar.proofs.Telling.{AllLie, both-lie, then-lie, then-seen, told-append}
+use Rattle.protox_options.specs.Options.{here}
+use Rattle.protox_syntax.specs.Judging.{made}
+use Rattle.protox_syntax.specs.Statements.{levels, statement, statement_rule, statements-shows, syntax_if_any, notes_behind, next_first}
+use Rattle.protox_syntax.specs.Whole.{Whole, whole, all_notes, file_seen}
+
+-- ---- what is read
+
+abbrev file_rule : rule.Rule Place (tree.File Place)
+file_rule = bodies.file (bodies.mbody_at levels)
+
+pub whole-shows : Shows file_seen file_rule.read whole
+unfolding bodies.file whole
+whole-shows = left-shows _ file_seen (λ x. refl) (seq-shows syntax_if_any.shows statements-shows)
+
+pub read-whole : (xs : Rows Place) (f : tree.File Place) → read levels xs ≡ Ok f → (rest : Rows Place) × (whole xs ≡ Ok (file_seen f, rest))
+unfolding read
+read-whole xs f e =
+    let p = bind_ok (file_rule.read xs) (λ x. Ok x.0) f e in
+    (p.0.1, whole-shows.same xs ∙ ap (λ v. v >>= λ y. Ok (file_seen y.0, y.1)) p.1 ∙ ap (λ v. Ok (file_seen v, p.0.1)) (ok_is p.0.0 f p.2))
+
+-- what the code reads is a file
+pub whole-read : (xs : Rows Place) (v : Whole) (rest : Rows Place) → whole xs ≡ Ok (v, rest) → (f : tree.File Place) × (read levels xs ≡ Ok f) × (file_seen f ≡ v)
+unfolding read
+whole-read xs v rest e =
+    let p = bind_ok (file_rule.read xs) (λ y. Ok (file_seen y.0, y.1)) (v, rest) (sym (whole-shows.same xs) ∙ e) in
+    (p.0.0, ap (λ w. w >>= λ x. Ok x.0) p.1, ap (λ (w : Whole × Rows Place). w.0) (ok_is (file_seen p.0.0, p.0.1) (v, rest) p.2))
+
+pub err-read : (xs : Rows Place) (e : Refusal) → whole xs ≡ Err e → file_rule.read xs ≡ Err e
+err-read xs e h = map_err file_seen (file_rule.read xs) e (sym (whole-shows.same xs) ∙ h)
+
+pub none-read : (xs : Rows Place) (e : Refusal) → whole xs ≡ Err e → (f : tree.File Place) → read levels xs ≡ Ok f → ⊥
+unfolding read
+none-read xs e h f g = absurd (err-ok f e (sym (ap (λ w. w >>= λ x. Ok x.0) (err-read xs e h)) ∙ g))
+
+-- the file of what was read
+pub made-is : (size : ℕ) (f : tree.File Place) → made size (spell f) (file_seen f) ≡ ast.file size f
+made-is size f = at f.syntax
+  where
+    at : (o : Option (tree.Syntax Place)) → made size (spell (record { syntax = o; statements = f.statements })) (file_seen (record { syntax = o; statements = f.statements })) ≡ ast.file size (record { syntax = o; statements = f.statements })
+    at None = refl
+    at (Some x) = refl
+
+-- rows that are read as a file spell it
+pub made-of : (size : ℕ) (xs : Rows Place) (f : tree.File Place) → read levels xs ≡ Ok f → made size xs (file_seen f) ≡ ast.file size f
+made-of size xs f e = ap (λ v. made size v (file_seen f)) ((main.accepts_iff here levels xs f).0 e).0.0 ∙ made-is size f
+
+-- ---- what is noted
+
+-- before any row
+pub file-told : (xs : Rows Place) → told None here (trace levels xs) xs ≡ all_notes xs
+unfolding bodies.file all_notes
+file-told xs =
+    let a = rule.optional (only 0) r.syntax in
+    let u : Rows Place → Steps Place = λ ys. star_trace (in_set all) statement_rule.read statement_rule.trace (suc (length ys)) ys in
+    told-append None here (a.trace xs) (then_steps (a.read xs) (λ x. u x.1)) xs
+    ∙ ap (λ n. n ++ told (first_behind None (a.trace xs)) (keyword_behind here (a.trace xs)) (then_steps (a.read xs) (λ x. u x.1)) (past (a.trace xs) xs)) (syntax_if_any.tells.says None here xs)
+    ∙ ap (λ n. syntax_if_any.notes xs ++ n) (rest (a.read xs) refl ∙ then-seen _ a.read syntax_if_any.code syntax_if_any.shows (notes_behind None) xs)
+  where
+    rest : (q : Result (Option (tree.Syntax Place) × Rows Place) Refusal) → (rule.optional (only 0) r.syntax).read xs ≡ q
+        → told (first_behind None ((rule.optional (only 0) r.syntax).trace xs)) (keyword_behind here ((rule.optional (only 0) r.syntax).trace xs))
+        (then_steps q (λ x. star_trace (in_set all) statement_rule.read statement_rule.trace (suc (length x.1)) x.1)) (past ((rule.optional (only 0) r.syntax).trace xs) xs)
+        ≡ then_notes (notes_behind None) q
+    rest (Ok x) e =
+        (λ i. told (kept.syntax-first here None xs x e i) (keyword_behind here ((rule.optional (only 0) r.syntax).trace xs)) (star_trace (in_set all) statement_rule.read statement_rule.trace (suc (length x.1)) x.1) (syntax_if_any.tells.left xs x e i))
+        ∙ all-says (in_set all) statement None (keyword_behind here ((rule.optional (only 0) r.syntax).trace xs)) x.1
+    rest (Err d) e = refl
+
+-- what is noted of rows lies in the source that they stand in
+pub notes-lie : (low high : ℕ) (xs : Rows Place) → Stand low high xs → AllLie high (all_notes xs)
+unfolding all_notes
+notes-lie low high xs h =
+    let a = rule.optional (only 0) r.syntax in
+    both-lie high (syntax_if_any.notes xs) (then_notes (notes_behind None) (syntax_if_any.code xs)) (syntax_if_any.tells.lies low high xs h)
+    (subst (AllLie high) (then-seen _ a.read syntax_if_any.code syntax_if_any.shows (notes_behind None) xs)
+    (then-lie _ a.read a.trace _ syntax_if_any.tells (notes_behind None) high (λ m ys k. all-lie (in_set all) statement None m high ys tt k) low xs h))
+
+-- ---- where reading stops
+
+pub left-within : (xs : Rows Place) (left : ℕ) → whole xs ≡ Err (Unexpected left) → left ≤ length xs
+left-within xs left e =
+    let v = (main.laws here levels).traced.halts xs (Unexpected left) (err-read xs (Unexpected left) e) in
+    omega (arith, v.left_is, ap length v.parts, length-append (tokens (trace levels xs)) v.rest)
+
+unless-invalid : (c : Bool) (n : note_type.Note) (more : Notes) → (IsNoFault n.noted → ⊥) → IsFaultless (cond c [] (n ∷ []) ++ more) → c ≡ true
+unless-invalid true n more h f = refl
+unless-invalid false n more h f = absurd (h f.0)
+
+-- a body that is too deep is noted, unless an invalid character is behind its `{`
+deep-told : (p : Option (tree.Package Place)) (w : Place) (l : Steps Place) (xs : Rows Place) → EndsDeep l → IsShallow (notes l) → has_deep l ≡ true → IsFaultless (told p w l xs) → head_in is_invalid (past l xs) ≡ true
+deep-told p w [] xs d s h f = absurd cc
+deep-told p w (Token r ∷ l) xs d s h f = deep-told p w l (behind xs) d s h f
+deep-told p w (Note (ANode x) ∷ l) xs d s h f = deep-told p w l xs d.1 s h (faultless-last (node_notes x xs) (told p w l xs) f)
+deep-told None w (Note (APackage x) ∷ l) xs d s h f = deep-told (Some x) w l xs d.1 s h f
+deep-told (Some y) w (Note (APackage x) ∷ l) xs d s h f = deep-told (Some y) w l xs d.1 s h (faultless-last (node_notes (APackageAgain y x) xs) (told (Some y) w l xs) f)
+deep-told p w (Note (AKeyword m) ∷ l) xs d s h f = deep-told p m l xs d.1 s h f
+deep-told p w (Note (ADeepBody m) ∷ l) xs d s h f =
+    ap (λ k. head_in is_invalid (past k xs)) (d.0 refl) ∙ unless-invalid (head_in is_invalid xs) (record { left = length xs; noted = Fault (fault.MessageNestingTooDeep w.span) }) (told p w l xs) (λ g. g) f
+deep-told p w (Note (ADeeperBody m) ∷ l) xs d s h f = absurd s
+deep-told p w (Note (AnOpenBrace m) ∷ l) xs d s h f = deep-told p w l xs d.1 s h f.1
+deep-told p w (Note (ACloseBrace m) ∷ l) xs d s h f = deep-told p w l xs d.1 s h f.1
+
+past-tokens : (l : Steps Place) (rest : Rows Place) → past l (tokens l ++ rest) ≡ rest
+past-tokens [] rest = refl
+past-tokens (Token r ∷ l) rest = past-tokens l rest
+past-tokens (Note e ∷ l) rest = past-tokens l rest
+
+get-behind : (front : Rows Place) (x : Row Place) (rs : Rows Place) → slice_get (front ++ x ∷ rs) (length front) ≡ Some x
+get-behind [] x rs = refl
+get-behind (y ∷ front) x rs = get-behind front x rs
+
+-- an invalid row, behind which one less is left than the reading says
+pub record IsInvalidBehind (xs : Rows Place) (left : ℕ) : Type 0 where
+  pub index : ℕ
+  pub row : Row Place
+  pub there : slice_get xs index ≡ Some row
+  pub invalid : is_invalid row.shape ≡ true
+  pub counted : index + left ≡ suc (length xs)
+  pub some_left : 1 ≤ left
+
+invalid-behind : (xs front rest : Rows Place) (left : ℕ) → xs ≡ front ++ rest → left ≡ suc (length rest) → head_in is_invalid rest ≡ true → IsInvalidBehind xs left
+invalid-behind xs front [] left e f h = absurd cc
+invalid-behind xs front (x ∷ rs) left e f h = record {
+  index = length front;
+  row = x;
+  there = ap (λ v. slice_get v (length front)) e ∙ get-behind front x rs;
+  invalid = h;
+  counted = omega (arith, f, ap length e, length-append front (x ∷ rs));
+  some_left = omega (arith, f);
+}
+
+file-shallow : (f : tree.File Place) → file_rule.may f → IsShallow (notes (steps levels f))
+unfolding bodies.file
+file-shallow f h = (file-marks f h).1 tt
+
+pub deep-behind : (xs : Rows Place) (left : ℕ) → whole xs ≡ Err (Deep left) → IsFaultless (all_notes xs) → IsInvalidBehind xs left
+deep-behind xs left e f =
+    let laws = (main.laws here levels).traced in
+    let v = laws.halts xs (Deep left) (err-read xs (Deep left) e) in
+    let ends = subst (λ q. StopsDeep q (trace levels xs)) (err-read xs (Deep left) e) (laws.stops xs) in
+    let whole_shallow = subst IsShallow (ap notes v.goes_on ∙ notes-append (trace levels xs) v.later) (file-shallow v.tree v.tree_may) in
+    let shallow = shallow-front (notes (trace levels xs)) (notes v.later) whole_shallow in
+    let invalid = deep-told None here (trace levels xs) xs ends shallow (v.deep left refl) (subst IsFaultless (sym (file-told xs)) f) in
+    let same : past (trace levels xs) xs ≡ v.rest = ap (past (trace levels xs)) v.parts ∙ past-tokens (trace levels xs) v.rest in
+    invalid-behind xs (tokens (trace levels xs)) v.rest left v.parts v.left_is (sym (ap (head_in is_invalid) same) ∙ invalid)

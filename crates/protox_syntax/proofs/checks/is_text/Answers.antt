@@ -1,6 +1,0 @@
-use Rattle.std.proofs.Common.{sym}
-use Rattle.protox_syntax.proofs.Texts.{text-ok}
-use Rattle.protox_syntax.proofs.checks.is_text.Goals as goal
-
-pub returns-in-Ok : goal.returns-in-Ok
-returns-in-Ok c = sym (text-ok c.args.bytes.now c.in-Ok.ensures.cases.1)

@@ -3,7 +3,7 @@
 ghost use Rattle.std.specs.Prelude.{◌≡◌, ◌==◌, None, Some, IfOk, if◌then◌else◌, map, length, find, option_and_then, codes};
 ghost use Rattle.protox_ast.specs.Values.{a_text, default_text, wanted};
 ghost use Rattle.protox_ast.specs.declared.ast.OptionBody as body_type;
-ghost use Rattle.protox_ast.specs.Options.{bodies_of, listed, default_of, json_name_of, json_name, is_name, has_name, without_first, options_left, options_message, name_part, identifier_value, positive_int_value, negative_int_value, double_value, string_value, aggregate_value, uninterpreted};
+ghost use Rattle.protox_ast.specs.Options.{bodies_of, listed, default_of, json_name_of, json_name, has_name, without_first, options_left, options_message, name_part, identifier_value, positive_int_value, negative_int_value, double_value, string_value, aggregate_value, uninterpreted};
 
 use crate::values::{default_text, text_value};
 use protox_ast::ast;
@@ -201,9 +201,9 @@ fn left(alloc: Global, bodies: &[OptionBody]) -> Result<Items<UninterpretedOptio
     let mut default_read = false;
     let mut json_name_read = false;
     for body in bodies {
-        if !default_read && has_name("default", body) {
+        if !default_read && body.has_name("default") {
             default_read = true;
-        } else if !json_name_read && has_name("json_name", body) {
+        } else if !json_name_read && body.has_name("json_name") {
             json_name_read = true;
         } else {
             options.push(uninterpreted(alloc, body)?)?;
@@ -212,27 +212,11 @@ fn left(alloc: Global, bodies: &[OptionBody]) -> Result<Items<UninterpretedOptio
     Ok(options)
 }
 
-fn is_name(name: &str, parts: &[OptionNamePart]) -> bool
-    ensures { result ≡ is_name name.now parts.now }
-{
-    match parts {
-        [OptionNamePart::Ident(ident)] => ident.value.as_str() == name,
-        _ => false,
-    }
-}
-
-/// Whether the option's name is that one identifier.
-pub(crate) fn has_name(name: &str, body: &OptionBody) -> bool
-    ensures { result ≡ has_name name.now body.now }
-{
-    is_name(name, body.name.as_slice())
-}
-
 fn default_among(alloc: Global, ty: &Ty, bodies: &[OptionBody]) -> Result<Option<Text>, AllocError>
     ensures { IfOk result (λ text. text ≡ option_and_then (λ (body : body_type.OptionBody). default_text (wanted ty.now) body.value) (find (has_name (codes "default")) bodies.now)) }
 {
     for body in bodies {
-        if has_name("default", body) {
+        if body.has_name("default") {
             return default_text(alloc, ty, &body.value);
         }
     }
@@ -257,7 +241,7 @@ fn json_name_among(alloc: Global, bodies: &[OptionBody]) -> Result<Option<Text>,
     ensures { IfOk result (λ text. text ≡ json_name (find (has_name (codes "json_name")) bodies.now)) }
 {
     for body in bodies {
-        if has_name("json_name", body) {
+        if body.has_name("json_name") {
             return text_value(alloc, &body.value);
         }
     }

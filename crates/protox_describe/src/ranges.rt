@@ -6,8 +6,8 @@ ghost use Rattle.protox_ast.specs.FieldNumbers.{number_of};
 ghost use Rattle.protox_ast.specs.Ranges.{kind_ranges, kind_names, reserved_ranges, reserved_texts, says_true, is_message_set, greatest_number, last_number, end_number, reserved_range, extension_range, extension_protos, enum_number, enum_reserved_range};
 ghost use Rattle.protox_ast.specs.declared.ast.Ident as ident_type;
 
-use crate::options::{extension_range_options, has_name};
-use crate::values::{as_bool, number_in_signed_32};
+use crate::options::extension_range_options;
+use crate::values::number_in_signed_32;
 use protox_ast::ast;
 use protox_ast::ast::{Extensions, Ident, Int, Reserved, ReservedKind, ReservedRangeEnd};
 use protox_descriptor::descriptor::descriptor_proto::{ExtensionRange, ReservedRange};
@@ -40,7 +40,7 @@ fn number_after(int: &Int) -> Option<i32>
 fn says_true(statement: &ast::Option) -> bool
     ensures { result ≡ says_true (Some statement.now) }
 {
-    match as_bool(&statement.body.value) {
+    match statement.body.value.as_bool() {
         None => false,
         Some(truth) => truth,
     }
@@ -50,7 +50,7 @@ fn is_message_set(statements: &[ast::Option]) -> bool
     ensures { result ≡ is_message_set statements.now }
 {
     for option in statements {
-        if has_name("message_set_wire_format", &option.body) {
+        if option.body.has_name("message_set_wire_format") {
             return says_true(option);
         }
     }

@@ -1,76 +1,12 @@
-//! Option values as numbers, truth values and texts, and the text of a default value.
+//! Option values as numbers and texts, and the text of a default value.
 
 ghost use Rattle.std.specs.Prelude.{◌≡◌, pos, option_map, IfOk, if◌then◌else◌};
 ghost use Rattle.protox_ast.specs.Checks.{is_text};
-ghost use Rattle.protox_ast.specs.Values.{truth_of, as_bool, float_word, as_float_text, token_string, signed_32, signed_64, unsigned_32, unsigned_64, number_in, number_text, truth_text, default_text, wanted, a_text, some_bytes, an_integer};
+ghost use Rattle.protox_ast.specs.Values.{signed_32, signed_64, unsigned_32, unsigned_64, number_in, number_text, truth_text, default_text, wanted, a_text, some_bytes, an_integer};
 
 use protox_ast::ast::{Int, OptionValue, Ty};
 use protox_descriptor::values::Text;
 use std::alloc::{AllocError, Global};
-
-fn truth_of(word: &str) -> Option<bool>
-    ensures { result ≡ truth_of word.now }
-{
-    if word == "true" {
-        Some(true)
-    } else if word == "false" {
-        Some(false)
-    } else {
-        None
-    }
-}
-
-/// `true` or `false`, without a sign.
-pub(crate) fn as_bool(value: &OptionValue) -> Option<bool>
-    ensures { result ≡ as_bool value.now }
-{
-    match value {
-        OptionValue::Ident {
-            negative: false,
-            ident,
-            ..
-        } => truth_of(ident.value.as_str()),
-        _ => None,
-    }
-}
-
-fn float_word(alloc: Global, negative: bool, word: &str) -> Result<Option<Text>, AllocError>
-    ensures { IfOk result (λ text. text ≡ float_word negative word.now) }
-{
-    if word == "inf" {
-        Ok(Some(Text::copy(alloc, if negative { "-inf" } else { "inf" })?))
-    } else if word == "nan" {
-        Ok(Some(Text::copy(alloc, "nan")?))
-    } else {
-        Ok(None)
-    }
-}
-
-/// The text of a number, or of `inf` or `nan`.
-pub(crate) fn as_float_text(alloc: Global, value: &OptionValue) -> Result<Option<Text>, AllocError>
-    ensures { IfOk result (λ text. text ≡ as_float_text value.now) }
-{
-    match value {
-        OptionValue::Ident {
-            negative,
-            ident,
-            ..
-        } => float_word(alloc, *negative, ident.value.as_str()),
-        OptionValue::Int(int) => Ok(Some(Text::from_string(format!(in alloc; "{int}")?))),
-        OptionValue::Float(float) => Ok(Some(Text::copy(alloc, float.value.as_str())?)),
-        _ => Ok(None),
-    }
-}
-
-/// The value as it prints, a string in double quotes.
-pub(crate) fn token_string(alloc: Global, value: &OptionValue) -> Result<Text, AllocError>
-    ensures { IfOk result (λ text. text ≡ token_string value.now) }
-{
-    match value {
-        OptionValue::String(string) => { Ok(Text::from_string(format!(in alloc; "\"{string}\"")?)) }
-        _ => Ok(Text::from_string(format!(in alloc; "{value}")?)),
-    }
-}
 
 /// The number, if it is an i32.
 pub(crate) fn number_in_signed_32(int: &Int) -> Option<i32>
@@ -212,14 +148,14 @@ pub(crate) fn default_text(
     ensures { IfOk result (λ text. text ≡ default_text (wanted ty.now) value.now) }
 {
     match ty {
-        Ty::Double | Ty::Float => as_float_text(alloc, value),
+        Ty::Double | Ty::Float => value.as_float_text(alloc),
         Ty::Int32 | Ty::Sint32 | Ty::Sfixed32 => signed_32_text(alloc, value),
         Ty::Int64 | Ty::Sint64 | Ty::Sfixed64 => signed_64_text(alloc, value),
         Ty::Uint32 | Ty::Fixed32 => unsigned_32_text(alloc, value),
         Ty::Uint64 | Ty::Fixed64 => unsigned_64_text(alloc, value),
-        Ty::Bool => truth_text(alloc, as_bool(value)),
+        Ty::Bool => truth_text(alloc, value.as_bool()),
         Ty::String => text_value(alloc, value),
         Ty::Bytes => bytes_text(alloc, value),
-        Ty::Named(_) => Ok(Some(token_string(alloc, value)?)),
+        Ty::Named(_) => Ok(Some(value.to_token_string(alloc)?)),
     }
 }

@@ -7,5 +7,4 @@ pub mod LineFacts
 pub mod Numbered
 pub mod Order
 pub mod OrderLaw
-pub mod PartPlaces
 pub mod Rows

@@ -7,7 +7,6 @@ ghost use Rattle.protox_locate.specs.LocationWords.{bare, commented, part};
 ghost use Rattle.protox_locate.specs.Walk.{Emits};
 
 use crate::lines::LineResolver;
-use crate::spans::copied_span;
 use protox_ast::ast::Comments;
 use protox_descriptor::descriptor::source_code_info::Location;
 use protox_descriptor::values::{Items, Numbers, Text};
@@ -19,6 +18,12 @@ use std::alloc::{AllocError, Global};
 pub(crate) struct Context {
     pub path: Items<i32>,
     pub locations: Items<Location>,
+}
+
+fn copied_span(span: &Span) -> Span
+    ensures { result ≡ span.now }
+{
+    span.start..span.end
 }
 
 fn copied_option(alloc: Global, text: &Option<Text>) -> Result<Option<Text>, AllocError>

@@ -1,7 +1,7 @@
 //! The locations of a field's options: its default, its `json_name` and the others.
 
 ghost use Rattle.std.specs.Prelude.{◌≡◌, ◌≤◌, ◌∷◌, codes, find, length, map, OnOk, Some, [], false, not, ◌&&◌};
-ghost use Rattle.protox_ast.specs.Options.{default_of, has_name as is_called, is_name, json_name_of, options_left};
+ghost use Rattle.protox_ast.specs.Options.{default_of, has_name as is_called, json_name_of, options_left};
 ghost use Rattle.protox_locate.specs.Bounds.{body_reach, greatest, list_reach, list_weight, reach};
 ghost use Rattle.protox_locate.specs.FieldLocations.{defaulted, json_named};
 ghost use Rattle.protox_locate.specs.Lines.{numbers_at};
@@ -10,36 +10,16 @@ ghost use Rattle.protox_locate.specs.Walk.{Emits, left};
 
 use crate::context::Context;
 use crate::lines::LineResolver;
-use crate::spans::{body_span, value_span};
-use protox_ast::ast::{Opt, OptionBody, OptionList, OptionNamePart};
+use protox_ast::ast::{Opt, OptionBody, OptionList};
 use protox_descriptor::tag::UNINTERPRETED_OPTION;
 use protox_descriptor::tag::field::{DEFAULT_VALUE, JSON_NAME, OPTIONS};
 use std::alloc::{AllocError, Global};
-
-fn is_ident(part: &OptionNamePart, name: &str) -> bool
-    ensures { result ≡ is_name name.now (part.now ∷ []) }
-{
-    match part {
-        OptionNamePart::Ident(ident) => ident.value.as_str() == name,
-        OptionNamePart::Extension(..) => false,
-    }
-}
-
-// Whether the option's name is that one identifier.
-fn has_name(body: &OptionBody, name: &str) -> bool
-    ensures { result ≡ is_called name.now body.now }
-{
-    match body.name.as_slice() {
-        [only] => is_ident(only, name),
-        _ => false,
-    }
-}
 
 // Whether it is the first of that name, where one was taken before or not.
 fn takes(taken: bool, body: &OptionBody, name: &str) -> bool
     ensures { result ≡ not taken && is_called name.now body.now }
 {
-    if taken { false } else { has_name(body, name) }
+    if taken { false } else { body.has_name(name) }
 }
 
 /// The value of the default, if there is one.
@@ -68,8 +48,8 @@ fn default_in(
     ensures { OnOk result (Emits context.old context.new (defaulted (numbers_at lines.now) context.old.path (find (is_called (codes "default")) bodies.now))) }
 {
     for body in bodies {
-        if has_name(body, "default") {
-            let value = value_span(&body.value);
+        if body.has_name("default") {
+            let value = body.value.span();
             return context.add(alloc, lines, &[DEFAULT_VALUE], &value);
         }
     }
@@ -102,7 +82,7 @@ fn json_name_in(
     ensures { OnOk result (Emits context.old context.new (json_named (numbers_at lines.now) context.old.path (find (is_called (codes "json_name")) bodies.now))) }
 {
     for body in bodies {
-        if has_name(body, "json_name") {
+        if body.has_name("json_name") {
             return add_json_name(alloc, lines, context, body);
         }
     }
@@ -118,8 +98,8 @@ fn add_json_name(
     requires { body_reach body.now ≤ 2147483647 }
     ensures { OnOk result (Emits context.old context.new (json_named (numbers_at lines.now) context.old.path (Some body.now))) }
 {
-    let whole = body_span(body);
-    let value = value_span(&body.value);
+    let whole = body.span();
+    let value = body.value.span();
     context.add(alloc, lines, &[JSON_NAME], &whole)?;
     context.add(alloc, lines, &[JSON_NAME], &value)
 }
@@ -180,7 +160,7 @@ fn number_others(
             json_name = true;
         } else {
             let tags = [UNINTERPRETED_OPTION, next as i32];
-            let span = body_span(body);
+            let span = body.span();
             context.add(alloc, lines, &tags, &span)?;
             next += 1;
         }

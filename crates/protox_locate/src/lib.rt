@@ -14,4 +14,3 @@ mod messages;
 mod options;
 mod ranges;
 mod services;
-mod spans;

@@ -9,7 +9,6 @@ ghost use Rattle.protox_locate.specs.Walk.{Emits};
 
 use crate::context::Context;
 use crate::lines::LineResolver;
-use crate::spans::body_span;
 use protox_ast::ast::{Opt, Option as OptionStatement, OptionBody, OptionList};
 use protox_descriptor::tag::UNINTERPRETED_OPTION;
 use std::alloc::{AllocError, Global};
@@ -122,7 +121,7 @@ fn number_bodies(
     let mut next: usize = 0;
     for body in bodies {
         let tags = [UNINTERPRETED_OPTION, next as i32];
-        let span = body_span(body);
+        let span = body.span();
         context.add(alloc, lines, &tags, &span)?;
         next += 1;
     }

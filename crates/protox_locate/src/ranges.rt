@@ -13,7 +13,6 @@ ghost use Rattle.protox_locate.specs.Walk.{Emits, Numbers};
 use crate::context::Context;
 use crate::lines::LineResolver;
 use crate::options::locate_list;
-use crate::spans::{end_span, range_span};
 use protox_ast::ast::{Extensions, Ident, Reserved, ReservedKind, ReservedRange};
 use protox_descriptor::tag::message::EXTENSION_RANGE;
 use protox_descriptor::tag::message::extension_range::OPTIONS;
@@ -29,8 +28,8 @@ fn locate_range(
     requires { range_reach range.now ≤ 2147483647 }
     ensures { OnOk result (Emits context.old context.new (range_locations (numbers_at lines.now) range.now context.old.path)) }
 {
-    let whole = range_span(range);
-    let end = end_span(range);
+    let whole = range.span();
+    let end = range.end_span();
     context.add(alloc, lines, &[], &whole)?;
     context.add(alloc, lines, &[START], &range.start.span)?;
     context.add(alloc, lines, &[END], &end)

@@ -9,7 +9,7 @@ use Rattle.protox_grammar.specs.Class.{place, keywords, among}
 use Rattle.protox_grammar.specs.Rule.{Stops, row}
 use Rattle.protox_ast.specs.Tree as t
 use Rattle.protox_ast.specs.Spelling as s
-use Rattle.protox_ast.specs.Keywords as k
+use Rattle.protox_ast.specs.KeywordWalk as k
 use Rattle.protox_grammar.proofs.Sets.{or_false, and_true}
 
 unequal : (b : Bool) → (b ≡ true → ⊥) → b ≡ false

@@ -1,10 +1,10 @@
 -- What is read of a statement that is no package leaves the first package statement as it was.
 use Rattle.std.proofs.Common.{codes, ◌≡◌, ℕ, Bool, true, false, cond, List, [], ◌∷◌, ◌++◌, Option, Some, None, Result, Ok, Err, refl, sym, ap, subst, ◌∙◌, inl, inr, ◌⊎◌}
 use Rattle.protox_lexeme.specs.Shapes.{Shape, Rows}
-use Rattle.protox_ast.specs.Aggregates as a
-use Rattle.protox_ast.specs.CheckedNodes as c
-use Rattle.protox_ast.specs.CheckedNodes.{CheckedNode}
-use Rattle.protox_ast.specs.Keywords as k
+use Rattle.protox_ast.specs.AggregateWalk as a
+use Rattle.protox_ast.specs.CheckWalk as c
+use Rattle.protox_ast.specs.CheckedNodes.{CheckedNode, AnImport}
+use Rattle.protox_ast.specs.KeywordWalk as k
 use Rattle.protox_ast.specs.Places.{Place}
 use Rattle.protox_ast.specs.Tree as t
 use Rattle.protox_grammar.specs.Bodies as rule
@@ -57,7 +57,7 @@ module _ (some : Place) where
   syntax-first = first-of (optional (only 0) r.syntax) (optional-laws (only 0) (parts.syntax-laws some) refl).traced (λ o. c.syntax_nodes o) (λ xs x e. (syntax-tells (Unit {0}) x.0).0)
 
   pub import-first : KeepsFirst (r.«import»).read (r.«import»).trace
-  import-first = first-of r.«import» (parts.import-laws some).traced (λ x. c.AnImport x.value ∷ []) (λ xs x e. (import-tells (Unit {0}) x.0).0)
+  import-first = first-of r.«import» (parts.import-laws some).traced (λ x. AnImport x.value ∷ []) (λ xs x e. (import-tells (Unit {0}) x.0).0)
 
   pub package-first : KeepsFirst (r.«package»).read (r.«package»).trace
   package-first = first-of r.«package» (parts.package-laws some).traced (λ x. []) (λ xs x e. (tells-braced (Unit {0}) ((r.«package»).steps x.0) [] (braced.package-braced x.0)).0)

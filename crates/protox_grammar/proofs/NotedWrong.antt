@@ -4,7 +4,7 @@ use Rattle.protox_lexeme.specs.Shapes.{Rows}
 use Rattle.protox_ast.proofs.Nothing.{nothing-wrong}
 use Rattle.protox_ast.specs.CheckedNodes.{CheckedNode, checked_nodes}
 use Rattle.protox_ast.specs.Checks.{IsFine, NothingWrong}
-use Rattle.protox_ast.specs.Keywords as k
+use Rattle.protox_ast.specs.KeywordWalk as k
 use Rattle.protox_ast.specs.Keywords.{Each}
 use Rattle.protox_ast.specs.Places.{Place}
 use Rattle.protox_ast.specs.Tree as t

@@ -6,7 +6,7 @@ use Rattle.protox_grammar.specs.Rule.{Rule, Stops, Ends, row, seq, choice, optio
 use Rattle.protox_ast.specs.Tree as t
 use Rattle.protox_ast.specs.Spelling as s
 use Rattle.protox_ast.specs.Basics.{last}
-use Rattle.protox_ast.specs.Keywords as k
+use Rattle.protox_ast.specs.KeywordWalk as k
 use Rattle.protox_grammar.specs.Rules as r
 use Rattle.protox_ast.specs.CheckedNodes.{AReservedName}
 use Rattle.protox_grammar.proofs.Joining.{peek-laws, joined-laws}

@@ -15,7 +15,7 @@ use Rattle.protox_ast.specs.CheckedNodes.{CheckedNode, ASyntax, AnImport, AReser
 use Rattle.protox_ast.specs.Checks.{NothingWrong, package_span}
 use Rattle.protox_ast.specs.Depth.{depth}
 use Rattle.protox_ast.specs.Fronts.{AreClean, AreCleanBehind, Inside}
-use Rattle.protox_ast.specs.Keywords as k
+use Rattle.protox_ast.specs.KeywordWalk as k
 use Rattle.protox_ast.specs.Places.{Place, later_gaps, placed, placed_from}
 use Rattle.protox_ast.specs.Spells.{Spells, shapes}
 use Rattle.protox_ast.specs.Tree as tree

@@ -1,10 +1,11 @@
 -- The aggregates of a file are those of the walk over the types of its tree.
-use Rattle.std.proofs.Common.{◌≡◌, ℕ, suc, List, [], ◌∷◌, ◌++◌, map, Option, Some, None, refl, ap, ◌∙◌}
+use Rattle.std.proofs.Common.{◌≡◌, ℕ, suc, List, [], ◌∷◌, ◌++◌, map, Option, Some, None, refl, ◌∙◌}
 use Rattle.std.proofs.lemmas.Grind.{flat_map-append}
 use Rattle.std.specs.List.{flat_map}
 use Rattle.protox_ast.specs.AggregateWalk as a
-use Rattle.protox_ast.specs.Aggregates.{Braces, braces_of, aggregates}
-use Rattle.protox_ast.specs.Nodes.{Node, AReservedName, AChecked, AValue, option_nodes, list_nodes, reserved_nodes, enum_element_nodes, enum_nodes, rpc_element_nodes, rpc_end_nodes, service_element_nodes, body_nodes, elements_nodes, element_nodes, field_nodes, oneof_nodes, extend_nodes, statement_nodes, syntax_nodes}
+use Rattle.protox_ast.specs.AggregateWalk.{Braces}
+use Rattle.protox_ast.specs.Fronts.{braces_of, aggregates}
+use Rattle.protox_ast.specs.Nodes.{Node, AReservedName, AChecked, AValue, list_nodes, reserved_nodes, enum_element_nodes, rpc_element_nodes, rpc_end_nodes, service_element_nodes, body_nodes, elements_nodes, element_nodes, field_nodes, oneof_nodes, extend_nodes, statement_nodes, syntax_nodes}
 use Rattle.protox_ast.specs.Tree as t
 
 -- the braces among these nodes
@@ -47,7 +48,7 @@ module _ {M : Type 0} where
   enum_element-braced (t.enum_reserved x) = reserved-bare x.kind
   enum_element-braced (t.enum_value x) = list-braced x.options
 
-  enum-braced : (x : t.Enum M) → braces (enum_nodes x) ≡ a.of_enum x
+  enum-braced : (x : t.Enum M) → braces (flat_map enum_element_nodes x.elements) ≡ a.of_enum x
   enum-braced x = brace-many enum_element_nodes a.of_enum_element enum_element-braced x.elements
 
   rpc_element-braced : (x : t.RpcElement M) → braces (rpc_element_nodes x) ≡ a.of_rpc_element x
@@ -90,7 +91,7 @@ module _ {M : Type 0} where
     oneof-braced : (level : ℕ) (x : t.OneofElements M) → braces (oneof_nodes level x) ≡ a.of_oneof_elements x
     oneof-braced level t.no_oneof_elements = refl
     oneof-braced level (t.oneof_elements (t.oneof_empty m) es) = oneof-braced level es
-    oneof-braced level (t.oneof_elements (t.oneof_option x) es) = brace-both (option_nodes x) (oneof_nodes level es) (a.of_option x) (a.of_oneof_elements es) (value-braced x.body.value) (oneof-braced level es)
+    oneof-braced level (t.oneof_elements (t.oneof_option x) es) = brace-both (AValue x.body.value ∷ []) (oneof_nodes level es) (a.of_option x) (a.of_oneof_elements es) (value-braced x.body.value) (oneof-braced level es)
     oneof-braced level (t.oneof_elements (t.oneof_field x) es) = brace-both (field_nodes level x) (oneof_nodes level es) (a.of_field x) (a.of_oneof_elements es) (field-braced level x) (oneof-braced level es)
 
     extend-braced : (level : ℕ) (x : t.ExtendElements M) → braces (extend_nodes level x) ≡ a.of_extend_elements x

@@ -2,9 +2,9 @@
 use Rattle.std.proofs.Common.{◌≡◌, ℕ, suc, List, [], ◌∷◌, ◌++◌, map, Option, Some, None, refl, ap, ◌∙◌, append_assoc}
 use Rattle.std.proofs.lemmas.Grind.{flat_map-append}
 use Rattle.std.specs.List.{flat_map}
-use Rattle.protox_ast.specs.CheckedNodes.{CheckedNode, AReservedName, AGroupName, deep_nodes, checked_of, packages_in, package_nodes, checked_nodes}
+use Rattle.protox_ast.specs.CheckedNodes.{CheckedNode, AReservedName, AGroupName, checked_of, packages_in, package_nodes, checked_nodes}
 use Rattle.protox_ast.specs.CheckWalk as c
-use Rattle.protox_ast.specs.Nodes.{Node, AChecked, AValue, option_nodes, list_nodes, reserved_nodes, enum_element_nodes, enum_nodes, rpc_element_nodes, rpc_end_nodes, service_element_nodes, body_nodes, elements_nodes, element_nodes, field_nodes, oneof_nodes, extend_nodes, statement_nodes, syntax_nodes}
+use Rattle.protox_ast.specs.Nodes.{Node, AChecked, AValue, list_nodes, reserved_nodes, enum_element_nodes, rpc_element_nodes, rpc_end_nodes, service_element_nodes, body_nodes, elements_nodes, element_nodes, field_nodes, oneof_nodes, extend_nodes, statement_nodes, syntax_nodes}
 use Rattle.protox_ast.specs.Tree as t
 
 -- what is checked of these nodes
@@ -46,7 +46,7 @@ module _ {M : Type 0} where
   enum_element-checked (t.enum_reserved x) = reserved-checked x.kind
   enum_element-checked (t.enum_value x) = list-none x.options
 
-  enum-checked : (x : t.Enum M) → checks (enum_nodes x) ≡ c.enum_nodes x
+  enum-checked : (x : t.Enum M) → checks (flat_map enum_element_nodes x.elements) ≡ c.enum_nodes x
   enum-checked x = check-many enum_element_nodes c.enum_element_nodes enum_element-checked x.elements
 
   rpc_element-none : (x : t.RpcElement M) → checks (rpc_element_nodes x) ≡ []
@@ -64,7 +64,7 @@ module _ {M : Type 0} where
 
   mutual
     body-checked : (level : ℕ) (m : M) (x : t.Mbody M) → checks (body_nodes level m x) ≡ c.body_nodes level m x
-    body-checked level m (t.mbody_of o es e) = ap (λ u. deep_nodes level m o ++ u) (elements-checked (suc level) es)
+    body-checked level m (t.mbody_of o es e) = ap (λ u. c.deep_nodes level m o ++ u) (elements-checked (suc level) es)
 
     elements-checked : (level : ℕ) (x : t.Elements M) → checks (elements_nodes level x) ≡ c.elements_nodes level x
     elements-checked level t.no_elements = refl
@@ -91,7 +91,7 @@ module _ {M : Type 0} where
     oneof-checked : (level : ℕ) (x : t.OneofElements M) → checks (oneof_nodes level x) ≡ c.oneof_elements_nodes level x
     oneof-checked level t.no_oneof_elements = refl
     oneof-checked level (t.oneof_elements (t.oneof_empty m) es) = oneof-checked level es
-    oneof-checked level (t.oneof_elements (t.oneof_option x) es) = check-both (option_nodes x) (oneof_nodes level es) [] (c.oneof_elements_nodes level es) refl (oneof-checked level es)
+    oneof-checked level (t.oneof_elements (t.oneof_option x) es) = check-both (AValue x.body.value ∷ []) (oneof_nodes level es) [] (c.oneof_elements_nodes level es) refl (oneof-checked level es)
     oneof-checked level (t.oneof_elements (t.oneof_field x) es) =
         check-both (field_nodes level x) (oneof_nodes level es) (c.field_nodes level x) (c.oneof_elements_nodes level es) (field-checked level x) (oneof-checked level es)
 

@@ -2,9 +2,9 @@
 use Rattle.std.proofs.Common.{◌≡◌, ◌<◌, ◌+◌, ◌⊎◌, ℕ, suc, List, [], ◌∷◌, ◌++◌, map, Option, Some, None, refl, ap, subst, sym, ◌∙◌, inl, inr, arith}
 use Rattle.std.specs.Prelude.{max}
 use Rattle.std.specs.List.{flat_map}
-use Rattle.protox_ast.specs.Depth.{level_of, deepest, depth}
+use Rattle.protox_ast.specs.Nodes.{level_of, deepest, depth}
 use Rattle.protox_ast.specs.DepthWalk as d
-use Rattle.protox_ast.specs.Nodes.{Node, AReservedName, AChecked, AValue, option_nodes, list_nodes, reserved_nodes, enum_element_nodes, enum_nodes, rpc_element_nodes, rpc_end_nodes, service_element_nodes, body_nodes, elements_nodes, element_nodes, field_nodes, oneof_nodes, extend_nodes, statement_nodes, syntax_nodes}
+use Rattle.protox_ast.specs.Nodes.{Node, AReservedName, AChecked, AValue, list_nodes, reserved_nodes, enum_element_nodes, rpc_element_nodes, rpc_end_nodes, service_element_nodes, body_nodes, elements_nodes, element_nodes, field_nodes, oneof_nodes, extend_nodes, statement_nodes, syntax_nodes}
 use Rattle.protox_ast.specs.Tree as t
 
 max-three : (m n o : ℕ) → max m (max n o) ≡ max (max m n) o
@@ -80,7 +80,7 @@ module _ {M : Type 0} where
   enum_element-flat (t.enum_reserved x) = reserved-flat x.kind
   enum_element-flat (t.enum_value x) = omega (arith, list-flat x.options)
 
-  enum-flat : (x : t.Enum M) → deepest (enum_nodes x) ≡ 0
+  enum-flat : (x : t.Enum M) → deepest (flat_map enum_element_nodes x.elements) ≡ 0
   enum-flat x = flat-many enum_element_nodes enum_element-flat x.elements
 
   rpc_element-flat : (x : t.RpcElement M) → deepest (rpc_element_nodes x) ≡ 0
@@ -110,10 +110,10 @@ module _ {M : Type 0} where
     element-deep level (t.empty m) = inl (refl, refl)
     element-deep level (t.field (t.field_of l x)) = highest-past level (d.kind_depth x) (deepest (field_nodes level (t.field_of l x))) (field-deep level l x)
     element-deep level (t.oneof (t.oneof_of m n o es c)) = oneof-deep level es
-    element-deep level (t.enum x) = deep-none level (enum_nodes x) (enum-flat x)
+    element-deep level (t.enum x) = deep-none level (flat_map enum_element_nodes x.elements) (enum-flat x)
     element-deep level (t.message (t.message_of m n b)) = body-deep level m b
     element-deep level (t.extend (t.extend_of m n o es c)) = extend-deep level es
-    element-deep level (t.option x) = deep-none level (option_nodes x) (omega arith)
+    element-deep level (t.option x) = deep-none level (AValue x.body.value ∷ []) (omega arith)
     element-deep level (t.reserved x) = deep-none level (reserved_nodes x.kind) (reserved-flat x.kind)
     element-deep level (t.extensions x) = highest-past level 0 (deepest (list_nodes x.options)) (deep-none level (list_nodes x.options) (list-flat x.options))
 
@@ -126,7 +126,7 @@ module _ {M : Type 0} where
     oneof-deep : (level : ℕ) (x : t.OneofElements M) → Deep level (oneof_nodes level x) (d.oneof_elements_depth x)
     oneof-deep level t.no_oneof_elements = inl (refl, refl)
     oneof-deep level (t.oneof_elements (t.oneof_empty m) es) = deep-both level [] (oneof_nodes level es) 0 (d.oneof_elements_depth es) (inl (refl, refl)) (oneof-deep level es)
-    oneof-deep level (t.oneof_elements (t.oneof_option x) es) = deep-both level (option_nodes x) (oneof_nodes level es) 0 (d.oneof_elements_depth es) (deep-none level (option_nodes x) (omega arith)) (oneof-deep level es)
+    oneof-deep level (t.oneof_elements (t.oneof_option x) es) = deep-both level (AValue x.body.value ∷ []) (oneof_nodes level es) 0 (d.oneof_elements_depth es) (deep-none level (AValue x.body.value ∷ []) (omega arith)) (oneof-deep level es)
     oneof-deep level (t.oneof_elements (t.oneof_field (t.field_of l x)) es) =
         highest-past level (max (d.kind_depth x) (d.oneof_elements_depth es)) (deepest (field_nodes level (t.field_of l x) ++ oneof_nodes level es))
         (deep-both level (field_nodes level (t.field_of l x)) (oneof_nodes level es) (d.kind_depth x) (d.oneof_elements_depth es) (field-deep level l x) (oneof-deep level es))
@@ -142,10 +142,10 @@ module _ {M : Type 0} where
   statement-deep (t.an_empty m) = inl (refl, refl)
   statement-deep (t.an_import x) = deep-none 1 (statement_nodes (t.an_import x)) (omega arith)
   statement-deep (t.a_package x) = inl (refl, refl)
-  statement-deep (t.an_option x) = deep-none 1 (option_nodes x) (omega arith)
+  statement-deep (t.an_option x) = deep-none 1 (AValue x.body.value ∷ []) (omega arith)
   statement-deep (t.an_extend (t.extend_of m n o es c)) = extend-deep 1 es
   statement-deep (t.a_message (t.message_of m n b)) = body-deep 1 m b
-  statement-deep (t.an_enum x) = deep-none 1 (enum_nodes x) (enum-flat x)
+  statement-deep (t.an_enum x) = deep-none 1 (flat_map enum_element_nodes x.elements) (enum-flat x)
   statement-deep (t.a_service x) = deep-none 1 (flat_map service_element_nodes x.elements) (flat-many service_element_nodes service_element-flat x.elements)
 
   statements-deep : (xs : List (t.Statement M)) → Deep 1 (flat_map statement_nodes xs) (d.statements_depth xs)

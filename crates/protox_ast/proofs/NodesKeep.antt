@@ -2,8 +2,9 @@
 use Rattle.std.proofs.Common.{◌↔◌, ℕ, suc, List, [], ◌∷◌, ◌++◌, map, Option, Some, None}
 use Rattle.std.specs.List.{flat_map}
 use Rattle.protox_ast.specs.KeywordWalk as k
-use Rattle.protox_ast.specs.Keywords.{Each, Given, KeepsRule, KeepsKeywords}
-use Rattle.protox_ast.specs.Nodes.{Node, AReservedName, AChecked, ANormal, AMap, AnExtensions, AnEvalue, AValue, option_nodes, list_nodes, reserved_nodes, extensions_nodes, enum_element_nodes, enum_nodes, rpc_element_nodes, rpc_end_nodes, service_element_nodes, body_nodes, elements_nodes, element_nodes, field_nodes, oneof_nodes, extend_nodes, statement_nodes, syntax_nodes}
+use Rattle.protox_ast.specs.KeywordWalk.{Given}
+use Rattle.protox_ast.specs.Keywords.{Each, KeepsRule, KeepsKeywords}
+use Rattle.protox_ast.specs.Nodes.{Node, AReservedName, AChecked, ANormal, AMap, AnExtensions, AnEvalue, AValue, list_nodes, reserved_nodes, enum_element_nodes, rpc_element_nodes, rpc_end_nodes, service_element_nodes, body_nodes, elements_nodes, element_nodes, field_nodes, oneof_nodes, extend_nodes, statement_nodes, syntax_nodes}
 use Rattle.protox_ast.specs.Tree as t
 
 -- these nodes keep their rules exactly where Q holds
@@ -35,7 +36,7 @@ module _ {M : Type 0} where
   value-keeps (t.strings x) = alike
   value-keeps (t.aggregate o inside c) = alike
 
-  option-keeps : (x : t.OptionStatement M) → Keep (option_nodes x) (k.KeepsOption x)
+  option-keeps : (x : t.OptionStatement M) → Keep (AValue x.body.value ∷ []) (k.KeepsOption x)
   option-keeps x = let v = value-keeps x.body.value in (λ h. v.0 h.0, λ h. (v.1 h, tt))
 
   bodies-keep : (xs : List (M × t.Body M)) → Keep (map (λ y. AValue y.1.value) xs) (Each (λ y. k.KeepsBody y.1) xs)
@@ -64,7 +65,7 @@ module _ {M : Type 0} where
   enum_element-keeps (t.enum_reserved x) = reserved-keeps x.kind
   enum_element-keeps (t.enum_value x) = with-options (AnEvalue x) x.options
 
-  enum-keeps : (x : t.Enum M) → Keep (enum_nodes x) (k.KeepsEnum x)
+  enum-keeps : (x : t.Enum M) → Keep (flat_map enum_element_nodes x.elements) (k.KeepsEnum x)
   enum-keeps x = keep-many enum_element_nodes k.KeepsEnumElement enum_element-keeps x.elements
 
   rpc_element-keeps : (x : t.RpcElement M) → Keep (rpc_element_nodes x) (k.KeepsRpcElement x)
@@ -110,7 +111,7 @@ module _ {M : Type 0} where
     oneof-keeps level t.no_oneof_elements = alike
     oneof-keeps level (t.oneof_elements (t.oneof_empty m) es) = let r = oneof-keeps level es in (λ h. (tt, r.0 h), λ h. r.1 h.1)
     oneof-keeps level (t.oneof_elements (t.oneof_option x) es) =
-        keep-both (option_nodes x) (oneof_nodes level es) (k.KeepsOption x) (k.KeepsOneofElements es) (option-keeps x) (oneof-keeps level es)
+        keep-both (AValue x.body.value ∷ []) (oneof_nodes level es) (k.KeepsOption x) (k.KeepsOneofElements es) (option-keeps x) (oneof-keeps level es)
     oneof-keeps level (t.oneof_elements (t.oneof_field (t.field_of l x)) es) =
         let r = keep-both (field_nodes level (t.field_of l x)) (oneof_nodes level es) (k.KeepsKind x) (k.KeepsOneofElements es) (field-keeps level l x) (oneof-keeps level es) in
         (λ h. let s = r.0 h.1 in ((h.0.1, (h.0.0, s.0)), s.1), λ h. ((h.0.1.0, h.0.0), r.1 (h.0.1.1, h.1)))

@@ -2,8 +2,10 @@
 -- is proved.
 use Rattle.std.specs.Prelude.{List, [], ◌∷◌, ◌++◌, Option, Some, None}
 use Rattle.std.specs.List.{flat_map}
-pub use Rattle.protox_ast.specs.Aggregates.{Braces, aggregates}
 use Rattle.protox_ast.specs.Tree as t
+
+abbrev pub Braces : Type 0 → Type 0
+Braces M = List (M × M)
 
 abbrev pub of_value : {M : Type 0} → t.Value M → Braces M
 of_value (t.aggregate open_at inside close_at) = (open_at, close_at) ∷ []

@@ -1,10 +1,13 @@
 -- MACHINERY. The checked nodes of each type of the tree, by a walk of their own. The proofs rest on these; that they are those of the file's
 -- nodes is proved.
-use Rattle.std.specs.Prelude.{ℕ, suc, List, [], ◌∷◌, ◌++◌, map, Option, Some, None}
+use Rattle.std.specs.Prelude.{ℕ, suc, ◌==◌, if◌then◌else◌, List, [], ◌∷◌, ◌++◌, map, Option, Some, None}
 use Rattle.std.specs.List.{flat_map}
-pub use Rattle.protox_ast.specs.CheckedNodes.{deep_nodes, packages_in, package_nodes, checked_nodes}
-use Rattle.protox_ast.specs.CheckedNodes.{CheckedNode, ASyntax, AnImport, AReservedName, AGroupName}
+pub use Rattle.protox_ast.specs.CheckedNodes.{packages_in, package_nodes, checked_nodes}
+use Rattle.protox_ast.specs.CheckedNodes.{CheckedNode, ASyntax, AnImport, AReservedName, AGroupName, ATooDeep}
 use Rattle.protox_ast.specs.Tree as t
+
+abbrev pub deep_nodes : {M : Type 0} → ℕ → M → M → List (CheckedNode M)
+deep_nodes level keyword open_at = if level == 32 then ATooDeep keyword open_at ∷ [] else []
 
 abbrev pub reserved_nodes : {M : Type 0} → t.ReservedKind M → List (CheckedNode M)
 reserved_nodes (t.ranges x) = []

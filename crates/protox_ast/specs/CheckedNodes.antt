@@ -1,22 +1,15 @@
 -- The nodes of a file that are checked while it is read.
-use Rattle.std.specs.Prelude.{ℕ, ◌==◌, if◌then◌else◌, List, [], ◌∷◌, ◌++◌, map}
+use Rattle.std.specs.Prelude.{◌==◌, if◌then◌else◌, List, [], ◌∷◌, ◌++◌, map}
 use Rattle.std.specs.List.{flat_map}
 use Rattle.protox_ast.specs.Basics.{last}
 pub use Rattle.protox_ast.specs.Nodes.{CheckedNode, ASyntax, AnImport, AReservedName, AGroupName, APackageAgain, ATooDeep}
 use Rattle.protox_ast.specs.Nodes.{Node, AChecked, ABody, nodes}
 use Rattle.protox_ast.specs.Tree as t
 
--- the level that is one too many
-abbrev pub too_deep : ℕ
-too_deep = 32
-
-abbrev pub deep_nodes : {M : Type 0} → ℕ → M → M → List (CheckedNode M)
-deep_nodes level keyword open_at = if level == too_deep then ATooDeep keyword open_at ∷ [] else []
-
--- what is checked of a node
+-- what is checked of a node; level 32 is one too many
 abbrev pub checked_of : {M : Type 0} → Node M → List (CheckedNode M)
 checked_of (AChecked x) = x ∷ []
-checked_of (ABody level keyword open_at) = deep_nodes level keyword open_at
+checked_of (ABody level keyword open_at) = if level == 32 then ATooDeep keyword open_at ∷ [] else []
 checked_of _ = []
 
 -- the package statements

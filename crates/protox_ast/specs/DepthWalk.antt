@@ -1,7 +1,7 @@
 -- MACHINERY. How deep messages and groups stand in each type of the tree, by a walk of its own. The proofs rest on it; that it is the highest level
 -- of the file's nodes is proved.
 use Rattle.std.specs.Prelude.{ℕ, suc, List, [], ◌∷◌, max}
-pub use Rattle.protox_ast.specs.Depth.{depth}
+pub use Rattle.protox_ast.specs.Nodes.{depth}
 use Rattle.protox_ast.specs.Tree as t
 
 abbrev mutual

@@ -1,8 +1,51 @@
 -- MACHINERY. The keyword rules as conditions on each type of the tree, by a walk of their own. The proofs rest on these; that a file keeps its
 -- rules so is proved to be what Keywords says of its nodes.
-use Rattle.std.specs.Prelude.{List, [], ◌∷◌, Option, Some, None}
-pub use Rattle.protox_ast.specs.Keywords.{BeginsWithNoElement, BeginsWithNoKindOrScalar, BeginsWithNoLabel, BeginsWithNoOption, BeginsWithNoStream, BracesMatch, Each, Given, HasTo, IsSignificant, KeyAndValueBeginWithNoScalar, ListFollowsTo, ListedAfterTo, NameBeginsWithNone, NameIsNoElement, NoneOf, TypeBeginsWithNone, Undotted, UnlabelledBeginsWithNone, Unstreamed, how_many, in_message, is_close_brace, is_open_brace, is_significant, labels, scalars, KeepsKeywords}
+use Rattle.std.specs.Prelude.{◌≡◌, true, codes, [], ◌∷◌, Option, Some, None}
+use Rattle.protox_lexeme.specs.Shapes.{Row}
+pub use Rattle.protox_ast.specs.Keywords.{BracesMatch, Each, ListedAfterTo, NameBeginsWithNone, NoneOf, TypeBeginsWithNone, Undotted, UnlabelledBeginsWithNone, Unstreamed, how_many, in_message, is_close_brace, is_open_brace, is_significant, labels, scalars, KeepsKeywords}
 use Rattle.protox_ast.specs.Tree as t
+
+-- P holds of what is given
+abbrev pub Given : {A : Type 0} → (A → Type 0) → Option A → Type 0
+Given P None = Unit {0}
+Given P (Some x) = P x
+
+-- The type of an unlabelled normal field doesn't begin with `optional`, `required` or `repeated`.
+abbrev pub BeginsWithNoLabel : {M : Type 0} → t.Field M → Type 0
+BeginsWithNoLabel x = UnlabelledBeginsWithNone labels x
+
+-- No normal field's type begins with `map`, `group` or a scalar word, unless it is that scalar alone.
+abbrev pub BeginsWithNoKindOrScalar : {M : Type 0} → t.Normal M → Type 0
+BeginsWithNoKindOrScalar x = TypeBeginsWithNone (codes "map" ∷ codes "group" ∷ scalars) x.type
+
+-- In a message body the type of an unlabelled normal field doesn't begin with `oneof`, `enum`, `message`, `extend`, `option`, `reserved` or `extensions`.
+abbrev pub BeginsWithNoElement : {M : Type 0} → t.Field M → Type 0
+BeginsWithNoElement x = UnlabelledBeginsWithNone in_message x
+
+-- In a oneof body it doesn't begin with `option`. In an extend body every other word is a type.
+abbrev pub BeginsWithNoOption : {M : Type 0} → t.Field M → Type 0
+BeginsWithNoOption x = UnlabelledBeginsWithNone (codes "option" ∷ []) x
+
+-- A map's key or value type doesn't begin with a scalar word, unless it is that scalar alone; it may begin with `map` or `group`.
+abbrev pub KeyAndValueBeginWithNoScalar : {M : Type 0} → t.Map M → Type 0
+KeyAndValueBeginWithNoScalar x = TypeBeginsWithNone scalars x.key × TypeBeginsWithNone scalars x.value
+
+-- An enum value's name isn't `option` or `reserved`.
+abbrev pub NameIsNoElement : {M : Type 0} → t.Evalue M → Type 0
+NameIsNoElement x = NoneOf (codes "option" ∷ codes "reserved" ∷ []) x.name.0
+
+abbrev pub BeginsWithNoStream : {M : Type 0} → t.RpcType M → Type 0
+BeginsWithNoStream x = Unstreamed x.stream x.name
+
+abbrev pub HasTo : {M : Type 0} → t.Range M → Type 0
+HasTo r = r.stop ≡ None → ⊥
+
+-- A range without `to` is followed by `,` or `;`: where an extensions statement has an option list, its last range has `to`.
+abbrev pub ListFollowsTo : {M : Type 0} → t.Extensions M → Type 0
+ListFollowsTo x = ListedAfterTo x.options x.ranges
+
+abbrev pub IsSignificant : {M : Type 0} → Row M → Type 0
+IsSignificant r = is_significant r.shape ≡ true
 
 abbrev pub KeepsValue : {M : Type 0} → t.Value M → Type 0
 KeepsValue (t.aggregate o inside c) = BracesMatch inside × Each IsSignificant inside

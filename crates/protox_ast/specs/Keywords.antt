@@ -1,7 +1,7 @@
 -- Where a word that is a keyword may stand as a name: the keyword rules, and the trees that keep them everywhere.
 use Rattle.std.specs.Prelude.{◌≡◌, ◌≤◌, ℕ, suc, List, [], ◌∷◌, map, Option, Some, None, Bool, true, false, if◌then◌else◌, ◌==◌, codes, take}
-use Rattle.protox_lexeme.specs.Shapes.{Shape, Mark, LineComment, BlockComment, Newline, Invalid, Row, Rows}
-pub use Rattle.protox_ast.specs.Basics.{Given, Each}
+use Rattle.protox_lexeme.specs.Shapes.{Shape, Mark, LineComment, BlockComment, Newline, Invalid, Rows}
+pub use Rattle.protox_ast.specs.Basics.{Each}
 use Rattle.protox_ast.specs.Basics.{last}
 use Rattle.protox_ast.specs.Nodes.{Node, AMessageField, AOneofField, AnExtendField, ANormal, AMap, AnExtensions, AnEvalue, AnRpcType, AValue, nodes}
 use Rattle.protox_ast.specs.Tree as t
@@ -43,54 +43,19 @@ scalars = codes "double" ∷ codes "float" ∷ codes "int32" ∷ codes "int64" �
 abbrev pub in_message : List (List ℕ)
 in_message = codes "oneof" ∷ codes "enum" ∷ codes "message" ∷ codes "extend" ∷ codes "option" ∷ codes "reserved" ∷ codes "extensions" ∷ []
 
--- ---- the rules
-
--- The type of an unlabelled normal field doesn't begin with `optional`, `required` or `repeated`.
-abbrev pub BeginsWithNoLabel : {M : Type 0} → t.Field M → Type 0
-BeginsWithNoLabel x = UnlabelledBeginsWithNone labels x
-
--- No normal field's type begins with `map`, `group` or a scalar word, unless it is that scalar alone.
-abbrev pub BeginsWithNoKindOrScalar : {M : Type 0} → t.Normal M → Type 0
-BeginsWithNoKindOrScalar x = TypeBeginsWithNone (codes "map" ∷ codes "group" ∷ scalars) x.type
-
--- In a message body the type of an unlabelled normal field doesn't begin with `oneof`, `enum`, `message`, `extend`, `option`, `reserved` or `extensions`.
-abbrev pub BeginsWithNoElement : {M : Type 0} → t.Field M → Type 0
-BeginsWithNoElement x = UnlabelledBeginsWithNone in_message x
-
--- In a oneof body it doesn't begin with `option`. In an extend body every other word is a type.
-abbrev pub BeginsWithNoOption : {M : Type 0} → t.Field M → Type 0
-BeginsWithNoOption x = UnlabelledBeginsWithNone (codes "option" ∷ []) x
-
--- A map's key or value type doesn't begin with a scalar word, unless it is that scalar alone; it may begin with `map` or `group`.
-abbrev pub KeyAndValueBeginWithNoScalar : {M : Type 0} → t.Map M → Type 0
-KeyAndValueBeginWithNoScalar x = TypeBeginsWithNone scalars x.key × TypeBeginsWithNone scalars x.value
-
--- An enum value's name isn't `option` or `reserved`.
-abbrev pub NameIsNoElement : {M : Type 0} → t.Evalue M → Type 0
-NameIsNoElement x = NoneOf (codes "option" ∷ codes "reserved" ∷ []) x.name.0
-
--- A type in an rpc without `stream` before it doesn't begin with `stream`.
+-- a type in an rpc, where no `stream` stands before it, doesn't begin with `stream`
 abbrev pub Unstreamed : {M : Type 0} → Option M → t.TypeName M → Type 0
 Unstreamed (Some m) x = Unit {0}
 Unstreamed None x = NameBeginsWithNone (codes "stream" ∷ []) x
 
-abbrev pub BeginsWithNoStream : {M : Type 0} → t.RpcType M → Type 0
-BeginsWithNoStream x = Unstreamed x.stream x.name
+-- ---- lists behind ranges
 
--- ---- the rule of lists behind ranges
-
-abbrev pub HasTo : {M : Type 0} → t.Range M → Type 0
-HasTo r = r.stop ≡ None → ⊥
-
+-- with an option list behind them, the last of the ranges has `to`
 abbrev pub ListedAfterTo : {M : Type 0} → Option (t.OptionList M) → t.Ranges M → Type 0
 ListedAfterTo None x = Unit {0}
-ListedAfterTo (Some l) x = HasTo (last x.first (map (λ y. y.1) x.others))
+ListedAfterTo (Some l) x = (last x.first (map (λ y. y.1) x.others)).stop ≡ None → ⊥
 
--- A range without `to` is followed by `,` or `;`: where an extensions statement has an option list, its last range has `to`.
-abbrev pub ListFollowsTo : {M : Type 0} → t.Extensions M → Type 0
-ListFollowsTo x = ListedAfterTo x.options x.ranges
-
--- ---- balanced: any tokens whose braces match
+-- ---- tokens whose braces match
 
 abbrev pub is_open_brace : Shape → Bool
 is_open_brace (Mark byte) = byte == open_brace
@@ -117,22 +82,28 @@ is_significant Newline = false
 is_significant Invalid = false
 is_significant _ = true
 
-abbrev pub IsSignificant : {M : Type 0} → Row M → Type 0
-IsSignificant r = is_significant r.shape ≡ true
-
--- ---- everywhere in a tree
+-- ---- the rules
 
 -- What the rules ask of a node.
 abbrev pub KeepsRule : {M : Type 0} → Node M → Type 0
-KeepsRule (AMessageField x) = BeginsWithNoLabel x × BeginsWithNoElement x
-KeepsRule (AOneofField x) = BeginsWithNoLabel x × BeginsWithNoOption x
-KeepsRule (AnExtendField x) = BeginsWithNoLabel x
-KeepsRule (ANormal x) = BeginsWithNoKindOrScalar x
-KeepsRule (AMap x) = KeyAndValueBeginWithNoScalar x
-KeepsRule (AnExtensions x) = ListFollowsTo x
-KeepsRule (AnEvalue x) = NameIsNoElement x
-KeepsRule (AnRpcType x) = BeginsWithNoStream x
-KeepsRule (AValue (t.aggregate open_at inside close_at)) = BracesMatch inside × Each IsSignificant inside
+-- The type of an unlabelled normal field doesn't begin with `optional`, `required` or `repeated`.
+-- In a message body it doesn't begin with `oneof`, `enum`, `message`, `extend`, `option`, `reserved` or `extensions`.
+KeepsRule (AMessageField x) = UnlabelledBeginsWithNone labels x × UnlabelledBeginsWithNone in_message x
+-- In a oneof body it doesn't begin with `option`. In an extend body every other word is a type.
+KeepsRule (AOneofField x) = UnlabelledBeginsWithNone labels x × UnlabelledBeginsWithNone (codes "option" ∷ []) x
+KeepsRule (AnExtendField x) = UnlabelledBeginsWithNone labels x
+-- No normal field's type begins with `map`, `group` or a scalar word, unless it is that scalar alone.
+KeepsRule (ANormal x) = TypeBeginsWithNone (codes "map" ∷ codes "group" ∷ scalars) x.type
+-- A map's key or value type doesn't begin with a scalar word, unless it is that scalar alone; it may begin with `map` or `group`.
+KeepsRule (AMap x) = TypeBeginsWithNone scalars x.key × TypeBeginsWithNone scalars x.value
+-- A range without `to` is followed by `,` or `;`: where an extensions statement has an option list, its last range has `to`.
+KeepsRule (AnExtensions x) = ListedAfterTo x.options x.ranges
+-- An enum value's name isn't `option` or `reserved`.
+KeepsRule (AnEvalue x) = NoneOf (codes "option" ∷ codes "reserved" ∷ []) x.name.0
+-- A type in an rpc without `stream` before it doesn't begin with `stream`.
+KeepsRule (AnRpcType x) = Unstreamed x.stream x.name
+-- In an aggregate stand any tokens whose braces match.
+KeepsRule (AValue (t.aggregate open_at inside close_at)) = BracesMatch inside × Each (λ r. is_significant r.shape ≡ true) inside
 KeepsRule _ = Unit {0}
 
 abbrev pub KeepsKeywords : {M : Type 0} → t.File M → Type 0

@@ -9,7 +9,6 @@ pub mod Spelling
 pub mod Nodes
 pub mod Keywords
 pub mod KeywordWalk
-pub mod Depth
 pub mod DepthWalk
 pub mod Spells
 pub mod Places
@@ -18,7 +17,7 @@ pub mod Ast
 pub mod CheckedNodes
 pub mod CheckWalk
 pub mod Checks
-pub mod Aggregates
+pub mod Fine
 pub mod AggregateWalk
 pub mod Fronts
 pub mod Truth

@@ -1,6 +1,6 @@
 -- What is read of a statement that is no package leaves the first package statement as it was.
-use Rattle.std.proofs.Common.{codes, ◌≡◌, ℕ, Bool, true, false, cond, List, [], ◌∷◌, ◌++◌, Option, Some, None, Result, Ok, Err, refl, sym, ap, subst, ◌∙◌, inl, inr, ◌⊎◌}
-use Rattle.protox_lexeme.specs.Shapes.{Shape, Rows}
+use Rattle.std.proofs.Common.{codes, ◌≡◌, Bool, true, false, cond, List, [], ◌∷◌, Option, Ok, refl, ap, ◌∙◌, inl, inr}
+use Rattle.protox_lexeme.specs.Shapes.{Rows}
 use Rattle.protox_ast.specs.AggregateWalk as a
 use Rattle.protox_ast.specs.CheckWalk as c
 use Rattle.protox_ast.specs.CheckedNodes.{CheckedNode, AnImport}
@@ -13,7 +13,7 @@ use Rattle.protox_grammar.specs.Reader as reader
 use Rattle.protox_grammar.specs.Reader.{Reader, Refusal, head_in, mapped}
 use Rattle.protox_grammar.specs.Rule.{Rule, optional}
 use Rattle.protox_grammar.specs.Rules as r
-use Rattle.protox_grammar.specs.Steps.{Steps, Token, Note, plain_trace, plainly, rows_before}
+use Rattle.protox_grammar.specs.Steps.{Steps, plain_trace, plainly, rows_before}
 use Rattle.protox_grammar.specs.Told.{first_behind}
 use Rattle.protox_grammar.proofs.Braced as braced
 use Rattle.protox_grammar.proofs.Depths.{body-laws}

@@ -4,6 +4,7 @@ use Rattle.std.specs.List.{flat_map}
 use Rattle.protox_ast.specs.Tree as t
 use Rattle.protox_ast.specs.KeywordWalk as k
 use Rattle.protox_ast.specs.AggregateWalk as a
+use Rattle.protox_ast.specs.Fronts.{aggregates}
 use Rattle.protox_ast.specs.CheckWalk as c
 use Rattle.protox_ast.specs.CheckedNodes.{CheckedNode, APackageAgain}
 use Rattle.protox_ast.proofs.NodesBraced.{nodes-braced}
@@ -133,7 +134,7 @@ module _ {M : Type 0} (Q : CheckedNode M → Type 0) where
       )
 
 -- the braces that are noted are those of the file's aggregates, and of bodies that are too deep first one of level 32 is
-pub file-marks : {M : Type 0} (f : t.File M) → k.Each (rule.StatementHas k.KeepsMbody) f.statements → Marks (Unit {0}) (steps 31 f) (a.aggregates f)
+pub file-marks : {M : Type 0} (f : t.File M) → k.Each (rule.StatementHas k.KeepsMbody) f.statements → Marks (Unit {0}) (steps 31 f) (aggregates f)
 unfolding rule.file
 file-marks {M} f h =
     subst (λ (u : a.Braces M). Marks (Unit {0}) (steps 31 f) u) (sym (nodes-braced f))

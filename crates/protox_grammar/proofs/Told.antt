@@ -9,7 +9,7 @@ use Rattle.protox_ast.specs.Spelling as s
 use Rattle.protox_ast.specs.KeywordWalk as k
 use Rattle.protox_ast.specs.DepthWalk as d
 use Rattle.protox_ast.specs.AggregateWalk as a
-use Rattle.protox_ast.specs.Aggregates.{Braces}
+use Rattle.protox_ast.specs.AggregateWalk.{Braces}
 use Rattle.protox_ast.specs.CheckWalk as c
 use Rattle.protox_ast.specs.CheckedNodes.{CheckedNode, ASyntax, AnImport, AReservedName, AGroupName, ATooDeep}
 use Rattle.protox_grammar.specs.Rule.{Rule, seq}

@@ -119,5 +119,5 @@ module _ {M : Type 0} where
   nodes-checked f =
       let ps : List (CheckedNode M) = package_nodes (packages_in f.statements) in
       let all = check-both (syntax_nodes f.syntax) (flat_map statement_nodes f.statements) (c.syntax_nodes f.syntax) (flat_map c.statement_nodes f.statements) (syntax-checked f.syntax)
-          (check-many statement_nodes c.statement_nodes statement-checked f.statements) in
+      (check-many statement_nodes c.statement_nodes statement-checked f.statements) in
       ap (λ u. u ++ ps) all ∙ append_assoc (c.syntax_nodes f.syntax) (flat_map c.statement_nodes f.statements) ps

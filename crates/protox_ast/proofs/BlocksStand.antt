@@ -3,6 +3,7 @@ use Rattle.std.proofs.Common.{◌≡◌, List, [], ◌∷◌, ◌++◌, map, fla
 use Rattle.std.specs.Prelude.{option_map}
 use Rattle.std.specs.List.{filter_map, cons_option}
 use Rattle.std.proofs.lemmas.List.{append-nil}
+use Rattle.std.specs.Option.{unwrap_or}
 use Rattle.protox_fault.specs.Faults.{Span}
 use Rattle.protox_lexeme.specs.Shapes.{Rows}
 use Rattle.protox_ast.specs.declared.ast.Reserved.{Reserved}
@@ -151,7 +152,7 @@ pub type-begin : (x : t.FieldType Place) → Begin (s.type x) (ast.type_first x)
 type-begin (t.scalar x m) = begin-first _ _
 type-begin (t.named x) = dotted x.leading_dot
   where
-    dotted : (dot : Option Place) → Begin (s.typename (record { leading_dot = dot; name = x.name })) (ast.dotted_first dot x.name.first.1).span.start
+    dotted : (dot : Option Place) → Begin (s.typename (record { leading_dot = dot; name = x.name })) (unwrap_or dot x.name.first.1).span.start
     dotted None = begin-first _ _
     dotted (Some m) = begin-first _ _
 

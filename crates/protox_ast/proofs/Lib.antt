@@ -6,6 +6,10 @@ pub mod Membership
 pub mod MessagesStand
 pub mod NamePlaces
 pub mod NameTests
+pub mod NodesBraced
+pub mod NodesChecked
+pub mod NodesDeep
+pub mod NodesKeep
 pub mod Nothing
 pub mod PartsStand
 pub mod Siblings

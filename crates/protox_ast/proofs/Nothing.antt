@@ -5,7 +5,8 @@ use Rattle.protox_fault.specs.declared.error.ParseErrorKind.{ParseErrorKind}
 use Rattle.protox_fault.specs.declared.error.ParseErrorKind.TheVariants as fault
 use Rattle.protox_ast.specs.AstParts.{run_span, strings_value, text_of}
 use Rattle.protox_ast.specs.CheckedNodes.{CheckedNode, ASyntax, AnImport, AReservedName, AGroupName, APackageAgain, ATooDeep, checked_nodes}
-use Rattle.protox_ast.specs.Checks.{is_known_syntax, is_text, is_import_path, package_span, IsFine, WrongCheckedNode, NothingWrong}
+use Rattle.protox_ast.specs.Checks.{is_known_syntax, is_text, is_import_path, package_span, WrongCheckedNode, NothingWrong}
+use Rattle.protox_ast.specs.Fine.{IsFine}
 use Rattle.protox_ast.specs.Keywords.{Each}
 use Rattle.protox_ast.specs.Places.{Place}
 use Rattle.protox_ast.specs.Tree as t

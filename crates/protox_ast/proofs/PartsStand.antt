@@ -32,7 +32,7 @@ comma_row m = record { shape = Mark s.comma; at = m }
 
 -- ---- names
 
-idents : (xs : List (Place × t.Word Place)) → Hold (s.many s.dot_ident xs) (ident_spans (map (λ y. ast.ident y.1) xs)) []
+idents : (xs : List (Place × t.Word Place)) → Hold (s.many (s.behind s.dot s.ident) xs) (ident_spans (map (λ y. ast.ident y.1) xs)) []
 idents [] = none
 idents (x ∷ xs) = past _ (token _ (idents xs))
 
@@ -42,7 +42,7 @@ fullident-hold x = token _ (idents x.others)
 pub fullident-end : (x : t.FullIdent Place) → End (s.fullident x) (name_span (ast.fullident x)).end
 fullident-end x =
     subst (λ (last : Span). End (s.fullident x) last.end) (sym (last-mapped (λ (y : Place × t.Word Place). ast.ident y.1) (λ (part : Ident). part.span) x.first.1.span x.others))
-    (end-many (λ (y : Place × t.Word Place). y.1.1.span) s.dot_ident (λ y. end-back (_ ∷ []) _ (end-last _)) (s.ident x.first) x.first.1.span (end-last _) x.others)
+    (end-many (λ (y : Place × t.Word Place). y.1.1.span) (s.behind s.dot s.ident) (λ y. end-back (_ ∷ []) _ (end-last _)) (s.ident x.first) x.first.1.span (end-last _) x.others)
 
 pub typename-hold : (x : t.TypeName Place) → Hold (s.typename x) (type_name_spans (ast.typename x)) []
 typename-hold x = dotted x.leading_dot
@@ -102,16 +102,16 @@ body-node x =
     let first = part-node x.first in
     let value = value-node x.value in
     let parts = flat_map part_siblings (map (λ (y : Place × t.Part Place). ast.part y.1) x.others) in
-    let rest : Hold (s.many s.dot_part x.others ++ (s.sign s.equals x.equals_sign ++ s.value x.value)) (map part_span (map (λ (y : Place × t.Part Place). ast.part y.1) x.others) ++ value_span (ast.value x.value) ∷ []) (parts ++ value_siblings (ast.value x.value)) =
-    both (s.many s.dot_part x.others) _ (listed s.part ast.part part_span part_siblings part-node dot_row x.others) (past _ value.hold) in
+    let rest : Hold (s.many (s.behind s.dot s.part) x.others ++ (s.sign s.equals x.equals_sign ++ s.value x.value)) (map part_span (map (λ (y : Place × t.Part Place). ast.part y.1) x.others) ++ value_span (ast.value x.value) ∷ []) (parts ++ value_siblings (ast.value x.value)) =
+    both (s.many (s.behind s.dot s.part) x.others) _ (listed s.part ast.part part_span part_siblings part-node dot_row x.others) (past _ value.hold) in
     whole (body_span (ast.body x)) (begin-front (s.part x.first) _ first.begin)
-    (end-back (s.part x.first) _ (end-back (s.many s.dot_part x.others) _ (end-back (_ ∷ []) _ value.end)))
+    (end-back (s.part x.first) _ (end-back (s.many (s.behind s.dot s.part) x.others) _ (end-back (_ ∷ []) _ value.end)))
     (subst (λ i. Hold (s.body x) (map part_span (ast.body x).name ++ value_span (ast.value x.value) ∷ []) i) (sym (append_assoc (part_siblings (ast.part x.first)) parts (value_siblings (ast.value x.value))))
     (both (s.part x.first) _ first.hold rest))
 
 list-node : (x : t.OptionList Place) → IsNode (s.list x) (ast.list x).span (list_siblings (Some (ast.list x)))
-list-node x = whole (ast.list x).span (begin-first _ _) (end-back (_ ∷ []) _ (end-back (s.body x.first) _ (end-back (s.many s.comma_body x.others) _ (end-last _))))
-    (past _ (both (s.body x.first) _ (body-node x.first).hold (after (s.many s.comma_body x.others) _ (listed s.body ast.body body_span body_siblings body-node comma_row x.others))))
+list-node x = whole (ast.list x).span (begin-first _ _) (end-back (_ ∷ []) _ (end-back (s.body x.first) _ (end-back (s.many (s.behind s.comma s.body) x.others) _ (end-last _))))
+    (past _ (both (s.body x.first) _ (body-node x.first).hold (after (s.many (s.behind s.comma s.body) x.others) _ (listed s.body ast.body body_span body_siblings body-node comma_row x.others))))
 
 -- a list of options, if there is one
 pub list-hold : (x : Option (t.OptionList Place)) → Hold (s.maybe s.list x) (list_span (option_map ast.list x)) (list_siblings (option_map ast.list x))
@@ -145,7 +145,7 @@ range-node x = range-of x.start x.stop
 ranges-hold : (x : t.Ranges Place) → Hold (s.ranges x) (map range_span (ast.ranges x)) (flat_map range_siblings (ast.ranges x))
 ranges-hold x = both (s.range x.first) _ (range-node x.first).hold (listed s.range ast.range range_span range_siblings range-node comma_row x.others)
 
-names-hold : (xs : List (Place × t.Strings Place)) → Hold (s.many s.comma_strings xs) (ident_spans (map (λ (y : Place × t.Strings Place). ast.reserved_name y.1) xs)) []
+names-hold : (xs : List (Place × t.Strings Place)) → Hold (s.many (s.behind s.comma s.strings) xs) (ident_spans (map (λ (y : Place × t.Strings Place). ast.reserved_name y.1) xs)) []
 names-hold [] = none
 names-hold (x ∷ xs) = past _ (both (s.strings x.1) _ (strings-node x.1).hold (names-hold xs))
 

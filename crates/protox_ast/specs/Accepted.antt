@@ -9,7 +9,7 @@ use Rattle.protox_ast.specs.Places.{Place, placed}
 use Rattle.protox_ast.specs.Tree as t
 use Rattle.protox_ast.specs.Keywords.{Each}
 use Rattle.protox_ast.specs.Spells.{Spells}
-use Rattle.protox_ast.specs.Depth.{depth}
+use Rattle.protox_ast.specs.Nodes.{depth}
 use Rattle.protox_ast.specs.Checks.{NothingWrong}
 use Rattle.protox_ast.specs.Fronts.{AreClean}
 use Rattle.protox_ast.specs.Ast as ast

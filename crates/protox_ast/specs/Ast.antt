@@ -33,7 +33,7 @@ use Rattle.protox_ast.specs.declared.ast.File as file_type
 use Rattle.protox_ast.specs.Tree as t
 use Rattle.protox_ast.specs.Spelling.{spell}
 use Rattle.protox_ast.specs.Places.{Place}
-pub use Rattle.protox_ast.specs.AstParts.{join, join_if_any, last_place, text_of, ident, fullident, span_if_any, typename, typename_span, int, values, strings_value, run_span, strings_span, syntax_of, file_syntax, import_kind, signed_text, spaced, aggregate_text, value, part, body, list, scalar, type, type_span, dotted_first, type_first, label, label_place, field_first, body_open, body_close, range_end, range, ranges, reserved_name, reserved_kind, first_of, rows_span}
+pub use Rattle.protox_ast.specs.AstParts.{join, join_if_any, last_place, text_of, ident, fullident, span_if_any, typename, typename_span, int, values, strings_value, run_span, strings_span, syntax_of, file_syntax, import_kind, signed_text, spaced, aggregate_text, value, part, body, list, scalar, type, type_span, type_first, label, label_place, field_first, body_open, body_close, range_end, range, ranges, reserved_name, reserved_kind, first_of, rows_span}
 
 -- ---- declarations
 
@@ -199,10 +199,7 @@ abbrev mutual
   items (t.elements (t.enum x) es) = item.Enum (enum x) ∷ items es
   items (t.elements (t.message x) es) = item.Message (message x) ∷ items es
   items (t.elements (t.extend x) es) = item.Extend (extend x) ∷ items es
-  items (t.elements (t.empty place) es) = items es
-  items (t.elements (t.option x) es) = items es
-  items (t.elements (t.reserved x) es) = items es
-  items (t.elements (t.extensions x) es) = items es
+  items (t.elements _ es) = items es
 
   pub field : t.Field Place → field_type.Field
   field (t.field_of l (t.normal x)) = normal l x
@@ -225,8 +222,7 @@ abbrev mutual
   pub oneof_fields : t.OneofElements Place → List field_type.Field
   oneof_fields t.no_oneof_elements = []
   oneof_fields (t.oneof_elements (t.oneof_field x) es) = field x ∷ oneof_fields es
-  oneof_fields (t.oneof_elements (t.oneof_empty place) es) = oneof_fields es
-  oneof_fields (t.oneof_elements (t.oneof_option x) es) = oneof_fields es
+  oneof_fields (t.oneof_elements _ es) = oneof_fields es
 
   pub extend : t.Extend Place → extend_type.Extend
   extend (t.extend_of keyword extendee open_at es close_at) = roll-Extend (record {

@@ -1,6 +1,7 @@
 -- What the parts of a declaration give in the syntax tree: names, numbers, strings, options, types and ranges, and their spans.
 -- The declarations are in `Ast`.
 use Rattle.std.specs.Prelude.{ℕ, if◌then◌else◌, List, [], ◌∷◌, ◌++◌, map, Option, Some, None, option_map, is_some, codes, encode_utf8_all}
+use Rattle.std.specs.Option.{unwrap_or}
 use Rattle.std.specs.Str.{bytes_eq}
 use Rattle.bstr.specs.Utf8.{lossy_chars}
 use Rattle.protox_fault.specs.Faults.{Span}
@@ -150,13 +151,9 @@ type_span (t.scalar x place) = place.span
 type_span (t.named x) = typename_span x
 
 -- the first token of a type
-abbrev pub dotted_first : Option Place → Place → Place
-dotted_first None place = place
-dotted_first (Some dot) place = dot
-
 abbrev pub type_first : t.FieldType Place → Place
 type_first (t.scalar x place) = place
-type_first (t.named x) = dotted_first x.leading_dot x.name.first.1
+type_first (t.named x) = unwrap_or x.leading_dot x.name.first.1
 
 abbrev pub label : t.Label Place → FieldLabel × Span
 label (t.optional place) = (field_label.Optional, place.span)

@@ -3,11 +3,6 @@ use Rattle.std.specs.Prelude.{List, [], ◌∷◌, map, Option, Some, None}
 use Rattle.std.specs.List.{AllByRecursion}
 use Rattle.protox_fault.specs.Faults.{Span}
 
--- P holds of what is given
-abbrev pub Given : {A : Type 0} → (A → Type 0) → Option A → Type 0
-Given P None = Unit {0}
-Given P (Some x) = P x
-
 -- P holds of each element
 abbrev pub Each : {A : Type 0} → (A → Type 0) → List A → Type 0
 Each = AllByRecursion

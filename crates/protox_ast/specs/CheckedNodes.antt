@@ -1,111 +1,16 @@
 -- The nodes of a file that are checked while it is read.
-use Rattle.std.specs.Prelude.{ℕ, suc, ◌==◌, if◌then◌else◌, List, [], ◌∷◌, ◌++◌, map, Option, Some, None}
+use Rattle.std.specs.Prelude.{◌==◌, if◌then◌else◌, List, [], ◌∷◌, ◌++◌, map}
 use Rattle.std.specs.List.{flat_map}
 use Rattle.protox_ast.specs.Basics.{last}
+pub use Rattle.protox_ast.specs.Nodes.{CheckedNode, ASyntax, AnImport, AReservedName, AGroupName, APackageAgain, ATooDeep}
+use Rattle.protox_ast.specs.Nodes.{Node, AChecked, ABody, nodes}
 use Rattle.protox_ast.specs.Tree as t
 
-pub data CheckedNode (M : Type 0) : Type 0 where
-  -- the string of the syntax statement
-  ASyntax : t.Strings M → CheckedNode M
-  -- the string of an import
-  AnImport : t.Strings M → CheckedNode M
-  -- a reserved name, as a string
-  AReservedName : t.Strings M → CheckedNode M
-  -- the name of a group
-  AGroupName : t.Word M → CheckedNode M
-  -- a package statement that isn't the first, and the first
-  APackageAgain : (first again : t.Package M) → CheckedNode M
-  -- a message or a group of level 32: its word and its `{`
-  ATooDeep : (keyword open_at : M) → CheckedNode M
-
--- the level that is one too many
-abbrev pub too_deep : ℕ
-too_deep = 32
-
-abbrev pub deep_nodes : {M : Type 0} → ℕ → M → M → List (CheckedNode M)
-deep_nodes level keyword open_at = if level == too_deep then ATooDeep keyword open_at ∷ [] else []
-
-abbrev pub reserved_nodes : {M : Type 0} → t.ReservedKind M → List (CheckedNode M)
-reserved_nodes (t.ranges x) = []
-reserved_nodes (t.names x) = AReservedName x.first ∷ map (λ y. AReservedName y.1) x.others
-
-abbrev pub enum_element_nodes : {M : Type 0} → t.EnumElement M → List (CheckedNode M)
-enum_element_nodes (t.enum_reserved x) = reserved_nodes x.kind
-enum_element_nodes _ = []
-
-abbrev pub enum_nodes : {M : Type 0} → t.Enum M → List (CheckedNode M)
-enum_nodes x = flat_map enum_element_nodes x.elements
-
--- The nodes of what stands at a level: a message or a group that stands in no other is of level 1.
-abbrev mutual
-  pub message_nodes : {M : Type 0} → ℕ → t.Message M → List (CheckedNode M)
-  message_nodes level (t.message_of keyword name b) = body_nodes level keyword b
-
-  pub body_nodes : {M : Type 0} → ℕ → M → t.Mbody M → List (CheckedNode M)
-  body_nodes level keyword (t.mbody_of open_at es close_at) = deep_nodes level keyword open_at ++ elements_nodes (suc level) es
-
-  pub elements_nodes : {M : Type 0} → ℕ → t.Elements M → List (CheckedNode M)
-  elements_nodes level t.no_elements = []
-  elements_nodes level (t.elements e es) = element_nodes level e ++ elements_nodes level es
-
-  pub element_nodes : {M : Type 0} → ℕ → t.Element M → List (CheckedNode M)
-  element_nodes level (t.empty place) = []
-  element_nodes level (t.field x) = field_nodes level x
-  element_nodes level (t.oneof x) = oneof_nodes level x
-  element_nodes level (t.enum x) = enum_nodes x
-  element_nodes level (t.message x) = message_nodes level x
-  element_nodes level (t.extend x) = extend_nodes level x
-  element_nodes level (t.option x) = []
-  element_nodes level (t.reserved x) = reserved_nodes x.kind
-  element_nodes level (t.extensions x) = []
-
-  pub field_nodes : {M : Type 0} → ℕ → t.Field M → List (CheckedNode M)
-  field_nodes level (t.field_of l kind) = kind_nodes level kind
-
-  pub kind_nodes : {M : Type 0} → ℕ → t.FieldKind M → List (CheckedNode M)
-  kind_nodes level (t.normal x) = []
-  kind_nodes level (t.map x) = []
-  kind_nodes level (t.group x) = group_nodes level x
-
-  pub group_nodes : {M : Type 0} → ℕ → t.Group M → List (CheckedNode M)
-  group_nodes level (t.group_of keyword name equals_sign number options b) = AGroupName name ∷ body_nodes level keyword b
-
-  pub oneof_nodes : {M : Type 0} → ℕ → t.Oneof M → List (CheckedNode M)
-  oneof_nodes level (t.oneof_of keyword name open_at es close_at) = oneof_elements_nodes level es
-
-  pub oneof_elements_nodes : {M : Type 0} → ℕ → t.OneofElements M → List (CheckedNode M)
-  oneof_elements_nodes level t.no_oneof_elements = []
-  oneof_elements_nodes level (t.oneof_elements e es) = oneof_element_nodes level e ++ oneof_elements_nodes level es
-
-  pub oneof_element_nodes : {M : Type 0} → ℕ → t.OneofElement M → List (CheckedNode M)
-  oneof_element_nodes level (t.oneof_empty place) = []
-  oneof_element_nodes level (t.oneof_option x) = []
-  oneof_element_nodes level (t.oneof_field x) = field_nodes level x
-
-  pub extend_nodes : {M : Type 0} → ℕ → t.Extend M → List (CheckedNode M)
-  extend_nodes level (t.extend_of keyword extendee open_at es close_at) = extend_elements_nodes level es
-
-  pub extend_elements_nodes : {M : Type 0} → ℕ → t.ExtendElements M → List (CheckedNode M)
-  extend_elements_nodes level t.no_extend_elements = []
-  extend_elements_nodes level (t.extend_elements e es) = extend_element_nodes level e ++ extend_elements_nodes level es
-
-  pub extend_element_nodes : {M : Type 0} → ℕ → t.ExtendElement M → List (CheckedNode M)
-  extend_element_nodes level (t.extend_empty place) = []
-  extend_element_nodes level (t.extend_field x) = field_nodes level x
-
-abbrev pub statement_nodes : {M : Type 0} → t.Statement M → List (CheckedNode M)
-statement_nodes (t.an_empty place) = []
-statement_nodes (t.an_import x) = AnImport x.value ∷ []
-statement_nodes (t.a_package x) = []
-statement_nodes (t.an_option x) = []
-statement_nodes (t.an_extend x) = extend_nodes 1 x
-statement_nodes (t.a_message x) = message_nodes 1 x
-statement_nodes (t.an_enum x) = enum_nodes x
-statement_nodes (t.a_service x) = []
-
-abbrev pub syntax_nodes : {M : Type 0} → Option (t.Syntax M) → List (CheckedNode M)
-syntax_nodes None = []
-syntax_nodes (Some x) = ASyntax x.value ∷ []
+-- what is checked of a node; level 32 is one too many
+abbrev pub checked_of : {M : Type 0} → Node M → List (CheckedNode M)
+checked_of (AChecked x) = x ∷ []
+checked_of (ABody level keyword open_at) = if level == 32 then ATooDeep keyword open_at ∷ [] else []
+checked_of _ = []
 
 -- the package statements
 abbrev pub packages_in : {M : Type 0} → List (t.Statement M) → List (t.Package M)
@@ -119,7 +24,7 @@ package_nodes [] = []
 package_nodes (first ∷ others) = map (λ again. APackageAgain first again) others
 
 abbrev pub checked_nodes : {M : Type 0} → t.File M → List (CheckedNode M)
-checked_nodes f = syntax_nodes f.syntax ++ (flat_map statement_nodes f.statements ++ package_nodes (packages_in f.statements))
+checked_nodes f = flat_map checked_of (nodes f) ++ package_nodes (packages_in f.statements)
 
 -- ---- where a node ends
 

@@ -1,5 +1,5 @@
 -- What is wrong with a file that is checked while it is read: a relation, without order. What the generator checks stands elsewhere.
-use Rattle.std.specs.Prelude.{◌≡◌, ◌⊎◌, ℕ, Bool, true, false, not, ◌&&◌, ◌||◌, ◌==◌, List, codes, length, Any}
+use Rattle.std.specs.Prelude.{◌≡◌, ◌⊎◌, ℕ, Bool, false, not, ◌&&◌, ◌||◌, ◌==◌, List, codes, length, Any}
 use Rattle.std.specs.List.{list_all, list_any, slice_split}
 use Rattle.std.specs.Str.{bytes_eq}
 use Rattle.std.specs.Str.Lossy.{utf8_valid_len}
@@ -32,15 +32,6 @@ is_plain_component c = not (length c == 0) && (not (bytes_eq c (codes ".")) && (
 
 abbrev pub is_import_path : List ℕ → Bool
 is_import_path path = list_all is_plain_component (components path)
-
--- Nothing is wrong with the node. A later package and a body that is too deep are never fine.
-abbrev pub IsFine : {M : Type 0} → CheckedNode M → Type 0
-IsFine (ASyntax x) = is_known_syntax (strings_value x) ≡ true
-IsFine (AnImport x) = (is_text (strings_value x) ≡ true) × (is_import_path (text_of (strings_value x)) ≡ true)
-IsFine (AReservedName x) = (is_text (strings_value x) ≡ true) × IsIdent (text_of (strings_value x))
-IsFine (AGroupName x) = IsGroupName x.0
-IsFine (APackageAgain first again) = ⊥
-IsFine (ATooDeep keyword open_at) = ⊥
 
 -- ---- what is wrong
 

@@ -1,14 +1,24 @@
 -- What stands inside an aggregate behind the first tokens of a source, and which lexemes are clean.
-use Rattle.std.specs.Prelude.{◌≡◌, ◌≢◌, ◌<◌, ◌≤◌, ℕ, suc, true, if◌then◌else◌, List, [], ◌∷◌, take, Any}
+use Rattle.std.specs.Prelude.{◌≡◌, ◌≢◌, ◌<◌, ◌≤◌, ℕ, suc, true, if◌then◌else◌, List, [], ◌∷◌, Any}
+use Rattle.std.specs.List.{flat_map}
 use Rattle.protox_fault.specs.Faults.{faults_in}
 use Rattle.protox_lexeme.specs.Lexemes.{Lexeme}
 use Rattle.protox_lexeme.specs.Shapes.{Invalid}
 use Rattle.protox_lexeme.specs.Table.{is_gap, rows_of}
-use Rattle.protox_ast.specs.Aggregates.{aggregates}
+use Rattle.protox_ast.specs.Nodes.{Node, AValue, nodes}
 pub use Rattle.protox_ast.specs.Spells.{GoesOn, numbered, shapes}
 use Rattle.protox_ast.specs.Tree as t
 
 -- ---- aggregates
+
+-- of a node that is one, its `{` and its `}`
+abbrev pub braces_of : {M : Type 0} → Node M → List (M × M)
+braces_of (AValue (t.aggregate open_at inside close_at)) = (open_at, close_at) ∷ []
+braces_of _ = []
+
+-- the aggregates of a file: the values of options that stand between braces, by these
+abbrev pub aggregates : {M : Type 0} → t.File M → List (M × M)
+aggregates f = flat_map braces_of (nodes f)
 
 -- Some file goes on behind the first n tokens inside an aggregate: its `{` is one of them, and its `}` is none.
 abbrev pub Inside : List Lexeme → ℕ → Type 0
@@ -28,7 +38,3 @@ AreCleanBehind lexemes tokens (x ∷ xs) = IsCleanBehind lexemes tokens x × Are
 -- All lexemes are clean.
 abbrev pub AreClean : List Lexeme → Type 0
 AreClean lexemes = AreCleanBehind lexemes 0 lexemes
-
--- The first n lexemes are clean.
-abbrev pub CleanFront : List Lexeme → ℕ → Type 0
-CleanFront lexemes n = AreCleanBehind lexemes 0 (take n lexemes)

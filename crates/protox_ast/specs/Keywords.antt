@@ -1,8 +1,9 @@
 -- Where a word that is a keyword may stand as a name: the keyword rules, and the trees that keep them everywhere.
 use Rattle.std.specs.Prelude.{◌≡◌, ◌≤◌, ℕ, suc, List, [], ◌∷◌, map, Option, Some, None, Bool, true, false, if◌then◌else◌, ◌==◌, codes, take}
-use Rattle.protox_lexeme.specs.Shapes.{Shape, Mark, LineComment, BlockComment, Newline, Invalid, Row, Rows}
-pub use Rattle.protox_ast.specs.Basics.{Given, Each}
+use Rattle.protox_lexeme.specs.Shapes.{Shape, Mark, LineComment, BlockComment, Newline, Invalid, Rows}
+pub use Rattle.protox_ast.specs.Basics.{Each}
 use Rattle.protox_ast.specs.Basics.{last}
+use Rattle.protox_ast.specs.Nodes.{Node, AMessageField, AOneofField, AnExtendField, ANormal, AMap, AnExtensions, AnEvalue, AnRpcType, AValue, nodes}
 use Rattle.protox_ast.specs.Tree as t
 use Rattle.protox_ast.specs.Spelling.{open_brace, close_brace}
 
@@ -42,54 +43,19 @@ scalars = codes "double" ∷ codes "float" ∷ codes "int32" ∷ codes "int64" �
 abbrev pub in_message : List (List ℕ)
 in_message = codes "oneof" ∷ codes "enum" ∷ codes "message" ∷ codes "extend" ∷ codes "option" ∷ codes "reserved" ∷ codes "extensions" ∷ []
 
--- ---- the rules
-
--- The type of an unlabelled normal field doesn't begin with `optional`, `required` or `repeated`.
-abbrev pub BeginsWithNoLabel : {M : Type 0} → t.Field M → Type 0
-BeginsWithNoLabel x = UnlabelledBeginsWithNone labels x
-
--- No normal field's type begins with `map`, `group` or a scalar word, unless it is that scalar alone.
-abbrev pub BeginsWithNoKindOrScalar : {M : Type 0} → t.Normal M → Type 0
-BeginsWithNoKindOrScalar x = TypeBeginsWithNone (codes "map" ∷ codes "group" ∷ scalars) x.type
-
--- In a message body the type of an unlabelled normal field doesn't begin with `oneof`, `enum`, `message`, `extend`, `option`, `reserved` or `extensions`.
-abbrev pub BeginsWithNoElement : {M : Type 0} → t.Field M → Type 0
-BeginsWithNoElement x = UnlabelledBeginsWithNone in_message x
-
--- In a oneof body it doesn't begin with `option`. In an extend body every other word is a type.
-abbrev pub BeginsWithNoOption : {M : Type 0} → t.Field M → Type 0
-BeginsWithNoOption x = UnlabelledBeginsWithNone (codes "option" ∷ []) x
-
--- A map's key or value type doesn't begin with a scalar word, unless it is that scalar alone; it may begin with `map` or `group`.
-abbrev pub KeyAndValueBeginWithNoScalar : {M : Type 0} → t.Map M → Type 0
-KeyAndValueBeginWithNoScalar x = TypeBeginsWithNone scalars x.key × TypeBeginsWithNone scalars x.value
-
--- An enum value's name isn't `option` or `reserved`.
-abbrev pub NameIsNoElement : {M : Type 0} → t.Evalue M → Type 0
-NameIsNoElement x = NoneOf (codes "option" ∷ codes "reserved" ∷ []) x.name.0
-
--- A type in an rpc without `stream` before it doesn't begin with `stream`.
+-- a type in an rpc, where no `stream` stands before it, doesn't begin with `stream`
 abbrev pub Unstreamed : {M : Type 0} → Option M → t.TypeName M → Type 0
 Unstreamed (Some m) x = Unit {0}
 Unstreamed None x = NameBeginsWithNone (codes "stream" ∷ []) x
 
-abbrev pub BeginsWithNoStream : {M : Type 0} → t.RpcType M → Type 0
-BeginsWithNoStream x = Unstreamed x.stream x.name
+-- ---- lists behind ranges
 
--- ---- the rule of lists behind ranges
-
-abbrev pub HasTo : {M : Type 0} → t.Range M → Type 0
-HasTo r = r.stop ≡ None → ⊥
-
+-- with an option list behind them, the last of the ranges has `to`
 abbrev pub ListedAfterTo : {M : Type 0} → Option (t.OptionList M) → t.Ranges M → Type 0
 ListedAfterTo None x = Unit {0}
-ListedAfterTo (Some l) x = HasTo (last x.first (map (λ y. y.1) x.others))
+ListedAfterTo (Some l) x = (last x.first (map (λ y. y.1) x.others)).stop ≡ None → ⊥
 
--- A range without `to` is followed by `,` or `;`: where an extensions statement has an option list, its last range has `to`.
-abbrev pub ListFollowsTo : {M : Type 0} → t.Extensions M → Type 0
-ListFollowsTo x = ListedAfterTo x.options x.ranges
-
--- ---- balanced: any tokens whose braces match
+-- ---- tokens whose braces match
 
 abbrev pub is_open_brace : Shape → Bool
 is_open_brace (Mark byte) = byte == open_brace
@@ -116,129 +82,29 @@ is_significant Newline = false
 is_significant Invalid = false
 is_significant _ = true
 
-abbrev pub IsSignificant : {M : Type 0} → Row M → Type 0
-IsSignificant r = is_significant r.shape ≡ true
+-- ---- the rules
 
--- ---- everywhere in a tree
-
-abbrev pub KeepsValue : {M : Type 0} → t.Value M → Type 0
-KeepsValue (t.aggregate o inside c) = BracesMatch inside × Each IsSignificant inside
-KeepsValue _ = Unit {0}
-
-abbrev pub KeepsBody : {M : Type 0} → t.Body M → Type 0
-KeepsBody x = KeepsValue x.value
-
-abbrev pub KeepsOption : {M : Type 0} → t.OptionStatement M → Type 0
-KeepsOption x = KeepsBody x.body
-
-abbrev pub KeepsList : {M : Type 0} → t.OptionList M → Type 0
-KeepsList x = KeepsBody x.first × Each (λ y. KeepsBody y.1) x.others
-
-abbrev pub KeepsNormal : {M : Type 0} → t.Normal M → Type 0
-KeepsNormal x = BeginsWithNoKindOrScalar x × Given KeepsList x.options
-
-abbrev pub KeepsMap : {M : Type 0} → t.Map M → Type 0
-KeepsMap x = KeyAndValueBeginWithNoScalar x × Given KeepsList x.options
-
-abbrev pub KeepsExtensions : {M : Type 0} → t.Extensions M → Type 0
-KeepsExtensions x = ListFollowsTo x × Given KeepsList x.options
-
-abbrev pub KeepsEvalue : {M : Type 0} → t.Evalue M → Type 0
-KeepsEvalue x = NameIsNoElement x × Given KeepsList x.options
-
-abbrev pub KeepsEnumElement : {M : Type 0} → t.EnumElement M → Type 0
-KeepsEnumElement (t.enum_empty m) = Unit {0}
-KeepsEnumElement (t.enum_option x) = KeepsOption x
-KeepsEnumElement (t.enum_reserved x) = Unit {0}
-KeepsEnumElement (t.enum_value x) = KeepsEvalue x
-
-abbrev pub KeepsEnum : {M : Type 0} → t.Enum M → Type 0
-KeepsEnum x = Each KeepsEnumElement x.elements
-
-abbrev pub KeepsRpcElement : {M : Type 0} → t.RpcElement M → Type 0
-KeepsRpcElement (t.rpc_empty m) = Unit {0}
-KeepsRpcElement (t.rpc_option x) = KeepsOption x
-
-abbrev pub KeepsRpcEnd : {M : Type 0} → t.RpcEnd M → Type 0
-KeepsRpcEnd (t.rpc_semicolon m) = Unit {0}
-KeepsRpcEnd (t.rpc_braces o xs c) = Each KeepsRpcElement xs
-
-abbrev pub KeepsRpc : {M : Type 0} → t.Rpc M → Type 0
-KeepsRpc x = BeginsWithNoStream x.input × BeginsWithNoStream x.output × KeepsRpcEnd x.end
-
-abbrev pub KeepsServiceElement : {M : Type 0} → t.ServiceElement M → Type 0
-KeepsServiceElement (t.service_empty m) = Unit {0}
-KeepsServiceElement (t.service_option x) = KeepsOption x
-KeepsServiceElement (t.service_rpc x) = KeepsRpc x
-
-abbrev pub KeepsService : {M : Type 0} → t.Service M → Type 0
-KeepsService x = Each KeepsServiceElement x.elements
-
-abbrev mutual
-  pub KeepsMessage : {M : Type 0} → t.Message M → Type 0
-  KeepsMessage (t.message_of k n b) = KeepsMbody b
-
-  pub KeepsMbody : {M : Type 0} → t.Mbody M → Type 0
-  KeepsMbody (t.mbody_of o es c) = KeepsElements es
-
-  pub KeepsElements : {M : Type 0} → t.Elements M → Type 0
-  KeepsElements t.no_elements = Unit {0}
-  KeepsElements (t.elements e es) = KeepsElement e × KeepsElements es
-
-  pub KeepsElement : {M : Type 0} → t.Element M → Type 0
-  KeepsElement (t.empty m) = Unit {0}
-  KeepsElement (t.field x) = BeginsWithNoElement x × KeepsField x
-  KeepsElement (t.oneof x) = KeepsOneof x
-  KeepsElement (t.enum x) = KeepsEnum x
-  KeepsElement (t.message x) = KeepsMessage x
-  KeepsElement (t.extend x) = KeepsExtend x
-  KeepsElement (t.option x) = KeepsOption x
-  KeepsElement (t.reserved x) = Unit {0}
-  KeepsElement (t.extensions x) = KeepsExtensions x
-
-  pub KeepsField : {M : Type 0} → t.Field M → Type 0
-  KeepsField (t.field_of l k) = BeginsWithNoLabel (t.field_of l k) × KeepsKind k
-
-  pub KeepsKind : {M : Type 0} → t.FieldKind M → Type 0
-  KeepsKind (t.normal x) = KeepsNormal x
-  KeepsKind (t.map x) = KeepsMap x
-  KeepsKind (t.group x) = KeepsGroup x
-
-  pub KeepsGroup : {M : Type 0} → t.Group M → Type 0
-  KeepsGroup (t.group_of k n e i l b) = Given KeepsList l × KeepsMbody b
-
-  pub KeepsOneof : {M : Type 0} → t.Oneof M → Type 0
-  KeepsOneof (t.oneof_of k n o es c) = KeepsOneofElements es
-
-  pub KeepsOneofElements : {M : Type 0} → t.OneofElements M → Type 0
-  KeepsOneofElements t.no_oneof_elements = Unit {0}
-  KeepsOneofElements (t.oneof_elements e es) = KeepsOneofElement e × KeepsOneofElements es
-
-  pub KeepsOneofElement : {M : Type 0} → t.OneofElement M → Type 0
-  KeepsOneofElement (t.oneof_empty m) = Unit {0}
-  KeepsOneofElement (t.oneof_option x) = KeepsOption x
-  KeepsOneofElement (t.oneof_field x) = BeginsWithNoOption x × KeepsField x
-
-  pub KeepsExtend : {M : Type 0} → t.Extend M → Type 0
-  KeepsExtend (t.extend_of k n o es c) = KeepsExtendElements es
-
-  pub KeepsExtendElements : {M : Type 0} → t.ExtendElements M → Type 0
-  KeepsExtendElements t.no_extend_elements = Unit {0}
-  KeepsExtendElements (t.extend_elements e es) = KeepsExtendElement e × KeepsExtendElements es
-
-  pub KeepsExtendElement : {M : Type 0} → t.ExtendElement M → Type 0
-  KeepsExtendElement (t.extend_empty m) = Unit {0}
-  KeepsExtendElement (t.extend_field x) = KeepsField x
-
-abbrev pub KeepsStatement : {M : Type 0} → t.Statement M → Type 0
-KeepsStatement (t.an_empty m) = Unit {0}
-KeepsStatement (t.an_import x) = Unit {0}
-KeepsStatement (t.a_package x) = Unit {0}
-KeepsStatement (t.an_option x) = KeepsOption x
-KeepsStatement (t.an_extend x) = KeepsExtend x
-KeepsStatement (t.a_message x) = KeepsMessage x
-KeepsStatement (t.an_enum x) = KeepsEnum x
-KeepsStatement (t.a_service x) = KeepsService x
+-- What the rules ask of a node.
+abbrev pub KeepsRule : {M : Type 0} → Node M → Type 0
+-- The type of an unlabelled normal field doesn't begin with `optional`, `required` or `repeated`.
+-- In a message body it doesn't begin with `oneof`, `enum`, `message`, `extend`, `option`, `reserved` or `extensions`.
+KeepsRule (AMessageField x) = UnlabelledBeginsWithNone labels x × UnlabelledBeginsWithNone in_message x
+-- In a oneof body it doesn't begin with `option`. In an extend body every other word is a type.
+KeepsRule (AOneofField x) = UnlabelledBeginsWithNone labels x × UnlabelledBeginsWithNone (codes "option" ∷ []) x
+KeepsRule (AnExtendField x) = UnlabelledBeginsWithNone labels x
+-- No normal field's type begins with `map`, `group` or a scalar word, unless it is that scalar alone.
+KeepsRule (ANormal x) = TypeBeginsWithNone (codes "map" ∷ codes "group" ∷ scalars) x.type
+-- A map's key or value type doesn't begin with a scalar word, unless it is that scalar alone; it may begin with `map` or `group`.
+KeepsRule (AMap x) = TypeBeginsWithNone scalars x.key × TypeBeginsWithNone scalars x.value
+-- A range without `to` is followed by `,` or `;`: where an extensions statement has an option list, its last range has `to`.
+KeepsRule (AnExtensions x) = ListedAfterTo x.options x.ranges
+-- An enum value's name isn't `option` or `reserved`.
+KeepsRule (AnEvalue x) = NoneOf (codes "option" ∷ codes "reserved" ∷ []) x.name.0
+-- A type in an rpc without `stream` before it doesn't begin with `stream`.
+KeepsRule (AnRpcType x) = Unstreamed x.stream x.name
+-- In an aggregate stand any tokens whose braces match.
+KeepsRule (AValue (t.aggregate open_at inside close_at)) = BracesMatch inside × Each (λ r. is_significant r.shape ≡ true) inside
+KeepsRule _ = Unit {0}
 
 abbrev pub KeepsKeywords : {M : Type 0} → t.File M → Type 0
-KeepsKeywords x = Each KeepsStatement x.statements
+KeepsKeywords f = Each KeepsRule (nodes f)

@@ -82,6 +82,10 @@ abbrev pub many : {M A : Type 0} → (A → Rows M) → List A → Rows M
 many spell [] = []
 many spell (x ∷ xs) = spell x ⌢ many spell xs
 
+-- a mark, and behind it what is spelled so
+abbrev pub behind : {M A : Type 0} → ℕ → (A → Rows M) → M × A → Rows M
+behind mark spell x = sign mark x.0 ⌢ spell x.1
+
 -- string+
 abbrev pub strings : {M : Type 0} → t.Strings M → Rows M
 strings x = string x.first ⌢ many string x.others
@@ -98,11 +102,8 @@ import_kind (t.«public» m) = keyword (codes "public") m
 abbrev pub «import» : {M : Type 0} → t.Import M → Rows M
 «import» x = keyword (codes "import") x.keyword ⌢ maybe import_kind x.kind ⌢ strings x.value ⌢ sign semicolon x.end
 
-abbrev pub dot_ident : {M : Type 0} → M × t.Word M → Rows M
-dot_ident x = sign dot x.0 ⌢ ident x.1
-
 abbrev pub fullident : {M : Type 0} → t.FullIdent M → Rows M
-fullident x = ident x.first ⌢ many dot_ident x.others
+fullident x = ident x.first ⌢ many (behind dot ident) x.others
 
 abbrev pub «package» : {M : Type 0} → t.Package M → Rows M
 «package» x = keyword (codes "package") x.keyword ⌢ fullident x.name ⌢ sign semicolon x.end
@@ -124,20 +125,14 @@ value (t.constant s x) = maybe (sign minus) s ⌢ constant x
 value (t.strings x) = strings x
 value (t.aggregate o inside c) = sign open_brace o ⌢ inside ⌢ sign close_brace c
 
-abbrev pub dot_part : {M : Type 0} → M × t.Part M → Rows M
-dot_part x = sign dot x.0 ⌢ part x.1
-
 abbrev pub body : {M : Type 0} → t.Body M → Rows M
-body x = part x.first ⌢ many dot_part x.others ⌢ sign equals x.equals_sign ⌢ value x.value
+body x = part x.first ⌢ many (behind dot part) x.others ⌢ sign equals x.equals_sign ⌢ value x.value
 
 abbrev pub option : {M : Type 0} → t.OptionStatement M → Rows M
 option x = keyword (codes "option") x.keyword ⌢ body x.body ⌢ sign semicolon x.end
 
-abbrev pub comma_body : {M : Type 0} → M × t.Body M → Rows M
-comma_body x = sign comma x.0 ⌢ body x.1
-
 abbrev pub list : {M : Type 0} → t.OptionList M → Rows M
-list x = sign open_bracket x.open_at ⌢ body x.first ⌢ many comma_body x.others ⌢ sign close_bracket x.close_at
+list x = sign open_bracket x.open_at ⌢ body x.first ⌢ many (behind comma body) x.others ⌢ sign close_bracket x.close_at
 
 abbrev pub int : {M : Type 0} → t.Int M → Rows M
 int x = maybe (sign minus) x.sign ⌢ integer x.number
@@ -182,17 +177,11 @@ range_end (t.up_to_max k m) = keyword (codes "to") k ⌢ keyword (codes "max") m
 abbrev pub range : {M : Type 0} → t.Range M → Rows M
 range x = int x.start ⌢ maybe range_end x.stop
 
-abbrev pub comma_range : {M : Type 0} → M × t.Range M → Rows M
-comma_range x = sign comma x.0 ⌢ range x.1
-
 abbrev pub ranges : {M : Type 0} → t.Ranges M → Rows M
-ranges x = range x.first ⌢ many comma_range x.others
-
-abbrev pub comma_strings : {M : Type 0} → M × t.Strings M → Rows M
-comma_strings x = sign comma x.0 ⌢ strings x.1
+ranges x = range x.first ⌢ many (behind comma range) x.others
 
 abbrev pub names : {M : Type 0} → t.Names M → Rows M
-names x = strings x.first ⌢ many comma_strings x.others
+names x = strings x.first ⌢ many (behind comma strings) x.others
 
 abbrev pub reserved_kind : {M : Type 0} → t.ReservedKind M → Rows M
 reserved_kind (t.ranges x) = ranges x

@@ -5,8 +5,8 @@ use Rattle.protox_fault.specs.Faults.{Span}
 use Rattle.protox_lexeme.specs.Shapes.{Mark, Rows}
 use Rattle.protox_ast.specs.Tree as tree
 use Rattle.protox_ast.specs.Spelling as s
-use Rattle.protox_ast.specs.Keywords as k
-use Rattle.protox_ast.specs.Aggregates as aggregates
+use Rattle.protox_ast.specs.KeywordWalk as k
+use Rattle.protox_ast.specs.AggregateWalk as aggregates
 use Rattle.protox_ast.specs.Ast as ast
 use Rattle.protox_ast.specs.CheckedNodes.{AGroupName}
 use Rattle.protox_ast.specs.Places.{Place}

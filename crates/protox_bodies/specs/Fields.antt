@@ -1,6 +1,7 @@
 -- MACHINERY. The kinds of fields, as the code reads and notes them, and what a field is made of.
 use Rattle.std.specs.Prelude.{◌≡◌, List, [], ◌∷◌, ◌++◌, Option, Some, None, option_map, ◌⊎◌, codes}
 use Rattle.std.proofs.Common.{refl, append-nil, inl, inr}
+use Rattle.std.specs.Option.{unwrap_or}
 use Rattle.protox_fault.specs.Faults.{Span}
 use Rattle.protox_lexeme.specs.Shapes.{Rows}
 use Rattle.protox_ast.specs.Tree as tree
@@ -90,7 +91,7 @@ field-is l (tree.normal x) = refl
 field-is l (tree.map x) = refl
 field-is l (tree.group (tree.group_of m n e i o b)) = refl
 
-pub dotted-begins : (d : Option Place) (n : tree.FullIdent Place) (x : Option (FieldLabel × Span) × Kind) (ys rest : Rows Place) → field_of (((s.maybe (s.sign s.dot) d ++ s.fullident n) ++ ys) ++ rest) x ≡ begun_at (ast.dotted_first d n.first.1) x
+pub dotted-begins : (d : Option Place) (n : tree.FullIdent Place) (x : Option (FieldLabel × Span) × Kind) (ys rest : Rows Place) → field_of (((s.maybe (s.sign s.dot) d ++ s.fullident n) ++ ys) ++ rest) x ≡ begun_at (unwrap_or d n.first.1) x
 dotted-begins None n x ys rest = refl
 dotted-begins (Some m) n x ys rest = refl
 

@@ -9,7 +9,7 @@ use Rattle.protox_grammar.specs.Class.{place, keywords, among}
 use Rattle.protox_grammar.specs.Rule.{Stops, row}
 use Rattle.protox_ast.specs.Tree as t
 use Rattle.protox_ast.specs.Spelling as s
-use Rattle.protox_ast.specs.Keywords as k
+use Rattle.protox_ast.specs.KeywordWalk as k
 use Rattle.protox_grammar.proofs.Sets.{or_false, and_true}
 
 unequal : (b : Bool) → (b ≡ true → ⊥) → b ≡ false
@@ -66,10 +66,10 @@ module _ {M : Type 0} (ks : List (List ℕ)) (known-ks : known ks ≡ true) (dot
   stops-undotted None w rest h = among-none ks w.0 h
 
   pub name-stops : (x : t.TypeName M) → k.NameBeginsWithNone ks x → Stops (among (places ks)) (s.typename x)
-  name-stops x h = undotted-stops x.leading_dot x.name.first (s.many s.dot_ident x.name.others) h
+  name-stops x h = undotted-stops x.leading_dot x.name.first (s.many (s.behind s.dot s.ident) x.name.others) h
 
   pub stops-name : (x : t.TypeName M) → Stops (among (places ks)) (s.typename x) → k.NameBeginsWithNone ks x
-  stops-name x h = stops-undotted x.leading_dot x.name.first (s.many s.dot_ident x.name.others) h
+  stops-name x h = stops-undotted x.leading_dot x.name.first (s.many (s.behind s.dot s.ident) x.name.others) h
 
   undotted-then : (l : Option M) (w : t.Word M) (rest z : Rows M) → k.Undotted ks l w.0 → Stops (among (places ks)) ((s.maybe (s.sign s.dot) l ++ (row (Ident w.0) w.1 ∷ rest)) ++ z)
   undotted-then (Some m) w rest z h = dotless
@@ -83,8 +83,8 @@ module _ {M : Type 0} (ks : List (List ℕ)) (known-ks : known ks ≡ true) (dot
   module _ (no-scalar : (x : t.Scalar) → among (places ks) (place keywords (s.scalar_word x)) ≡ false) where
     pub type-stops : (x : t.FieldType M) (z : Rows M) → k.TypeBeginsWithNone ks x → Stops (among (places ks)) (s.type x ++ z)
     type-stops (t.scalar x m) z h = no-scalar x
-    type-stops (t.named x) z h = undotted-then x.leading_dot x.name.first (s.many s.dot_ident x.name.others) z h
+    type-stops (t.named x) z h = undotted-then x.leading_dot x.name.first (s.many (s.behind s.dot s.ident) x.name.others) z h
 
     pub stops-type : (x : t.FieldType M) (z : Rows M) → Stops (among (places ks)) (s.type x ++ z) → k.TypeBeginsWithNone ks x
     stops-type (t.scalar x m) z h = tt
-    stops-type (t.named x) z h = then-undotted x.leading_dot x.name.first (s.many s.dot_ident x.name.others) z h
+    stops-type (t.named x) z h = then-undotted x.leading_dot x.name.first (s.many (s.behind s.dot s.ident) x.name.others) z h

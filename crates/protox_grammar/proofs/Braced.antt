@@ -5,8 +5,8 @@ use Rattle.std.specs.List.{flat_map}
 use Rattle.protox_lexeme.specs.Shapes.{Mark, Rows}
 use Rattle.protox_ast.specs.Tree as t
 use Rattle.protox_ast.specs.Spelling as s
-use Rattle.protox_ast.specs.Aggregates as a
-use Rattle.protox_ast.specs.Aggregates.{Braces}
+use Rattle.protox_ast.specs.AggregateWalk as a
+use Rattle.protox_ast.specs.AggregateWalk.{Braces}
 use Rattle.protox_grammar.specs.Class.{just_word, just_mark, among_marks}
 use Rattle.protox_grammar.specs.Rule.{row, seq, times, choice, peek}
 use Rattle.protox_grammar.specs.Rules as r

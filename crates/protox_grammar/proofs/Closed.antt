@@ -8,7 +8,7 @@ use Rattle.protox_grammar.specs.Reader as reader
 use Rattle.protox_grammar.specs.Reader.{Refusal, Unexpected, Deep, ◌>>=◌}
 use Rattle.protox_grammar.specs.Rule.{Starts, row}
 use Rattle.protox_ast.specs.Spelling.{close_brace}
-use Rattle.protox_ast.specs.Keywords as k
+use Rattle.protox_ast.specs.KeywordWalk as k
 use Rattle.protox_grammar.specs.Rules.{balanced_at, closed}
 use Rattle.protox_grammar.proofs.Balance.{balances, counted}
 use Rattle.protox_grammar.proofs.Takes.{bind_ok, ok_is}

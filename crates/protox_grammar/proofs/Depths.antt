@@ -13,8 +13,8 @@ use Rattle.protox_grammar.proofs.Words.{mark-back, mark-exact}
 use Rattle.protox_grammar.specs.Rule.{Rule, Starts, row}
 use Rattle.protox_ast.specs.Tree as t
 use Rattle.protox_ast.specs.Spelling as s
-use Rattle.protox_ast.specs.Keywords as k
-use Rattle.protox_ast.specs.Depth as d
+use Rattle.protox_ast.specs.KeywordWalk as k
+use Rattle.protox_ast.specs.DepthWalk as d
 use Rattle.protox_grammar.specs.Bodies as rule
 use Rattle.protox_grammar.proofs.Laws.{IsSpelled, head-same}
 use Rattle.protox_grammar.proofs.ReadingTokens.{too_deep-read}

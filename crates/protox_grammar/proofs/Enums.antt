@@ -4,7 +4,7 @@ use Rattle.protox_grammar.specs.Class.{none, words, union, just_word, just_mark,
 use Rattle.protox_grammar.specs.Rule.{unless, choice}
 use Rattle.protox_ast.specs.Tree as t
 use Rattle.protox_ast.specs.Spelling as s
-use Rattle.protox_ast.specs.Keywords as k
+use Rattle.protox_ast.specs.KeywordWalk as k
 use Rattle.protox_grammar.specs.Rules as r
 use Rattle.protox_grammar.proofs.Begin.{none-among, among-none}
 use Rattle.protox_grammar.proofs.Forms.{Lawful, word-laws, mark-laws, seq-laws, unless-laws, choice-laws, optional-laws, times-laws, named-laws, wide}

@@ -2,7 +2,7 @@
 use Rattle.std.proofs.Common.{false, codes, refl}
 use Rattle.protox_grammar.specs.Class.{none, words, union, just_word, just_mark}
 use Rattle.protox_ast.specs.Spelling as s
-use Rattle.protox_ast.specs.Keywords as k
+use Rattle.protox_ast.specs.KeywordWalk as k
 use Rattle.protox_grammar.specs.Rules as r
 use Rattle.protox_grammar.proofs.Forms.{Lawful, word-laws, mark-laws, seq-laws, optional-laws, named-laws, wide}
 use Rattle.protox_grammar.proofs.Parts as parts

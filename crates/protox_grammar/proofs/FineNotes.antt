@@ -1,14 +1,13 @@
 -- Nothing is noted as a fault exactly where each node that is noted is fine, and the rows behind are tokens.
-use Rattle.std.proofs.Common.{◌≡◌, ℕ, Bool, true, false, cond, ◌&&◌, List, [], ◌∷◌, ◌++◌, length, Option, Some, None, refl, sym, ap, subst, ◌∙◌, true≢false}
+use Rattle.std.proofs.Common.{◌≡◌, ℕ, Bool, true, false, cond, List, [], ◌∷◌, ◌++◌, length, Option, Some, None, refl, sym, true≢false}
 use Rattle.std.specs.Bool.{Decides}
-use Rattle.std.specs.Char.{is_ascii_alphabetic, is_ascii_uppercase}
-use Rattle.std.specs.List.{list_all}
 use Rattle.protox_fault.specs.declared.error.ParseErrorKind.{ParseErrorKind}
-use Rattle.protox_lexeme.specs.Shapes.{Row, Rows}
+use Rattle.protox_lexeme.specs.Shapes.{Rows}
 use Rattle.protox_ast.proofs.NameTests.{ident-decides, group-name-decides}
-use Rattle.protox_ast.specs.AstParts.{text_of, strings_value, strings_span}
+use Rattle.protox_ast.specs.AstParts.{text_of, strings_value}
 use Rattle.protox_ast.specs.CheckedNodes.{CheckedNode, ASyntax, AnImport, AReservedName, AGroupName, APackageAgain, ATooDeep}
-use Rattle.protox_ast.specs.Checks.{IsFine, IsIdent, IsGroupName, is_known_syntax, is_text, is_import_path}
+use Rattle.protox_ast.specs.Checks.{IsIdent, IsGroupName, is_known_syntax, is_text, is_import_path}
+use Rattle.protox_ast.specs.Fine.{IsFine}
 use Rattle.protox_ast.specs.Keywords.{Each}
 use Rattle.protox_ast.specs.Places.{Place}
 use Rattle.protox_ast.specs.Tree as t

@@ -5,7 +5,7 @@ use Rattle.protox_grammar.specs.Reader.{Refusal, Unexpected, Deep, is_token}
 use Rattle.protox_lexeme.specs.Shapes.{Shape, Ident, Mark, Rows}
 use Rattle.protox_grammar.specs.Class.{Set, class, apart, within, union, none, only, just_word, just_mark, in_set}
 use Rattle.protox_ast.specs.Spelling.{maybe}
-use Rattle.protox_ast.specs.Keywords.{Given}
+use Rattle.protox_ast.specs.KeywordWalk.{Given}
 use Rattle.protox_grammar.specs.Rule.{Rule, Stops, Starts, fixed, seq, on_sum, nothing, mapped, unless, choice, Closes, to_option, optional, times, named, named_fits, unstarted, noting}
 use Rattle.protox_grammar.proofs.Words.{word-exact, word-back, mark-exact, mark-back}
 use Rattle.protox_grammar.proofs.Sets.{gated, apart-at}

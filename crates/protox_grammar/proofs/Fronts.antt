@@ -3,8 +3,8 @@ use Rattle.std.proofs.Common.{◌≡◌, ◌≤◌, ℕ, zero, suc, List, [], �
 use Rattle.std.proofs.lemmas.List.{append-nil, length-append}
 use Rattle.std.proofs.lemmas.Bool.{cases_lt}
 use Rattle.protox_lexeme.specs.Shapes.{Shape, Row, Rows}
-use Rattle.protox_ast.specs.Depth as d
-use Rattle.protox_ast.specs.Keywords as k
+use Rattle.protox_ast.specs.DepthWalk as d
+use Rattle.protox_ast.specs.KeywordWalk as k
 use Rattle.protox_ast.specs.Spelling as s
 use Rattle.protox_ast.specs.Spells.{Spells, GoesOn, BeginsFile, shapes, numbered}
 use Rattle.protox_ast.specs.Tree as t

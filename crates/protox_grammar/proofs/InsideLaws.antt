@@ -6,7 +6,7 @@ use Rattle.protox_lexeme.specs.Shapes.{Shape, Row}
 use Rattle.protox_lexeme.specs.Table.{rows_of}
 use Rattle.protox_ast.specs.Tree as t
 use Rattle.protox_ast.specs.Spelling as s
-use Rattle.protox_ast.specs.Aggregates.{aggregates}
+use Rattle.protox_ast.specs.Fronts.{aggregates}
 use Rattle.protox_ast.specs.Fronts.{GoesOn, numbered, shapes}
 use Rattle.protox_grammar.specs.Reader.{head_in, is_string}
 use Rattle.protox_grammar.specs.Bodies as rule

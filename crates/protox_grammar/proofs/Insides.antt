@@ -1,7 +1,7 @@
 -- A place is inside an aggregate where the braces that were noted up to it say so.
 use Rattle.std.proofs.Common.{◌≡◌, ◌≤◌, ◌<◌, ℕ, zero, suc, ◌+◌, Bool, true, false, ◌||◌, cond, List, [], ◌∷◌, ◌++◌, Option, Some, None, refl, sym, ap, subst, ◌∙◌, arith, inl, inr, ◌⊎◌}
 use Rattle.protox_lexeme.specs.Shapes.{Row, Rows, Shape}
-use Rattle.protox_ast.specs.Aggregates.{Braces}
+use Rattle.protox_ast.specs.AggregateWalk.{Braces}
 use Rattle.protox_ast.specs.Fronts.{numbered}
 use Rattle.protox_ast.specs.Keywords.{Each}
 use Rattle.protox_grammar.specs.Reader.{is_string}

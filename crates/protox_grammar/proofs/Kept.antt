@@ -1,10 +1,10 @@
 -- What is read of a statement that is no package leaves the first package statement as it was.
-use Rattle.std.proofs.Common.{codes, ◌≡◌, ℕ, Bool, true, false, cond, List, [], ◌∷◌, ◌++◌, Option, Some, None, Result, Ok, Err, refl, sym, ap, subst, ◌∙◌, inl, inr, ◌⊎◌}
-use Rattle.protox_lexeme.specs.Shapes.{Shape, Rows}
-use Rattle.protox_ast.specs.Aggregates as a
-use Rattle.protox_ast.specs.CheckedNodes as c
-use Rattle.protox_ast.specs.CheckedNodes.{CheckedNode}
-use Rattle.protox_ast.specs.Keywords as k
+use Rattle.std.proofs.Common.{codes, ◌≡◌, Bool, true, false, cond, List, [], ◌∷◌, Option, Ok, refl, ap, ◌∙◌, inl, inr}
+use Rattle.protox_lexeme.specs.Shapes.{Rows}
+use Rattle.protox_ast.specs.AggregateWalk as a
+use Rattle.protox_ast.specs.CheckWalk as c
+use Rattle.protox_ast.specs.CheckedNodes.{CheckedNode, AnImport}
+use Rattle.protox_ast.specs.KeywordWalk as k
 use Rattle.protox_ast.specs.Places.{Place}
 use Rattle.protox_ast.specs.Tree as t
 use Rattle.protox_grammar.specs.Bodies as rule
@@ -13,7 +13,7 @@ use Rattle.protox_grammar.specs.Reader as reader
 use Rattle.protox_grammar.specs.Reader.{Reader, Refusal, head_in, mapped}
 use Rattle.protox_grammar.specs.Rule.{Rule, optional}
 use Rattle.protox_grammar.specs.Rules as r
-use Rattle.protox_grammar.specs.Steps.{Steps, Token, Note, plain_trace, plainly, rows_before}
+use Rattle.protox_grammar.specs.Steps.{Steps, plain_trace, plainly, rows_before}
 use Rattle.protox_grammar.specs.Told.{first_behind}
 use Rattle.protox_grammar.proofs.Braced as braced
 use Rattle.protox_grammar.proofs.Depths.{body-laws}
@@ -57,7 +57,7 @@ module _ (some : Place) where
   syntax-first = first-of (optional (only 0) r.syntax) (optional-laws (only 0) (parts.syntax-laws some) refl).traced (λ o. c.syntax_nodes o) (λ xs x e. (syntax-tells (Unit {0}) x.0).0)
 
   pub import-first : KeepsFirst (r.«import»).read (r.«import»).trace
-  import-first = first-of r.«import» (parts.import-laws some).traced (λ x. c.AnImport x.value ∷ []) (λ xs x e. (import-tells (Unit {0}) x.0).0)
+  import-first = first-of r.«import» (parts.import-laws some).traced (λ x. AnImport x.value ∷ []) (λ xs x e. (import-tells (Unit {0}) x.0).0)
 
   pub package-first : KeepsFirst (r.«package»).read (r.«package»).trace
   package-first = first-of r.«package» (parts.package-laws some).traced (λ x. []) (λ xs x e. (tells-braced (Unit {0}) ((r.«package»).steps x.0) [] (braced.package-braced x.0)).0)

@@ -8,9 +8,11 @@ use Rattle.protox_grammar.specs.Rule.{Rule, Stops, Ends}
 use Rattle.protox_grammar.specs.Reader.{Refusal, Unexpected, Deep}
 use Rattle.protox_ast.specs.Tree as t
 use Rattle.protox_ast.specs.Spelling as s
-use Rattle.protox_ast.specs.Keywords as k
-use Rattle.protox_ast.specs.Depth as d
+use Rattle.protox_ast.specs.KeywordWalk as k
+use Rattle.protox_ast.specs.DepthWalk as d
 use Rattle.protox_ast.specs.Spells.{Spells}
+use Rattle.protox_ast.proofs.NodesDeep.{nodes-deep}
+use Rattle.protox_ast.proofs.NodesKeep.{nodes-keep}
 use Rattle.protox_grammar.specs.Bodies as rule
 use Rattle.protox_grammar.specs.Reads.{read}
 use Rattle.protox_grammar.specs.Grammar.{OneTree, AcceptsIff}
@@ -40,19 +42,22 @@ module _ {M : Type 0} (m : M) where
 
   pub may-of : (n : ℕ) (f : t.File M) → k.KeepsKeywords f → (file_at n).may f
   unfolding rule.file
-  may-of n f h = statements-into k.KeepsMbody (d.statements_depth f.statements) (λ y g w. g) f.statements h (omega arith)
+  may-of n f h = statements-into k.KeepsMbody (d.statements_depth f.statements) (λ y g w. g) f.statements ((nodes-keep f).0 h) (omega arith)
 
   pub of-may : (n : ℕ) (f : t.File M) → (file_at n).may f → k.KeepsKeywords f
   unfolding rule.file
-  of-may n f h = statements-keeps k.KeepsMbody (λ y g. g) f.statements h
+  of-may n f h = (nodes-keep f).1 (statements-keeps k.KeepsMbody (λ y g. g) f.statements h)
 
   fits-of : (n : ℕ) (f : t.File M) → k.KeepsKeywords f → d.depth f ≤ n → (file_at n).fits f
   unfolding rule.file
-  fits-of n f h w = statements-into (rule.FitsMbody n) n (λ y g w. (g, w)) f.statements h w
+  fits-of n f h w = statements-into (rule.FitsMbody n) n (λ y g w. (g, w)) f.statements ((nodes-keep f).0 h) (subst (λ u. u ≤ n) (nodes-deep f) w)
 
   pub of-fits : (n : ℕ) (f : t.File M) → (file_at n).fits f → k.KeepsKeywords f × (d.depth f ≤ n)
   unfolding rule.file
-  of-fits n f h = (statements-keeps (rule.FitsMbody n) (λ y g. g.0) f.statements h, statements-deep (rule.FitsMbody n) n (λ y g. g.1) f.statements h)
+  of-fits n f h = (
+    (nodes-keep f).1 (statements-keeps (rule.FitsMbody n) (λ y g. g.0) f.statements h),
+    subst (λ u. u ≤ n) (sym (nodes-deep f)) (statements-deep (rule.FitsMbody n) n (λ y g. g.1) f.statements h),
+  )
 
   pub spelling : (n : ℕ) (f : t.File M) → (file_at n).spell f ≡ s.spell f
   unfolding rule.file

@@ -2,7 +2,7 @@
 use Rattle.std.proofs.Common.{codes, ◌≡◌, ℕ, zero, suc, ◌-◌, ◌==◌, [], ◌∷◌, Result, Ok, refl, sym, ap, ◌∙◌}
 use Rattle.protox_lexeme.specs.Shapes.{Mark, Row, Rows}
 use Rattle.protox_ast.specs.CheckedNodes.{CheckedNode, ASyntax, AnImport, AReservedName, AGroupName}
-use Rattle.protox_ast.specs.Keywords as k
+use Rattle.protox_ast.specs.KeywordWalk as k
 use Rattle.protox_ast.specs.Spelling as s
 use Rattle.protox_ast.specs.Tree as t
 use Rattle.protox_grammar.specs.Bodies as b

@@ -2,10 +2,13 @@
 use Rattle.std.proofs.Common.{◌≡◌, List, [], ◌∷◌, ◌++◌, map, Option, Some, None, refl, sym, ap, subst, ◌∙◌, append_assoc, inl, inr, ◌⊎◌}
 use Rattle.std.specs.List.{flat_map}
 use Rattle.protox_ast.specs.Tree as t
-use Rattle.protox_ast.specs.Keywords as k
-use Rattle.protox_ast.specs.Aggregates as a
-use Rattle.protox_ast.specs.CheckedNodes as c
+use Rattle.protox_ast.specs.KeywordWalk as k
+use Rattle.protox_ast.specs.AggregateWalk as a
+use Rattle.protox_ast.specs.Fronts.{aggregates}
+use Rattle.protox_ast.specs.CheckWalk as c
 use Rattle.protox_ast.specs.CheckedNodes.{CheckedNode, APackageAgain}
+use Rattle.protox_ast.proofs.NodesBraced.{nodes-braced}
+use Rattle.protox_ast.proofs.NodesChecked.{nodes-checked}
 use Rattle.protox_grammar.specs.Rule.{Rule}
 use Rattle.protox_grammar.specs.Rules as r
 use Rattle.protox_grammar.specs.Bodies as rule
@@ -114,8 +117,9 @@ module _ {M : Type 0} (Q : CheckedNode M → Type 0) where
   file-noted w f h =
       let o = (syntax-tells (Unit {0}) f.syntax).0 None w in
       let s = statements-noted (rule.mbody_at 31) k.KeepsMbody (body-tells (Unit {0}) 31 1 refl) f.statements h None o.0 in
-      subst (λ (u : List (CheckedNode M)). Alone u (c.checked_nodes f)) (sym (o.1 (steps_of_many (rule.statement (rule.mbody_at 31)).steps f.statements)))
-      (joined-before (c.syntax_nodes f.syntax) _ _ (joined _ (flat_map c.statement_nodes f.statements) (c.package_nodes (c.packages_in f.statements)) s))
+      subst (λ (u : List (CheckedNode M)). Alone (noted_nodes None w (steps 31 f)) u) (sym (nodes-checked f))
+      (subst (λ (u : List (CheckedNode M)). Alone u (c.walked_nodes f)) (sym (o.1 (steps_of_many (rule.statement (rule.mbody_at 31)).steps f.statements)))
+      (joined-before (c.syntax_nodes f.syntax) _ _ (joined _ (flat_map c.statement_nodes f.statements) (c.package_nodes (c.packages_in f.statements)) s)))
     where
       joined-before : (ms ns xs : List (CheckedNode M)) → Alone ns xs → Alone (ms ++ ns) (ms ++ xs)
       joined-before ms ns xs s = (
@@ -130,8 +134,9 @@ module _ {M : Type 0} (Q : CheckedNode M → Type 0) where
       )
 
 -- the braces that are noted are those of the file's aggregates, and of bodies that are too deep first one of level 32 is
-pub file-marks : {M : Type 0} (f : t.File M) → k.Each (rule.StatementHas k.KeepsMbody) f.statements → Marks (Unit {0}) (steps 31 f) (a.aggregates f)
+pub file-marks : {M : Type 0} (f : t.File M) → k.Each (rule.StatementHas k.KeepsMbody) f.statements → Marks (Unit {0}) (steps 31 f) (aggregates f)
 unfolding rule.file
-file-marks f h =
-    marks-both (Unit {0}) (steps_of_option r.syntax.steps f.syntax) (steps_of_many (rule.statement (rule.mbody_at 31)).steps f.statements) [] (a.aggregates f) (syntax-tells (Unit {0}) f.syntax).1
-    (statements-mark (Unit {0}) (rule.mbody_at 31) k.KeepsMbody 1 (body-tells (Unit {0}) 31 1 refl) f.statements h)
+file-marks {M} f h =
+    subst (λ (u : a.Braces M). Marks (Unit {0}) (steps 31 f) u) (sym (nodes-braced f))
+    (marks-both (Unit {0}) (steps_of_option r.syntax.steps f.syntax) (steps_of_many (rule.statement (rule.mbody_at 31)).steps f.statements) [] (a.walked_aggregates f) (syntax-tells (Unit {0}) f.syntax).1
+    (statements-mark (Unit {0}) (rule.mbody_at 31) k.KeepsMbody 1 (body-tells (Unit {0}) 31 1 refl) f.statements h))

@@ -1,10 +1,10 @@
 -- Whether an aggregate is open at a row, by the notes before it: as the steps of reading say it.
-use Rattle.std.proofs.Common.{◌≡◌, ◌≤◌, ◌<◌, ◌+◌, ◌-◌, ℕ, zero, suc, Bool, true, false, cond, List, [], ◌∷◌, ◌++◌, length, Option, Some, None, refl, sym, ap, subst, ◌∙◌, arith}
+use Rattle.std.proofs.Common.{◌≡◌, ◌≤◌, ◌<◌, ◌+◌, ℕ, zero, suc, Bool, true, false, cond, List, [], ◌∷◌, ◌++◌, length, Option, Some, None, refl, ap, ◌∙◌, arith}
 use Rattle.std.specs.Prelude.{nat_lt, if◌then◌else◌}
 use Rattle.std.proofs.lemmas.Bool.{lt-ltb, le-ltb}
 use Rattle.protox_fault.specs.declared.error.ParseErrorKind.{ParseErrorKind}
 use Rattle.protox_fault.specs.declared.error.ParseErrorKind.TheVariants as fault
-use Rattle.protox_lexeme.specs.Shapes.{Row, Rows}
+use Rattle.protox_lexeme.specs.Shapes.{Rows}
 use Rattle.protox_ast.specs.CheckedNodes.{CheckedNode, ASyntax, AnImport, AReservedName, AGroupName, APackageAgain, ATooDeep}
 use Rattle.protox_ast.specs.AstParts.{text_of, strings_value, strings_span}
 use Rattle.protox_ast.specs.Checks.{package_span}
@@ -12,9 +12,8 @@ use Rattle.protox_ast.specs.Places.{Place}
 use Rattle.protox_ast.specs.Tree as t
 use Rattle.protox_grammar.specs.Noted.{open_behind}
 use Rattle.protox_grammar.specs.Reader.{head_in}
-use Rattle.protox_grammar.specs.Steps.{Event, ANode, APackage, AKeyword, ADeepBody, ADeeperBody, AnOpenBrace, ACloseBrace, Token, Note, Steps, tokens, until, is_too_deep}
+use Rattle.protox_grammar.specs.Steps.{ANode, APackage, AKeyword, ADeepBody, ADeeperBody, AnOpenBrace, ACloseBrace, Token, Note, Steps, tokens, until}
 use Rattle.protox_grammar.specs.Told.{Notes, behind, told, noted, one_note, at_once, node_notes, is_invalid, syntax_faults, text_faults, path_faults, ident_faults, group_faults, span_of}
-use Rattle.protox_grammar.specs.declared.note.Note as note_type
 use Rattle.protox_grammar.specs.declared.note.Noted.{Noted}
 use Rattle.protox_grammar.specs.declared.note.Noted.TheVariants.{Fault, TextFormat}
 use Rattle.protox_grammar.proofs.StepLists.{EndsDeep}

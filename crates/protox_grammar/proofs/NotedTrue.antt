@@ -7,8 +7,8 @@ use Rattle.protox_lexeme.specs.Table.{rows_of}
 use Rattle.protox_fault.specs.declared.error.ParseErrorKind.{ParseErrorKind}
 use Rattle.protox_ast.specs.Tree as t
 use Rattle.protox_ast.specs.Spelling as s
-use Rattle.protox_ast.specs.Keywords as k
-use Rattle.protox_ast.specs.Depth as d
+use Rattle.protox_ast.specs.KeywordWalk as k
+use Rattle.protox_ast.specs.DepthWalk as d
 use Rattle.protox_ast.specs.CheckedNodes.{CheckedNode, node_end, checked_nodes}
 use Rattle.protox_ast.specs.Checks.{WrongCheckedNode}
 use Rattle.protox_ast.specs.Spells.{Spells}

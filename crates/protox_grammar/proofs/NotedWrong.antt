@@ -1,10 +1,11 @@
 -- Of a file that is read no fault is noted exactly where nothing is wrong with it.
-use Rattle.std.proofs.Common.{◌≡◌, ◌↔◌, ℕ, List, [], ◌∷◌, None, Ok, refl, sym, ap, subst, ◌∙◌, inl, inr, ◌⊎◌}
+use Rattle.std.proofs.Common.{◌≡◌, ◌↔◌, ℕ, List, [], ◌∷◌, None, Ok, refl, sym, ap, subst, ◌∙◌, inl, inr}
 use Rattle.protox_lexeme.specs.Shapes.{Rows}
 use Rattle.protox_ast.proofs.Nothing.{nothing-wrong}
-use Rattle.protox_ast.specs.CheckedNodes.{CheckedNode, checked_nodes}
-use Rattle.protox_ast.specs.Checks.{IsFine, NothingWrong}
-use Rattle.protox_ast.specs.Keywords as k
+use Rattle.protox_ast.specs.CheckedNodes.{checked_nodes}
+use Rattle.protox_ast.specs.Checks.{NothingWrong}
+use Rattle.protox_ast.specs.Fine.{IsFine}
+use Rattle.protox_ast.specs.KeywordWalk as k
 use Rattle.protox_ast.specs.Keywords.{Each}
 use Rattle.protox_ast.specs.Places.{Place}
 use Rattle.protox_ast.specs.Tree as t

@@ -1,6 +1,6 @@
 -- The notes among steps as a plain list, and what is read off it.
 use Rattle.std.proofs.Common.{◌≡◌, Bool, true, false, List, [], ◌∷◌, ◌++◌, Option, refl, ap}
-use Rattle.protox_ast.specs.Aggregates.{Braces}
+use Rattle.protox_ast.specs.AggregateWalk.{Braces}
 use Rattle.protox_ast.specs.Keywords.{Each}
 use Rattle.protox_ast.specs.Tree as t
 use Rattle.protox_grammar.specs.Steps.{Event, ADeepBody, ADeeperBody, AnOpenBrace, ACloseBrace, Token, Note, Steps}

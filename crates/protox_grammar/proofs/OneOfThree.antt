@@ -4,7 +4,7 @@ use Rattle.std.proofs.lemmas.List.{append-nil, length-append}
 use Rattle.std.proofs.lemmas.Bool.{cases_lt}
 use Rattle.protox_lexeme.specs.Shapes.{Shape, Row, Rows}
 use Rattle.protox_ast.specs.Tree as t
-use Rattle.protox_ast.specs.Depth as d
+use Rattle.protox_ast.specs.DepthWalk as d
 use Rattle.protox_ast.specs.Spells.{Spells, BeginsFile, IsUnexpected, IsEnded, shapes}
 use Rattle.protox_grammar.specs.Reader.{Refusal, Unexpected, Deep}
 use Rattle.protox_grammar.specs.Reads.{read}

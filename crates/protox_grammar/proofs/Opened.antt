@@ -1,8 +1,8 @@
 -- A body is read and noted behind the word of its message or group, whose place stands in the fault of one that is too deep.
-use Rattle.std.proofs.Common.{◌≡◌, ℕ, Bool, true, false, cond, List, [], ◌∷◌, ◌++◌, length, Option, Some, None, Result, Ok, Err, refl, sym, ap, subst, ◌∙◌, append-nil, append_assoc, inl, inr, arith}
+use Rattle.std.proofs.Common.{◌≡◌, ℕ, Bool, true, false, cond, List, [], ◌∷◌, ◌++◌, length, Option, Result, Ok, Err, refl, sym, ap, subst, ◌∙◌, append-nil, inl, inr, arith}
 use Rattle.protox_fault.specs.Faults.{Span, SpanLiesIn}
 use Rattle.protox_fault.specs.declared.error.ParseErrorKind.TheVariants as fault
-use Rattle.protox_lexeme.specs.Shapes.{Shape, Ident, Mark, Row, Rows}
+use Rattle.protox_lexeme.specs.Shapes.{Shape, Ident, Mark, Rows}
 use Rattle.protox_ast.proofs.Standing.{Stand, in-order}
 use Rattle.protox_ast.specs.Keywords.{Each}
 use Rattle.protox_ast.specs.Places.{Place}
@@ -13,15 +13,15 @@ use Rattle.protox_grammar.specs.Reader as reader
 use Rattle.protox_grammar.specs.Reader.{Reader, Refusal, fixed, seq, mapped, head_in, is_token, ◌>>=◌}
 use Rattle.protox_grammar.specs.Rule.{Rule}
 use Rattle.protox_grammar.specs.Steps.{Event, ANode, AKeyword, ADeepBody, AnOpenBrace, ACloseBrace, Token, Note, Steps, plainly, plain_trace, rows_before, then_steps}
-use Rattle.protox_grammar.specs.Told.{Notes, behind, deep_notes, is_invalid, told, past, first_behind, first_with, keyword_behind, checked, then_notes}
+use Rattle.protox_grammar.specs.Told.{Notes, deep_notes, is_invalid, told, past, first_behind, keyword_behind, checked, then_notes}
 use Rattle.protox_grammar.specs.declared.note.Noted.TheVariants.{Fault}
 use Rattle.protox_grammar.proofs.Braced.{Braced}
-use Rattle.protox_grammar.proofs.Notes.{notes, notes-append, brace_events, IsBrace, events-braces}
+use Rattle.protox_grammar.proofs.Notes.{notes, notes-append, IsBrace, events-braces}
 use Rattle.protox_grammar.proofs.Reading.{chosen, err-ok}
 use Rattle.protox_grammar.proofs.Shown.{Shown}
-use Rattle.protox_grammar.proofs.Shows.{Shows, as_is, seq-shows, mapped-shows, right-shows}
+use Rattle.protox_grammar.proofs.Shows.{Shows, as_is, seq-shows, right-shows}
 use Rattle.protox_grammar.proofs.Takes.{bind_ok, ok_is}
-use Rattle.protox_grammar.proofs.Telling.{AllLie, Lie, both-lie, cond-lie, then-lie, Voice, silent, noting, NotesOf, notes_of, Tells, told-append, past-append, seq_trace, note_trace, fixed-leaves, plain-tells, then-seen}
+use Rattle.protox_grammar.proofs.Telling.{AllLie, Lie, both-lie, cond-lie, then-lie, Voice, silent, noting, NotesOf, notes_of, told-append, past-append, seq_trace, note_trace, fixed-leaves, plain-tells, then-seen}
 use Rattle.protox_grammar.proofs.Tracing.{IsTraced}
 
 -- The notes are those that are told of the steps behind a word at this place. They lie in the source that this and the rows stand in.

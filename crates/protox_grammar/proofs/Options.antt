@@ -7,7 +7,7 @@ use Rattle.protox_grammar.specs.Class.{all, none, only, words, union, among, jus
 use Rattle.protox_grammar.specs.Rule.{row, seq, choice, optional, noting}
 use Rattle.protox_ast.specs.Tree as t
 use Rattle.protox_ast.specs.Spelling as s
-use Rattle.protox_ast.specs.Keywords as k
+use Rattle.protox_ast.specs.KeywordWalk as k
 use Rattle.protox_grammar.specs.Rules as r
 use Rattle.protox_grammar.proofs.TracingNotes.{plain-traced}
 use Rattle.protox_grammar.proofs.Closed.{closed-spelled, closed-read, closed-deep}

@@ -10,7 +10,7 @@ use Rattle.protox_grammar.specs.Class.{class, place, keywords, none, only, words
 use Rattle.protox_grammar.specs.Rule.{Stops, Ends, row, unless, choice, noting}
 use Rattle.protox_ast.specs.Tree as t
 use Rattle.protox_ast.specs.Spelling as s
-use Rattle.protox_ast.specs.Keywords as k
+use Rattle.protox_ast.specs.KeywordWalk as k
 use Rattle.protox_grammar.specs.Rules as r
 use Rattle.protox_grammar.proofs.Sets.{place-le}
 use Rattle.protox_grammar.proofs.Laws.{leaf-spelled}

@@ -6,7 +6,7 @@ use Rattle.protox_grammar.specs.Rule.{Rule, Stops, Ends, row, seq, choice, optio
 use Rattle.protox_ast.specs.Tree as t
 use Rattle.protox_ast.specs.Spelling as s
 use Rattle.protox_ast.specs.Basics.{last}
-use Rattle.protox_ast.specs.Keywords as k
+use Rattle.protox_ast.specs.KeywordWalk as k
 use Rattle.protox_grammar.specs.Rules as r
 use Rattle.protox_ast.specs.CheckedNodes.{AReservedName}
 use Rattle.protox_grammar.proofs.Joining.{peek-laws, joined-laws}
@@ -134,7 +134,7 @@ module _ {M : Type 0} (m : M) where
   not-listed i (Some x) c z h e = absurd cc
 
   chain : (x : t.Range M) (xs : List (M × t.Range M)) (z : Rows M) → r.range.ends (last x (map (λ y. y.1) xs)) z → Stops (just_mark s.comma) z
-      → r.range.ends x (s.many s.comma_range xs ++ z) × Ends s.comma_range (λ y u. Unit {0} × r.range.ends y.1 u) (just_mark s.comma) xs z
+      → r.range.ends x (s.many (s.behind s.comma s.range) xs ++ z) × Ends (s.behind s.comma s.range) (λ y u. Unit {0} × r.range.ends y.1 u) (just_mark s.comma) xs z
   unfolding r.range r.int r.range_end
   chain x [] z e h = (e, h)
   chain x (y ∷ ys) z e h =
@@ -142,7 +142,7 @@ module _ {M : Type 0} (m : M) where
       (range-laws.spelled.follow x _ tt refl, ((tt, i.0), i.1))
 
   unchain : (x : t.Range M) (xs : List (M × t.Range M)) (z : Rows M)
-      → r.range.ends x (s.many s.comma_range xs ++ z) → Ends s.comma_range (λ y u. Unit {0} × r.range.ends y.1 u) (just_mark s.comma) xs z → r.range.ends (last x (map (λ y. y.1) xs)) z
+      → r.range.ends x (s.many (s.behind s.comma s.range) xs ++ z) → Ends (s.behind s.comma s.range) (λ y u. Unit {0} × r.range.ends y.1 u) (just_mark s.comma) xs z → r.range.ends (last x (map (λ y. y.1) xs)) z
   unchain x [] z e h = e
   unchain x (y ∷ ys) z e h = unchain y.1 ys z h.0.1 h.1
 

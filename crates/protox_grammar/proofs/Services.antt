@@ -4,7 +4,7 @@ use Rattle.protox_grammar.specs.Class.{none, words, union, among, just_word, jus
 use Rattle.protox_grammar.specs.Rule.{seq, unless, choice, times}
 use Rattle.protox_ast.specs.Tree as t
 use Rattle.protox_ast.specs.Spelling as s
-use Rattle.protox_ast.specs.Keywords as k
+use Rattle.protox_ast.specs.KeywordWalk as k
 use Rattle.protox_grammar.specs.Rules as r
 use Rattle.protox_grammar.proofs.Begin.{name-stops, stops-name}
 use Rattle.protox_grammar.proofs.Forms.{Lawful, word-laws, mark-laws, seq-laws, unless-laws, choice-laws, times-laws, named-laws, wide}

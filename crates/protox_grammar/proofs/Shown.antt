@@ -1,5 +1,5 @@
 -- What the code reads and notes beside what a rule of the grammar reads and notes, from one term a rule.
-use Rattle.std.proofs.Common.{◌≡◌, ℕ, suc, Bool, List, [], ◌∷◌, ◌++◌, map, length, Option, Some, None, option_map, Result, Ok, Err, inl, inr, ◌⊎◌, refl, sym, ap, subst, ◌∙◌, append-nil, append_assoc}
+use Rattle.std.proofs.Common.{◌≡◌, ℕ, suc, Bool, List, [], ◌∷◌, ◌++◌, map, length, Option, option_map, Result, Ok, Err, inl, inr, refl, sym, ap, subst, ◌∙◌, append-nil, append_assoc}
 use Rattle.protox_lexeme.specs.Shapes.{Shape, Ident, Mark, Rows}
 use Rattle.protox_ast.proofs.Standing.{Stand}
 use Rattle.protox_ast.specs.Places.{Place}
@@ -10,12 +10,11 @@ use Rattle.protox_grammar.specs.Reader as reader
 use Rattle.protox_grammar.specs.Reader.{Reader, Refusal, fixed, leaf, seq, mapped, gathered, folded, nothing, ◌>>=◌}
 use Rattle.protox_grammar.specs.Steps.{Event, Note, Steps, plain_trace, star_trace, then_steps}
 use Rattle.protox_grammar.specs.Told.{Notes, told, past, checked}
-use Rattle.protox_grammar.proofs.Takes.{bind_ok, ok_is}
+use Rattle.protox_grammar.proofs.Takes.{ok_is}
 use Rattle.protox_grammar.proofs.Reading.{IsRead, chosen, err-ok}
 use Rattle.protox_grammar.proofs.Shows as by_shows
 use Rattle.protox_grammar.proofs.Shows.{Shows, as_is, seq-shows, mapped-shows, either-shows, star-shows, optional-shows, shows-by, left-shows, right-shows}
-use Rattle.protox_grammar.proofs.Telling as telling
-use Rattle.protox_grammar.proofs.Telling.{AllLie, Voice, silent, noting, NotesOf, notes_of, either_of, Tells, Leaves, plain-tells, fixed-leaves, leaf-leaves, seq_trace, both_notes, seq-tells, mapped-tells, choice_trace, choice_notes, choice-tells, nothing-tells, note_trace, note-tells, times_notes, star-tells}
+use Rattle.protox_grammar.proofs.Telling.{AllLie, Voice, silent, noting, NotesOf, either_of, Tells, Leaves, plain-tells, fixed-leaves, leaf-leaves, seq_trace, both_notes, seq-tells, mapped-tells, choice_trace, choice_notes, choice-tells, nothing-tells, note_trace, note-tells, times_notes, star-tells}
 
 -- `code` reads what `read` does, seen by `view`, and `notes` are what is told of its steps.
 pub record Shown {A B : Type 0} (v : Voice) (read : Reader Place A) (trace : Rows Place → Steps Place) (view : A → B) : Type 0 where

@@ -1,10 +1,10 @@
 -- What the code reads and notes of the statements of a file: a package statement behind another is noted, so notes depend on the first.
-use Rattle.std.proofs.Common.{◌≡◌, ◌<◌, ℕ, zero, suc, Bool, true, false, cond, List, [], ◌∷◌, ◌++◌, length, Option, Some, None, option_map, Result, Ok, Err, inl, inr, ◌⊎◌, refl, sym, ap, subst, ◌∙◌, append-nil, append_assoc, arith}
+use Rattle.std.proofs.Common.{◌≡◌, ◌<◌, ℕ, zero, suc, Bool, true, false, cond, List, [], ◌∷◌, ◌++◌, length, Option, Some, None, option_map, Result, Ok, Err, inl, inr, ◌⊎◌, refl, sym, ap, subst, ◌∙◌, append-nil, arith}
 use Rattle.protox_fault.specs.Faults.{Span, SpanLiesIn}
 use Rattle.protox_fault.specs.declared.error.ParseErrorKind.TheVariants.{DuplicatePackage}
-use Rattle.protox_lexeme.specs.Shapes.{Shape, Row, Rows}
+use Rattle.protox_lexeme.specs.Shapes.{Shape, Rows}
 use Rattle.protox_ast.proofs.Standing.{Stand}
-use Rattle.protox_ast.specs.Basics.{Given}
+use Rattle.protox_ast.specs.KeywordWalk.{Given}
 use Rattle.protox_ast.specs.CheckedNodes.{CheckedNode, APackageAgain, ATooDeep}
 use Rattle.protox_ast.specs.Checks.{package_span}
 use Rattle.protox_ast.specs.Places.{Place}
@@ -14,14 +14,13 @@ use Rattle.protox_grammar.specs.Noted.{noted_nodes}
 use Rattle.protox_grammar.specs.Reader as reader
 use Rattle.protox_grammar.specs.Reader.{Reader, Refusal, head_in, mapped, star, star_at, Consumes, ◌>>=◌}
 use Rattle.protox_grammar.specs.Rule.{on_sum}
-use Rattle.protox_grammar.specs.Steps.{Event, ANode, APackage, AKeyword, ADeepBody, ADeeperBody, AnOpenBrace, ACloseBrace, Token, Note, Steps, star_trace, then_steps}
+use Rattle.protox_grammar.specs.Steps.{ANode, APackage, AKeyword, ADeepBody, ADeeperBody, AnOpenBrace, ACloseBrace, Token, Note, Steps, star_trace, then_steps}
 use Rattle.protox_grammar.specs.declared.note.Noted.TheVariants.{Fault}
-use Rattle.protox_grammar.specs.Told.{Notes, behind, is_invalid, first_behind, keyword_behind, keyword_with, package_notes, past, told, checked, span_of}
-use Rattle.protox_grammar.proofs.Reading.{chosen, err-ok}
+use Rattle.protox_grammar.specs.Told.{Notes, is_invalid, first_behind, keyword_behind, package_notes, past, told, checked, span_of}
 use Rattle.protox_grammar.proofs.Shown.{Shown}
-use Rattle.protox_grammar.proofs.Shows.{Shows, either-shows, left-shows, star-shows}
+use Rattle.protox_grammar.proofs.Shows.{Shows, either-shows, left-shows}
 use Rattle.protox_grammar.proofs.Takes.{bind_ok, ok_is}
-use Rattle.protox_grammar.proofs.Telling.{AllLie, both-lie, cond-lie, past-stand, Voice, NotesOf, notes_of, silent, note_trace, choice_trace, told-append, past-append, mapped-tells}
+use Rattle.protox_grammar.proofs.Telling.{AllLie, both-lie, cond-lie, past-stand, Voice, notes_of, silent, note_trace, choice_trace, told-append, past-append}
 use Rattle.protox_grammar.proofs.Told.{Says}
 
 -- ---- steps without a package statement

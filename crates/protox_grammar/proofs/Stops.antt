@@ -1,7 +1,7 @@
 -- Where reading stops, said of rows and their marks. What is said of the tokens alone follows in `Fronts`.
 use Rattle.std.proofs.Common.{◌≡◌, ◌<◌, ℕ, suc, [], ◌∷◌, ◌++◌, length}
 use Rattle.protox_lexeme.specs.Shapes.{Row, Rows}
-use Rattle.protox_ast.specs.Depth.{depth}
+use Rattle.protox_ast.specs.Nodes.{depth}
 use Rattle.protox_ast.specs.Spells.{Spells}
 use Rattle.protox_ast.specs.Tree.{File}
 

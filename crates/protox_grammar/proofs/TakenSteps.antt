@@ -1,24 +1,16 @@
 -- The steps of reading a file are those of its tree, and no body in it is too deep.
-use Rattle.std.proofs.Common.{◌≡◌, ◌≤◌, ℕ, zero, suc, false, List, [], ◌∷◌, Ok, refl, sym, ap, subst, ◌∙◌, true≢false}
+use Rattle.std.proofs.Common.{◌≡◌, ◌≤◌, ℕ, zero, suc, false, List, [], ◌∷◌, Ok, refl, ap, subst, ◌∙◌}
 use Rattle.protox_lexeme.specs.Lexemes.{Lexeme}
-use Rattle.protox_ast.specs.Aggregates.{aggregates}
-use Rattle.protox_ast.specs.Depth.{depth}
-use Rattle.protox_ast.specs.Fronts.{Inside}
+use Rattle.protox_ast.specs.Nodes.{depth}
 use Rattle.protox_ast.specs.Places.{Place}
 use Rattle.protox_ast.specs.Spells.{Spells}
 use Rattle.protox_ast.specs.Tree as t
-use Rattle.protox_grammar.specs.Bodies as rule
-use Rattle.protox_grammar.specs.CheckLaws.{steps_by, is_too_deep_by}
 use Rattle.protox_grammar.specs.MarkLaws.{no_place, placed_tokens}
-use Rattle.protox_grammar.specs.Noted.{steps, trace, open_behind}
+use Rattle.protox_grammar.specs.Noted.{steps, trace}
 use Rattle.protox_grammar.specs.Reads.{read}
 use Rattle.protox_grammar.specs.Steps.{ANode, APackage, AKeyword, ADeepBody, ADeeperBody, AnOpenBrace, ACloseBrace, Token, Note, Steps, until, has_deep}
 use Rattle.protox_grammar.proofs.EndsDeep.{StopsDeep}
-use Rattle.protox_grammar.proofs.InsideLaws.{inside_is_open}
 use Rattle.protox_grammar.proofs.Main as main
-use Rattle.protox_grammar.proofs.NotedFiles.{file-marks}
-use Rattle.protox_grammar.proofs.Notes.{brace_notes, brace_pairs}
-use Rattle.protox_grammar.proofs.PlaceLaws.{noted_alike}
 use Rattle.protox_grammar.proofs.StepLists.{until-note}
 use Rattle.protox_grammar.proofs.Takes.{bind_ok, ok_is}
 

@@ -7,7 +7,7 @@ use Rattle.protox_grammar.specs.Reader.{Reader}
 use Rattle.protox_grammar.specs.Rule.{Rule, Stops, seq, unless, choice, optional, times}
 use Rattle.protox_ast.specs.Tree as t
 use Rattle.protox_ast.specs.Spelling as s
-use Rattle.protox_ast.specs.Keywords as k
+use Rattle.protox_ast.specs.KeywordWalk as k
 use Rattle.protox_grammar.specs.Rules as r
 use Rattle.protox_grammar.specs.Bodies as rule
 use Rattle.protox_grammar.proofs.Sets.{apart-at}

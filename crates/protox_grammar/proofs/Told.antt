@@ -6,11 +6,11 @@ use Rattle.std.proofs.lemmas.List.{append-nil}
 use Rattle.std.specs.List.{flat_map}
 use Rattle.protox_ast.specs.Tree as t
 use Rattle.protox_ast.specs.Spelling as s
-use Rattle.protox_ast.specs.Keywords as k
-use Rattle.protox_ast.specs.Depth as d
-use Rattle.protox_ast.specs.Aggregates as a
-use Rattle.protox_ast.specs.Aggregates.{Braces}
-use Rattle.protox_ast.specs.CheckedNodes as c
+use Rattle.protox_ast.specs.KeywordWalk as k
+use Rattle.protox_ast.specs.DepthWalk as d
+use Rattle.protox_ast.specs.AggregateWalk as a
+use Rattle.protox_ast.specs.AggregateWalk.{Braces}
+use Rattle.protox_ast.specs.CheckWalk as c
 use Rattle.protox_ast.specs.CheckedNodes.{CheckedNode, ASyntax, AnImport, AReservedName, AGroupName, ATooDeep}
 use Rattle.protox_grammar.specs.Rule.{Rule, seq}
 use Rattle.protox_grammar.specs.Rules as r

@@ -5,8 +5,8 @@ use Rattle.protox_lexeme.specs.Shapes.{Mark, Rows}
 use Rattle.protox_grammar.specs.Class.{all, just_word, just_mark, but_mark, among_words}
 use Rattle.protox_ast.specs.Tree as t
 use Rattle.protox_ast.specs.Spelling as s
-use Rattle.protox_ast.specs.Keywords as k
-use Rattle.protox_ast.specs.Depth as d
+use Rattle.protox_ast.specs.KeywordWalk as k
+use Rattle.protox_ast.specs.DepthWalk as d
 use Rattle.protox_grammar.specs.Reader as reader
 use Rattle.protox_grammar.specs.Reader.{Reader}
 use Rattle.protox_grammar.specs.Steps.{Event, ADeepBody, ADeeperBody, AKeyword, ANode, APackage, Token, Note, Steps, plainly}

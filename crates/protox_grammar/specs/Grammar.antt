@@ -2,7 +2,7 @@
 use Rattle.std.specs.Prelude.{◌≡◌, ◌↔◌, ◌<◌, ◌≤◌, ℕ, suc, ◌+◌, List, length, Ok, Err}
 use Rattle.protox_lexeme.specs.Shapes.{Shape, Rows}
 use Rattle.protox_ast.specs.Tree.{File}
-use Rattle.protox_ast.specs.Depth.{depth}
+use Rattle.protox_ast.specs.Nodes.{depth}
 use Rattle.protox_ast.specs.Spells.{Spells, GoesOn, BeginsFile, IsUnexpected, IsEnded, shapes}
 use Rattle.protox_grammar.specs.Reader.{Unexpected, Deep}
 use Rattle.protox_grammar.specs.Reads.{read}

@@ -4,7 +4,8 @@ use Rattle.std.proofs.Common.{inl, inr}
 use Rattle.protox_lexeme.specs.Shapes.{Shape, Row, Rows}
 use Rattle.protox_grammar.specs.Class.{class, Set, in_set}
 use Rattle.protox_ast.specs.Spelling.{maybe, many}
-use Rattle.protox_ast.specs.Keywords.{Given, Each}
+use Rattle.protox_ast.specs.KeywordWalk.{Given}
+use Rattle.protox_ast.specs.Keywords.{Each}
 use Rattle.protox_grammar.specs.Reader as reader
 use Rattle.protox_grammar.specs.Reader.{Reader, head_in}
 use Rattle.protox_grammar.specs.Steps.{Event, Note, Steps, plainly, plain_trace, star_trace, then_steps, steps_of_many, steps_of_option}

@@ -7,7 +7,7 @@ use Rattle.protox_lexeme.specs.Shapes.{Shape, Ident, Str, Mark, Rows}
 use Rattle.protox_grammar.specs.Class.{Set, mark, an_integer, a_float, a_string, only, among, just_word, just_mark, but_mark, among_words, among_marks, union, words}
 use Rattle.protox_ast.specs.Tree as t
 use Rattle.protox_ast.specs.Spelling as s
-use Rattle.protox_ast.specs.Keywords as k
+use Rattle.protox_ast.specs.KeywordWalk as k
 use Rattle.protox_grammar.specs.Reader as reader
 use Rattle.protox_grammar.specs.Reader.{Reader, Unexpected, ◌>>=◌, see_word, see_integer, see_float, see_text}
 use Rattle.protox_grammar.specs.Steps.{plainly, plain_trace, ANode, AnOpenBrace, ACloseBrace}

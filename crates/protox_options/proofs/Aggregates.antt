@@ -2,7 +2,7 @@
 use Rattle.std.proofs.Common.{◌≡◌, ◌++◌, ℕ, zero, suc, ◌-◌, Bool, true, false, cond, eqb, List, [], ◌∷◌, length, Option, Some, None, Result, Ok, Err, refl, sym, ap, subst, append-nil, append_assoc}
 use Rattle.protox_lexeme.specs.Shapes.{Shape, Row, Rows, Ident, Int, Float, Str, Mark, LineComment, BlockComment, Newline, Invalid}
 use Rattle.protox_ast.specs.Ast as ast
-use Rattle.protox_ast.specs.Keywords as k
+use Rattle.protox_ast.specs.KeywordWalk as k
 use Rattle.protox_ast.specs.Places.{Place}
 use Rattle.protox_grammar.specs.Reader.{Reader, Refusal, Unexpected, mapped, ◌>>=◌}
 use Rattle.protox_grammar.specs.Rules as r

@@ -6,7 +6,7 @@ use Rattle.protox_lexeme.specs.Shapes.{Shape, Mark, Rows}
 use Rattle.protox_lexeme.specs.Printed.{printed}
 use Rattle.protox_ast.specs.Tree as tree
 use Rattle.protox_ast.specs.Spelling as s
-use Rattle.protox_ast.specs.Keywords as k
+use Rattle.protox_ast.specs.KeywordWalk as k
 use Rattle.protox_ast.specs.Ast as ast
 use Rattle.protox_ast.specs.Places.{Place}
 use Rattle.protox_ast.specs.declared.ast.OptionNamePart.TheVariants as name_part

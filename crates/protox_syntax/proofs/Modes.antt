@@ -13,9 +13,9 @@ use Rattle.protox_ast.proofs.Standing.{as-many}
 use Rattle.protox_ast.specs.AstParts.{strings_span, strings_value, text_of}
 use Rattle.protox_ast.specs.CheckedNodes.{CheckedNode, ASyntax, AnImport, AReservedName, AGroupName, APackageAgain, ATooDeep}
 use Rattle.protox_ast.specs.Checks.{NothingWrong, package_span}
-use Rattle.protox_ast.specs.Depth.{depth}
+use Rattle.protox_ast.specs.Nodes.{depth}
 use Rattle.protox_ast.specs.Fronts.{AreClean, AreCleanBehind, Inside}
-use Rattle.protox_ast.specs.Keywords as k
+use Rattle.protox_ast.specs.KeywordWalk as k
 use Rattle.protox_ast.specs.Places.{Place, later_gaps, placed, placed_from}
 use Rattle.protox_ast.specs.Spells.{Spells, shapes}
 use Rattle.protox_ast.specs.Tree as tree

@@ -14,49 +14,49 @@ Breaks f = k.KeepsKeywords f → ⊥
 
 -- message M { repeated f = 1; } with a type named `repeated`
 label-first : Breaks (b.of_message (t.field (b.unlabelled (t.named (b.name "repeated" []))) ∷ []))
-label-first h = h.0.0.1.0.1.1.0 refl
+label-first h = h.1.0.0.1.1.0 refl
 
 -- message M { optional map f = 1; } with a type named `map`, and so with `group`
 map-first : Breaks (b.of_message (t.field (b.labelled (t.named (b.name "map" []))) ∷ []))
-map-first h = h.0.0.1.1.0.0 refl
+map-first h = h.1.1.0.0 refl
 
 group-first : Breaks (b.of_message (t.field (b.labelled (t.named (b.name "group" ("A" ∷ [])))) ∷ []))
-group-first h = h.0.0.1.1.0.1.0 refl
+group-first h = h.1.1.0.1.0 refl
 
 -- message M { optional double.A f = 1; }
 scalar-first : Breaks (b.of_message (t.field (b.labelled (t.named (b.name "double" ("A" ∷ [])))) ∷ []))
-scalar-first h = h.0.0.1.1.0.1.1.0 refl
+scalar-first h = h.1.1.0.1.1.0 refl
 
 -- message M { enum f = 1; } with a type named `enum`
 element-first : Breaks (b.of_message (t.field (b.unlabelled (t.named (b.name "enum" []))) ∷ []))
-element-first h = h.0.0.0.1.0 refl
+element-first h = h.1.0.1.1.0 refl
 
 -- message M { oneof o { option f = 1; } } with a type named `option`
 option-first : Breaks (b.of_message (b.oneof_of (t.oneof_field (b.unlabelled (t.named (b.name "option" []))) ∷ []) ∷ []))
-option-first h = h.0.0.0.0.0 refl
+option-first h = h.1.0.1.0 refl
 
 -- message M { map<double.A, int32> f = 1; } and so with the value
 key-scalar : Breaks (b.of_message (t.field (b.map_of (t.named (b.name "double" ("A" ∷ []))) b.int32) ∷ []))
-key-scalar h = h.0.0.1.1.0.0.0 refl
+key-scalar h = h.1.1.0.0.0 refl
 
 value-scalar : Breaks (b.of_message (t.field (b.map_of b.int32 (t.named (b.name "double" ("A" ∷ [])))) ∷ []))
-value-scalar h = h.0.0.1.1.0.1.0 refl
+value-scalar h = h.1.1.0.1.0 refl
 
 -- enum E { reserved = 0; }
 value-reserved : Breaks (b.file (t.an_enum (b.enum_of (b.value "reserved" ∷ [])) ∷ []))
-value-reserved h = h.0.0.0.1.0 refl
+value-reserved h = h.0.1.0 refl
 
 -- service S { rpc R(stream.A) returns (A); } without `stream` before the type
 stream-first : Breaks (b.file (b.service (t.service_rpc (b.rpc (b.plain_type (b.name "stream" ("A" ∷ []))) (b.plain_type (b.name "A" [])) (t.rpc_semicolon tt)) ∷ []) ∷ []))
-stream-first h = h.0.0.0.0 refl
+stream-first h = h.0.0 refl
 
 -- message M { extensions 5 [yes = yes]; }
 list-first : Breaks (b.of_message (b.extensions (b.ranges (b.one 5) []) (b.list "yes" b.yes_value) ∷ []))
-list-first h = h.0.0.0 refl
+list-first h = h.1.0 refl
 
 -- message M { extensions 4 to 5, 6 [yes = yes]; }
 list-last : Breaks (b.of_message (b.extensions (b.ranges (b.up_to 4 5) (b.one 6 ∷ [])) (b.list "yes" b.yes_value) ∷ []))
-list-last h = h.0.0.0 refl
+list-last h = h.1.0 refl
 
 -- option yes = { } { };
 braces-closed : Breaks (b.file (t.an_option (b.option "yes" (t.aggregate tt (rows (Mark s.close_brace ∷ Mark s.open_brace ∷ [])) tt)) ∷ []))
@@ -85,16 +85,26 @@ named w = b.unlabelled (of_word w)
 abbrev others : List (List ℕ)
 others = codes "syntax" ∷ codes "package" ∷ codes "import" ∷ codes "weak" ∷ codes "public" ∷ codes "service" ∷ codes "rpc" ∷ codes "stream" ∷ codes "returns" ∷ codes "to" ∷ codes "max" ∷ []
 
-field-kept : (w : List ℕ) → among (places k.labels) (place keywords w) ≡ false → among (places (codes "map" ∷ codes "group" ∷ k.scalars)) (place keywords w) ≡ false → k.KeepsField (named w)
-field-kept w p q = (among-none k.labels w p, (among-none (codes "map" ∷ codes "group" ∷ k.scalars) w q, tt))
+abbrev kinds : List (List ℕ)
+kinds = codes "map" ∷ codes "group" ∷ k.scalars
 
-message-kept : (w : List ℕ) → among (places k.labels) (place keywords w) ≡ false → among (places (codes "map" ∷ codes "group" ∷ k.scalars)) (place keywords w) ≡ false → among (places k.in_message) (place keywords w) ≡ false → k.KeepsElement (t.field (named w))
-message-kept w p q e = (among-none k.in_message w e, field-kept w p q)
+-- the word is none of these, as the table of keywords tells
+abbrev IsOutside : List (List ℕ) → List ℕ → Type 0
+IsOutside ks w = among (places ks) (place keywords w) ≡ false
 
-oneof-kept : (w : List ℕ) → among (places k.labels) (place keywords w) ≡ false → among (places (codes "map" ∷ codes "group" ∷ k.scalars)) (place keywords w) ≡ false → among (places (codes "option" ∷ [])) (place keywords w) ≡ false → k.KeepsOneofElement (t.oneof_field (named w))
-oneof-kept w p q e = (among-none (codes "option" ∷ []) w e, field-kept w p q)
+abbrev KeptInMessage : t.Field b.NoMark → Type 0
+KeptInMessage x = k.KeepsKeywords (b.of_message (t.field x ∷ []))
 
-in-message : k.Each (λ w. k.KeepsElement (t.field (named w))) others
+abbrev KeptInOneof : t.Field b.NoMark → Type 0
+KeptInOneof x = k.KeepsKeywords (b.of_message (b.oneof_of (t.oneof_field x ∷ []) ∷ []))
+
+message-kept : (w : List ℕ) → IsOutside k.labels w → IsOutside kinds w → IsOutside k.in_message w → KeptInMessage (named w)
+message-kept w p q e = (tt, ((among-none k.labels w p, among-none k.in_message w e), (among-none kinds w q, tt)))
+
+oneof-kept : (w : List ℕ) → IsOutside k.labels w → IsOutside kinds w → IsOutside (codes "option" ∷ []) w → KeptInOneof (named w)
+oneof-kept w p q e = (tt, ((among-none k.labels w p, among-none (codes "option" ∷ []) w e), (among-none kinds w q, tt)))
+
+in-message : k.Each (λ w. KeptInMessage (named w)) others
 in-message = (
   message-kept _ refl refl refl,
   (
@@ -116,18 +126,18 @@ in-message = (
 )
 
 -- in a oneof also what begins other elements of a message
-in-oneof : k.Each (λ w. k.KeepsOneofElement (t.oneof_field (named w))) (codes "oneof" ∷ codes "enum" ∷ codes "message" ∷ codes "extend" ∷ codes "reserved" ∷ codes "extensions" ∷ [])
+in-oneof : k.Each (λ w. KeptInOneof (named w)) (codes "oneof" ∷ codes "enum" ∷ codes "message" ∷ codes "extend" ∷ codes "reserved" ∷ codes "extensions" ∷ [])
 in-oneof = (oneof-kept _ refl refl refl, (oneof-kept _ refl refl refl, (oneof-kept _ refl refl refl, (oneof-kept _ refl refl refl, (oneof-kept _ refl refl refl, (oneof-kept _ refl refl refl, tt))))))
 
 -- in an extend `option` too
-in-extend : k.KeepsExtendElement (t.extend_field (named (codes "option")))
-in-extend = field-kept _ refl refl
+in-extend : k.KeepsKeywords (b.file (t.an_extend (b.extend_of (b.name "A" []) (t.extend_field (named (codes "option")) ∷ [])) ∷ []))
+in-extend = (among-none k.labels (codes "option") refl, (among-none kinds (codes "option") refl, tt))
 
 -- the parts of a map may begin with `map` and `group`, and with the words of labels and elements
-map-kept : (w : List ℕ) → among (places k.scalars) (place keywords w) ≡ false → k.KeepsField (b.map_of (of_word w) (of_word w))
-map-kept w p = (tt, ((among-none k.scalars w p, among-none k.scalars w p), tt))
+map-kept : (w : List ℕ) → IsOutside k.scalars w → KeptInMessage (b.map_of (of_word w) (of_word w))
+map-kept w p = (tt, ((tt, tt), ((among-none k.scalars w p, among-none k.scalars w p), tt)))
 
-in-map : k.Each (λ w. k.KeepsField (b.map_of (of_word w) (of_word w))) (codes "map" ∷ codes "group" ∷ (k.labels ++ k.in_message))
+in-map : k.Each (λ w. KeptInMessage (b.map_of (of_word w) (of_word w))) (codes "map" ∷ codes "group" ∷ (k.labels ++ k.in_message))
 in-map = (
   map-kept _ refl,
   (

@@ -5,7 +5,8 @@ use Rattle.protox_ast.specs.Places.{Place}
 use Rattle.protox_ast.specs.Tree as t
 use Rattle.protox_ast.specs.Ast.{text_of}
 use Rattle.protox_ast.specs.CheckedNodes.{checked_nodes}
-use Rattle.protox_ast.specs.Checks.{is_text, IsIdent, IsFine}
+use Rattle.protox_ast.specs.Checks.{is_text, IsIdent}
+use Rattle.protox_ast.specs.Fine.{IsFine}
 use Rattle.protox_ast.specs.Keywords.{Each}
 
 abbrev at : Place

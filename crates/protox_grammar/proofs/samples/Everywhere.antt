@@ -1,7 +1,7 @@
 -- Aggregates at each place where an option may stand, by computing.
 use Rattle.std.proofs.Common.{◌≡◌, List, [], ◌∷◌, refl}
 use Rattle.protox_lexeme.specs.Shapes.{Shape, Mark}
-use Rattle.protox_ast.specs.Aggregates.{aggregates}
+use Rattle.protox_ast.specs.Fronts.{aggregates}
 use Rattle.protox_ast.specs.Spelling as s
 use Rattle.protox_grammar.specs.Reader as reader
 use Rattle.protox_grammar.specs.Rules as r

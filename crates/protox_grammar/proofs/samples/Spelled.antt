@@ -3,13 +3,18 @@ use Rattle.std.proofs.Common.{◌≡◌, [], ◌∷◌, Some, None, codes, refl}
 use Rattle.protox_lexeme.specs.Shapes.{Mark}
 use Rattle.protox_ast.specs.Tree as t
 use Rattle.protox_ast.specs.Spelling as s
-use Rattle.protox_ast.specs.Keywords as k
-use Rattle.protox_ast.specs.Depth as d
+use Rattle.protox_ast.specs.KeywordWalk as k
+use Rattle.protox_ast.specs.DepthWalk as d
 use Rattle.protox_ast.specs.Spells.{Spells}
+use Rattle.protox_ast.proofs.NodesKeep.{nodes-keep}
 use Rattle.protox_grammar.proofs.Balance.{counted}
 use Rattle.protox_grammar.proofs.Begin.{among-none}
 use Rattle.protox_grammar.proofs.samples.Build as b
 use Rattle.protox_grammar.proofs.samples.Build.{rows, word, number, float, text}
+
+-- a tree keeps the rules where its parts do
+kept : (f : t.File b.NoMark) → k.KeepsFile f → k.KeepsKeywords f
+kept f h = (nodes-keep f).1 h
 
 -- syntax = "proto" "3"; package a.b; import public "x"; import 'y'; ;
 abbrev head : t.File b.NoMark
@@ -27,7 +32,7 @@ head-spelled : Spells (rows (
     ∷ word "package" ∷ word "a" ∷ Mark s.dot ∷ word "b" ∷ Mark s.semicolon
     ∷ word "import" ∷ word "public" ∷ text "x" ∷ Mark s.semicolon
     ∷ word "import" ∷ text "y" ∷ Mark s.semicolon ∷ Mark s.semicolon ∷ [])) head
-head-spelled = (refl, (tt, (tt, (tt, (tt, tt)))))
+head-spelled = (refl, kept head (tt, (tt, (tt, (tt, tt)))))
 
 -- message M { .int32 f = 1; int32 f = 1 [yes = yes]; ; optional message.f f = 1; map<int32, group> f = 1; }
 abbrev fields : t.File b.NoMark
@@ -49,7 +54,7 @@ fields-spelled : Spells (rows (
     ∷ Mark s.close_brace ∷ [])) fields
 fields-spelled = (
   refl,
-  (
+  kept fields (
     (
       (tt, (tt, (tt, tt))),
       (
@@ -84,7 +89,7 @@ options-spelled : Spells (rows (
     ∷ Mark s.close_brace ∷ Mark s.semicolon
     ∷ word "option" ∷ word "e" ∷ Mark s.equals ∷ text "u" ∷ text "v" ∷ Mark s.semicolon
     ∷ word "option" ∷ word "f" ∷ Mark s.equals ∷ Mark s.minus ∷ number 7 ∷ Mark s.semicolon ∷ [])) options
-options-spelled = (refl, (tt, (((counted _).1 refl, (refl, (refl, (refl, (refl, (refl, (refl, (refl, (refl, (refl, (refl, (refl, tt)))))))))))), (tt, (tt, tt)))))
+options-spelled = (refl, kept options (tt, (((counted _).1 refl, (refl, (refl, (refl, (refl, (refl, (refl, (refl, (refl, (refl, (refl, (refl, tt)))))))))))), (tt, (tt, tt)))))
 
 -- message M { oneof o { option yes = yes; message f = 1; group G = 2 { } ; } extend .A { option f = 1; } message M { message M { } } option yes = yes; }
 abbrev bodies : t.File b.NoMark
@@ -112,7 +117,7 @@ bodies-spelled : Spells (rows (
     ∷ Mark s.close_brace ∷ [])) bodies
 bodies-spelled = (
   refl,
-  (
+  kept bodies (
     (
       (
         tt,
@@ -155,7 +160,7 @@ enum-spelled : Spells (rows (
     ∷ Mark s.close_brace ∷ [])) an_enum
 enum-spelled = (
   refl,
-  (
+  kept an_enum (
     (
       tt,
       (
@@ -189,7 +194,7 @@ ranges-spelled : Spells (rows (
     ∷ word "reserved" ∷ number 7 ∷ Mark s.semicolon
     ∷ word "extensions" ∷ number 8 ∷ Mark s.semicolon
     ∷ Mark s.close_brace ∷ [])) ranges
-ranges-spelled = (refl, ((((λ e. absurd cc), (tt, tt)), (tt, ((tt, tt), tt))), tt))
+ranges-spelled = (refl, kept ranges ((((λ e. absurd cc), (tt, tt)), (tt, ((tt, tt), tt))), tt))
 
 -- service S { option yes = yes; ; rpc R(stream stream) returns(.stream); rpc R(A) returns(A) { option yes = yes; ; } }
 abbrev a_service : t.File b.NoMark
@@ -209,7 +214,7 @@ service-spelled : Spells (rows (
     ∷ Mark s.close_brace ∷ [])) a_service
 service-spelled = (
   refl,
-  (
+  kept a_service (
     (
       tt,
       (
@@ -230,7 +235,7 @@ an_extend = b.file (t.an_extend (b.extend_of (b.name "A" []) (t.extend_field (b.
 
 extend-spelled : Spells (rows (
     word "extend" ∷ word "A" ∷ Mark s.open_brace ∷ word "int32" ∷ word "f" ∷ Mark s.equals ∷ number 1 ∷ Mark s.semicolon ∷ Mark s.semicolon ∷ Mark s.close_brace ∷ [])) an_extend
-extend-spelled = (refl, (((tt, (tt, tt)), (tt, tt)), tt))
+extend-spelled = (refl, kept an_extend (((tt, (tt, tt)), (tt, tt)), tt))
 
 extend-flat : d.depth an_extend ≡ 0
 extend-flat = refl

@@ -1,5 +1,5 @@
 -- Which faults are true of small sources, and which are not.
-use Rattle.std.proofs.Common.{◌≡◌, ◌≢◌, ◌<◌, ◌≤◌, inl, inr, ℕ, zero, suc, true, false, List, [], ◌∷◌, ◌++◌, length, Any, Option, Some, Err, codes, refl, sym, ap, subst, ◌∙◌, arith, true≢false, slice_index_or, is_some, drop}
+use Rattle.std.proofs.Common.{◌≡◌, ◌≢◌, ◌<◌, ◌≤◌, inl, inr, ℕ, zero, suc, true, false, List, [], ◌∷◌, ◌++◌, length, take, Any, Option, Some, Err, codes, refl, sym, ap, subst, ◌∙◌, arith, true≢false, slice_index_or, is_some, drop}
 use Rattle.std.proofs.lemmas.List.{length-append}
 use Rattle.std.specs.Str.{is_utf8, chars}
 use Rattle.std.specs.Str.Lossy.{utf8_valid_len}
@@ -9,11 +9,11 @@ use Rattle.protox_lexeme.specs.Shapes.{Shape, Int, Mark, Newline, Invalid}
 use Rattle.protox_lexeme.specs.Table.{rows_of}
 use Rattle.protox_fault.specs.declared.error.ParseErrorKind.{ParseErrorKind}
 use Rattle.protox_fault.specs.declared.error.ParseErrorKind.TheVariants as fault
-use Rattle.protox_ast.specs.Aggregates.{aggregates}
+use Rattle.protox_ast.specs.Fronts.{aggregates}
 use Rattle.protox_ast.specs.AstParts.{first_of}
 use Rattle.protox_ast.specs.CheckedNodes as node
 use Rattle.protox_ast.specs.CheckedNodes.{CheckedNode, checked_nodes}
-use Rattle.protox_ast.specs.Fronts.{Inside, IsCleanBehind, CleanFront}
+use Rattle.protox_ast.specs.Fronts.{Inside, IsCleanBehind, AreCleanBehind}
 use Rattle.protox_ast.specs.Checks.{IsIdent, is_import_path, is_text}
 use Rattle.protox_ast.specs.Keywords.{Each, is_significant}
 use Rattle.protox_ast.specs.Spelling as s
@@ -150,6 +150,10 @@ are-first = record {
 
 hash-there : IsTrueOf (x.hash ∷ []) (fault.HashCommentOutsideTextFormat (span_from 0 3))
 hash-there = record { before = []; here = x.hash; behind = []; parts = refl; is_first = refl; outside = inside-none (x.hash ∷ []) }
+
+-- the first n lexemes are clean
+abbrev CleanFront : List Lexeme → ℕ → Type 0
+CleanFront lexemes n = AreCleanBehind lexemes 0 (take n lexemes)
 
 hash-not-clean : CleanFront (x.hash ∷ []) 1 → ⊥
 hash-not-clean h = inside-none (x.hash ∷ []) (h.0.2 (λ e. let z : 1 ≡ 0 = ap length e in omega (arith, z)))

@@ -1,4 +1,5 @@
--- The aggregates of a file: the values of options that stand between braces, each by its `{` and its `}`.
+-- MACHINERY. The aggregates of each type of the tree, by a walk of their own. The proofs rest on these; that they are those of the file's nodes
+-- is proved.
 use Rattle.std.specs.Prelude.{List, [], ◌∷◌, ◌++◌, Option, Some, None}
 use Rattle.std.specs.List.{flat_map}
 use Rattle.protox_ast.specs.Tree as t
@@ -114,6 +115,5 @@ of_statement (t.a_message x) = of_message x
 of_statement (t.an_enum x) = of_enum x
 of_statement (t.a_service x) = of_service x
 
--- those of a file
-abbrev pub aggregates : {M : Type 0} → t.File M → Braces M
-aggregates f = flat_map of_statement f.statements
+abbrev pub walked_aggregates : {M : Type 0} → t.File M → Braces M
+walked_aggregates f = flat_map of_statement f.statements

@@ -1,0 +1,14 @@
+-- MACHINERY. When nothing is wrong with a checked node: that no fault is that of the node, said by its case.
+use Rattle.std.specs.Prelude.{◌≡◌, true}
+use Rattle.protox_ast.specs.AstParts.{strings_value, text_of}
+use Rattle.protox_ast.specs.CheckedNodes.{CheckedNode, ASyntax, AnImport, AReservedName, AGroupName, APackageAgain, ATooDeep}
+use Rattle.protox_ast.specs.Checks.{IsIdent, IsGroupName, is_known_syntax, is_text, is_import_path}
+
+-- Nothing is wrong with the node. A later package and a body that is too deep are never fine.
+abbrev pub IsFine : {M : Type 0} → CheckedNode M → Type 0
+IsFine (ASyntax x) = is_known_syntax (strings_value x) ≡ true
+IsFine (AnImport x) = (is_text (strings_value x) ≡ true) × (is_import_path (text_of (strings_value x)) ≡ true)
+IsFine (AReservedName x) = (is_text (strings_value x) ≡ true) × IsIdent (text_of (strings_value x))
+IsFine (AGroupName x) = IsGroupName x.0
+IsFine (APackageAgain first again) = ⊥
+IsFine (ATooDeep keyword open_at) = ⊥

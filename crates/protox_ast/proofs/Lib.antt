@@ -1,4 +1,6 @@
 pub mod BlocksStand
+pub mod Equal
+pub mod EqualTrees
 pub mod FilesStand
 pub mod Levels
 pub mod LevelsStand

@@ -1,7 +1,7 @@
 //! Laws of equality. Each is a function that does nothing but compare: its contract is the law.
 ghost use Rattle.std.specs.Prelude.{◌≡◌, ◌↔◌, IsTrue};
 
-use crate::ast::{FieldLabel, Float, Ident, ImportKind, Int, String, Syntax};
+use crate::ast::{FieldLabel, File, Float, Ident, ImportKind, Int, String, Syntax};
 
 /// Syntaxes are equal exactly where they are the same.
 pub fn syntaxes_are_equal_by_value(a: &Syntax, b: &Syntax) -> bool
@@ -47,6 +47,13 @@ pub fn floats_are_equal_by_fields(a: &Float, b: &Float) -> bool
 
 /// Strings are equal exactly where their bytes and spans are.
 pub fn strings_are_equal_by_fields(a: &String, b: &String) -> bool
+    ensures { IsTrue result ↔ (a.now ≡ b.now) }
+{
+    a == b
+}
+
+/// Files are equal exactly where all their fields are: those of each part of them too.
+pub fn files_are_equal_by_fields(a: &File, b: &File) -> bool
     ensures { IsTrue result ↔ (a.now ≡ b.now) }
 {
     a == b

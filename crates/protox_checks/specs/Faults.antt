@@ -1,6 +1,6 @@
 -- What is wrong with a file that its syntax allows: a relation, without order. What the parser checks stands elsewhere.
 use Rattle.std.specs.Prelude.{ℕ, ◌≡◌, ◌≢◌, false, List, [], Any}
-use Rattle.std.specs.Borrow.{Bor}
+pub use Rattle.protox_fault.specs.Faults.{placed, settled, IsSame}
 use Rattle.protox_fault.specs.declared.error.ParseErrorKind.{ParseErrorKind}
 use Rattle.protox_fault.specs.declared.error.ParseErrorKind.TheVariants as fault
 use Rattle.protox_fault.specs.declared.error.SyntaxFailure.{SyntaxFailure}
@@ -29,21 +29,6 @@ Wrong file wrong = Any (λ node. WrongNode file.syntax node wrong) (file_nodes f
 -- Nothing is wrong with the file.
 abbrev pub IsFaultless : File → Type 0
 IsFaultless file = (wrong : ParseErrorKind) → Wrong file wrong → ⊥
-
--- a word, at one place in memory
-abbrev pub placed : List ℕ → Bor (List ℕ)
-placed word = record { ref_ptr = (0, 0); now = word }
-
--- the fault with the word of its kind at that place
-abbrev pub settled : ParseErrorKind → ParseErrorKind
-settled (fault.InvalidDefault span kind) = fault.InvalidDefault span (placed kind.now)
-settled (fault.InvalidExtendFieldKind span kind) = fault.InvalidExtendFieldKind span (placed kind.now)
-settled (fault.InvalidOneofFieldKind span kind) = fault.InvalidOneofFieldKind span (placed kind.now)
-settled wrong = wrong
-
--- Both are one fault, apart from where in memory the word of its kind stands.
-abbrev pub IsSame : ParseErrorKind → ParseErrorKind → Type 0
-IsSame a b = settled a ≡ settled b
 
 -- ---- faults that were found
 

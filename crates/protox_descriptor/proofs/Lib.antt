@@ -1,2 +1,4 @@
+pub mod Equal
 pub mod Pascal
+pub mod Sameness
 pub mod Written

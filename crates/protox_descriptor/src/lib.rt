@@ -4,5 +4,6 @@
 
 pub mod case;
 pub mod descriptor;
+pub mod laws;
 pub mod tag;
 pub mod values;

@@ -1,5 +1,6 @@
 -- What a clause sees of a fault.
-use Rattle.std.specs.Prelude.{ℕ, ◌≤◌, Bool, true, false, not, if◌then◌else◌, List, filter, Option, Some, None, IfSome}
+use Rattle.std.specs.Prelude.{ℕ, ◌≡◌, ◌≤◌, Bool, true, false, not, if◌then◌else◌, List, filter, Option, Some, None, IfSome}
+use Rattle.std.specs.Borrow.{Bor}
 use Rattle.std.specs.declared.ops.Range.{Range}
 use Rattle.protox_fault.specs.declared.error.ParseErrorKind.{ParseErrorKind}
 use Rattle.protox_fault.specs.declared.error.ParseErrorKind.TheVariants.{InvalidToken, IntegerOutOfRange, InvalidStringCharacters, UnterminatedString, InvalidStringEscape, InvalidUtf8String, NestedBlockComment, UnknownSyntax, InvalidIdentifier, InvalidGroupName, InvalidImport, DuplicatePackage, NoSpaceBetweenIntAndIdent, HashCommentOutsideTextFormat, FloatSuffixOutsideTextFormat, UnexpectedToken, UnexpectedEof, NegativeIdentOutsideDefault, InvalidMessageNumber, InvalidEnumNumber, InvalidDefault, Proto3DefaultValue, InvalidExtendFieldKind, RequiredExtendField, MapFieldWithLabel, OneofFieldWithLabel, Proto2FieldMissingLabel, Proto3GroupField, Proto3RequiredField, InvalidOneofFieldKind, InvalidMapFieldKeyType, ValueInvalidType, IntegerValueOutOfRange, EmptyOneof, MessageNestingTooDeep, FileTooLarge}
@@ -49,6 +50,21 @@ span_of (IntegerValueOutOfRange span expected actual min max) = Some span
 span_of (EmptyOneof span) = Some span
 span_of (MessageNestingTooDeep span) = Some span
 span_of FileTooLarge = None
+
+-- a word, at one place in memory
+abbrev pub placed : List ℕ → Bor (List ℕ)
+placed word = record { ref_ptr = (0, 0); now = word }
+
+-- the fault with the word of its kind at that place
+abbrev pub settled : ParseErrorKind → ParseErrorKind
+settled (InvalidDefault span kind) = InvalidDefault span (placed kind.now)
+settled (InvalidExtendFieldKind span kind) = InvalidExtendFieldKind span (placed kind.now)
+settled (InvalidOneofFieldKind span kind) = InvalidOneofFieldKind span (placed kind.now)
+settled wrong = wrong
+
+-- Both are one fault, apart from where in memory the word of its kind stands.
+abbrev pub IsSame : ParseErrorKind → ParseErrorKind → Type 0
+IsSame a b = settled a ≡ settled b
 
 -- The span lies in a source of so many bytes, its start not past its end.
 abbrev pub SpanLiesIn : ℕ → Span → Type 0

@@ -1,5 +1,6 @@
 //! Groups of which the first are mostly empty.
-ghost use Rattle.std.specs.Prelude.{◌≡◌, ◌++◌, ◌∷◌, [], slice_get, OnOk};
+ghost use Rattle.std.specs.Prelude.{◌≡◌, ◌↔◌, IsTrue, ◌++◌, ◌∷◌, [], slice_get, OnOk};
+ghost use Rattle.std.specs.List.{All};
 ghost use Rattle.std.specs.Option.{option_copied};
 
 use crate::groups::Groups;
@@ -44,6 +45,13 @@ impl<T> LateGroups<T> {
         } else {
             self.groups.get(index - self.empty)
         }
+    }
+
+    /// Whether each list that has ended is empty.
+    pub(crate) fn are_empty(&self) -> bool
+        ensures { IsTrue result ↔ All (λ xs. xs ≡ []) self.now.ended }
+    {
+        self.groups.are_empty()
     }
 
     #[tactic(auto, using(crate::proofs::Splitting::one_more_empty, crate::proofs::Splitting::behind_push))]

@@ -55,17 +55,14 @@ impl<T> LateGroups<T> {
     }
 
     #[tactic(auto, using(crate::proofs::Splitting::one_more_empty, crate::proofs::Splitting::behind_push))]
-    /// Ends the list that has begun. More empty lists than a `usize` counts have no room.
+    /// Ends the list that has begun.
     pub(crate) fn end(&mut self) -> Result<(), AllocError>
         ensures { OnOk result (self.new ≡ record { ended = self.old.ended ++ self.old.begun ∷ []; begun = [] }) }
     {
-        if !self.groups.is_new() {
-            return self.groups.end();
+        match self.empty.checked_add(1) {
+            Some(empty) if self.groups.is_new() => self.empty = empty,
+            _ => self.groups.end()?,
         }
-        let Some(empty) = self.empty.checked_add(1) else {
-            return Err(AllocError);
-        };
-        self.empty = empty;
         Ok(())
     }
 }

@@ -44,7 +44,7 @@ impl<'a> Model for TokenTable<'a> {
 }
 
 impl<'a> TokenTable<'a> {
-    /// The table of a source. A row that begins behind the first 4 GiB has no room: `AllocError`.
+    /// The table of a source of any size. `AllocError` only where a growth was refused.
     #[tactic(auto, using(crate::proofs::Tables::gaps_held))]
     pub fn new(alloc: Global, source: &'a str) -> Result<TokenTable<'a>, AllocError>
         ensures { IfOk result (λ table. table ≡ table_of (spec.cut 0 source.entry.now)) }

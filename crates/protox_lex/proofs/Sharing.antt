@@ -15,7 +15,7 @@ use Rattle.protox_lex.specs.declared.row_list.NumberedRow.{NumberedRow}
 use Rattle.protox_lexeme.specs.declared.token.Token.{Token}
 use Rattle.protox_fault.specs.Faults.{Span, span_from}
 use Rattle.protox_lexeme.specs.Shapes.{Shape, Mark, Newline, Row}
-use Rattle.protox_lex.specs.Sharing.{kept_at, shape_at, len_at, kept_len, own_len, len_by, row_by, rows_by, IsKept, AreKept, AreMarks, AreClassed, AreShared, AreLines, AreThere, gap_at}
+use Rattle.protox_lex.specs.Sharing.{kept_at, shape_at, kept_len, own_len, len_by, row_by, rows_by, IsKept, AreKept, AreMarks, AreClassed, AreShared, AreLines, AreThere, gap_at}
 use Rattle.protox_lex.specs.TableView.{shapes_of_lent}
 use Rattle.protox_lexeme.specs.TokenClass.{class, no_token}
 use Rattle.protox_lexeme.specs.Tokens.{shape_of, shape_of_result}

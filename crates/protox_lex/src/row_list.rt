@@ -112,12 +112,17 @@ impl RowList {
 
     // Appends a wide row. Those behind it are wide too.
     #[inline(never)]
-    fn push_wide(&mut self, row: NumberedRow) -> Result<(), AllocError>
-        ensures ok { OnOk result (self.new ≡ self.old ++ row ∷ []) }
+    fn push_wide(
+        &mut self,
+        start: usize,
+        token: usize,
+        len: Option<usize>,
+    ) -> Result<(), AllocError>
+        ensures ok { OnOk result (self.new ≡ self.old ++ record { start = start; token = token; len = len } ∷ []) }
         ensures err { OnErr result (self.new ≡ self.old) }
     {
         self.wide_from = 0;
-        self.wide.push(row)?;
+        self.wide.push(NumberedRow { start, token, len })?;
         Ok(())
     }
 
@@ -132,7 +137,7 @@ impl RowList {
                 self.narrow.push(row)?;
                 Ok(())
             }
-            None => self.push_wide(row),
+            None => self.push_wide(row.start, row.token, row.len),
         }
     }
 }

@@ -124,6 +124,14 @@ impl<'a> SharedGaps<'a> {
         }
     }
 
+    // Appends a newline that is kept, as no more are counted.
+    #[inline(never)]
+    fn keep_newline(&mut self) -> Result<(), AllocError>
+        ensures { OnOk result (self.new ≡ record self.old { begun = self.old.begun ++ Newline ∷ [] }) }
+    {
+        self.push(Token::Newline)
+    }
+
     /// Appends a newline to the gap that has begun.
     #[inline(always)]
     pub(crate) fn push_newline(&mut self) -> Result<(), AllocError>
@@ -134,7 +142,7 @@ impl<'a> SharedGaps<'a> {
                 self.newlines = newlines;
                 Ok(())
             }
-            None => self.push(Token::Newline),
+            None => self.keep_newline(),
         }
     }
 

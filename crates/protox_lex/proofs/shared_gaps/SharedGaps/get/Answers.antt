@@ -1,7 +1,7 @@
 use Rattle.std.proofs.Common.{◌≡◌, ◌++◌, map, take, ap, sym, ◌∙◌, Some}
 use Rattle.std.specs.Prelude.{slice_get}
 use Rattle.protox_lexeme.specs.Tokens.{shape_of}
-use Rattle.protox_lex.proofs.Sharing.{few_found, many_found}
+use Rattle.protox_lex.proofs.Sharing.{few_found}
 use Rattle.protox_lex.proofs.shared_gaps.SharedGaps.get.Goals as goal
 
 pub returns-then-number-lt-LINES : goal.returns-then-number-lt-LINES

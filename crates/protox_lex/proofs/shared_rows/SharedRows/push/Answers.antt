@@ -1,4 +1,4 @@
-use Rattle.std.proofs.Common.{◌≡◌, length, ap, ◌∙◌}
+use Rattle.std.proofs.Common.{length, ap, ◌∙◌}
 use Rattle.protox_lex.proofs.Sharing.{shared_more, shared_push}
 use Rattle.protox_lex.proofs.shared_rows.SharedRows.push.Goals as goal
 

@@ -1,4 +1,4 @@
-use Rattle.std.proofs.Common.{◌≡◌, length, ap, ◌∙◌}
+use Rattle.std.proofs.Common.{length, ap, ◌∙◌}
 use Rattle.protox_lex.proofs.Sharing.{shared_more, shared_push, shared_first}
 use Rattle.protox_lex.proofs.shared_rows.SharedRows.push_first_mark.Goals as goal
 

@@ -59,11 +59,13 @@ impl<T> LateGroups<T> {
     pub(crate) fn end(&mut self) -> Result<(), AllocError>
         ensures { OnOk result (self.new ≡ record { ended = self.old.ended ++ self.old.begun ∷ []; begun = [] }) }
     {
-        match self.empty.checked_add(1) {
-            Some(empty) if self.groups.is_new() => self.empty = empty,
-            _ => self.groups.end()?,
+        if self.groups.is_new() {
+            if let Some(empty) = self.empty.checked_add(1) {
+                self.empty = empty;
+                return Ok(());
+            }
         }
-        Ok(())
+        self.groups.end()
     }
 }
 

@@ -72,7 +72,7 @@ fn narrowed(row: NumberedRow, wide_from: usize) -> Option<NarrowRow>
 }
 
 // A wide row.
-#[inline(never)]
+#[inline(always)]
 fn wide_row(wide: &[NumberedRow], index: usize) -> Option<NumberedRow>
     ensures { result ≡ slice_get wide.now index }
 {

@@ -1,21 +1,21 @@
 -- Rows that name their tokens by number, and gaps that are kept by number.
-use Rattle.std.proofs.Common.{◌≡◌, ℕ, zero, suc, ◌+◌, ◌-◌, ◌<◌, ◌≤◌, inl, inr, List, [], ◌∷◌, ◌++◌, length, length-append, append_assoc, map, set, take, replicate, refl, sym, ap, subst, ◌∙◌, arith, Option, Some, None, Err, eqb, nat_lt, false}
+use Rattle.std.proofs.Common.{◌≡◌, ℕ, zero, suc, ◌+◌, ◌-◌, ◌^◌, ◌<◌, ◌≤◌, inl, inr, List, [], ◌∷◌, ◌++◌, length, length-append, append_assoc, map, set, take, replicate, refl, sym, ap, subst, ◌∙◌, arith, Option, Some, None, Err, eqb, nat_lt, false}
 use Rattle.std.proofs.Math.ListN.{get_or-append}
 use Rattle.std.proofs.Math.Seq.{get_or-append_seam}
 use Rattle.std.proofs.lemmas.Bool.{cases_Bool, eqb-true, eqb-false, ltb-false, le-ltb, lt-ltb}
 use Rattle.std.proofs.lemmas.Grind.{get_or-set_at}
 use Rattle.std.proofs.lemmas.List.{map-append, get_or-set_other, length-set, length-replicate, take-map, take-replicate}
-use Rattle.std.proofs.lemmas.Option.{slice_get-map, slice_get-get_or}
+use Rattle.std.proofs.lemmas.Option.{slice_get-map, slice_get-get_or, slice_get_within, get_or_from_slice_get}
 use Rattle.std.specs.Borrow.{Bor}
-use Rattle.std.specs.Option.{option_map, option_copied}
+use Rattle.std.specs.Option.{option_map, option_copied, unwrap_or}
 use Rattle.std.proofs.lemmas.List.Elements.{All-push}
 use Rattle.std.specs.Prelude.{slice_get, slice_index_or}
 use Rattle.protox_lex.specs.declared.shared_rows.KeptToken.{KeptToken}
-use Rattle.protox_lex.specs.declared.shared_rows.NumberedRow.{NumberedRow}
+use Rattle.protox_lex.specs.declared.row_list.NumberedRow.{NumberedRow}
 use Rattle.protox_lexeme.specs.declared.token.Token.{Token}
 use Rattle.protox_fault.specs.Faults.{Span, span_from}
 use Rattle.protox_lexeme.specs.Shapes.{Shape, Mark, Newline, Row}
-use Rattle.protox_lex.specs.Sharing.{kept_at, shape_at, len_at, row_by, rows_by, AreKept, AreMarks, AreClassed, AreShared, AreLines, AreThere, gap_at}
+use Rattle.protox_lex.specs.Sharing.{kept_at, shape_at, kept_len, own_len, len_by, row_by, rows_by, IsKept, AreKept, AreMarks, AreClassed, AreShared, AreLines, AreThere, gap_at}
 use Rattle.protox_lex.specs.TableView.{shapes_of_lent}
 use Rattle.protox_lexeme.specs.TokenClass.{class, no_token}
 use Rattle.protox_lexeme.specs.Tokens.{shape_of, shape_of_result}
@@ -28,23 +28,46 @@ kept_last : (tokens : List KeptToken) (token : KeptToken) → kept_at (tokens ++
 kept_last tokens token = get_or-append_seam tokens token [] record { token = Err tt; len = 0; class = no_token }
 
 -- a row, by what is kept for it
-abbrev row_with : ℕ → KeptToken → Row Span
-row_with start token = record { shape = shape_of_result token.token; at = span_from start (start + token.len) }
+abbrev row_with : ℕ → Option ℕ → KeptToken → Row Span
+row_with start own token = record { shape = shape_of_result token.token; at = span_from start (start + unwrap_or own token.len) }
 
 rows_stay : (tokens more : List KeptToken) (rows : List NumberedRow) → AreKept tokens rows → rows_by (tokens ++ more) rows ≡ rows_by tokens rows
 rows_stay tokens more [] h = refl
 rows_stay tokens more (row ∷ rows) h =
-    let here : row_by (tokens ++ more) row ≡ row_by tokens row = ap (row_with row.start) (kept_stays tokens more row.token (h zero row (omega arith))) in
+    let here : row_by (tokens ++ more) row ≡ row_by tokens row = ap (row_with row.start row.len) (kept_stays tokens more row.token (h zero row (omega arith)).0) in
     rw (here, rows_stay tokens more rows (λ k d l. h (suc k) d (omega arith))) refl
 
+len_stays : (tokens more : List KeptToken) (row : NumberedRow) → row.token < length tokens → len_by (tokens ++ more) row ≡ len_by tokens row
+len_stays tokens more row l = ap (λ k. unwrap_or row.len k.len) (kept_stays tokens more row.token l)
+
+-- a row of one more token still ends where it did
+is_kept_stays : (tokens : List KeptToken) (token : KeptToken) (row : NumberedRow) → IsKept tokens row → IsKept (tokens ++ token ∷ []) row
+is_kept_stays tokens token row (l, ends) = (omega (arith, l, length-append tokens (token ∷ [])), omega (arith, ends, len_stays tokens (token ∷ []) row l))
+
+kept_more : (tokens : List KeptToken) (token : KeptToken) (rows : List NumberedRow) → AreKept tokens rows → AreKept (tokens ++ token ∷ []) rows
+kept_more tokens token rows h k d l = is_kept_stays tokens token (slice_index_or rows k d) (h k d l)
+
+-- the length of a row is kept with its token or with the row
+own_or_kept : (len : ℕ) → unwrap_or (own_len len) (kept_len len) ≡ len
+own_or_kept len = elim (cases_Bool (nat_lt len (2 ^ 32))) [
+  | inl fits ↦ rw fits refl
+  | inr large ↦ rw large refl
+]
+
+-- what is true of a row of the table
+pub row_is_kept : (tokens : List KeptToken) (rows : List NumberedRow) (index : ℕ) (row : NumberedRow) → AreKept tokens rows → slice_get rows index ≡ Some row → IsKept tokens row
+row_is_kept tokens rows index row h e =
+    let P : NumberedRow → Type 0 = λ r. IsKept tokens r in
+    subst P (get_or_from_slice_get rows index row row e) (h index row (slice_get_within rows index row e))
+
 -- a row of a token that is kept
-pub known_push : (tokens : List KeptToken) (rows : List NumberedRow) (row : NumberedRow) (shape : Shape) (len : ℕ) → shape_at tokens row.token ≡ shape → len_at tokens row.token ≡ len
+pub known_push : (tokens : List KeptToken) (rows : List NumberedRow) (row : NumberedRow) (shape : Shape) (len : ℕ) → shape_at tokens row.token ≡ shape → len_by tokens row ≡ len
     → rows_by tokens (rows ++ row ∷ []) ≡ rows_by tokens rows ++ record { shape = shape; at = span_from row.start (row.start + len) } ∷ []
 known_push tokens rows row shape len e size = map-append (row_by tokens) rows (row ∷ []) ∙ rw (e, size) refl
 
-pub shared_known : (tokens : List KeptToken) (rows : List NumberedRow) (marks : List (Option ℕ)) (recent : List ℕ) (row : NumberedRow) → AreShared tokens rows marks recent → row.token < length tokens
+pub shared_known : (tokens : List KeptToken) (rows : List NumberedRow) (marks : List (Option ℕ)) (recent : List ℕ) (row : NumberedRow) → AreShared tokens rows marks recent → IsKept tokens row
     → AreShared tokens (rows ++ row ∷ []) marks recent
-shared_known tokens rows marks recent row s l = record { kept = All-push (λ (r : NumberedRow). r.token < length tokens) rows row s.kept l; marks_are = s.marks_are; classed = s.classed; bytes = s.bytes; slots = s.slots }
+shared_known tokens rows marks recent row s h = record { kept = All-push (IsKept tokens) rows row s.kept h; marks_are = s.marks_are; classed = s.classed; bytes = s.bytes; slots = s.slots }
 
 -- the class of what is kept
 abbrev HasClass : KeptToken → Type 0
@@ -54,33 +77,47 @@ pub class_found : (tokens : List KeptToken) (number : ℕ) → AreClassed tokens
 class_found tokens number h l = h number record { token = Err tt; len = 0; class = no_token } l
 
 -- a row of one more token
-pub rows_push : (tokens : List KeptToken) (token : KeptToken) (rows : List NumberedRow) (row : NumberedRow) → AreKept tokens rows → row.token ≡ length tokens
-    → rows_by (tokens ++ token ∷ []) (rows ++ row ∷ []) ≡ rows_by tokens rows ++ record { shape = shape_of_result token.token; at = span_from row.start (row.start + token.len) } ∷ []
-rows_push tokens token rows row h e =
-    let last : row_by (tokens ++ token ∷ []) row ≡ row_with row.start token = ap (row_with row.start) (ap (kept_at (tokens ++ token ∷ [])) e ∙ kept_last tokens token) in
-    map-append (row_by (tokens ++ token ∷ [])) rows (row ∷ []) ∙ rw (rows_stay tokens (token ∷ []) rows h, last) refl
+pub rows_push : (tokens : List KeptToken) (token : KeptToken) (rows : List NumberedRow) (start number len : ℕ) → AreKept tokens rows → number ≡ length tokens → token.len ≡ kept_len len
+    → rows_by (tokens ++ token ∷ []) (rows ++ record { start = start; token = number; len = own_len len } ∷ []) ≡ rows_by tokens rows ++ record { shape = shape_of_result token.token; at = span_from start (start + len) } ∷ []
+rows_push tokens token rows start number len h e size =
+    let row : NumberedRow = record { start = start; token = number; len = own_len len } in
+    let last : row_by (tokens ++ token ∷ []) row ≡ row_with start (own_len len) token = ap (row_with start (own_len len)) (ap (kept_at (tokens ++ token ∷ [])) e ∙ kept_last tokens token) in
+    let long : unwrap_or (own_len len) token.len ≡ len = ap (unwrap_or (own_len len)) size ∙ own_or_kept len in
+    let whole : row_with start (own_len len) token ≡ record { shape = shape_of_result token.token; at = span_from start (start + len) } = ap (λ n. record { shape = shape_of_result token.token; at = span_from start (start + n) }) long in
+    map-append (row_by (tokens ++ token ∷ [])) rows (row ∷ []) ∙ rw (rows_stay tokens (token ∷ []) rows h, last, whole) refl
 
-kept_push : (tokens : List KeptToken) (token : KeptToken) (rows : List NumberedRow) (row : NumberedRow) → AreKept tokens rows → row.token ≡ length tokens
-    → AreKept (tokens ++ token ∷ []) (rows ++ row ∷ [])
-kept_push tokens token rows row h e =
-    let size = length-append tokens (token ∷ []) in
-    All-push (λ (r : NumberedRow). r.token < length (tokens ++ token ∷ [])) rows row (λ k d l. let below = h k d l in omega (arith, size)) (omega (arith, size, e))
+last_is_kept : (tokens : List KeptToken) (token : KeptToken) (start number len : ℕ) → number ≡ length tokens → token.len ≡ kept_len len → start + len < 2 ^ 64
+    → IsKept (tokens ++ token ∷ []) record { start = start; token = number; len = own_len len }
+last_is_kept tokens token start number len e size ends =
+    let long : unwrap_or (own_len len) (kept_at (tokens ++ token ∷ []) number).len ≡ len =
+      ap (λ k. unwrap_or (own_len len) k.len) (ap (kept_at (tokens ++ token ∷ [])) e ∙ kept_last tokens token) ∙ ap (unwrap_or (own_len len)) size ∙ own_or_kept len in
+    (omega (arith, length-append tokens (token ∷ []), e), omega (arith, ends, long))
+
+kept_push : (tokens : List KeptToken) (token : KeptToken) (rows : List NumberedRow) (start number len : ℕ) → AreKept tokens rows → number ≡ length tokens → token.len ≡ kept_len len → start + len < 2 ^ 64
+    → AreKept (tokens ++ token ∷ []) (rows ++ record { start = start; token = number; len = own_len len } ∷ [])
+kept_push tokens token rows start number len h e size ends =
+    All-push (IsKept (tokens ++ token ∷ [])) rows record { start = start; token = number; len = own_len len } (kept_more tokens token rows h) (last_is_kept tokens token start number len e size ends)
 
 marks_push : (tokens : List KeptToken) (token : KeptToken) (marks : List (Option ℕ)) → AreMarks tokens marks → AreMarks (tokens ++ token ∷ []) marks
 marks_push tokens token marks h byte number e =
     let (l, s) = h byte number e in
     (omega (arith, l, length-append tokens (token ∷ [])), ap (λ k. shape_of_result k.token) (kept_stays tokens (token ∷ []) number l) ∙ s)
 
-pub shared_push : (tokens : List KeptToken) (token : KeptToken) (rows : List NumberedRow) (marks : List (Option ℕ)) (recent : List ℕ) (row : NumberedRow) → AreShared tokens rows marks recent → row.token ≡ length tokens
-    → HasClass token → AreShared (tokens ++ token ∷ []) (rows ++ row ∷ []) marks recent
-shared_push tokens token rows marks recent row s e of = record { kept = kept_push tokens token rows row s.kept e; marks_are = marks_push tokens token marks s.marks_are; classed = All-push HasClass tokens token s.classed of; bytes = s.bytes; slots = s.slots }
+pub shared_push : (tokens : List KeptToken) (token : KeptToken) (rows : List NumberedRow) (marks : List (Option ℕ)) (recent : List ℕ) (start number len : ℕ) → AreShared tokens rows marks recent → number ≡ length tokens
+    → token.len ≡ kept_len len → start + len < 2 ^ 64 → HasClass token → AreShared (tokens ++ token ∷ []) (rows ++ record { start = start; token = number; len = own_len len } ∷ []) marks recent
+shared_push tokens token rows marks recent start number len s e size ends of = record {
+  kept = kept_push tokens token rows start number len s.kept e size ends;
+  marks_are = marks_push tokens token marks s.marks_are;
+  classed = All-push HasClass tokens token s.classed of;
+  bytes = s.bytes;
+  slots = s.slots;
+}
 
 -- one more token, and no row of it yet
 pub shared_more : (tokens : List KeptToken) (token : KeptToken) (rows : List NumberedRow) (marks : List (Option ℕ)) (recent : List ℕ) → AreShared tokens rows marks recent
     → HasClass token → AreShared (tokens ++ token ∷ []) rows marks recent
 shared_more tokens token rows marks recent s of =
-    let size = length-append tokens (token ∷ []) in
-    record { kept = λ k d l. (let below = s.kept k d l in omega (arith, size)); marks_are = marks_push tokens token marks s.marks_are; classed = All-push HasClass tokens token s.classed of; bytes = s.bytes; slots = s.slots }
+    record { kept = kept_more tokens token rows s.kept; marks_are = marks_push tokens token marks s.marks_are; classed = All-push HasClass tokens token s.classed of; bytes = s.bytes; slots = s.slots }
 
 -- a row of a mark that is kept from now on
 marks_first : (tokens : List KeptToken) (token : KeptToken) (marks : List (Option ℕ)) (byte : ℕ) → AreMarks tokens marks → shape_of_result token.token ≡ Mark byte → byte < length marks
@@ -95,14 +132,14 @@ marks_first tokens token marks byte h s l b number e = elim (cases_Bool (eqb b b
       marks_push tokens token marks h b number (sym (get_or-set_other marks byte b (Some (length tokens)) None (eqb-false b byte other)) ∙ e)
 ]
 
-pub shared_first : (tokens : List KeptToken) (token : KeptToken) (rows : List NumberedRow) (marks : List (Option ℕ)) (recent : List ℕ) (row : NumberedRow) (byte number : ℕ) → AreShared tokens rows marks recent → row.token ≡ number → number ≡ length tokens
-    → shape_of_result token.token ≡ Mark byte → byte < 256 → HasClass token → AreShared (tokens ++ token ∷ []) (rows ++ row ∷ []) (set marks byte (Some number)) recent
-shared_first tokens token rows marks recent row byte number s t e shape l of =
+pub shared_first : (tokens : List KeptToken) (token : KeptToken) (rows : List NumberedRow) (marks : List (Option ℕ)) (recent : List ℕ) (byte number : ℕ) → AreShared (tokens ++ token ∷ []) rows marks recent → AreMarks tokens marks
+    → number ≡ length tokens → shape_of_result token.token ≡ Mark byte → byte < 256 → AreShared (tokens ++ token ∷ []) rows (set marks byte (Some number)) recent
+shared_first tokens token rows marks recent byte number s before e shape l =
     let P : ℕ → Type 0 = λ number. AreMarks (tokens ++ token ∷ []) (set marks byte (Some number)) in
     record {
-      kept = kept_push tokens token rows row s.kept (t ∙ e);
-      marks_are = subst P (sym e) (marks_first tokens token marks byte s.marks_are shape (omega (arith, l, s.bytes)));
-      classed = All-push HasClass tokens token s.classed of;
+      kept = s.kept;
+      marks_are = subst P (sym e) (marks_first tokens token marks byte before shape (omega (arith, l, s.bytes)));
+      classed = s.classed;
       bytes = length-set marks byte (Some number) ∙ s.bytes;
       slots = s.slots;
     }
@@ -122,22 +159,22 @@ mark_found tokens marks byte number found are within is some =
 lines_lent : (lines : List Token) (count : ℕ) → AreLines lines → count ≤ 8 → map shape_of (take count lines) ≡ replicate count Newline
 lines_lent lines count e l = sym (take-map shape_of count lines) ∙ ap (take count) e ∙ take-replicate count 8 Newline l
 
-gap_found : (kept : List (List Token)) (numbers : List ℕ) (k number : ℕ) → k < length numbers → number ≡ slice_index_or numbers k 0 → slice_get (map (gap_at kept) numbers) k ≡ Some (gap_at kept number)
-gap_found kept numbers k number within is = slice_get-map (gap_at kept) numbers k ∙ ap (option_map (gap_at kept)) (slice_get-get_or numbers k 0 within ∙ ap Some (sym is))
+gap_found : (kept : List (List Token)) (numbers : List ℕ) (k number : ℕ) → slice_get numbers k ≡ Some number → slice_get (map (gap_at kept) numbers) k ≡ Some (gap_at kept number)
+gap_found kept numbers k number is = slice_get-map (gap_at kept) numbers k ∙ ap (option_map (gap_at kept)) is
 
-pub few_found : (lines : List Token) (kept : List (List Token)) (numbers : List ℕ) (k number : ℕ) → AreLines lines → k < length numbers → number ≡ slice_index_or numbers k 0 → number < 8
+pub few_found : (lines : List Token) (kept : List (List Token)) (numbers : List ℕ) (k number : ℕ) → AreLines lines → slice_get numbers k ≡ Some number → number < 8
     → Some (map shape_of (take number lines)) ≡ slice_get (map (gap_at kept) numbers) k
-few_found lines kept numbers k number e within is l =
+few_found lines kept numbers k number e is l =
     let at : gap_at kept number ≡ replicate number Newline = rw (lt-ltb number 8 l) refl in
-    ap Some (lines_lent lines number e (omega (arith, l)) ∙ sym at) ∙ sym (gap_found kept numbers k number within is)
+    ap Some (lines_lent lines number e (omega (arith, l)) ∙ sym at) ∙ sym (gap_found kept numbers k number is)
 
-pub many_found : (kept : List (List Token)) (numbers : List ℕ) (k number : ℕ) (lent : Option (Bor (List Token))) → AreThere numbers kept → k < length numbers → number ≡ slice_index_or numbers k 0 → 8 ≤ number
+pub many_found : (kept : List (List Token)) (numbers : List ℕ) (k number : ℕ) (lent : Option (Bor (List Token))) → AreThere numbers kept → slice_get numbers k ≡ Some number → 8 ≤ number
     → option_copied lent ≡ slice_get kept (number - 8) → option_map shapes_of_lent lent ≡ slice_get (map (gap_at kept) numbers) k
-many_found kept numbers k number lent there within is l e =
-    let below = there k 0 within in
-    let some = slice_get-get_or kept (number - 8) [] (omega (arith, l, below, is)) in
+many_found kept numbers k number lent there is l e =
+    let below = there k 0 (slice_get_within numbers k number is) in
+    let some = slice_get-get_or kept (number - 8) [] (omega (arith, l, below, get_or_from_slice_get numbers k number 0 is)) in
     let at : gap_at kept number ≡ map shape_of (slice_index_or kept (number - 8) []) = rw (le-ltb number 8 l) refl in
-    lent_is lent (slice_index_or kept (number - 8) []) (e ∙ some) ∙ ap Some (sym at) ∙ sym (gap_found kept numbers k number within is)
+    lent_is lent (slice_index_or kept (number - 8) []) (e ∙ some) ∙ ap Some (sym at) ∙ sym (gap_found kept numbers k number is)
   where
     lent_is : (lent : Option (Bor (List Token))) (gap : List Token) → option_copied lent ≡ Some gap → option_map shapes_of_lent lent ≡ Some (map shape_of gap)
     lent_is None gap e = absurd (cc)

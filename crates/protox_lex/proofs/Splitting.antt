@@ -1,6 +1,7 @@
 -- Lists one behind another.
 use Rattle.std.proofs.Common.{◌≡◌, ℕ, zero, suc, ◌+◌, ◌-◌, ◌<◌, ◌≤◌, List, [], ◌∷◌, ◌++◌, length, take, drop, get_or, refl, sym, ap, ◌∙◌, length-append, length-drop, arith, le_refl, le_trans, Some, None}
-use Rattle.std.proofs.lemmas.List.{take-append-le, drop-append-le}
+use Rattle.std.proofs.lemmas.List.{take-append-le, drop-append-le, length-take-le}
+use Rattle.std.specs.List.{All}
 use Rattle.std.proofs.Math.Seq.{take-length, drop-length}
 use Rattle.std.proofs.lemmas.Option.{slice_get_past}
 use Rattle.std.specs.Prelude.{slice_get, slice_range}
@@ -81,7 +82,45 @@ grouped_append items more ends h =
     let (a, b) = last_within 0 (length items) ends h in
     rw (split-append 0 items more ends h, drop-append-le (last_end 0 ends) items more b) refl
 
+-- ---- whether all are empty
+
+pub start_is_end : (from : ℕ) (ends : List ℕ) → get_or (from ∷ ends) (length ends) 0 ≡ last_end from ends
+start_is_end from [] = refl
+start_is_end from (end ∷ ends) = start_is_end end ends
+
+range_empty : {T : Type 0} (items : List T) (from to : ℕ) → from ≤ to → to ≤ length items → slice_range items from to ≡ [] → to ≡ from
+range_empty items from to low high none =
+    let size = length-take-le (to - from) (drop from items) (omega (arith, length-drop from items)) in
+    let nothing = ap length none in
+    omega arith
+
+-- Where the last ends as the first begins, all are empty.
+pub all_empty : {T : Type 0} (from : ℕ) (items : List T) (ends : List ℕ) → EndWithin from (length items) ends → last_end from ends ≡ from → All (λ xs. xs ≡ []) (split from items ends)
+all_empty from items [] h e k d l = absurd (omega arith)
+all_empty from items (end ∷ ends) (low, h) e zero d l =
+    let (a, b) = last_within end (length items) ends h in
+    let none : end - from ≡ 0 = omega arith in
+    ap (λ n. take n (drop from items)) none
+all_empty from items (end ∷ ends) (low, h) e (suc k) d l =
+    let (a, b) = last_within end (length items) ends h in
+    all_empty end items ends h (omega arith) k d (omega arith)
+
+pub last_of_empty : {T : Type 0} (from : ℕ) (items : List T) (ends : List ℕ) → EndWithin from (length items) ends → All (λ xs. xs ≡ []) (split from items ends) → last_end from ends ≡ from
+last_of_empty from items [] h all = refl
+last_of_empty from items (end ∷ ends) (low, h) all =
+    let (a, b) = last_within end (length items) ends h in
+    last_of_empty end items ends h (λ k d l. all (suc k) d (omega arith)) ∙ range_empty items from end low (le_trans a b) (all zero [] (omega arith))
+
 -- ---- behind empty lists
+
+pub all_behind : {T : Type 0} (n : ℕ) (xss : List (List T)) → All (λ xs. xs ≡ []) xss → All (λ xs. xs ≡ []) (empty_and n xss)
+all_behind zero xss all k d l = all k d l
+all_behind (suc n) xss all zero d l = refl
+all_behind (suc n) xss all (suc k) d l = all_behind n xss all k d (omega arith)
+
+pub behind_all : {T : Type 0} (n : ℕ) (xss : List (List T)) → All (λ xs. xs ≡ []) (empty_and n xss) → All (λ xs. xs ≡ []) xss
+behind_all zero xss all = all
+behind_all (suc n) xss all = behind_all n xss (λ k d l. all (suc k) d (omega arith))
 
 pub get_empty : {T : Type 0} (n : ℕ) (xss : List (List T)) (k : ℕ) → k < n → slice_get (empty_and n xss) k ≡ Some []
 get_empty zero xss k l = absurd (omega arith)

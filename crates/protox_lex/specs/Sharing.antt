@@ -1,8 +1,9 @@
 -- Machinery: rows that name their tokens by number, and gaps that are kept by number.
-use Rattle.std.specs.Prelude.{◌≡◌, ◌<◌, ◌+◌, ◌-◌, ◌++◌, ℕ, Bool, false, if◌then◌else◌, nat_lt, replicate, Option, Some, None, Err, List, [], map, length, slice_index_or}
+use Rattle.std.specs.Prelude.{◌≡◌, ◌<◌, ◌+◌, ◌-◌, ◌^◌, ◌++◌, ℕ, Bool, false, if◌then◌else◌, nat_lt, replicate, Option, Some, None, Err, List, [], map, length, slice_index_or}
 use Rattle.std.specs.List.{All}
+use Rattle.std.specs.Option.{unwrap_or}
 use Rattle.protox_lex.specs.declared.shared_rows.KeptToken.{KeptToken}
-use Rattle.protox_lex.specs.declared.shared_rows.NumberedRow.{NumberedRow}
+use Rattle.protox_lex.specs.declared.row_list.NumberedRow.{NumberedRow}
 use Rattle.protox_lexeme.specs.declared.token.Token.{Token}
 use Rattle.protox_fault.specs.Faults.{Span, span_from}
 use Rattle.protox_lex.specs.Grouping.{Grouped}
@@ -20,16 +21,30 @@ shape_at tokens number = shape_of_result (kept_at tokens number).token
 abbrev pub len_at : List KeptToken → ℕ → ℕ
 len_at tokens number = (kept_at tokens number).len
 
+-- A length is kept with its token, unless it has no room in 4 bytes: then it is kept with each row.
+abbrev pub kept_len : ℕ → ℕ
+kept_len len = if nat_lt len (2 ^ 32) then len else 0
+
+abbrev pub own_len : ℕ → Option ℕ
+own_len len = if nat_lt len (2 ^ 32) then None else Some len
+
+-- how many bytes a row has
+abbrev pub len_by : List KeptToken → NumberedRow → ℕ
+len_by tokens row = unwrap_or row.len (len_at tokens row.token)
+
 -- the row as data
 abbrev pub row_by : List KeptToken → NumberedRow → Row Span
-row_by tokens row = record { shape = shape_at tokens row.token; at = span_from row.start (row.start + len_at tokens row.token) }
+row_by tokens row = record { shape = shape_at tokens row.token; at = span_from row.start (row.start + len_by tokens row) }
 
 abbrev pub rows_by : List KeptToken → List NumberedRow → Rows Span
 rows_by tokens rows = map (row_by tokens) rows
 
--- The token of each row is kept.
+-- The token of a row is kept, and the row ends where a number tells.
+abbrev pub IsKept : List KeptToken → NumberedRow → Type 0
+IsKept tokens row = (row.token < length tokens) × (row.start + len_by tokens row < 2 ^ 64)
+
 abbrev pub AreKept : List KeptToken → List NumberedRow → Type 0
-AreKept tokens rows = All (λ (row : NumberedRow). row.token < length tokens) rows
+AreKept tokens rows = All (IsKept tokens) rows
 
 -- A number that stands for a byte is that of its mark.
 abbrev pub AreMarks : List KeptToken → List (Option ℕ) → Type 0
@@ -68,8 +83,9 @@ gaps_by numbers kept newlines = record {
 abbrev pub AreThere : List ℕ → List (List Token) → Type 0
 AreThere numbers kept = All (λ number. number < 8 + length kept) numbers
 
--- what is true of shared gaps
-pub record AreGaps (lines : List Token) (numbers : List ℕ) (kept : Grouped Token) (has_begun : Bool) : Type 0 where
+-- What is true of shared gaps. Where the gap that has begun is not kept, nothing of it is there but newlines, and no number is wide.
+pub record AreGaps (lines : List Token) (numbers : List ℕ) (kept : Grouped Token) (wide : List ℕ) (keeps : Bool) : Type 0 where
   pub newlines : AreLines lines
   pub there : AreThere numbers kept.ended
-  pub begun : has_begun ≡ false → kept.begun ≡ []
+  pub begun : keeps ≡ false → kept.begun ≡ []
+  pub narrow : keeps ≡ false → wide ≡ []

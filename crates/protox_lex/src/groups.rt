@@ -1,5 +1,6 @@
 //! Lists that stand one behind another in one vector.
-ghost use Rattle.std.specs.Prelude.{◌≡◌, ◌≤◌, ◌++◌, ◌∷◌, [], length, slice_get, slice_index, true, OnOk, OnErr};
+ghost use Rattle.std.specs.Prelude.{◌≡◌, ◌↔◌, IsTrue, ◌<◌, ◌≤◌, ◌^◌, ◌++◌, ◌∷◌, [], length, slice_get, slice_index, true, OnOk, OnErr};
+ghost use Rattle.std.specs.List.{All};
 ghost use Rattle.std.specs.Option.{option_copied};
 
 use std::alloc::{AllocError, Global};
@@ -69,9 +70,18 @@ impl<T> Groups<T> {
     #[tactic(auto, using(crate::proofs::Splitting::length_split))]
     /// How many lists have ended.
     pub(crate) fn len(&self) -> usize
-        ensures { result ≡ length self.now.ended }
+        ensures count { result ≡ length self.now.ended }
+        ensures small { result < 2 ^ 61 }
     {
-        self.ends.len()
+        let ends: &[usize] = &self.ends;
+        ends.len()
+    }
+
+    /// Whether each list that has ended is empty.
+    pub(crate) fn are_empty(&self) -> bool
+        ensures { IsTrue result ↔ All (λ xs. xs ≡ []) self.now.ended }
+    {
+        start_of(&self.ends, self.ends.len()) == 0
     }
 
     #[tactic(auto, using(crate::proofs::Splitting::end_within, crate::proofs::Splitting::grouped_end))]

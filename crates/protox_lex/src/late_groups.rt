@@ -1,5 +1,6 @@
 //! Groups of which the first are mostly empty.
-ghost use Rattle.std.specs.Prelude.{◌≡◌, ◌++◌, ◌∷◌, [], slice_get, OnOk};
+ghost use Rattle.std.specs.Prelude.{◌≡◌, ◌↔◌, IsTrue, ◌++◌, ◌∷◌, [], slice_get, OnOk};
+ghost use Rattle.std.specs.List.{All};
 ghost use Rattle.std.specs.Option.{option_copied};
 
 use crate::groups::Groups;
@@ -46,19 +47,25 @@ impl<T> LateGroups<T> {
         }
     }
 
+    /// Whether each list that has ended is empty.
+    pub(crate) fn are_empty(&self) -> bool
+        ensures { IsTrue result ↔ All (λ xs. xs ≡ []) self.now.ended }
+    {
+        self.groups.are_empty()
+    }
+
     #[tactic(auto, using(crate::proofs::Splitting::one_more_empty, crate::proofs::Splitting::behind_push))]
-    /// Ends the list that has begun. More empty lists than a `usize` counts have no room.
+    /// Ends the list that has begun.
     pub(crate) fn end(&mut self) -> Result<(), AllocError>
         ensures { OnOk result (self.new ≡ record { ended = self.old.ended ++ self.old.begun ∷ []; begun = [] }) }
     {
-        if !self.groups.is_new() {
-            return self.groups.end();
+        if self.groups.is_new() {
+            if let Some(empty) = self.empty.checked_add(1) {
+                self.empty = empty;
+                return Ok(());
+            }
         }
-        let Some(empty) = self.empty.checked_add(1) else {
-            return Err(AllocError);
-        };
-        self.empty = empty;
-        Ok(())
+        self.groups.end()
     }
 }
 

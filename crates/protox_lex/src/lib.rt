@@ -6,6 +6,7 @@ mod late_groups;
 pub mod laws;
 pub mod lex;
 mod shared_gaps;
+mod row_list;
 mod shared_rows;
 mod table_draft;
 mod token_table;

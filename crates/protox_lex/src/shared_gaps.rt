@@ -1,5 +1,5 @@
 //! The gaps between rows, in little memory.
-ghost use Rattle.std.specs.Prelude.{◌≡◌, ◌++◌, ◌∷◌, [], map, replicate, slice_get, IfOk, OnOk};
+ghost use Rattle.std.specs.Prelude.{◌≡◌, ◌++◌, ◌∷◌, [], map, replicate, slice_get, IfOk, OnOk, OnErr};
 ghost use Rattle.std.specs.Option.{option_map};
 ghost use Rattle.protox_lexeme.specs.Shapes.{Newline};
 ghost use Rattle.protox_lex.specs.Sharing.{AreLines};
@@ -14,26 +14,29 @@ use std::marker::Model;
 // A gap of fewer newlines than this and of nothing else is not kept.
 const LINES: usize = 8;
 
-/// Gaps. Most are of a few newlines at most: those take 4 bytes.
+/// Gaps. Most are of a few newlines at most: those take 4 bytes. Behind the first number that needs more, each gap is
+/// kept, and its number is wide.
 #[derive(Drop)]
 pub(crate) struct SharedGaps<'a> {
     lines: Vec<Token<'a>>,
     numbers: Vec<u32>,
+    wide: Vec<usize>,
     kept: Groups<Token<'a>>,
-    has_begun: bool,
+    keeps: bool,
     newlines: usize,
 }
 
 impl<'a> Model for SharedGaps<'a> {
+    ghost use Rattle.std.specs.Prelude.{◌++◌};
     ghost use Rattle.protox_lex.specs.Grouping.{Grouped};
     ghost use Rattle.protox_lexeme.specs.Shapes.{Shape};
     ghost use Rattle.protox_lex.specs.Sharing.{gaps_by, AreGaps};
 
     ghost Value = { Grouped Shape };
 
-    ghost view = { λ g. gaps_by g.numbers.items g.kept g.newlines };
+    ghost view = { λ g. gaps_by (g.numbers.items ++ g.wide.items) g.kept g.newlines };
 
-    ghost invariant = { λ g. AreGaps g.lines.items g.numbers.items g.kept g.has_begun };
+    ghost invariant = { λ g. AreGaps g.lines.items (g.numbers.items ++ g.wide.items) g.kept g.wide.items g.keeps };
 }
 
 // The newlines that gaps are lent from.
@@ -66,6 +69,34 @@ fn keep_newlines(kept: &mut Groups<Token<'_>>, count: usize) -> Result<(), Alloc
     Ok(())
 }
 
+// A number, or None past the last.
+#[inline(always)]
+fn number_at(narrow: &[u32], wide: &[usize], index: usize) -> Option<usize>
+    ensures { result ≡ slice_get (narrow.now ++ wide.now) index }
+{
+    if index < narrow.len() {
+        Some(narrow[index] as usize)
+    } else {
+        wide.get(index - narrow.len()).copied()
+    }
+}
+
+// Appends a number.
+fn push_number(
+    narrow: &mut Vec<u32>,
+    wide: &mut Vec<usize>,
+    number: usize,
+) -> Result<(), AllocError>
+    ensures ok { OnOk result (narrow.new.items ++ wide.new.items ≡ (narrow.old.items ++ wide.old.items) ++ number ∷ []) }
+    ensures err { OnErr result ((narrow.new.items ≡ narrow.old.items) × (wide.new.items ≡ wide.old.items)) }
+{
+    match u32::try_from(number) {
+        Ok(number) if wide.is_empty() => narrow.push(number)?,
+        _ => wide.push(number)?,
+    }
+    Ok(())
+}
+
 impl<'a> SharedGaps<'a> {
     /// No gap, and an empty one that has begun.
     pub(crate) fn new(alloc: Global) -> Result<SharedGaps<'a>, AllocError>
@@ -74,8 +105,9 @@ impl<'a> SharedGaps<'a> {
         Ok(SharedGaps {
             lines: newlines(alloc)?,
             numbers: Vec::new(alloc),
+            wide: Vec::new(alloc),
             kept: Groups::new(alloc),
-            has_begun: false,
+            keeps: false,
             newlines: 0,
         })
     }
@@ -84,7 +116,7 @@ impl<'a> SharedGaps<'a> {
     pub(crate) fn get(&self, index: usize) -> Option<&[Token<'a>]>
         ensures { option_map shapes_of_lent result ≡ slice_get self.now.ended index }
     {
-        let number = *self.numbers.get(index)? as usize;
+        let number = number_at(&self.numbers, &self.wide, index)?;
         if number < LINES {
             Some(&self.lines[..number])
         } else {
@@ -92,20 +124,33 @@ impl<'a> SharedGaps<'a> {
         }
     }
 
+    // Appends a newline that is kept, as no more are counted.
+    #[inline(never)]
+    fn keep_newline(&mut self) -> Result<(), AllocError>
+        ensures { OnOk result (self.new ≡ record self.old { begun = self.old.begun ++ Newline ∷ [] }) }
+    {
+        self.push(Token::Newline)
+    }
+
     /// Appends a newline to the gap that has begun.
     #[inline(always)]
     pub(crate) fn push_newline(&mut self) -> Result<(), AllocError>
         ensures { OnOk result (self.new ≡ record self.old { begun = self.old.begun ++ Newline ∷ [] }) }
     {
-        self.newlines = self.newlines.checked_add(1).ok_or(AllocError)?;
-        Ok(())
+        match self.newlines.checked_add(1) {
+            Some(newlines) => {
+                self.newlines = newlines;
+                Ok(())
+            }
+            None => self.keep_newline(),
+        }
     }
 
     /// Appends a token to the gap that has begun.
     pub(crate) fn push(&mut self, token: Token<'a>) -> Result<(), AllocError>
         ensures { OnOk result (self.new ≡ record self.old { begun = self.old.begun ++ shape_of token.entry ∷ [] }) }
     {
-        self.has_begun = true;
+        self.keeps = true;
         keep_newlines(&mut self.kept, self.newlines)?;
         self.newlines = 0;
         self.kept.push(token)
@@ -117,15 +162,13 @@ impl<'a> SharedGaps<'a> {
     fn end_kept(&mut self) -> Result<(), AllocError>
         ensures { OnOk result (self.new ≡ record { ended = self.old.ended ++ self.old.begun ∷ []; begun = [] }) }
     {
-        self.has_begun = true;
+        self.keeps = true;
         keep_newlines(&mut self.kept, self.newlines)?;
         self.newlines = 0;
-        let Ok(number) = u32::try_from(self.kept.len().saturating_add(LINES)) else {
-            return Err(AllocError);
-        };
+        let number = self.kept.len() + LINES;
         self.kept.end()?;
-        self.numbers.push(number)?;
-        self.has_begun = false;
+        push_number(&mut self.numbers, &mut self.wide, number)?;
+        self.keeps = !self.wide.is_empty();
         Ok(())
     }
 
@@ -135,7 +178,7 @@ impl<'a> SharedGaps<'a> {
         ensures { OnOk result (self.new ≡ record { ended = self.old.ended ++ self.old.begun ∷ []; begun = [] }) }
     {
         let newlines = self.newlines;
-        if self.has_begun || LINES <= newlines {
+        if self.keeps || LINES <= newlines {
             self.end_kept()
         } else {
             self.numbers.push(newlines as u32)?;

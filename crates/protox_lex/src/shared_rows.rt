@@ -1,15 +1,16 @@
 //! The rows of a table, in little memory.
-ghost use Rattle.std.specs.Prelude.{◌≡◌, ◌<◌, ◌+◌, ◌++◌, ◌∷◌, [], true, length, slice_get, OnOk, OnErr, IfOk, IfSome};
+ghost use Rattle.std.specs.Prelude.{◌≡◌, ◌<◌, ◌+◌, ◌^◌, ◌++◌, ◌∷◌, [], true, None, length, slice_get, OnOk, OnErr, IfOk, IfSome};
 ghost use Rattle.std.specs.Option.{option_map};
 ghost use Rattle.protox_fault.specs.Faults.{span_from};
 ghost use Rattle.protox_lexeme.specs.Lexicon.{is_mark};
 ghost use Rattle.protox_lexeme.specs.Shapes.{Mark};
 ghost use Rattle.protox_lexeme.specs.TokenClass.{class};
-ghost use Rattle.protox_lex.specs.Sharing.{shape_at, len_at, AreMarks};
+ghost use Rattle.protox_lex.specs.Sharing.{shape_at, len_at, kept_len, own_len, AreMarks};
 ghost use Rattle.protox_lex.specs.TableView.{shape_of_lent};
 ghost use Rattle.protox_lexeme.specs.Tokens.{shape_of, shape_of_result};
 
 use crate::laws::tokens_are_equal_by_shape;
+use crate::row_list::{NumberedRow, RowList};
 use protox_fault::error::Span;
 use protox_lexeme::bytes::byte_at;
 use protox_lexeme::class::class_of_result;
@@ -17,14 +18,8 @@ use protox_lexeme::token::{Token, mark_of};
 use std::alloc::{AllocError, Global};
 use std::marker::Model;
 
-/// Where a row begins, and the number of its token. A row takes 8 bytes.
-#[derive(Clone, Copy)]
-pub(crate) struct NumberedRow {
-    pub start: u32,
-    pub token: u32,
-}
-
-/// A token, how many bytes it has in the source, and its class.
+/// A token, how many bytes it has in the source, and its class. A length that has no room in 4 bytes is kept
+/// with its rows, and here as 0.
 #[derive(Drop)]
 pub(crate) struct KeptToken<'a> {
     pub token: Result<Token<'a>, ()>,
@@ -38,7 +33,7 @@ const SLOTS: usize = 4096;
 /// Rows. Each mark is kept once, and no word or integer that is equal to one that is remembered.
 #[derive(Drop)]
 pub(crate) struct SharedRows<'a> {
-    rows: Vec<NumberedRow>,
+    rows: RowList,
     tokens: Vec<KeptToken<'a>>,
     marks: Vec<Option<u32>>,
     recent: Vec<u32>,
@@ -51,9 +46,9 @@ impl<'a> Model for SharedRows<'a> {
 
     ghost Value = { Rows Span };
 
-    ghost view = { λ s. rows_by s.tokens.items s.rows.items };
+    ghost view = { λ s. rows_by s.tokens.items s.rows };
 
-    ghost invariant = { λ s. AreShared s.tokens.items s.rows.items s.marks.items s.recent.items };
+    ghost invariant = { λ s. AreShared s.tokens.items s.rows s.marks.items s.recent.items };
 }
 
 /// Where the number of a token is remembered that is spelled by the first `len` bytes. Any place
@@ -120,56 +115,39 @@ fn known_mark(tokens: &[KeptToken<'_>], marks: &[Option<u32>], byte: u8, len: us
     }
 }
 
-// The greatest number that 4 bytes hold.
-const GREATEST: usize = u32::MAX as usize;
-
-// A row. It may not begin behind the first 4 GiB of a source.
-#[inline(always)]
-fn numbered(token: u32, start: usize) -> Result<NumberedRow, AllocError>
-    ensures { IfOk result (λ row. row ≡ record { start = start; token = token }) }
+// The length as it is kept with a token.
+fn kept_len(len: usize) -> u32
+    ensures { result ≡ kept_len len }
 {
-    if GREATEST < start {
-        return Err(AllocError);
-    }
-    Ok(NumberedRow {
-        start: start as u32,
-        token,
-    })
+    u32::try_from(len).unwrap_or(0)
 }
 
-// The row of the next token, and that one's length. It may not be longer than 4 GiB.
-fn next_row(
-    tokens: &[KeptToken<'_>],
-    start: usize,
-    len: usize,
-) -> Result<(NumberedRow, u32), AllocError>
-    ensures row { IfOk result (λ next. next.0 ≡ record { start = start; token = length tokens.now }) }
-    ensures len { IfOk result (λ next. next.1 ≡ len) }
+// The length as it is kept with a row.
+fn own_len(len: usize) -> Option<usize>
+    ensures { result ≡ own_len len }
 {
-    if GREATEST < len {
-        return Err(AllocError);
+    match u32::try_from(len) {
+        Ok(_) => None,
+        Err(_) => Some(len),
     }
-    let Ok(number) = u32::try_from(tokens.len()) else {
-        return Err(AllocError);
-    };
-    Ok((numbered(number, start)?, len as u32))
 }
 
 // A token as it is kept: its class is found once.
-fn kept_token<'a>(token: Result<Token<'a>, ()>, len: u32) -> KeptToken<'a>
+fn kept_token<'a>(token: Result<Token<'a>, ()>, len: usize) -> KeptToken<'a>
     ensures token { result.token ≡ token.entry }
-    ensures len { result.len ≡ len }
+    ensures len { result.len ≡ kept_len len }
     ensures class { result.class ≡ class (shape_of_result result.token) }
 {
     let class = class_of_result(&token);
+    let len = kept_len(len);
     KeptToken { token, len, class }
 }
 
 // The mark that is this byte, as it is kept.
-fn kept_mark(byte: u8, len: u32) -> KeptToken<'static>
+fn kept_mark(byte: u8, len: usize) -> KeptToken<'static>
     requires { is_mark byte ≡ true }
     ensures shape { shape_of_result result.token ≡ Mark byte }
-    ensures len { result.len ≡ len }
+    ensures len { result.len ≡ kept_len len }
     ensures class { result.class ≡ class (shape_of_result result.token) }
 {
     match mark_of(byte) {
@@ -180,12 +158,34 @@ fn kept_mark(byte: u8, len: u32) -> KeptToken<'static>
 
 // Appends a row of a token that is kept.
 #[inline(always)]
-fn push_known(rows: &mut Vec<NumberedRow>, number: u32, start: usize) -> Result<(), AllocError>
-    ensures ok { OnOk result (rows.new.items ≡ rows.old.items ++ record { start = start; token = number } ∷ []) }
-    ensures err { OnErr result (rows.new.items ≡ rows.old.items) }
+fn push_known(rows: &mut RowList, number: u32, start: usize) -> Result<(), AllocError>
+    ensures ok { OnOk result (rows.new ≡ rows.old ++ record { start = start; token = number; len = None } ∷ []) }
+    ensures err { OnErr result (rows.new ≡ rows.old) }
 {
-    rows.push(numbered(number, start)?)?;
-    Ok(())
+    rows.push(NumberedRow {
+        start,
+        token: number as usize,
+        len: None,
+    })
+}
+
+// The number of the token that is kept next.
+fn next_number(tokens: &[KeptToken<'_>]) -> usize
+    ensures { result ≡ length tokens.now }
+{
+    tokens.len()
+}
+
+// Appends a row of the token that is kept last.
+fn push_last(rows: &mut RowList, number: usize, start: usize, len: usize) -> Result<(), AllocError>
+    ensures ok { OnOk result (rows.new ≡ rows.old ++ record { start = start; token = number; len = own_len len } ∷ []) }
+    ensures err { OnErr result (rows.new ≡ rows.old) }
+{
+    rows.push(NumberedRow {
+        start,
+        token: number,
+        len: own_len(len),
+    })
 }
 
 impl<'a> SharedRows<'a> {
@@ -194,7 +194,7 @@ impl<'a> SharedRows<'a> {
         ensures { IfOk result (λ rows. rows ≡ []) }
     {
         Ok(SharedRows {
-            rows: Vec::new(alloc),
+            rows: RowList::new(alloc),
             tokens: Vec::new(alloc),
             marks: vec![in alloc; None; 256]?,
             recent: vec![in alloc; 0; SLOTS]?,
@@ -213,7 +213,7 @@ impl<'a> SharedRows<'a> {
         ensures { option_map shape_of_lent result ≡ option_map (λ row. row.shape) (slice_get self.now index) }
     {
         let row = self.rows.get(index)?;
-        match &self.tokens[row.token as usize].token {
+        match &self.tokens[row.token].token {
             Ok(token) => Some(Ok(token)),
             Err(()) => Some(Err(())),
         }
@@ -225,7 +225,7 @@ impl<'a> SharedRows<'a> {
         ensures { result ≡ option_map (λ row. class row.shape) (slice_get self.now index) }
     {
         let row = self.rows.get(index)?;
-        Some(self.tokens[row.token as usize].class)
+        Some(self.tokens[row.token].class)
     }
 
     /// The span of a row, or None past the last.
@@ -233,8 +233,11 @@ impl<'a> SharedRows<'a> {
         ensures { result ≡ option_map (λ row. row.at) (slice_get self.now index) }
     {
         let row = self.rows.get(index)?;
-        let start = row.start as usize;
-        Some(start..start + self.tokens[row.token as usize].len as usize)
+        let len = match row.len {
+            Some(len) => len,
+            None => self.tokens[row.token].len as usize,
+        };
+        Some(row.start..row.start + len)
     }
 
     #[tactic(auto, using(crate::proofs::Sharing::rows_push))]
@@ -245,11 +248,12 @@ impl<'a> SharedRows<'a> {
         start: usize,
         len: usize,
     ) -> Result<(), AllocError>
+        requires fits { start + len < 2 ^ 64 }
         ensures { OnOk result (self.new ≡ self.old ++ record { shape = shape_of_result token.entry; at = span_from start (start + len) } ∷ []) }
     {
-        let (row, len) = next_row(&self.tokens, start, len)?;
+        let number = next_number(&self.tokens);
         self.tokens.push(kept_token(token, len))?;
-        self.rows.push(row)?;
+        push_last(&mut self.rows, number, start, len)?;
         Ok(())
     }
 
@@ -257,13 +261,16 @@ impl<'a> SharedRows<'a> {
     #[inline(never)]
     #[tactic(auto, using(crate::proofs::Sharing::rows_push))]
     fn push_first_mark(&mut self, byte: u8, start: usize, len: usize) -> Result<(), AllocError>
-        requires { is_mark byte ≡ true }
+        requires mark { is_mark byte ≡ true }
+        requires fits { start + len < 2 ^ 64 }
         ensures { OnOk result (self.new ≡ self.old ++ record { shape = Mark byte; at = span_from start (start + len) } ∷ []) }
     {
-        let (row, len) = next_row(&self.tokens, start, len)?;
+        let number = next_number(&self.tokens);
         self.tokens.push(kept_mark(byte, len))?;
-        self.rows.push(row)?;
-        self.marks[byte as usize] = Some(row.token);
+        push_last(&mut self.rows, number, start, len)?;
+        if let Ok(number) = u32::try_from(number) {
+            self.marks[byte as usize] = Some(number);
+        }
         Ok(())
     }
 
@@ -271,7 +278,8 @@ impl<'a> SharedRows<'a> {
     #[inline(always)]
     #[tactic(auto, using(crate::proofs::Sharing::known_push, crate::proofs::Sharing::shared_known))]
     pub(crate) fn push_mark(&mut self, byte: u8, start: usize, len: usize) -> Result<(), AllocError>
-        requires { is_mark byte ≡ true }
+        requires mark { is_mark byte ≡ true }
+        requires fits { start + len < 2 ^ 64 }
         ensures { OnOk result (self.new ≡ self.old ++ record { shape = Mark byte; at = span_from start (start + len) } ∷ []) }
     {
         match known_mark(&self.tokens, &self.marks, byte, len) {
@@ -289,7 +297,8 @@ impl<'a> SharedRows<'a> {
         start: usize,
         len: usize,
     ) -> Result<(), AllocError>
-        requires { slot < 4096 }
+        requires slot { slot < 4096 }
+        requires fits { start + len < 2 ^ 64 }
         ensures { OnOk result (self.new ≡ self.old ++ record { shape = shape_of token.entry; at = span_from start (start + len) } ∷ []) }
     {
         if let Ok(number) = u32::try_from(self.tokens.len()) {
@@ -308,7 +317,8 @@ impl<'a> SharedRows<'a> {
         start: usize,
         len: usize,
     ) -> Result<(), AllocError>
-        requires { slot < 4096 }
+        requires slot { slot < 4096 }
+        requires fits { start + len < 2 ^ 64 }
         ensures { OnOk result (self.new ≡ self.old ++ record { shape = shape_of token.entry; at = span_from start (start + len) } ∷ []) }
     {
         match known(&self.tokens, &self.recent, slot, &token, len) {

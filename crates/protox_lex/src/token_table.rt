@@ -1,5 +1,6 @@
 //! The table of a source: its tokens, and the comments and newlines before each.
-ghost use Rattle.std.specs.Prelude.{◌≡◌, ◌++◌, [], length, map, slice_get, slice_index_or, OnOk, OnErr, IfOk, IfSome, IsOk};
+ghost use Rattle.std.specs.Prelude.{◌≡◌, ◌↔◌, IsTrue, ◌++◌, [], length, map, slice_get, slice_index_or, OnOk, OnErr, IfOk, IfSome, IsOk};
+ghost use Rattle.std.specs.List.{All};
 ghost use Rattle.std.specs.Option.{option_map};
 ghost use Rattle.protox_fault.specs.Faults.{faults_in};
 ghost use Rattle.protox_lexeme.specs.Gaps.{IsGap};
@@ -43,7 +44,7 @@ impl<'a> Model for TokenTable<'a> {
 }
 
 impl<'a> TokenTable<'a> {
-    /// The table of a source. A row that begins behind the first 4 GiB has no room: `AllocError`.
+    /// The table of a source of any size. `AllocError` only where a growth was refused.
     #[tactic(auto, using(crate::proofs::Tables::gaps_held))]
     pub fn new(alloc: Global, source: &'a str) -> Result<TokenTable<'a>, AllocError>
         ensures { IfOk result (λ table. table ≡ table_of (spec.cut 0 source.entry.now)) }
@@ -86,6 +87,13 @@ impl<'a> TokenTable<'a> {
         ensures gap { IfSome result (λ gap. IsGap (map shape_of gap.now)) }
     {
         self.gaps.get(k)
+    }
+
+    /// Whether no row and no gap has a fault, in text format or outside it: `release` has nothing to append.
+    pub fn is_faultless(&self) -> bool
+        ensures { IsTrue result ↔ All (λ faults. faults ≡ []) self.now.faults }
+    {
+        self.faults.are_empty()
     }
 
     #[tactic(auto, using(crate::proofs::Tables::nothing_released))]

@@ -7,7 +7,7 @@ use Rattle.std.proofs.lemmas.List.{at_drop_more}
 use Rattle.std.specs.List.{list_all}
 use Rattle.std.specs.Option.{option_or}
 use Rattle.std.specs.Prelude.{if◌then◌else◌}
-use Rattle.protox_comments.specs.Attributing.{begins_newline, behind, pending, outcome_of, outcome}
+use Rattle.protox_comments.specs.Attributing.{Newlines, begins_newline, behind, pending, outcome_of, outcome}
 use Rattle.protox_comments.specs.CommentState.{CommentState, placed, flushed, with_block, with_line, empty}
 use Rattle.protox_comments.specs.declared.comments.Block.{Block}
 use Rattle.protox_lexeme.specs.Gaps.{Item, block, blank, begins_line, joined, items, nothing, may_lead, led_by, unless_leading, among, attribution, IsGap}
@@ -170,3 +170,16 @@ pub attribution_block : (t : List ℕ) (gap : List Shape) (next : Option Shape) 
 attribution_block t [] next h = absurd (cc)
 attribution_block t (Newline ∷ gap) next h = refl
 attribution_block t (other ∷ gap) next h = absurd (cc)
+
+-- ---- newlines alone
+
+blanks_alone : (gap : List Shape) → Newlines gap → (m : Bool) (next : Option Shape) → among m (items gap) next ≡ nothing
+blanks_alone [] h true next = elim (cases_Bool (may_lead next)) [ inl e ↦ rw e refl | inr e ↦ rw e refl ]
+blanks_alone [] h false next = elim (cases_Bool (may_lead next)) [ inl e ↦ rw e refl | inr e ↦ rw e refl ]
+blanks_alone (x ∷ gap) h m next = rw h.0 (among_blank m (items gap) next ∙ blanks_alone gap h.1 false next)
+
+-- they hold no comment
+pub newlines_alone : (gap : List Shape) → Newlines gap → (at_start : Bool) (next : Option Shape) → attribution gap at_start next ≡ nothing
+newlines_alone gap h true next = blanks_alone gap h false next
+newlines_alone [] h false next = refl
+newlines_alone (x ∷ gap) h false next = rw h.0 (blanks_alone gap h.1 true next)

@@ -1,5 +1,5 @@
 -- MACHINERY. The comments of a gap, read one at a time.
-use Rattle.std.specs.Prelude.{ℕ, Bool, true, false, if◌then◌else◌, List, ◌∷◌, ◌++◌, Option, Some, None}
+use Rattle.std.specs.Prelude.{◌≡◌, ⊤, [], ℕ, Bool, true, false, if◌then◌else◌, List, ◌∷◌, ◌++◌, Option, Some, None}
 use Rattle.std.specs.Borrow.{Bor}
 use Rattle.std.specs.Option.{option_or}
 use Rattle.protox_comments.specs.declared.comments.Block.{Block}
@@ -23,6 +23,11 @@ shape_lent (Some t) = Some (shape_of t.now)
 abbrev pub begins_newline : List Shape → Bool
 begins_newline (Newline ∷ gap) = true
 begins_newline gap = false
+
+-- Newlines stand there and nothing else.
+abbrev pub Newlines : List Shape → Type 0
+Newlines [] = ⊤
+Newlines (shape ∷ gap) = (shape ≡ Newline) × Newlines gap
 
 -- the items that are left, the open block in front
 abbrev pub pending : Option Block → List Shape → List Item

@@ -2,7 +2,7 @@
 ghost use Rattle.std.specs.Prelude.{◌≡◌, ◌<◌, ◌≤◌, ◌+◌, ℕ, List, [], ◌∷◌, ◌++◌, length, drop, if◌then◌else◌, true, false, Option, None, Some, map, IfOk, IfSome, OnOk, OnErr};
 ghost use Rattle.std.specs.Cow.{cow_str_bytes};
 ghost use Rattle.std.specs.Option.{option_map};
-ghost use Rattle.protox_comments.specs.Attributing.{attribution_of, begins_newline, outcome, ended, shape_lent};
+ghost use Rattle.protox_comments.specs.Attributing.{Newlines, attribution_of, begins_newline, outcome, ended, shape_lent};
 ghost use Rattle.protox_comments.specs.CommentState as state;
 ghost use Rattle.protox_lexeme.specs.Gaps as gaps;
 ghost use Rattle.protox_lexeme.specs.Shapes.{Shape};
@@ -313,8 +313,32 @@ fn begin(
     }
 }
 
+// Whether newlines alone stand in a gap. They do in most.
+fn is_bare(gap: &[Token<'_>]) -> bool
+    ensures { result ≡ true → Newlines (map shape_of gap.now) }
+{
+    for token in gap {
+        if !matches!(token, Token::Newline) {
+            return false;
+        }
+    }
+    true
+}
+
+// No comment at all.
+fn no_comments(alloc: Global) -> GapComments
+    ensures { attribution_of result ≡ gaps.nothing }
+{
+    GapComments {
+        trailing: None,
+        detached: Items::new(alloc),
+        leading: None,
+    }
+}
+
 /// The comments of a gap, by the declarations that they belong to: the gap stands at the start of
 /// the file or elsewhere, and before this token or, at None, before the end.
+#[tactic(auto, using(crate::proofs::Attributing::newlines_alone))]
 pub fn gap_comments(
     alloc: Global,
     gap: &[Token<'_>],
@@ -324,16 +348,15 @@ pub fn gap_comments(
     requires { gaps.IsGap (map shape_of gap.now) }
     ensures { IfOk result (λ g. attribution_of g ≡ gaps.attribution (map shape_of gap.now) at_start (shape_lent next.entry)) }
 {
+    if is_bare(gap) {
+        return Ok(no_comments(alloc));
+    }
     let mut comments = Comments::new(alloc);
     match begin(&mut comments, gap, at_start)? {
         Some(from) => {
             comments.take_from(gap, from)?;
             comments.end(next)
         }
-        None => Ok(GapComments {
-            trailing: None,
-            detached: Items::new(alloc),
-            leading: None,
-        }),
+        None => Ok(no_comments(alloc)),
     }
 }

@@ -3,7 +3,7 @@ use Rattle.std.proofs.Common.{◌≡◌, ℕ, zero, suc, ◌+◌, ◌-◌, ◌<�
 use Rattle.std.specs.Prelude.{if◌then◌else◌, ◌==◌}
 use Rattle.std.proofs.lemmas.Bool.Decides.{nat_tests}
 use Rattle.protox_fault.specs.Faults.{Span}
-use Rattle.protox_locate.specs.Lines.{numbers_at, span_numbers, count_le, last_le, newlines, behind_last, line, column, starts, Rises}
+use Rattle.protox_locate.specs.Lines.{numbers_at, span_numbers, count_le, last_le, newlines, behind_last, line, column, starts, Rises, Found}
 
 pub starts-rise : (i low : ℕ) (bs : List ℕ) → low ≤ i → Rises low (starts i bs)
 starts-rise i low [] h = tt
@@ -87,6 +87,14 @@ last-starts d (suc n) i (b ∷ bs) =
 pub below_all : (low : ℕ) (xs : List ℕ) (o k : ℕ) → Rises low xs → k ≤ length xs → ((j : ℕ) → j < k → get_or xs j 0 ≤ o) → k ≤ o
 below_all low xs o zero r h b = omega arith
 below_all low xs o (suc k) r h b = omega (arith, b k (omega arith), rises-above low xs k 0 r (omega arith))
+
+-- among ascending numbers the last that is counted and the one behind it decide
+pub found-here : (xs : List ℕ) (o k : ℕ) → Rises 0 xs → k ≤ length xs → (0 < k → get_or xs (k - 1) 0 ≤ o) → (k < length xs → o < get_or xs k 0) → Found xs o k
+found-here xs o k r within begun ended = record {
+  within = within;
+  below = λ j h. omega (arith, rises-up 0 xs j (k - 1) 0 r (omega arith) (omega arith), begun (omega arith));
+  above = λ j h l. omega (arith, rises-up 0 xs k j 0 r h l, ended (omega arith));
+}
 
 -- the start of the line where it is the first, and where it isn't
 pub first-start : (xs : List ℕ) (k : ℕ) → k ≡ 0 → get_or (0 ∷ xs) k 0 ≡ 0

@@ -13,11 +13,13 @@ use protox_descriptor::values::{Items, Numbers, Text};
 use protox_fault::error::Span;
 use std::alloc::{AllocError, Global};
 
-/// The path to the part that is read, and the locations so far.
+/// The path to the part that is read, the locations so far, and the line in which the last of them starts:
+/// the next one is looked for there first.
 #[derive(Drop)]
 pub(crate) struct Context {
     pub path: Items<i32>,
     pub locations: Items<Location>,
+    near: usize,
 }
 
 fn copied_span(span: &Span) -> Span
@@ -48,11 +50,13 @@ fn copied(alloc: Global, texts: &[Text]) -> Result<Items<Text>, AllocError>
 impl Context {
     /// The path of a file, and no location.
     pub fn new(alloc: Global) -> Context
-        ensures { result ≡ record { path = []; locations = [] } }
+        ensures path { result.path ≡ [] }
+        ensures locations { result.locations ≡ [] }
     {
         Context {
             path: Items::new(alloc),
             locations: Items::new(alloc),
+            near: 0,
         }
     }
 
@@ -68,7 +72,7 @@ impl Context {
         ensures { OnOk result (Emits self.old self.new (bare (numbers_at lines.now) (self.old.path ++ tags.now) span.now ∷ [])) }
     {
         let path = Numbers::joined(alloc, self.path.as_slice(), tags)?;
-        let span = lines.numbers(copied_span(span));
+        let span = lines.numbers_near(&mut self.near, copied_span(span));
         self.locations.push(Location::bare(path, span))
     }
 
@@ -88,7 +92,7 @@ impl Context {
         let trailing = copied_option(alloc, &comments.trailing_comment)?;
         let detached = copied(alloc, comments.leading_detached_comments.as_slice())?;
         let path = Numbers::joined(alloc, self.path.as_slice(), tags)?;
-        let span = lines.numbers(copied_span(span));
+        let span = lines.numbers_near(&mut self.near, copied_span(span));
         let location = Location::commented(alloc, path, span, leading, trailing, detached)?;
         self.locations.push(location)
     }

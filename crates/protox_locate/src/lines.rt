@@ -1,6 +1,6 @@
 //! Lines and columns.
 
-ghost use Rattle.std.specs.Prelude.{◌≡◌, ◌≤◌, ◌-◌, ℕ, List, pos, length, IfOk};
+ghost use Rattle.std.specs.Prelude.{◌≡◌, ◌≤◌, ◌-◌, true, ℕ, List, pos, length, IfOk};
 ghost use Rattle.protox_locate.specs.Lines.{line, column, starts, starts as starts_in, span_numbers, numbers_at, count_le, last_le, Rises, Found};
 
 use protox_descriptor::values::Numbers;
@@ -46,15 +46,65 @@ fn count_up_to(starts: &[usize], offset: usize) -> usize
     starts.partition_point(|start| *start <= offset)
 }
 
-fn place(starts: &[usize], offset: usize) -> (i32, i32)
+// Whether that many of the numbers are at most the offset.
+fn is_count(starts: &[usize], count: usize, offset: usize) -> bool
+    requires { Rises 0 starts.now }
+    ensures found { result ≡ true → Found starts.now offset count }
+    ensures small { result ≡ true → count ≤ offset }
+{
+    if starts.len() < count {
+        return false;
+    }
+    let begun = count == 0 || starts[count - 1] <= offset;
+    let ended = count == starts.len() || offset < starts[count];
+    begun && ended
+}
+
+// How many are, where the offset is likely to stand in the line `near` or in one of the next two.
+fn count_near(starts: &[usize], near: usize, offset: usize) -> usize
+    requires { Rises 0 starts.now }
+    ensures found { Found starts.now offset result }
+    ensures small { result ≤ offset }
+{
+    for count in near..near.saturating_add(3) {
+        if is_count(starts, count, offset) {
+            return count;
+        }
+    }
+    count_up_to(starts, offset)
+}
+
+// Line and column of an offset in that line.
+fn place(starts: &[usize], line: usize, offset: usize) -> (i32, i32)
     requires rises { Rises 0 starts.now }
+    requires found { Found starts.now offset line }
+    requires small { line ≤ offset }
     requires offset { offset ≤ 2147483647 }
     ensures line { result.0 ≡ pos (count_le offset starts.now) }
     ensures column { result.1 ≡ pos (offset - last_le 0 offset starts.now) }
 {
-    let line = count_up_to(starts, offset);
     let start = if line == 0 { 0 } else { starts[line - 1] };
     (line as i32, (offset - start) as i32)
+}
+
+// The numbers of a span that starts in the line `first` and ends in the line `last`.
+fn numbers_in(starts: &[usize], first: usize, last: usize, span: Span) -> Numbers
+    requires rises { Rises 0 starts.now }
+    requires start { span.start ≤ 2147483647 }
+    requires end { span.end ≤ 2147483647 }
+    requires first { Found starts.now span.start first }
+    requires first_small { first ≤ span.start }
+    requires last { Found starts.now span.end last }
+    requires last_small { last ≤ span.end }
+    ensures { result ≡ numbers_at starts.now span }
+{
+    let (start_line, start_column) = place(starts, first, span.start);
+    let (end_line, end_column) = place(starts, last, span.end);
+    if start_line == end_line {
+        Numbers::few(&[start_line, start_column, end_column])
+    } else {
+        Numbers::few(&[start_line, start_column, end_line, end_column])
+    }
 }
 
 impl LineResolver {
@@ -75,7 +125,8 @@ impl LineResolver {
         ensures line_at { result.0 ≡ pos (count_le offset self.now) }
         ensures column_at { result.1 ≡ pos (offset - last_le 0 offset self.now) }
     {
-        place(&self.starts, offset)
+        let line = count_up_to(&self.starts, offset);
+        place(&self.starts, line, offset)
     }
 
     /// The numbers of the span, as `resolve_span` answers them. They take no memory.
@@ -85,13 +136,22 @@ impl LineResolver {
         ensures numbers { (source : List ℕ) → self.now ≡ starts 0 source → result ≡ span_numbers source span }
         ensures at { result ≡ numbers_at self.now span }
     {
-        let (start_line, start_column) = self.resolve(span.start);
-        let (end_line, end_column) = self.resolve(span.end);
-        if start_line == end_line {
-            Numbers::few(&[start_line, start_column, end_column])
-        } else {
-            Numbers::few(&[start_line, start_column, end_line, end_column])
-        }
+        let first = count_up_to(&self.starts, span.start);
+        let last = count_up_to(&self.starts, span.end);
+        numbers_in(&self.starts, first, last, span)
+    }
+
+    /// The same, where the span is likely to start in the line `near` or in one of the next two. Leaves
+    /// there the line in which it starts.
+    pub(crate) fn numbers_near(&self, near: &mut usize, span: Span) -> Numbers
+        requires start { span.start ≤ 2147483647 }
+        requires end { span.end ≤ 2147483647 }
+        ensures { result ≡ numbers_at self.now span }
+    {
+        let first = count_near(&self.starts, *near, span.start);
+        let last = count_near(&self.starts, first, span.end);
+        *near = first;
+        numbers_in(&self.starts, first, last, span)
     }
 
     /// Line and column of the span's start and then of its end, the end's line only where it is

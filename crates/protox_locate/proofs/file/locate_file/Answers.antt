@@ -2,7 +2,6 @@ use Rattle.std.proofs.Common.{◌≡◌, List, [], ◌++◌, ap, sym, subst, ◌
 use Rattle.protox_descriptor.specs.declared.descriptor.source_code_info.Location.{Location}
 use Rattle.protox_locate.specs.Lines.{numbers_at}
 use Rattle.protox_locate.specs.Locations.{file_at, file_locations}
-use Rattle.protox_locate.specs.declared.context.Context.{Context}
 use Rattle.protox_locate.specs.Order.{InOrder, StartsBefore}
 use Rattle.protox_locate.proofs.InOrder.{in-order}
 use Rattle.protox_locate.proofs.LineFacts.{numbers-are}
@@ -11,7 +10,8 @@ use Rattle.protox_locate.proofs.file.locate_file.Goals as goal
 pub returns-clause-located : goal.returns-clause-located
 returns-clause-located c =
     let emits = c.in_ok-locate_parts.ensures in
-    emits.locations ∙ ap (λ (x : Context). x.locations ++ file_at (numbers_at c.in_ok-lines.lines) c.args.ast.now x.path) c.new-context.ensures
+    emits.locations ∙ ap (λ before. before ++ file_at (numbers_at c.in_ok-lines.lines) c.args.ast.now c.new-context.result.path) c.new-context.ensures.locations
+    ∙ ap (file_at (numbers_at c.in_ok-lines.lines) c.args.ast.now) c.new-context.ensures.path
     ∙ ap (λ n. file_locations n c.args.ast.now) (numbers-are c.args.source.now c.in_ok-lines.lines c.in_ok-lines.ensures)
 
 pub returns-clause-in_order : goal.returns-clause-in_order

@@ -8,16 +8,16 @@ use Rattle.protox_locate.proofs.lines.place.Goals.{then-line-eq0, else-line-eq0}
 
 pub returns-clause-line : goal.returns-clause-line
 returns-clause-line c =
-    let f = c.count_up_to-line.ensures.found in
-    to_z_pos w32 c.count_up_to-line.result (omega arith) ∙ ap pos (sym (count-found c.args.starts.now c.args.offset c.count_up_to-line.result f.within f.below f.above))
+    let f = c.requires.found in
+    to_z_pos w32 c.args.line (omega arith) ∙ ap pos (sym (count-found c.args.starts.now c.args.offset c.args.line f.within f.below f.above))
 
 pub returns-clause-column : goal.returns-clause-column
 returns-clause-column c =
-    let f = c.count_up_to-line.ensures.found in
-    let start : c.if-line-eq0.start ≡ get_or (0 ∷ c.args.starts.now) c.count_up_to-line.result 0 =
+    let f = c.requires.found in
+    let start : c.if-line-eq0.start ≡ get_or (0 ∷ c.args.starts.now) c.args.line 0 =
     (elim c.if-line-eq0.branch [
-      | then-line-eq0 w ↦ w.start-is ∙ sym (first-start c.args.starts.now c.count_up_to-line.result w.if-line-eq0.true)
-      | else-line-eq0 w ↦ w.start-is ∙ sym (later-start c.args.starts.now c.count_up_to-line.result (omega arith))
+      | then-line-eq0 w ↦ w.start-is ∙ sym (first-start c.args.starts.now c.args.line w.if-line-eq0.true)
+      | else-line-eq0 w ↦ w.start-is ∙ sym (later-start c.args.starts.now c.args.line (omega arith))
     ]) in
     to_z_pos w32 (c.args.offset - c.if-line-eq0.start) (omega arith)
-    ∙ ap (λ s. pos (c.args.offset - s)) (start ∙ sym (last-found c.args.starts.now 0 c.args.offset c.count_up_to-line.result f.within f.below f.above))
+    ∙ ap (λ s. pos (c.args.offset - s)) (start ∙ sym (last-found c.args.starts.now 0 c.args.offset c.args.line f.within f.below f.above))

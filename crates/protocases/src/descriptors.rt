@@ -36,8 +36,8 @@ pub fn write_file<W: Write>(
     file: &FileDescriptorProto,
 ) -> io::Result<()> {
     let level = Level { alloc, depth: 0 };
-    write_text(out, level, "name", &file.name)?;
-    write_text(out, level, "package", &file.package)?;
+    write_text(out, level, "name", file.name.as_ref())?;
+    write_text(out, level, "package", file.package.as_ref())?;
     write_texts(out, level, "dependency", &file.dependency)?;
     write_types(out, level, file)?;
     if let Some(options) = &file.options {
@@ -45,5 +45,5 @@ pub fn write_file<W: Write>(
     }
     write_numbers(out, level, "public_dependency", &file.public_dependency)?;
     write_numbers(out, level, "weak_dependency", &file.weak_dependency)?;
-    write_text(out, level, "syntax", &file.syntax)
+    write_text(out, level, "syntax", file.syntax.as_ref())
 }

@@ -12,7 +12,7 @@ fn write_value<W: Write>(
     value: &EnumValueDescriptorProto,
 ) -> io::Result<()> {
     write_open(out, level, "value")?;
-    write_text(out, level.inner(), "name", &value.name)?;
+    write_text(out, level.inner(), "name", value.name.as_ref())?;
     write_number(out, level.inner(), "number", value.number)?;
     if let Some(options) = &value.options {
         write_options_field(out, level.inner(), options.uninterpreted_option.as_slice())?;
@@ -38,7 +38,7 @@ pub fn write_enum<W: Write>(
 ) -> io::Result<()> {
     write_open(out, level, "enum_type")?;
     let inner = level.inner();
-    write_text(out, inner, "name", &described.name)?;
+    write_text(out, inner, "name", described.name.as_ref())?;
     for value in described.value.iter() {
         write_value(out, inner, value)?;
     }

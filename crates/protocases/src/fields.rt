@@ -49,7 +49,7 @@ fn write_type<W: Write>(out: &mut W, level: Level, field: &FieldDescriptorProto)
     if let Some(number) = field.field_type {
         write_word(out, level, "type", type_name(number))?;
     }
-    write_text(out, level, "type_name", &field.type_name)
+    write_text(out, level, "type_name", field.type_name.as_ref())
 }
 
 /// A field under the name that it has where it stands: `field` or `extension`.
@@ -61,17 +61,17 @@ pub fn write_field<W: Write>(
 ) -> io::Result<()> {
     write_open(out, level, name)?;
     let inner = level.inner();
-    write_text(out, inner, "name", &field.name)?;
-    write_text(out, inner, "extendee", &field.extendee)?;
+    write_text(out, inner, "name", field.name.as_ref())?;
+    write_text(out, inner, "extendee", field.extendee())?;
     write_number(out, inner, "number", field.number)?;
     write_type(out, inner, field)?;
-    write_text(out, inner, "default_value", &field.default_value)?;
-    if let Some(options) = &field.options {
+    write_text(out, inner, "default_value", field.default_value())?;
+    if let Some(options) = field.options() {
         write_options_field(out, inner, options.uninterpreted_option.as_slice())?;
     }
-    write_number(out, inner, "oneof_index", field.oneof_index)?;
-    write_text(out, inner, "json_name", &field.json_name)?;
-    write_flag(out, inner, "proto3_optional", field.proto3_optional)?;
+    write_number(out, inner, "oneof_index", field.oneof_index())?;
+    write_text(out, inner, "json_name", field.json_name())?;
+    write_flag(out, inner, "proto3_optional", field.proto3_optional())?;
     write_close(out, level)
 }
 
@@ -81,7 +81,7 @@ pub fn write_oneof<W: Write>(
     oneof: &OneofDescriptorProto,
 ) -> io::Result<()> {
     write_open(out, level, "oneof_decl")?;
-    write_text(out, level.inner(), "name", &oneof.name)?;
+    write_text(out, level.inner(), "name", oneof.name.as_ref())?;
     if let Some(options) = &oneof.options {
         write_options_field(out, level.inner(), options.uninterpreted_option.as_slice())?;
     }

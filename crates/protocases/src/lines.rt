@@ -67,7 +67,7 @@ pub fn write_text<W: Write>(
     out: &mut W,
     level: Level,
     name: &str,
-    text: &Option<Text>,
+    text: Option<&Text>,
 ) -> io::Result<()> {
     match text {
         Some(text) => write_bytes(out, level, name, text.as_str().as_bytes()),

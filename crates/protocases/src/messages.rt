@@ -100,7 +100,7 @@ pub fn write_message<W: Write>(
 ) -> io::Result<()> {
     write_open(out, level, name)?;
     let inner = level.inner();
-    write_text(out, inner, "name", &message.name)?;
+    write_text(out, inner, "name", message.name.as_ref())?;
     write_fields(out, inner, message)?;
     write_nested(out, inner, levels, message)?;
     write_inner(out, inner, message)?;

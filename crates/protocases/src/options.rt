@@ -20,7 +20,12 @@ fn write_value<W: Write>(
     level: Level,
     option: &UninterpretedOption,
 ) -> io::Result<()> {
-    write_text(out, level, "identifier_value", &option.identifier_value)?;
+    write_text(
+        out,
+        level,
+        "identifier_value",
+        option.identifier_value.as_ref(),
+    )?;
     if let Some(value) = option.positive_int_value {
         write_indent(out, level)?;
         writeln!(out, "positive_int_value: {value}")?;
@@ -35,7 +40,12 @@ fn write_value<W: Write>(
     if let Some(value) = &option.string_value {
         write_bytes(out, level, "string_value", value.as_slice())?;
     }
-    write_text(out, level, "aggregate_value", &option.aggregate_value)
+    write_text(
+        out,
+        level,
+        "aggregate_value",
+        option.aggregate_value.as_ref(),
+    )
 }
 
 fn write_option<W: Write>(

@@ -12,9 +12,9 @@ fn write_method<W: Write>(
 ) -> io::Result<()> {
     write_open(out, level, "method")?;
     let inner = level.inner();
-    write_text(out, inner, "name", &method.name)?;
-    write_text(out, inner, "input_type", &method.input_type)?;
-    write_text(out, inner, "output_type", &method.output_type)?;
+    write_text(out, inner, "name", method.name.as_ref())?;
+    write_text(out, inner, "input_type", method.input_type.as_ref())?;
+    write_text(out, inner, "output_type", method.output_type.as_ref())?;
     if let Some(options) = &method.options {
         write_options_field(out, inner, options.uninterpreted_option.as_slice())?;
     }
@@ -29,7 +29,7 @@ pub fn write_service<W: Write>(
     service: &ServiceDescriptorProto,
 ) -> io::Result<()> {
     write_open(out, level, "service")?;
-    write_text(out, level.inner(), "name", &service.name)?;
+    write_text(out, level.inner(), "name", service.name.as_ref())?;
     for method in service.method.iter() {
         write_method(out, level.inner(), method)?;
     }

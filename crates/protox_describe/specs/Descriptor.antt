@@ -11,7 +11,7 @@ use Rattle.protox_ast.specs.declared.ast.Syntax.{Syntax}
 use Rattle.protox_ast.specs.declared.ast.TypeName.{TypeName}
 use Rattle.protox_descriptor.specs.declared.descriptor.DescriptorProto.{DescriptorProto}
 use Rattle.protox_descriptor.specs.declared.descriptor.EnumDescriptorProto.{EnumDescriptorProto}
-use Rattle.protox_descriptor.specs.declared.descriptor.FieldDescriptorProto.{FieldDescriptorProto}
+use Rattle.protox_descriptor.specs.FieldDescriptorProto.{FieldDescriptorProto}
 use Rattle.protox_descriptor.specs.declared.descriptor.OneofDescriptorProto.{OneofDescriptorProto}
 use Rattle.protox_describe.specs.Enums.{enum_proto}
 use Rattle.protox_describe.specs.Fields.{Kind, Normal, Group, Map, Parts, message_proto, label_of, field_type_of, field_name, type_name_of, default_value, messages_of, is_proto3_optional, optional_flag, synthetic_oneof}

@@ -1,7 +1,7 @@
 -- MACHINERY. What an item gives, of where the code is among the oneofs; and a message's parts but the nested messages.
 use Rattle.std.specs.Prelude.{ℕ, List, [], ◌∷◌, map, Some, pos}
 use Rattle.protox_descriptor.specs.declared.descriptor.DescriptorProto.{DescriptorProto}
-use Rattle.protox_descriptor.specs.declared.descriptor.FieldDescriptorProto.{FieldDescriptorProto}
+use Rattle.protox_descriptor.specs.FieldDescriptorProto.{FieldDescriptorProto}
 use Rattle.protox_describe.specs.Descriptor.{Item, OfField, OfOneof, in_oneof, synthetic_index}
 use Rattle.protox_describe.specs.Fields.{Parts}
 use Rattle.protox_describe.specs.declared.messages.Unnested.{Unnested}

@@ -130,13 +130,15 @@ fn optional_flag(flag: bool) -> Option<bool>
     if flag { Some(true) } else { None }
 }
 
-/// The descriptor of a field that stands in no oneof and extends nothing.
+/// The descriptor of a field that extends this and stands in this oneof, or does neither.
 pub(crate) fn field_proto(
     alloc: Global,
     syntax: Syntax,
     ast: &Field,
+    extendee: Option<Text>,
+    oneof_index: Option<i32>,
 ) -> Result<FieldDescriptorProto, AllocError>
-    ensures { IfOk result (λ field. field ≡ (of_field (descriptor_steps syntax) ast.now).field) }
+    ensures { IfOk result (λ field. field ≡ record (of_field (descriptor_steps syntax) ast.now).field { extendee = extendee; oneof_index = oneof_index }) }
 {
     let name = field_name(alloc, &ast.kind, ast.name.value.as_str())?;
     let type_name = type_name(alloc, &ast.kind, ast.name.value.as_str())?;
@@ -144,19 +146,16 @@ pub(crate) fn field_proto(
     let json_name = json_name(alloc, &ast.options)?;
     let options = field_options(alloc, &ast.options)?;
     let proto3_optional = optional_flag(is_proto3_optional(syntax, &ast.label));
-    Ok(FieldDescriptorProto {
-        name: Some(name),
-        number: number_of(&ast.number),
-        label: Some(label(&ast.kind, &ast.label)),
-        field_type: field_type(&ast.kind),
+    let plain = FieldDescriptorProto::plain(
+        Some(name),
+        number_of(&ast.number),
+        Some(label(&ast.kind, &ast.label)),
+        field_type(&ast.kind),
         type_name,
-        extendee: None,
-        default_value,
-        oneof_index: None,
-        json_name,
-        options,
+        oneof_index,
         proto3_optional,
-    })
+    );
+    plain.with_rare_parts(alloc, extendee, default_value, json_name, options)
 }
 
 // `MyMapEntry` for `my_map`.
@@ -179,19 +178,16 @@ fn entry_field(
     let type_name = ty.ty_name(alloc)?;
     let json_name = Text::copy(alloc, name)?;
     let name = Text::copy(alloc, name)?;
-    Ok(FieldDescriptorProto {
-        name: Some(name),
-        number: Some(number),
-        label: Some(Label::Optional as i32),
-        field_type: number_if_scalar(ty.proto_ty()),
+    let plain = FieldDescriptorProto::plain(
+        Some(name),
+        Some(number),
+        Some(Label::Optional as i32),
+        number_if_scalar(ty.proto_ty()),
         type_name,
-        extendee: None,
-        default_value: None,
-        oneof_index: None,
-        json_name: Some(json_name),
-        options: None,
-        proto3_optional: None,
-    })
+        None,
+        None,
+    );
+    plain.with_rare_parts(alloc, None, None, Some(json_name), None)
 }
 
 fn entry_fields(

@@ -119,8 +119,7 @@ fn push_field(
 ) -> Result<(), AllocError>
     ensures { OnOk result (found.new ≡ found.old ++ in_oneof oneof_index (of_field (descriptor_steps syntax) ast.now) ∷ []) }
 {
-    let mut made = field_proto(alloc, syntax, ast)?;
-    made.oneof_index = oneof_index;
+    let made = field_proto(alloc, syntax, ast, None, oneof_index)?;
     found.push(made)
 }
 
@@ -201,9 +200,7 @@ fn extension_field(
     ensures { IfOk result (λ field. field ≡ (extending extendee.now (of_field (descriptor_steps syntax) ast.now)).field) }
 {
     let extendee = extendee.text(alloc)?;
-    let mut made = field_proto(alloc, syntax, ast)?;
-    made.extendee = Some(extendee);
-    Ok(made)
+    field_proto(alloc, syntax, ast, Some(extendee), None)
 }
 
 /// Appends the fields of an extend block.

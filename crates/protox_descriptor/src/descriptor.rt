@@ -10,11 +10,13 @@ use std::alloc::Global;
 
 pub mod descriptor_proto;
 pub mod enum_descriptor_proto;
+mod field;
 pub mod field_descriptor_proto;
 mod options;
 pub mod source_code_info;
 pub mod uninterpreted_option;
 
+pub use field::FieldDescriptorProto;
 pub use options::{
     EnumOptions, EnumValueOptions, ExtensionRangeOptions, FieldOptions, FileOptions,
     MessageOptions, MethodOptions, OneofOptions, ServiceOptions, UninterpretedOption,
@@ -94,46 +96,6 @@ impl DescriptorProto {
             options: None,
             reserved_range: Items::new(alloc),
             reserved_name: Items::new(alloc),
-        }
-    }
-}
-
-/// The message `FieldDescriptorProto`: a field of a message, or an extension.
-#[derive(PartialEq, Debug, Drop)]
-pub struct FieldDescriptorProto {
-    pub name: Option<Text>,
-    pub number: Option<i32>,
-    /// The number of a `field_descriptor_proto::Label`.
-    pub label: Option<i32>,
-    /// The number of a `field_descriptor_proto::FieldType`; the message's field `type`.
-    pub field_type: Option<i32>,
-    pub type_name: Option<Text>,
-    pub extendee: Option<Text>,
-    pub default_value: Option<Text>,
-    /// The place of the field's oneof in `oneof_decl`, from 0.
-    pub oneof_index: Option<i32>,
-    pub json_name: Option<Text>,
-    pub options: Option<FieldOptions>,
-    pub proto3_optional: Option<bool>,
-}
-
-impl FieldDescriptorProto {
-    /// Nothing set. It takes no memory.
-    pub fn new(_alloc: Global) -> FieldDescriptorProto
-        ensures { result ≡ record { name = None; number = None; label = None; field_type = None; type_name = None; extendee = None; default_value = None; oneof_index = None; json_name = None; options = None; proto3_optional = None } }
-    {
-        FieldDescriptorProto {
-            name: None,
-            number: None,
-            label: None,
-            field_type: None,
-            type_name: None,
-            extendee: None,
-            default_value: None,
-            oneof_index: None,
-            json_name: None,
-            options: None,
-            proto3_optional: None,
         }
     }
 }

@@ -2,7 +2,7 @@
 use protox_parse::case::{is_valid_group_name, is_valid_ident, to_pascal_case};
 use protox_parse::descriptor::field_descriptor_proto::{FieldType, Label};
 use protox_parse::descriptor::source_code_info::Location;
-use protox_parse::descriptor::{DescriptorProto, FileDescriptorProto};
+use protox_parse::descriptor::{DescriptorProto, FieldDescriptorProto, FileDescriptorProto};
 use protox_parse::values::{Items, Numbers, Text};
 use std::alloc::{AllocError, Global};
 use std::test::Fail;
@@ -142,6 +142,21 @@ fn location(alloc: Global) -> Result<String, AllocError> {
     format!(in alloc; "{found:?} {told:?}")
 }
 
+// A field of that JSON name, in the first oneof.
+fn named_in_json(alloc: Global, name: &str) -> Result<FieldDescriptorProto, AllocError> {
+    let json_name = Some(Text::copy(alloc, name)?);
+    let label = Some(Label::Optional as i32);
+    let plain = FieldDescriptorProto::plain(None, Some(1), label, None, None, Some(0), None);
+    plain.with_rare_parts(alloc, None, None, json_name, None)
+}
+
+fn field(alloc: Global) -> Result<String, AllocError> {
+    let found = named_in_json(alloc, "a")?;
+    let same = named_in_json(alloc, "b").is_ok_and(|other| other == found);
+    let told = (found.oneof_index(), found.options().is_none(), same);
+    format!(in alloc; "{found:?} {told:?}")
+}
+
 fn grown_list(alloc: Global) -> Result<String, AllocError> {
     let mut list = Items::from_slice(alloc, &[1, 2])?;
     list.push(3)?;
@@ -175,6 +190,16 @@ fn numbers_and_locations_are_made(rt: HostRuntime) -> Result<(), Fail> {
     assert_eq!(rt;
         location.as_str(),
         "Location { path: [4, 0], span: [1, 2, 3], leading_comments: Some(\" a\"), trailing_comments: None, leading_detached_comments: [] } (false, true)"
+    );
+    Ok(())
+}
+
+#[test]
+fn fields_are_made(rt: HostRuntime) -> Result<(), Fail> {
+    let field = field(rt.alloc())?;
+    assert_eq!(rt;
+        field.as_str(),
+        "FieldDescriptorProto { name: None, number: Some(1), label: Some(1), field_type: None, type_name: None, extendee: None, default_value: None, oneof_index: Some(0), json_name: Some(\"a\"), options: None, proto3_optional: None } (Some(0), true, false)"
     );
     Ok(())
 }

@@ -129,7 +129,7 @@ impl Location {
     }
 }
 
-fn are_equal(first: Option<&Text>, second: Option<&Text>) -> bool
+pub(super) fn are_equal(first: Option<&Text>, second: Option<&Text>) -> bool
     ensures { result ≡ option_eq (pointwise ◌==◌) (option_copied first.entry) (option_copied second.entry) }
 {
     match (first, second) {

@@ -1,0 +1,279 @@
+//! The message `FieldDescriptorProto`.
+
+ghost use Rattle.std.specs.Prelude.{◌≡◌, None, IsOk, IfOk};
+ghost use Rattle.std.specs.Option.{option_copied};
+ghost use Rattle.protox_descriptor.specs.HeldField.{rare_parts};
+ghost use Rattle.protox_descriptor.specs.SameFields.{options_eq, rare_eq, field_eq, field_per};
+
+use super::FieldOptions;
+use super::source_code_info::are_equal;
+use crate::values::Text;
+use std::alloc::{AllocError, Global};
+use std::boxed::Box;
+use std::fmt;
+use std::marker::Model;
+
+// What a field has that stands in a oneof, be it one that is made for the field.
+#[derive(Clone, Copy)]
+struct InOneof {
+    index: Option<i32>,
+    proto3_optional: Option<bool>,
+}
+
+// What most fields lack.
+#[derive(Drop)]
+struct RareParts {
+    in_oneof: InOneof,
+    extendee: Option<Text>,
+    default_value: Option<Text>,
+    json_name: Option<Text>,
+    options: Option<FieldOptions>,
+}
+
+// Where a field has no rare part, what says of its oneof lies in the value itself.
+#[derive(Drop)]
+enum Rest {
+    Plain(InOneof),
+    Rare(Box<RareParts>),
+}
+
+// Where the rare parts are put, and what says of the oneof with them.
+fn rest_of(
+    alloc: Global,
+    in_oneof: InOneof,
+    extendee: Option<Text>,
+    default_value: Option<Text>,
+    json_name: Option<Text>,
+    options: Option<FieldOptions>,
+) -> Result<Rest, AllocError>
+    ensures value { IfOk result (λ made. rare_parts made ≡ record { in_oneof = in_oneof; extendee = extendee; default_value = default_value; json_name = json_name; options = options }) }
+    ensures free { extendee ≡ None → default_value ≡ None → json_name ≡ None → options ≡ None → IsOk result }
+{
+    if extendee.is_none() && default_value.is_none() && json_name.is_none() && options.is_none() {
+        return Ok(Rest::Plain(in_oneof));
+    }
+    let parts = Box::new(
+        alloc,
+        RareParts {
+            in_oneof,
+            extendee,
+            default_value,
+            json_name,
+            options,
+        },
+    )?;
+    Ok(Rest::Rare(parts))
+}
+
+/// The message `FieldDescriptorProto`: a field of a message, or an extension. What most fields lack has
+/// room only where there is some, and functions read it that have the names of the message's fields.
+#[derive(Drop)]
+pub struct FieldDescriptorProto {
+    pub name: Option<Text>,
+    pub number: Option<i32>,
+    /// The number of a `field_descriptor_proto::Label`.
+    pub label: Option<i32>,
+    /// The number of a `field_descriptor_proto::FieldType`; the message's field `type`.
+    pub field_type: Option<i32>,
+    pub type_name: Option<Text>,
+    rest: Rest,
+}
+
+// Two names take 80 of these.
+const _: () = prove!(size_of::<FieldDescriptorProto>() == 120);
+
+impl Model for FieldDescriptorProto {
+    ghost use Rattle.protox_descriptor.specs.FieldDescriptorProto as seen;
+
+    ghost Value = { seen.FieldDescriptorProto };
+
+    ghost use Rattle.protox_descriptor.specs.HeldField.{field_of};
+
+    ghost view = { field_of };
+}
+
+impl FieldDescriptorProto {
+    /// Nothing set. It takes no memory.
+    pub fn new(_alloc: Global) -> FieldDescriptorProto
+        ensures { result ≡ record { name = None; number = None; label = None; field_type = None; type_name = None; extendee = None; default_value = None; oneof_index = None; json_name = None; options = None; proto3_optional = None } }
+    {
+        FieldDescriptorProto::plain(None, None, None, None, None, None, None)
+    }
+
+    /// A field without the parts that are rare. It takes no memory.
+    pub fn plain(
+        name: Option<Text>,
+        number: Option<i32>,
+        label: Option<i32>,
+        field_type: Option<i32>,
+        type_name: Option<Text>,
+        oneof_index: Option<i32>,
+        proto3_optional: Option<bool>,
+    ) -> FieldDescriptorProto
+        ensures { result ≡ record { name = name; number = number; label = label; field_type = field_type; type_name = type_name; extendee = None; default_value = None; oneof_index = oneof_index; json_name = None; options = None; proto3_optional = proto3_optional } }
+    {
+        FieldDescriptorProto {
+            name,
+            number,
+            label,
+            field_type,
+            type_name,
+            rest: Rest::Plain(InOneof {
+                index: oneof_index,
+                proto3_optional,
+            }),
+        }
+    }
+
+    /// This field with these parts in place of its own, or `AllocError`. Where there is none, it takes no memory.
+    pub fn with_rare_parts(
+        self,
+        alloc: Global,
+        extendee: Option<Text>,
+        default_value: Option<Text>,
+        json_name: Option<Text>,
+        options: Option<FieldOptions>,
+    ) -> Result<FieldDescriptorProto, AllocError>
+        ensures value { IfOk result (λ made. made ≡ record self { extendee = extendee; default_value = default_value; json_name = json_name; options = options }) }
+        ensures free { extendee ≡ None → default_value ≡ None → json_name ≡ None → options ≡ None → IsOk result }
+    {
+        let in_oneof = self.in_oneof();
+        let rest = rest_of(alloc, in_oneof, extendee, default_value, json_name, options)?;
+        let FieldDescriptorProto {
+            name,
+            number,
+            label,
+            field_type,
+            type_name,
+            rest: _,
+        } = self;
+        Ok(FieldDescriptorProto {
+            name,
+            number,
+            label,
+            field_type,
+            type_name,
+            rest,
+        })
+    }
+
+    // What says of the oneof that the field stands in.
+    fn in_oneof(&self) -> InOneof
+        ensures index { result.index ≡ self.now.oneof_index }
+        ensures proto3_optional { result.proto3_optional ≡ self.now.proto3_optional }
+    {
+        match &self.rest {
+            Rest::Plain(in_oneof) => *in_oneof,
+            Rest::Rare(parts) => parts.in_oneof,
+        }
+    }
+
+    /// The place of the field's oneof in `oneof_decl`, from 0.
+    pub fn oneof_index(&self) -> Option<i32>
+        ensures { result ≡ self.now.oneof_index }
+    {
+        self.in_oneof().index
+    }
+
+    /// Whether a field of proto3 has the word `optional`.
+    pub fn proto3_optional(&self) -> Option<bool>
+        ensures { result ≡ self.now.proto3_optional }
+    {
+        self.in_oneof().proto3_optional
+    }
+
+    /// The message that an extension extends.
+    pub fn extendee(&self) -> Option<&Text>
+        ensures { option_copied result ≡ self.now.extendee }
+    {
+        match &self.rest {
+            Rest::Rare(parts) => parts.extendee.as_ref(),
+            Rest::Plain(_) => None,
+        }
+    }
+
+    /// The value that a field has where none is given, as a text.
+    pub fn default_value(&self) -> Option<&Text>
+        ensures { option_copied result ≡ self.now.default_value }
+    {
+        match &self.rest {
+            Rest::Rare(parts) => parts.default_value.as_ref(),
+            Rest::Plain(_) => None,
+        }
+    }
+
+    /// The field's name in JSON, where the source says one.
+    pub fn json_name(&self) -> Option<&Text>
+        ensures { option_copied result ≡ self.now.json_name }
+    {
+        match &self.rest {
+            Rest::Rare(parts) => parts.json_name.as_ref(),
+            Rest::Plain(_) => None,
+        }
+    }
+
+    /// The options of the field.
+    pub fn options(&self) -> Option<&FieldOptions>
+        ensures { option_copied result ≡ self.now.options }
+    {
+        match &self.rest {
+            Rest::Rare(parts) => parts.options.as_ref(),
+            Rest::Plain(_) => None,
+        }
+    }
+}
+
+fn are_options_equal(first: Option<&FieldOptions>, second: Option<&FieldOptions>) -> bool
+    ensures { result ≡ options_eq (option_copied first.entry) (option_copied second.entry) }
+{
+    match (first, second) {
+        (Some(first), Some(second)) => first == second,
+        (None, None) => true,
+        _ => false,
+    }
+}
+
+// Whether the parts that most fields lack are equal.
+fn are_rare_parts_equal(first: &FieldDescriptorProto, second: &FieldDescriptorProto) -> bool
+    ensures { result ≡ rare_eq first.now second.now }
+{
+    are_equal(first.extendee(), second.extendee())
+        && are_equal(first.default_value(), second.default_value())
+        && first.oneof_index() == second.oneof_index()
+        && are_equal(first.json_name(), second.json_name())
+        && are_options_equal(first.options(), second.options())
+        && first.proto3_optional() == second.proto3_optional()
+}
+
+impl PartialEq for FieldDescriptorProto {
+    ghost eq = { field_eq };
+
+    ghost laws = { field_per };
+
+    fn eq(&self, other: &FieldDescriptorProto) -> bool {
+        self.name == other.name
+            && self.number == other.number
+            && self.label == other.label
+            && self.field_type == other.field_type
+            && self.type_name == other.type_name
+            && are_rare_parts_equal(self, other)
+    }
+}
+
+impl fmt::Debug for FieldDescriptorProto {
+    fn fmt<W: fmt::Write>(&self, f: &mut fmt::Formatter<W>) -> fmt::Result {
+        f.debug_struct("FieldDescriptorProto")
+            .field("name", &self.name)
+            .field("number", &self.number)
+            .field("label", &self.label)
+            .field("field_type", &self.field_type)
+            .field("type_name", &self.type_name)
+            .field("extendee", &self.extendee())
+            .field("default_value", &self.default_value())
+            .field("oneof_index", &self.oneof_index())
+            .field("json_name", &self.json_name())
+            .field("options", &self.options())
+            .field("proto3_optional", &self.proto3_optional())
+            .finish()
+    }
+}

@@ -7,7 +7,7 @@ use Rattle.protox_descriptor.specs.contracts.descriptor.DescriptorProtoPartialEq
 use Rattle.protox_descriptor.specs.contracts.descriptor.DescriptorProtoPartialEq.TheImpl.Laws.{is}
 use Rattle.protox_descriptor.specs.contracts.descriptor.EnumDescriptorProtoPartialEq.TheImpl as enumeration
 use Rattle.protox_descriptor.specs.contracts.descriptor.EnumValueDescriptorProtoPartialEq.TheImpl as enum_value
-use Rattle.protox_descriptor.specs.contracts.descriptor.FieldDescriptorProtoPartialEq.TheImpl as field
+use Rattle.protox_descriptor.specs.contracts.descriptor.field.FieldDescriptorProtoPartialEq.TheImpl as field
 use Rattle.protox_descriptor.specs.contracts.descriptor.FileDescriptorProtoPartialEq.TheImpl as file
 use Rattle.protox_descriptor.specs.contracts.descriptor.MethodDescriptorProtoPartialEq.TheImpl as method
 use Rattle.protox_descriptor.specs.contracts.descriptor.OneofDescriptorProtoPartialEq.TheImpl as oneof
@@ -31,7 +31,7 @@ use Rattle.protox_descriptor.specs.contracts.descriptor.uninterpreted_option.Nam
 use Rattle.protox_descriptor.specs.declared.descriptor.DescriptorProto.{DescriptorProto, DescriptorProto-F, roll-DescriptorProto, out-DescriptorProto, roll-out-DescriptorProto, out-roll-DescriptorProto, ind-DescriptorProto}
 use Rattle.protox_descriptor.specs.declared.descriptor.EnumDescriptorProto.{EnumDescriptorProto}
 use Rattle.protox_descriptor.specs.declared.descriptor.EnumValueDescriptorProto.{EnumValueDescriptorProto}
-use Rattle.protox_descriptor.specs.declared.descriptor.FieldDescriptorProto.{FieldDescriptorProto}
+use Rattle.protox_descriptor.specs.FieldDescriptorProto.{FieldDescriptorProto}
 use Rattle.protox_descriptor.specs.declared.descriptor.FileDescriptorProto.{FileDescriptorProto}
 use Rattle.protox_descriptor.specs.declared.descriptor.MethodDescriptorProto.{MethodDescriptorProto}
 use Rattle.protox_descriptor.specs.declared.descriptor.OneofDescriptorProto.{OneofDescriptorProto}

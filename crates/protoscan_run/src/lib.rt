@@ -8,7 +8,7 @@ ghost use Rattle.protox_parse.specs.Files.{IsFile};
 use protox_parse::descriptor::FileDescriptorProto;
 use protox_parse::descriptor::source_code_info::Location;
 use protox_parse::{ParseFailure, parse};
-use std::alloc::Global;
+use std::alloc::{AllocError, Global};
 use std::io::{self, Write};
 
 /// The status where a file is read and its locations are printed.
@@ -18,35 +18,80 @@ const REFUSED: u8 = 1;
 /// The status where there is no file, no text, no memory, or a write failed.
 pub const FAILED: u8 = 2;
 
-fn write_numbers<W: Write>(out: &mut W, numbers: &[i32], between: char) -> io::Result<()> {
-    for (index, number) in numbers.iter().enumerate() {
-        if index > 0 {
-            write!(out, "{between}")?;
+/// How many bytes of lines are written at a time, but for those of one line more.
+const AT_ONCE: usize = 16384;
+
+// A number in decimal and the mark behind it.
+fn push_number(text: &mut Vec<u8>, number: i32, mark: u8) -> Result<(), AllocError> {
+    if number < 0 {
+        text.push(b'-')?;
+    }
+    let mut rest = number.unsigned_abs();
+    if rest < 10 {
+        return text.extend_from_slice(&[b'0' + rest as u8, mark]);
+    }
+    if rest < 100 {
+        return text.extend_from_slice(&[b'0' + (rest / 10) as u8, b'0' + (rest % 10) as u8, mark]);
+    }
+    let mut digits = [mark; 11];
+    let mut start = 10;
+    for place in (0..10).rev() {
+        digits[place] = b'0' + (rest % 10) as u8;
+        rest /= 10;
+        start = place;
+        if rest == 0 {
+            break;
         }
-        write!(out, "{number}")?;
+    }
+    text.extend_from_slice(&digits[start..])
+}
+
+// The numbers with a mark between each two, and another behind the last.
+fn push_numbers(
+    text: &mut Vec<u8>,
+    numbers: &[i32],
+    between: u8,
+    behind: u8,
+) -> Result<(), AllocError> {
+    for (index, number) in numbers.iter().enumerate() {
+        let mark = if index + 1 < numbers.len() {
+            between
+        } else {
+            behind
+        };
+        push_number(text, *number, mark)?;
     }
     Ok(())
 }
 
-/// A line: the path of a location with dots, one dot for that of the file, and its span with commas.
-pub fn write_location<W: Write>(out: &mut W, location: &Location) -> io::Result<()> {
+/// Adds a line to a text: the path of a location with dots, one dot for that of the file, and its span
+/// with commas.
+pub fn push_location(text: &mut Vec<u8>, location: &Location) -> Result<(), AllocError> {
     if location.path.is_empty() {
-        write!(out, ".")?;
+        text.extend_from_slice(b". ")?;
     }
-    write_numbers(out, location.path.as_slice(), '.')?;
-    write!(out, " ")?;
-    write_numbers(out, location.span.as_slice(), ',')?;
-    writeln!(out)
+    push_numbers(text, location.path.as_slice(), b'.', b' ')?;
+    push_numbers(text, location.span.as_slice(), b',', b'\n')
 }
 
-fn write_locations<W: Write>(out: &mut W, file: &FileDescriptorProto) -> io::Result<()> {
+// Formatting straight into the writer would cost more than the parse: so it gets many lines at a time.
+fn write_locations<W: Write>(
+    alloc: Global,
+    out: &mut W,
+    file: &FileDescriptorProto,
+) -> io::Result<()> {
     let Some(info) = &file.source_code_info else {
         return Ok(());
     };
+    let mut lines = Vec::new(alloc);
     for location in info.location.iter() {
-        write_location(out, location)?;
+        push_location(&mut lines, location)?;
+        if AT_ONCE <= lines.len() {
+            out.write_all(lines.as_slice())?;
+            lines.clear();
+        }
     }
-    Ok(())
+    out.write_all(lines.as_slice())
 }
 
 // Parses the file, and writes its locations or what is wrong with it.
@@ -63,7 +108,7 @@ fn scan<W: Write, E: Write>(
 {
     match parse(alloc, name, source) {
         Ok(file) => {
-            write_locations(out, &file)?;
+            write_locations(alloc, out, &file)?;
             Ok(PRINTED)
         }
         Err(ParseFailure::Refused(error)) => {

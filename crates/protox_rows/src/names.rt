@@ -57,7 +57,8 @@ pub fn fullident(
     ensures some { IfOk result (λ x. 0 < length x) }
 {
     let first = ident(alloc, rows, expected)?;
-    let mut parts = Items::with_capacity(alloc, 1)?;
+    let room = if sees(rows, DOT) { 4 } else { 1 };
+    let mut parts = Items::with_capacity(alloc, room)?;
     parts.push(first)?;
     'more: while sees(rows, DOT) {
         let part = more_part(alloc, rows)?;

@@ -1,0 +1,52 @@
+//! `parsecount FILE [TURNS]` parses a file as often as is asked for, and prints how many locations it
+//! has. It is here to measure the parser alone, with dropping what it answers: `protoscan` prints too.
+//! Of several turns all but the first find memory that was used before.
+#![tactic(auto)]
+
+use protox_parse::{ParseFailure, parse};
+use std::alloc::Global;
+use std::io::{self, Write};
+use std::process::ExitCode;
+use std::{env, fs};
+
+// How many locations the file has, which is parsed as often as is asked for.
+fn locations(alloc: Global, name: &str, source: &str, turns: u32) -> Result<usize, ParseFailure> {
+    let mut count = 0;
+    for _ in 0..turns {
+        let file = parse(alloc, name, source)?;
+        count = match &file.source_code_info {
+            Some(info) => info.location.len(),
+            None => 0,
+        };
+    }
+    Ok(count)
+}
+
+fn count(rt: &HostRuntime) -> io::Result<u8> {
+    let mut words = Vec::new(rt.alloc());
+    for word in env::args(rt)?.skip(1) {
+        words.push(word)?;
+    }
+    let Some(name) = words.first() else {
+        return Ok(2);
+    };
+    let turns = match words.get(1) {
+        Some(word) => word.parse::<u32>().unwrap_or(1),
+        None => 1,
+    };
+    let bytes = fs::read(rt, name.as_str())?;
+    let Ok(source) = str::from_utf8(&bytes) else {
+        return Ok(2);
+    };
+    match locations(rt.alloc(), name.as_str(), source, turns) {
+        Ok(count) => {
+            writeln!(rt.stdout(), "{count}")?;
+            Ok(0)
+        }
+        Err(_) => Ok(1),
+    }
+}
+
+fn main(rt: HostRuntime) -> ExitCode {
+    ExitCode::from(count(&rt).unwrap_or(2))
+}

@@ -1,5 +1,5 @@
 -- Which tokens are meant where a token is expected, and how that prints.
-use Rattle.std.specs.Prelude.{◌≡◌, ℕ, List, [], ◌∷◌, ◌++◌, codes}
+use Rattle.std.specs.Prelude.{◌≡◌, ℕ, List, ◌++◌, codes}
 use Rattle.protox_lexeme.specs.Printed.{printed}
 use Rattle.protox_lexeme.specs.Shapes.{Shape, Ident}
 use Rattle.protox_lexeme.specs.Tokens.{shape_of}

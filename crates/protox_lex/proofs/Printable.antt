@@ -3,8 +3,9 @@ use Rattle.std.proofs.Common.{◌≡◌, ℕ, zero, suc, ◌+◌, ◌-◌, ◌/�
 use Rattle.std.proofs.lemmas.Bool.{cases_Bool, true≢false, eqb-true, ltb-true, leb-true, and_parts}
 use Rattle.std.proofs.lemmas.Bool.Decides.{nat_tests}
 use Rattle.std.proofs.lemmas.List.Sums.{prefix_len_passes}
-use Rattle.std.proofs.Math.Utf8.{encode}
-use Rattle.std.specs.Prelude.{if◌then◌else◌, nat_lt, min}
+use Rattle.std.proofs.Math.Utf8.{encode, scalar, scalars, scalar_cases}
+use Rattle.std.specs.Prelude.{if◌then◌else◌, nat_lt, min, encode_utf8_all}
+use Rattle.std.specs.Str.{IsUtf8}
 use Rattle.std.specs.Str.Parse.{digits_value}
 use Rattle.std.specs.List.{prefix_len, list_all, All}
 use Rattle.std.specs.Char.{is_ascii_digit}
@@ -82,8 +83,21 @@ byte_added v n = elim (cases_Bool (leb v 255)) [ inl e ↦ let low = leb-true v 
 scalar_low : (c : ℕ) → spec.is_scalar c ≡ true → c < 0x11_0000
 scalar_low c h = grind (arith, nat_tests)
 
+unicode_low : (c : ℕ) → scalar c ≡ true → c < 0x11_0000
+unicode_low c h = elim (scalar_cases c h) [ inl low ↦ omega arith | inr high ↦ omega arith ]
+
 char_added : (v n : ℕ) → AreBytes (spec.added (spec.char_piece v n))
 char_added v n = elim (cases_Bool (spec.is_scalar v)) [ inl e ↦ rw e (encode_bytes v (scalar_low v e)) | inr e ↦ rw e refl ]
+
+-- texts are bytes
+encodes_bytes : (cs : List ℕ) → scalars cs ≡ true → AreBytes (encode_utf8_all cs)
+encodes_bytes [] h = refl
+encodes_bytes (c ∷ cs) h =
+    let (here, more) = and_parts (scalar c) (scalars cs) h in
+    bytes_more (encode c) (encode_utf8_all cs) (encode_bytes c (unicode_low c here)) (encodes_bytes cs more)
+
+pub utf8_bytes : (text : List ℕ) → IsUtf8 text → AreBytes text
+utf8_bytes text (cs, is) = subst AreBytes is.1 (encodes_bytes cs is.0)
 
 abbrev Small : Option ℕ → Type 0
 Small None = Unit {0}

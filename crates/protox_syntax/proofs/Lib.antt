@@ -8,3 +8,4 @@ pub mod Modes
 pub mod SyntaxNotes
 pub mod Judged
 pub mod Accepts
+pub mod Aggregates

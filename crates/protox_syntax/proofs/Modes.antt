@@ -143,7 +143,7 @@ valid-tokens : (first : Bool) (rows : Rows Span) (gaps : List (List Shape)) → 
 valid-tokens first [] gaps h = tt
 valid-tokens first (r ∷ rs) gaps h = (h.0, valid-tokens false rs (later_gaps gaps) h.1)
 
-clean-tokens : (lexemes : List Lexeme) → AreClean lexemes → AreTokens (placed_tokens lexemes)
+pub clean-tokens : (lexemes : List Lexeme) → AreClean lexemes → AreTokens (placed_tokens lexemes)
 clean-tokens lexemes h = valid-tokens true (rows_of lexemes) (table_of lexemes).gaps (clean-valid lexemes 0 lexemes h)
 
 -- ---- the modes of rows

@@ -2,3 +2,5 @@ pub mod Statements
 pub mod Whole
 pub mod Weave
 pub mod Judging
+pub mod ExpectedTokens
+pub mod Aggregates

@@ -2,6 +2,7 @@
 #![tactic(auto)]
 
 mod checks;
+mod expected_token;
 mod judge;
 pub mod parse;
 mod progress;

@@ -5,8 +5,12 @@ ghost use Rattle.protox_ast.specs.Accepted.{Fits, IsAccepted, IsFileOf, FaultsLi
 ghost use Rattle.protox_ast.specs.Ast as ast_of;
 ghost use Rattle.protox_ast.specs.Tree as tree;
 ghost use Rattle.protox_ast.specs.Places.{Place};
+ghost use Rattle.protox_grammar.specs.Grammar.{OneTree};
+ghost use Rattle.protox_syntax.specs.Aggregates.{AggregatesLexBack};
 
+pub use crate::expected_token::ExpectedToken;
 use crate::judge::judge;
+pub use crate::statements::MAX_MESSAGE_NESTING_DEPTH;
 use protox_ast::ast::File;
 use protox_lex::error::SyntaxFailure;
 use protox_lex::lex::TokenTable;
@@ -23,6 +27,11 @@ pub fn parse_file(alloc: Global, source: &str) -> Result<File, SyntaxFailure>
         → MatchResult result (λ file. file ≡ ast_of.file (length source.now) f) IsOutOfMemory }
     // There is a fault, and the faults lie in the source.
     ensures refused { IfErr result (FaultsLieIn source.now) }
+    // No tokens are the spelling of two trees, with their places or without.
+    ensures one_tree { OneTree (Unit {0}) }
+    ensures one_placed_tree { OneTree Place }
+    // The text of each aggregate of an accepted source, cut again, gives the tokens that it was made of, without a fault.
+    ensures lexes_back { (f : tree.File Place) → IsAccepted source.now f → AggregatesLexBack source.now f }
 {
     let table = TokenTable::new(alloc, source)?;
     judge(alloc, &table, source.len())

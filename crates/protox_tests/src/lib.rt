@@ -6,6 +6,8 @@
 #[cfg(test)]
 mod descriptors;
 #[cfg(test)]
+mod large_sources;
+#[cfg(test)]
 mod laws;
 #[cfg(test)]
 mod lexing;

@@ -1,7 +1,8 @@
 //! The parser, its two halves, and its refusals.
 use protox_parse::error::Span;
 use protox_parse::generate::{LineResolver, generate_file};
-use protox_parse::syntax::parse_file;
+use protox_parse::lex::{STREAM, Token};
+use protox_parse::syntax::{ExpectedToken, MAX_MESSAGE_NESTING_DEPTH, parse_file};
 use protox_parse::{ParseError, ParseFailure, parse, source_fits};
 use std::alloc::{AllocError, Global};
 use std::test::Fail;
@@ -102,6 +103,33 @@ fn locations(alloc: Global) -> Option<usize> {
 #[test]
 fn want_of_memory(rt: HostRuntime) {
     assert_eq!(rt; locations(rt.alloc()), Some(9));
+}
+
+#[test]
+fn expected_tokens_match(rt: HostRuntime) {
+    let word = ExpectedToken::Token(Token::keyword(STREAM));
+    for (token, is_word, is_identifier) in [
+        (Token::Ident("stream"), true, true),
+        (Token::Ident("streams"), false, true),
+        (Token::IntLiteral(1), false, false),
+        (Token::Semicolon, false, false),
+    ] {
+        let told = (word.matches(&token), ExpectedToken::Ident.matches(&token));
+        assert_eq!(rt; told, (is_word, is_identifier));
+    }
+}
+
+fn expected_texts(alloc: Global) -> Result<String, AllocError> {
+    let mark = ExpectedToken::Token(Token::Semicolon);
+    format!(in alloc; "{mark}, {}", ExpectedToken::Ident)
+}
+
+#[test]
+fn expected_tokens_print(rt: HostRuntime) -> Result<(), Fail> {
+    let found = expected_texts(rt.alloc())?;
+    assert_eq!(rt; found.as_str(), "';', an identifier");
+    assert_eq!(rt; MAX_MESSAGE_NESTING_DEPTH, 31);
+    Ok(())
 }
 
 fn places(alloc: Global) -> Result<String, Fail> {

@@ -1,5 +1,7 @@
 //! Calls of the syntax tree.
-use protox_parse::ast::{self, FullIdent, Ident, Int, Syntax, Ty, TypeName};
+use protox_parse::ast::{
+    self, FullIdent, Ident, Int, OptionBody, OptionNamePart, OptionValue, Syntax, Ty, TypeName,
+};
 use protox_parse::values::Items;
 use std::alloc::{AllocError, Global};
 use std::fmt::{self, Write};
@@ -125,6 +127,56 @@ fn strings_print_escaped(rt: HostRuntime) -> Result<(), Fail> {
         found.as_str(),
         "a\\t\\r\\n\\\\\\'\\\"\\000\\377 String { value: \"a\\\\t\\\\r\\\\n\\\\\\\\\\\\'\\\\\\\"\\\\000\\\\377\", span: 3..7 }"
     );
+    Ok(())
+}
+
+fn quoted(alloc: Global) -> Result<String, AllocError> {
+    let string = ast::String {
+        value: Items::from_slice(alloc, b"a\"")?,
+        span: 0..4,
+    };
+    format!(in alloc; "{string:?}")
+}
+
+#[test]
+fn quotes_print_escaped(rt: HostRuntime) -> Result<(), Fail> {
+    let found = quoted(rt.alloc())?;
+    assert_eq!(rt;
+        found.as_str(),
+        "String { value: \"a\\\\\\\"\", span: 0..4 }"
+    );
+    Ok(())
+}
+
+// `(.ext)` at 0..6, `ident` at 7..12, and -5 at 14..16
+fn option_body(alloc: Global) -> Result<OptionBody, AllocError> {
+    let mut parts = Vec::new(alloc);
+    parts.push(ident(alloc, "ext", 2)?)?;
+    let extension = TypeName {
+        leading_dot: Some(1..2),
+        name: FullIdent::from_parts(parts),
+    };
+    let mut name = Items::new(alloc);
+    name.push(OptionNamePart::Extension(extension, 0..6))?;
+    name.push(OptionNamePart::Ident(ident(alloc, "ident", 7)?))?;
+    let value = OptionValue::Int(Int {
+        negative: true,
+        value: 5,
+        span: 14..16,
+    });
+    Ok(OptionBody { name, value })
+}
+
+fn option_spans(alloc: Global) -> Result<String, AllocError> {
+    let body = option_body(alloc)?;
+    let named = (body.has_name("ident"), body.has_name("(.ext).ident"));
+    format!(in alloc; "{:?} {:?} {named:?}", body.name_span(), body.span())
+}
+
+#[test]
+fn places_of_options(rt: HostRuntime) -> Result<(), Fail> {
+    let found = option_spans(rt.alloc())?;
+    assert_eq!(rt; found.as_str(), "0..12 0..16 (false, false)");
     Ok(())
 }
 

@@ -1,6 +1,9 @@
 use Rattle.std.proofs.Common.{length, subst}
+use Rattle.protox_grammar.proofs.Main as main
+use Rattle.protox_options.specs.Options.{here}
 use Rattle.protox_syntax.specs.Judging.{Judges}
 use Rattle.protox_syntax.proofs.Accepts.{judged-found, judged-only}
+use Rattle.protox_syntax.proofs.Aggregates.{aggregates-lex-back}
 use Rattle.protox_syntax.proofs.parse.parse_file.Goals as goal
 
 pub returns-clause-found : goal.returns-clause-found
@@ -12,3 +15,21 @@ pub returns-clause-only : goal.returns-clause-only
 returns-clause-only c =
     let judged = subst (λ t. Judges t (length c.args.source.now) c.judge.result) c.in_ok-table.ensures c.judge.ensures in
     judged-only c.args.source.now c.judge.result judged
+
+pub returns-in_err-table-clause-one_tree : goal.returns-in_err-table-clause-one_tree
+returns-in_err-table-clause-one_tree c = main.one_tree tt
+
+pub returns-in_err-table-clause-one_placed_tree : goal.returns-in_err-table-clause-one_placed_tree
+returns-in_err-table-clause-one_placed_tree c = main.one_tree here
+
+pub returns-in_err-table-clause-lexes_back : goal.returns-in_err-table-clause-lexes_back
+returns-in_err-table-clause-lexes_back c = aggregates-lex-back c.args.source.now c.utf8.source
+
+pub returns-clause-one_tree : goal.returns-clause-one_tree
+returns-clause-one_tree c = main.one_tree tt
+
+pub returns-clause-one_placed_tree : goal.returns-clause-one_placed_tree
+returns-clause-one_placed_tree c = main.one_tree here
+
+pub returns-clause-lexes_back : goal.returns-clause-lexes_back
+returns-clause-lexes_back c = aggregates-lex-back c.args.source.now c.utf8.source

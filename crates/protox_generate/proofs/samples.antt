@@ -8,3 +8,4 @@ pub mod ExamplesRanges
 pub mod ExamplesOptions
 pub mod ExamplesItems
 pub mod ExamplesFaults
+pub mod ExamplesOneofs

@@ -9,3 +9,4 @@ pub mod ExamplesOptions
 pub mod ExamplesItems
 pub mod ExamplesFaults
 pub mod ExamplesOneofs
+pub mod ExamplesNames

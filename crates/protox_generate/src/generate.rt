@@ -7,6 +7,7 @@ ghost use Rattle.protox_checks.specs.Faults.{AreWrong, HaveAll, IsFaultless};
 ghost use Rattle.protox_describe.specs.Oneofs.{HasRealFirst};
 ghost use Rattle.protox_describe.specs.Widths.{file_width};
 ghost use Rattle.protox_generate.specs.File.{file_descriptor, AreLocated, AreListedAll};
+ghost use Rattle.protox_generate.specs.Names.{HasNames};
 ghost use Rattle.protox_locate.specs.Bounds.{file_weight, file_reach};
 
 use protox_ast::ast::File;
@@ -56,6 +57,8 @@ pub fn generate_file(
     ensures located { IfOk result AreLocated }
     // In each of its messages the oneofs that are written come first.
     ensures oneofs { IfOk result HasRealFirst }
+    // Where the path of a location leads to a name, the source has that name there.
+    ensures named { IfOk result (HasNames source.now) }
     // A refusal has faults. Each is wrong of the tree, each that is wrong is there, and they are in order.
     ensures wrong { IfErr result (AreWrong ast) }
     ensures all { IfErr result (HaveAll ast) }

@@ -9,3 +9,4 @@ pub mod Membership
 pub mod NodeLevels
 pub mod NodesLie
 pub mod Texts
+pub mod OneofLabels

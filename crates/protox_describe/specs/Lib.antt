@@ -7,3 +7,4 @@ pub mod Descriptor
 pub mod File
 pub mod Widths
 pub mod Pass
+pub mod Oneofs

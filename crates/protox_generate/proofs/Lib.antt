@@ -2,3 +2,10 @@ pub mod Wide
 pub mod Standing
 pub mod Outcomes
 pub mod samples
+pub mod RealOneofs
+pub mod Spelled
+pub mod Leads
+pub mod NamedParts
+pub mod Named
+pub mod NamedTrees
+pub mod NamedFiles

@@ -8,3 +8,5 @@ pub mod ExamplesRanges
 pub mod ExamplesOptions
 pub mod ExamplesItems
 pub mod ExamplesFaults
+pub mod ExamplesOneofs
+pub mod ExamplesNames

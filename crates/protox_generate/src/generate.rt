@@ -4,8 +4,10 @@ ghost use Rattle.std.specs.Prelude.{◌≡◌, ◌≤◌, length, IfErr, IfOk};
 ghost use Rattle.protox_ast.specs.Accepted.{FaultsLieIn, IsFileOf};
 ghost use Rattle.protox_ast.specs.Siblings.{FileStands};
 ghost use Rattle.protox_checks.specs.Faults.{AreWrong, HaveAll, IsFaultless};
+ghost use Rattle.protox_describe.specs.Oneofs.{HasRealFirst};
 ghost use Rattle.protox_describe.specs.Widths.{file_width};
 ghost use Rattle.protox_generate.specs.File.{file_descriptor, AreLocated, AreListedAll};
+ghost use Rattle.protox_generate.specs.Names.{HasNames};
 ghost use Rattle.protox_locate.specs.Bounds.{file_weight, file_reach};
 
 use protox_ast::ast::File;
@@ -53,6 +55,10 @@ pub fn generate_file(
     ensures fine { IfOk result (λ file. IsFaultless ast) }
     // Its locations are sorted by path, and those of equal paths by where they start.
     ensures located { IfOk result AreLocated }
+    // In each of its messages the oneofs that are written come first.
+    ensures oneofs { IfOk result HasRealFirst }
+    // Where the path of a location leads to a name, the source has that name there.
+    ensures named { IfOk result (HasNames source.now) }
     // A refusal has faults. Each is wrong of the tree, each that is wrong is there, and they are in order.
     ensures wrong { IfErr result (AreWrong ast) }
     ensures all { IfErr result (HaveAll ast) }

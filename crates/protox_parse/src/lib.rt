@@ -7,6 +7,7 @@ ghost use Rattle.protox_ast.specs.Accepted.{Fits, IsAccepted, IsFileOf};
 ghost use Rattle.protox_ast.specs.Ast as ast_of;
 ghost use Rattle.protox_ast.specs.Tree as tree;
 ghost use Rattle.protox_checks.specs.Faults.{IsFaultless};
+ghost use Rattle.protox_describe.specs.Oneofs.{HasRealFirst};
 ghost use Rattle.protox_generate.specs.File.{file_descriptor, AreLocated};
 ghost use Rattle.protox_ast.specs.Places.{Place};
 ghost use Rattle.protox_parse.specs.Failures.{AreWrongOf, IsOutOfMemory, IsRefusalOf};
@@ -46,6 +47,7 @@ fn translated(
     ensures found { IfOk result (λ d. IsFaultless file × (d ≡ file_descriptor name.now source.now file)) }
     ensures only { IsFaultless file → MatchResult result (λ d. d ≡ file_descriptor name.now source.now file) IsOutOfMemory }
     ensures located { IfOk result AreLocated }
+    ensures oneofs { IfOk result HasRealFirst }
     ensures refused { IfErr result (IsRefusalOf name.now source.now) }
     ensures wrong { IfErr result (AreWrongOf file) }
 {
@@ -67,6 +69,8 @@ pub fn parse(alloc: Global, name: &str, source: &str) -> Result<FileDescriptorPr
         → MatchResult result (λ d. d ≡ file_descriptor name.now source.now (ast_of.file (length source.now) f)) IsOutOfMemory }
     // Its locations are sorted by path, and those of equal paths by where they start.
     ensures located { IfOk result AreLocated }
+    // In each of its messages the oneofs that are written come first, and each field's index is that of a oneof.
+    ensures oneofs { IfOk result HasRealFirst }
     // A refusal names its file and holds its source, and its faults lie in it.
     ensures refused { IfErr result (IsRefusalOf name.now source.now) }
     // Where the source's tokens spell a tree that is accepted, each fault is one of its syntax tree.

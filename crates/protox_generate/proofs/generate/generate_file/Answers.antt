@@ -4,6 +4,8 @@ use Rattle.protox_checks.proofs.FaultsLie.{listed-lie}
 use Rattle.protox_checks.specs.Faults.{HasEachWrong}
 use Rattle.protox_fault.specs.Faults.{LiesIn}
 use Rattle.protox_generate.proofs.Outcomes.{none-found, empty-none, some-found}
+use Rattle.protox_generate.proofs.NamedFiles.{answer-named}
+use Rattle.protox_generate.proofs.RealOneofs.{answer-first}
 use Rattle.protox_generate.proofs.Standing.{file-stands, width-fits, weight-fits, reach-fits}
 use Rattle.protox_generate.proofs.generate.generate_file.Goals as goal
 
@@ -32,3 +34,12 @@ described-requires-clause-stands c = file-stands c.args.source.now c.args.ast c.
 
 pub returns-clause-fine : goal.returns-clause-fine
 returns-clause-fine c = none-found c.args.ast c.in_ok-faults.faults c.in_ok-faults.ensures.in_order (empty-none c.in_ok-faults.faults c.is_empty.result c.is_empty.ensures c.if-not-is_empty.false)
+
+pub returns-clause-oneofs : goal.returns-clause-oneofs
+returns-clause-oneofs c =
+    answer-first c.args.name.now c.args.source.now c.args.ast c.in_ok-described.field-0
+    (none-found c.args.ast c.in_ok-faults.faults c.in_ok-faults.ensures.in_order (empty-none c.in_ok-faults.faults c.is_empty.result c.is_empty.ensures c.if-not-is_empty.false)) c.in_ok-described.ensures.found
+
+pub returns-clause-named : goal.returns-clause-named
+returns-clause-named c =
+    answer-named c.args.name.now c.args.source.now c.args.ast c.in_ok-described.field-0 c.utf8.source c.requires c.in_ok-described.ensures.found

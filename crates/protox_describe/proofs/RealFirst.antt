@@ -3,10 +3,11 @@ use Rattle.std.proofs.Common.{◌≡◌, ℕ, ◌+◌, ◌<◌, ◌≤◌, Bool,
 use Rattle.std.specs.Prelude.{ℤ, pos, if◌then◌else◌}
 use Rattle.std.specs.List.{flat_map}
 use Rattle.std.proofs.lemmas.List.Folds.{flat_map-map}
-use Rattle.protox_ast.specs.Basics.{Each, Given}
+use Rattle.protox_ast.specs.Basics.{Each}
+use Rattle.protox_describe.specs.Siblings.{Given}
 use Rattle.protox_descriptor.specs.declared.descriptor.DescriptorProto.{DescriptorProto}
 use Rattle.protox_descriptor.specs.declared.descriptor.DescriptorProto.TheFolds.{fold-roll-DescriptorProto}
-use Rattle.protox_descriptor.specs.declared.descriptor.FieldDescriptorProto.{FieldDescriptorProto}
+use Rattle.protox_descriptor.specs.FieldDescriptorProto.{FieldDescriptorProto}
 use Rattle.protox_descriptor.specs.declared.descriptor.OneofDescriptorProto.{OneofDescriptorProto}
 use Rattle.protox_describe.specs.Descriptor.{Gives, Item, OfField, OfMessage, OfOneof, OfEnum, OfExtend, all_oneofs, fields_of, in_oneof, is_oneof, oneofs_of, synthetic_index, synthetic_of}
 use Rattle.protox_describe.specs.Fields.{Parts, message_proto}

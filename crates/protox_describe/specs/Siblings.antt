@@ -1,5 +1,6 @@
--- Lists of like siblings: each with those before it, how many there are, and at which places; and of numbers the sum and the largest.
-use Rattle.std.specs.Prelude.{ℕ, ◌+◌, max, Bool, if◌then◌else◌, List, [], ◌∷◌, ◌++◌, ℤ, pos}
+-- Lists of like siblings: each with those before it, how many there are, and at which places; of numbers the sum and the largest; and what is
+-- said of a value that may be absent.
+use Rattle.std.specs.Prelude.{ℕ, ◌+◌, max, Bool, if◌then◌else◌, List, [], ◌∷◌, ◌++◌, Option, Some, None, ℤ, pos}
 
 -- each element with those before it
 abbrev pub each_after : {A B : Type 0} → (List A → A → List B) → List A → List A → List B
@@ -25,3 +26,8 @@ total (x ∷ xs) = x + total xs
 abbrev pub greatest : List ℕ → ℕ
 greatest [] = 0
 greatest (x ∷ xs) = max x (greatest xs)
+
+-- P holds of the value, where there is one
+abbrev pub Given : {A : Type 0} → (A → Type 0) → Option A → Type 0
+Given P None = Unit {0}
+Given P (Some x) = P x

@@ -2,7 +2,8 @@
 use Rattle.std.proofs.Common.{◌≡◌, ℕ, ◌+◌, suc, zero, Bool, true, false, List, [], ◌∷◌, ◌++◌, map, flat_map, Option, Some, None, refl, sym, ap, ◌∙◌, subst, append_assoc, append-nil, arith}
 use Rattle.std.specs.Prelude.{ℤ, pos, if◌then◌else◌, option_and_then, slice_get}
 use Rattle.std.specs.Ordering.{int_eq}
-use Rattle.protox_ast.specs.Basics.{Each, Given}
+use Rattle.protox_ast.specs.Basics.{Each}
+use Rattle.protox_describe.specs.Siblings.{Given}
 use Rattle.protox_ast.specs.Options.{OptionStatement, listed}
 use Rattle.protox_ast.specs.Ranges.{kind_names, kind_ranges}
 use Rattle.protox_ast.specs.declared.ast.Comments.{Comments}

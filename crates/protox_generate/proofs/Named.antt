@@ -8,7 +8,8 @@ use Rattle.protox_ast.proofs.Levels.{body-gives, extend-gives, field-gives, item
 use Rattle.protox_ast.proofs.SpansStand.{each-front, each-back}
 use Rattle.protox_ast.specs.Accepted.{IsFileOf}
 use Rattle.protox_ast.specs.Ast as ast
-use Rattle.protox_ast.specs.Basics.{Each, Given}
+use Rattle.protox_ast.specs.Basics.{Each}
+use Rattle.protox_describe.specs.Siblings.{Given}
 use Rattle.protox_ast.specs.Options.{OptionStatement}
 use Rattle.protox_ast.specs.Places.{Place}
 use Rattle.protox_ast.specs.Spelling as s
@@ -29,7 +30,7 @@ use Rattle.protox_describe.specs.Fields.{Parts, message_proto}
 use Rattle.protox_describe.specs.Siblings.{count, each_after}
 use Rattle.protox_descriptor.specs.declared.descriptor.DescriptorProto.{DescriptorProto}
 use Rattle.protox_descriptor.specs.declared.descriptor.DescriptorProto.TheFolds.{fold-roll-DescriptorProto}
-use Rattle.protox_descriptor.specs.declared.descriptor.FieldDescriptorProto.{FieldDescriptorProto}
+use Rattle.protox_descriptor.specs.FieldDescriptorProto.{FieldDescriptorProto}
 use Rattle.protox_descriptor.specs.declared.descriptor.source_code_info.Location.{Location}
 use Rattle.protox_fault.specs.Faults.{Span}
 use Rattle.protox_generate.proofs.Leads.{Fits, Fronts, Leads, a-name, all-fronts, alone, apart, each-both, extensions-start, fronts, leaf, names-start, options-start, ranges-start, siblings}

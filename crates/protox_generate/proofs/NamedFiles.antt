@@ -6,7 +6,8 @@ use Rattle.std.specs.Str.{IsUtf8}
 use Rattle.protox_ast.proofs.SpansStand.{each-back, each-front}
 use Rattle.protox_ast.specs.Accepted.{IsFileOf}
 use Rattle.protox_ast.specs.Ast as ast
-use Rattle.protox_ast.specs.Basics.{Each, Given}
+use Rattle.protox_ast.specs.Basics.{Each}
+use Rattle.protox_describe.specs.Siblings.{Given}
 use Rattle.protox_ast.specs.Places.{Place}
 use Rattle.protox_ast.specs.Spelling as s
 use Rattle.protox_ast.specs.Tree as t

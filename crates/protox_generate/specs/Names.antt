@@ -3,13 +3,14 @@
 use Rattle.std.specs.Prelude.{◌≡◌, ◌≤◌, ◌-◌, ℕ, Bool, true, false, if◌then◌else◌, List, [], ◌∷◌, length, take, drop, Option, Some, None, option_map, option_and_then, slice_get, ℤ, pos, negsuc}
 use Rattle.std.specs.Ordering.{int_eq}
 use Rattle.std.specs.Str.{str_to_ascii_lowercase}
-use Rattle.protox_ast.specs.Basics.{Each, Given}
+use Rattle.protox_ast.specs.Basics.{Each}
+use Rattle.protox_describe.specs.Siblings.{Given}
 use Rattle.protox_descriptor.specs.declared.descriptor.DescriptorProto.{DescriptorProto}
 use Rattle.protox_descriptor.specs.declared.descriptor.DescriptorProto.TheFolds.{fold-DescriptorProto}
 use Rattle.protox_descriptor.specs.declared.descriptor.DescriptorProto.TheOpen.{DescriptorProto-F}
 use Rattle.protox_descriptor.specs.declared.descriptor.EnumDescriptorProto.{EnumDescriptorProto}
 use Rattle.protox_descriptor.specs.declared.descriptor.EnumValueDescriptorProto.{EnumValueDescriptorProto}
-use Rattle.protox_descriptor.specs.declared.descriptor.FieldDescriptorProto.{FieldDescriptorProto}
+use Rattle.protox_descriptor.specs.FieldDescriptorProto.{FieldDescriptorProto}
 use Rattle.protox_descriptor.specs.declared.descriptor.FileDescriptorProto.{FileDescriptorProto}
 use Rattle.protox_descriptor.specs.declared.descriptor.MethodDescriptorProto.{MethodDescriptorProto}
 use Rattle.protox_descriptor.specs.declared.descriptor.OneofDescriptorProto.{OneofDescriptorProto}

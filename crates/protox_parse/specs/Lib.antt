@@ -3,3 +3,4 @@ pub mod Refusals
 pub mod Failures
 pub mod Files
 pub mod Truth
+pub mod Commented

@@ -10,7 +10,7 @@ use Rattle.protox_lex.specs.LexesBack.{IsPrintable, ArePrintable, spaced}
 use Rattle.protox_lex.proofs.Printable.{printable_rows, utf8_bytes}
 use Rattle.protox_lex.proofs.ShapesBack.{Gives, gives}
 use Rattle.protox_ast.specs.Accepted.{IsAccepted}
-use Rattle.protox_ast.specs.Aggregates.{aggregates}
+use Rattle.protox_ast.specs.Fronts.{aggregates}
 use Rattle.protox_ast.specs.AstParts.{aggregate_text}
 use Rattle.protox_ast.specs.Fronts.{AreClean}
 use Rattle.protox_ast.specs.Keywords.{Each}

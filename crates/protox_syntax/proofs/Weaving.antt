@@ -2,6 +2,7 @@
 use Rattle.std.proofs.Common.{◌≡◌, ◌↔◌, ◌≤◌, ◌<◌, ◌+◌, ◌-◌, ℕ, zero, suc, Bool, true, false, cond, List, [], ◌∷◌, ◌++◌, length, refl, sym, ap, subst, ◌∙◌, arith, inl, inr}
 use Rattle.std.proofs.lemmas.Bool.{cases_lt, lt-ltb, le-ltb}
 use Rattle.std.proofs.lemmas.List.{length-append}
+use Rattle.std.specs.List.{All}
 use Rattle.std.specs.Prelude.{slice_index_or, nat_lt}
 use Rattle.protox_fault.specs.Faults.{LiesIn, faults_in}
 use Rattle.protox_fault.specs.declared.error.ParseErrorKind.{ParseErrorKind}
@@ -194,3 +195,18 @@ module _ (faults : List Faults) (total : ℕ) where
   weave-clear ns bound f h =
       let k = all-clear ns bound f h [] 0 false (omega arith) in
       (λ g. (k.0 g).1, λ g. k.1 (refl, g))
+
+-- ---- where no row has a fault
+
+nothing-at : (faults : List (List ParseErrorKind)) (k : ℕ) → All (λ fs. fs ≡ []) faults → slice_index_or faults k [] ≡ []
+nothing-at [] k none = refl
+nothing-at (fs ∷ faults) zero none = none zero [] (omega arith)
+nothing-at (fs ∷ faults) (suc k) none = nothing-at faults k (λ i d l. none (suc i) d (omega arith))
+
+no-faults : (text_format : Bool) → faults_in text_format [] ≡ []
+no-faults true = refl
+no-faults false = refl
+
+pub nothing-released : (text_format : Bool) (faults : List (List ParseErrorKind)) (low n : ℕ) → All (λ fs. fs ≡ []) faults → released text_format faults low n ≡ []
+nothing-released text_format faults low zero none = refl
+nothing-released text_format faults low (suc n) none = rw (nothing-released text_format faults low n none, nothing-at faults (low + n) none, no-faults text_format) refl

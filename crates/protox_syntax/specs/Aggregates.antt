@@ -3,7 +3,7 @@ use Rattle.std.specs.Prelude.{◌≡◌, ℕ, List, [], map, flat_map}
 use Rattle.protox_lexeme.specs.Lexemes.{cut}
 use Rattle.protox_lexeme.specs.Shapes.{Rows}
 use Rattle.protox_lexeme.specs.Table.{table_of}
-use Rattle.protox_ast.specs.Aggregates.{aggregates}
+use Rattle.protox_ast.specs.Fronts.{aggregates}
 use Rattle.protox_ast.specs.AstParts.{aggregate_text}
 use Rattle.protox_ast.specs.Keywords.{Each}
 use Rattle.protox_ast.specs.Places.{Place, placed}

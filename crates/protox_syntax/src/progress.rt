@@ -11,7 +11,7 @@ use protox_lex::error::{ParseErrorKind, Span};
 use protox_lex::lex::{Token, TokenTable};
 use std::alloc::{AllocError, Global};
 
-// The faults of `count` rows and their gaps, from `low` on.
+// The faults of `count` rows and their gaps, from `low` on. Where the table has none, they need no walk.
 fn release(
     alloc: Global,
     table: &TokenTable<'_>,
@@ -23,6 +23,9 @@ fn release(
     requires { low + count < 2 ^ 64 }
     ensures { OnOk result (errors.new.items ≡ errors.old.items ++ released text_format table.now.faults low count) }
 {
+    if table.is_faultless() {
+        return Ok(());
+    }
     for k in 0..count {
         table.release(alloc, low + k, text_format, errors)?;
     }

@@ -2,7 +2,7 @@
 use Rattle.std.proofs.Common.{◌≡◌, ℕ, ◌+◌, List, [], ◌∷◌, Option, Some, None, true, refl, ap, arith}
 use Rattle.std.specs.Prelude.{ℤ, pos, nat_abs, unwrap_or, option_map}
 use Rattle.protox_describe.specs.Oneofs.{Own, RealFirst}
-use Rattle.protox_descriptor.specs.declared.descriptor.FieldDescriptorProto.{FieldDescriptorProto}
+use Rattle.protox_descriptor.specs.FieldDescriptorProto.{FieldDescriptorProto}
 use Rattle.protox_generate.proofs.samples.Written.{made_oneof, no_field}
 
 abbrev optional_field : ℕ → FieldDescriptorProto

@@ -1,11 +1,14 @@
 use Rattle.std.specs.Prelude.{length, Err}
 use Rattle.protox_ast.specs.Ast as ast_of
-use Rattle.protox_parse.proofs.Translating.{found, only, wrong-of, out-of-memory}
+use Rattle.protox_parse.proofs.Translating.{commented, found, only, wrong-of, out-of-memory}
 use Rattle.protox_parse.proofs.Truths.{true-of-tree, true-of-size}
 use Rattle.protox_parse.proofs.parse.Goals as goal
 
 pub returns-in-Ok-clause-found : goal.returns-in-Ok-clause-found
 returns-in-Ok-clause-found c = found c.args.name.now c.args.source.now c.in-Ok.file c.translated.result c.in-Ok.ensures.found c.translated.ensures.found
+
+pub returns-in-Ok-clause-commented_once : goal.returns-in-Ok-clause-commented_once
+returns-in-Ok-clause-commented_once c = commented c.args.name.now c.args.source.now c.utf8.source c.translated.result (returns-in-Ok-clause-found c)
 
 pub returns-in-Ok-clause-only : goal.returns-in-Ok-clause-only
 returns-in-Ok-clause-only c f accepted none = only c.args.name.now c.args.source.now c.in-Ok.file _ c.translated.result (c.in-Ok.ensures.only f accepted) none c.translated.ensures.only

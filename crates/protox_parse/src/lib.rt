@@ -9,6 +9,7 @@ ghost use Rattle.protox_ast.specs.Tree as tree;
 ghost use Rattle.protox_checks.specs.Faults.{IsFaultless};
 ghost use Rattle.protox_describe.specs.Oneofs.{HasRealFirst};
 ghost use Rattle.protox_generate.specs.File.{file_descriptor, AreLocated};
+ghost use Rattle.protox_generate.specs.Names.{HasNames};
 ghost use Rattle.protox_ast.specs.Places.{Place};
 ghost use Rattle.protox_parse.specs.Failures.{AreWrongOf, IsOutOfMemory, IsRefusalOf};
 ghost use Rattle.protox_parse.specs.Truth.{AreTrue};
@@ -48,6 +49,7 @@ fn translated(
     ensures only { IsFaultless file → MatchResult result (λ d. d ≡ file_descriptor name.now source.now file) IsOutOfMemory }
     ensures located { IfOk result AreLocated }
     ensures oneofs { IfOk result HasRealFirst }
+    ensures named { IfOk result (HasNames source.now) }
     ensures refused { IfErr result (IsRefusalOf name.now source.now) }
     ensures wrong { IfErr result (AreWrongOf file) }
 {
@@ -71,6 +73,8 @@ pub fn parse(alloc: Global, name: &str, source: &str) -> Result<FileDescriptorPr
     ensures located { IfOk result AreLocated }
     // In each of its messages the oneofs that are written come first, and each field's index is that of a oneof.
     ensures oneofs { IfOk result HasRealFirst }
+    // Where the path of a location leads to a name, the source has that name there.
+    ensures named { IfOk result (HasNames source.now) }
     // A refusal names its file and holds its source, and its faults lie in it.
     ensures refused { IfErr result (IsRefusalOf name.now source.now) }
     // Where the source's tokens spell a tree that is accepted, each fault is one of its syntax tree.

@@ -12,3 +12,4 @@ pub mod TextsNatural
 pub mod NumberedComments
 pub mod Once
 pub mod CommentedOnce
+pub mod ExamplesComments

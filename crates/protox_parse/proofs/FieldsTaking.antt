@@ -1,5 +1,6 @@
 -- What fields take: a field its own comments, or the message of a group in its place.
 use Rattle.std.proofs.Common.{◌≡◌, ℕ, ◌+◌, ◌≤◌, List, [], ◌∷◌, ◌++◌, map, flat_map, Option, Some, None, codes, ℤ, refl, ap, sym, subst, ◌∙◌, arith}
+use Rattle.std.specs.Option.{unwrap_or}
 use Rattle.protox_fault.specs.Faults.{Span}
 use Rattle.protox_lexeme.specs.Shapes.{Rows}
 use Rattle.protox_ast.proofs.Levels.{field-gives, kind-normal, kind-group, kind-map}
@@ -27,7 +28,7 @@ first-within w (Some (t.repeated m)) first rows more h = omega (arith, h)
 label-behind : (w : Weights) (l : Option (t.Label Place)) (rows : Rows Place) (more : ℕ) → more ≤ weigh w rows → more ≤ weigh w (s.maybe s.label l ++ rows)
 label-behind w l rows more h = omega (arith, h, weigh-append w (s.maybe s.label l) rows)
 
-dotted-first : (w : Weights) (dot : Option Place) (x : t.FullIdent Place) → w.first (ast.dotted_first dot x.first.1) ≤ weigh w (s.maybe (s.sign s.dot) dot ++ s.fullident x)
+dotted-first : (w : Weights) (dot : Option Place) (x : t.FullIdent Place) → w.first (unwrap_or dot x.first.1) ≤ weigh w (s.maybe (s.sign s.dot) dot ++ s.fullident x)
 dotted-first w None x = omega arith
 dotted-first w (Some m) x = omega arith
 

@@ -1,5 +1,6 @@
 //! Sources that are deep or long: the parser answers what it answers of small ones.
-use protox_parse::{ParseFailure, parse};
+use crate::parsing::refusal;
+use protox_parse::{ParseError, parse};
 use std::alloc::{AllocError, Global};
 use std::test::Fail;
 
@@ -15,13 +16,17 @@ fn nested(alloc: Global, open: &str, close: &str, times: usize) -> Result<String
     Ok(text)
 }
 
+// How the faults of a refusal print.
+fn faults(alloc: Global, error: ParseError) -> Result<String, AllocError> {
+    let found = error.into_inner();
+    format!(in alloc; "{found:?}")
+}
+
 // The faults of messages so deep.
 fn faults_of_messages(alloc: Global, levels: usize) -> Result<String, Fail> {
     let source = nested(alloc, "message M { ", "} ", levels)?;
-    match parse(alloc, "a.proto", source.as_str()) {
-        Err(ParseFailure::Refused(error)) => Ok(format!(in alloc; "{:?}", error.errors())?),
-        _ => Err(Fail::new("not refused")),
-    }
+    let error = refusal(alloc, "a.proto", source.as_str())?;
+    Ok(faults(alloc, error)?)
 }
 
 #[test]

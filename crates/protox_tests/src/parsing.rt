@@ -48,8 +48,8 @@ fn span_of_file(rt: HostRuntime) -> Result<(), Fail> {
     Ok(())
 }
 
-// The answer of `parse` on a file that is refused.
-fn refusal(alloc: Global, name: &str, source: &str) -> Result<ParseError, Fail> {
+/// The answer of `parse` on a file that is refused.
+pub(crate) fn refusal(alloc: Global, name: &str, source: &str) -> Result<ParseError, Fail> {
     match parse(alloc, name, source) {
         Err(ParseFailure::Refused(error)) => Ok(error),
         _ => Err(Fail::new("not refused")),

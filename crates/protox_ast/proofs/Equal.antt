@@ -75,15 +75,15 @@ tells-span x = tells-parts (λ (z : Span). (z.start, z.end)) (λ p. record { sta
 pub same-Comments : (x : Comments) → Tells comments.ghosts.eq x
 same-Comments x =
     tells-parts (λ (z : Comments). (z.leading_detached_comments, (z.leading_comment, z.trailing_comment)))
-      (λ p. record { leading_detached_comments = p.0; leading_comment = p.1.0; trailing_comment = p.1.1 }) (λ z. refl) x
-      (tells-both (tells-list tells-text x.leading_detached_comments) (tells-both (tells-option tells-text x.leading_comment)
-        (tells-option tells-text x.trailing_comment)))
+    (λ p. record { leading_detached_comments = p.0; leading_comment = p.1.0; trailing_comment = p.1.1 }) (λ z. refl) x
+    (tells-both (tells-list tells-text x.leading_detached_comments) (tells-both (tells-option tells-text x.leading_comment)
+    (tells-option tells-text x.trailing_comment)))
 
 pub same-Ident : (x : Ident) → Tells ident.ghosts.eq x
 same-Ident x =
     tells-parts (λ (z : Ident). (z.value, z.span))
-      (λ p. record { value = p.0; span = p.1 }) (λ z. refl) x
-      (tells-both (tells-text x.value) (tells-span x.span))
+    (λ p. record { value = p.0; span = p.1 }) (λ z. refl) x
+    (tells-both (tells-text x.value) (tells-span x.span))
 
 pub same-FullIdent : (x : FullIdent) → Tells full_ident.ghosts.eq x
 same-FullIdent x = tells-list same-Ident x
@@ -91,26 +91,26 @@ same-FullIdent x = tells-list same-Ident x
 pub same-TypeName : (x : TypeName) → Tells type_name.ghosts.eq x
 same-TypeName x =
     tells-parts (λ (z : TypeName). (z.leading_dot, z.name))
-      (λ p. record { leading_dot = p.0; name = p.1 }) (λ z. refl) x
-      (tells-both (tells-option tells-span x.leading_dot) (same-FullIdent x.name))
+    (λ p. record { leading_dot = p.0; name = p.1 }) (λ z. refl) x
+    (tells-both (tells-option tells-span x.leading_dot) (same-FullIdent x.name))
 
 pub same-Int : (x : Int) → Tells int_value.ghosts.eq x
 same-Int x =
     tells-parts (λ (z : Int). (z.negative, (z.value, z.span)))
-      (λ p. record { negative = p.0; value = p.1.0; span = p.1.1 }) (λ z. refl) x
-      (tells-both (tells-bool x.negative) (tells-both (tells-unsigned x.value) (tells-span x.span)))
+    (λ p. record { negative = p.0; value = p.1.0; span = p.1.1 }) (λ z. refl) x
+    (tells-both (tells-bool x.negative) (tells-both (tells-unsigned x.value) (tells-span x.span)))
 
 pub same-Float : (x : Float) → Tells float_value.ghosts.eq x
 same-Float x =
     tells-parts (λ (z : Float). (z.value, z.span))
-      (λ p. record { value = p.0; span = p.1 }) (λ z. refl) x
-      (tells-both (tells-text x.value) (tells-span x.span))
+    (λ p. record { value = p.0; span = p.1 }) (λ z. refl) x
+    (tells-both (tells-text x.value) (tells-span x.span))
 
 pub same-String : (x : String) → Tells string_value.ghosts.eq x
 same-String x =
     tells-parts (λ (z : String). (z.value, z.span))
-      (λ p. record { value = p.0; span = p.1 }) (λ z. refl) x
-      (tells-both (tells-text x.value) (tells-span x.span))
+    (λ p. record { value = p.0; span = p.1 }) (λ z. refl) x
+    (tells-both (tells-text x.value) (tells-span x.span))
 
 alike-OptionValue : (x y : OptionValue) → option_value.ghosts.eq x y ≡ true → x ≡ y
 alike-OptionValue (option_value_variant.Ident negative ident span) (option_value_variant.Ident negative' ident' span') h = ap (λ (p : Bool × (Ident × Span)). option_value_variant.Ident p.0 p.1.0 p.1.1) (same (tells-both (tells-bool negative) (tells-both (same-Ident ident) (tells-span span))) (negative', (ident', span')) h)
@@ -179,15 +179,15 @@ same-FieldLabel x = tells-if (alike-FieldLabel x) (itself-FieldLabel x)
 pub same-Import : (x : Import) → Tells imported.ghosts.eq x
 same-Import x =
     tells-parts (λ (z : Import). (z.kind, (z.value, (z.value_span, (z.comments, z.span)))))
-      (λ p. record { kind = p.0; value = p.1.0; value_span = p.1.1.0; comments = p.1.1.1.0; span = p.1.1.1.1 }) (λ z. refl) x
-      (tells-both (tells-option (tells-pair same-ImportKind tells-span) x.kind) (tells-both (tells-text x.value)
-        (tells-both (tells-span x.value_span) (tells-both (same-Comments x.comments) (tells-span x.span)))))
+    (λ p. record { kind = p.0; value = p.1.0; value_span = p.1.1.0; comments = p.1.1.1.0; span = p.1.1.1.1 }) (λ z. refl) x
+    (tells-both (tells-option (tells-pair same-ImportKind tells-span) x.kind) (tells-both (tells-text x.value)
+    (tells-both (tells-span x.value_span) (tells-both (same-Comments x.comments) (tells-span x.span)))))
 
 pub same-Package : (x : Package) → Tells packaged.ghosts.eq x
 same-Package x =
     tells-parts (λ (z : Package). (z.name, (z.comments, z.span)))
-      (λ p. record { name = p.0; comments = p.1.0; span = p.1.1 }) (λ z. refl) x
-      (tells-both (same-FullIdent x.name) (tells-both (same-Comments x.comments) (tells-span x.span)))
+    (λ p. record { name = p.0; comments = p.1.0; span = p.1.1 }) (λ z. refl) x
+    (tells-both (same-FullIdent x.name) (tells-both (same-Comments x.comments) (tells-span x.span)))
 
 alike-OptionNamePart : (x y : OptionNamePart) → option_name_part.ghosts.eq x y ≡ true → x ≡ y
 alike-OptionNamePart (option_name_part_variant.Ident ident) (option_name_part_variant.Ident ident') h = ap option_name_part_variant.Ident (same (same-Ident ident) ident' h)
@@ -205,20 +205,20 @@ same-OptionNamePart x = tells-if (alike-OptionNamePart x) (itself-OptionNamePart
 pub same-OptionBody : (x : OptionBody) → Tells option_body.ghosts.eq x
 same-OptionBody x =
     tells-parts (λ (z : OptionBody). (z.name, z.value))
-      (λ p. record { name = p.0; value = p.1 }) (λ z. refl) x
-      (tells-both (tells-list same-OptionNamePart x.name) (same-OptionValue x.value))
+    (λ p. record { name = p.0; value = p.1 }) (λ z. refl) x
+    (tells-both (tells-list same-OptionNamePart x.name) (same-OptionValue x.value))
 
 pub same-OptionList : (x : OptionList) → Tells option_list.ghosts.eq x
 same-OptionList x =
     tells-parts (λ (z : OptionList). (z.options, z.span))
-      (λ p. record { options = p.0; span = p.1 }) (λ z. refl) x
-      (tells-both (tells-list same-OptionBody x.options) (tells-span x.span))
+    (λ p. record { options = p.0; span = p.1 }) (λ z. refl) x
+    (tells-both (tells-list same-OptionBody x.options) (tells-span x.span))
 
 pub same-Option : (x : Option) → Tells option_statement.ghosts.eq x
 same-Option x =
     tells-parts (λ (z : Option). (z.body, (z.comments, z.span)))
-      (λ p. record { body = p.0; comments = p.1.0; span = p.1.1 }) (λ z. refl) x
-      (tells-both (same-OptionBody x.body) (tells-both (same-Comments x.comments) (tells-span x.span)))
+    (λ p. record { body = p.0; comments = p.1.0; span = p.1.1 }) (λ z. refl) x
+    (tells-both (same-OptionBody x.body) (tells-both (same-Comments x.comments) (tells-span x.span)))
 
 alike-Ty : (x y : Ty) → ty.ghosts.eq x y ≡ true → x ≡ y
 alike-Ty ty_variant.Double ty_variant.Double h = refl
@@ -294,8 +294,8 @@ same-ReservedRangeEnd x = tells-if (alike-ReservedRangeEnd x) (itself-ReservedRa
 pub same-ReservedRange : (x : ReservedRange) → Tells reserved_range.ghosts.eq x
 same-ReservedRange x =
     tells-parts (λ (z : ReservedRange). (z.start, z.end))
-      (λ p. record { start = p.0; end = p.1 }) (λ z. refl) x
-      (tells-both (same-Int x.start) (same-ReservedRangeEnd x.end))
+    (λ p. record { start = p.0; end = p.1 }) (λ z. refl) x
+    (tells-both (same-Int x.start) (same-ReservedRangeEnd x.end))
 
 alike-ReservedKind : (x y : ReservedKind) → reserved_kind.ghosts.eq x y ≡ true → x ≡ y
 alike-ReservedKind (reserved_kind_variant.Ranges ranges) (reserved_kind_variant.Ranges ranges') h = ap reserved_kind_variant.Ranges (same (tells-list same-ReservedRange ranges) ranges' h)
@@ -313,44 +313,72 @@ same-ReservedKind x = tells-if (alike-ReservedKind x) (itself-ReservedKind x)
 pub same-Reserved : (x : Reserved) → Tells reserved.ghosts.eq x
 same-Reserved x =
     tells-parts (λ (z : Reserved). (z.kind, (z.comments, z.span)))
-      (λ p. record { kind = p.0; comments = p.1.0; span = p.1.1 }) (λ z. refl) x
-      (tells-both (same-ReservedKind x.kind) (tells-both (same-Comments x.comments) (tells-span x.span)))
+    (λ p. record { kind = p.0; comments = p.1.0; span = p.1.1 }) (λ z. refl) x
+    (tells-both (same-ReservedKind x.kind) (tells-both (same-Comments x.comments) (tells-span x.span)))
 
 pub same-Extensions : (x : Extensions) → Tells extensions.ghosts.eq x
 same-Extensions x =
     tells-parts (λ (z : Extensions). (z.ranges, (z.options, (z.comments, z.span))))
-      (λ p. record { ranges = p.0; options = p.1.0; comments = p.1.1.0; span = p.1.1.1 }) (λ z. refl) x
-      (tells-both (tells-list same-ReservedRange x.ranges) (tells-both (tells-option same-OptionList x.options)
-        (tells-both (same-Comments x.comments) (tells-span x.span))))
+    (λ p. record { ranges = p.0; options = p.1.0; comments = p.1.1.0; span = p.1.1.1 }) (λ z. refl) x
+    (tells-both (tells-list same-ReservedRange x.ranges) (tells-both (tells-option same-OptionList x.options)
+    (tells-both (same-Comments x.comments) (tells-span x.span))))
 
 pub same-EnumValue : (x : EnumValue) → Tells enum_value.ghosts.eq x
 same-EnumValue x =
     tells-parts (λ (z : EnumValue). (z.name, (z.number, (z.options, (z.comments, z.span)))))
-      (λ p. record { name = p.0; number = p.1.0; options = p.1.1.0; comments = p.1.1.1.0; span = p.1.1.1.1 }) (λ z. refl) x
-      (tells-both (same-Ident x.name) (tells-both (same-Int x.number) (tells-both (tells-option same-OptionList x.options)
-        (tells-both (same-Comments x.comments) (tells-span x.span)))))
+    (λ p. record { name = p.0; number = p.1.0; options = p.1.1.0; comments = p.1.1.1.0; span = p.1.1.1.1 }) (λ z. refl) x
+    (tells-both (same-Ident x.name) (tells-both (same-Int x.number) (tells-both (tells-option same-OptionList x.options)
+    (tells-both (same-Comments x.comments) (tells-span x.span)))))
 
 pub same-Enum : (x : Enum) → Tells enumeration.ghosts.eq x
 same-Enum x =
     tells-parts (λ (z : Enum). (z.name, (z.options, (z.values, (z.reserved, (z.comments, z.span))))))
-      (λ p. record { name = p.0; options = p.1.0; values = p.1.1.0; reserved = p.1.1.1.0; comments = p.1.1.1.1.0; span = p.1.1.1.1.1 })
-        (λ z. refl) x
-      (tells-both (same-Ident x.name) (tells-both (tells-list same-Option x.options) (tells-both (tells-list same-EnumValue x.values)
-        (tells-both (tells-list same-Reserved x.reserved) (tells-both (same-Comments x.comments) (tells-span x.span))))))
+    (λ p. record { name = p.0; options = p.1.0; values = p.1.1.0; reserved = p.1.1.1.0; comments = p.1.1.1.1.0; span = p.1.1.1.1.1 })
+    (λ z. refl) x
+    (tells-both (same-Ident x.name) (tells-both (tells-list same-Option x.options) (tells-both (tells-list same-EnumValue x.values)
+    (tells-both (tells-list same-Reserved x.reserved) (tells-both (same-Comments x.comments) (tells-span x.span))))))
 
 pub same-Method : (x : Method) → Tells method.ghosts.eq x
 same-Method x =
-    tells-parts (λ (z : Method). (z.name, (z.input_ty, (z.output_ty, (z.options, (z.client_streaming, (z.server_streaming, (z.comments,
-      z.span))))))))
-      (λ p. record { name = p.0; input_ty = p.1.0; output_ty = p.1.1.0; options = p.1.1.1.0; client_streaming = p.1.1.1.1.0;
-        server_streaming = p.1.1.1.1.1.0; comments = p.1.1.1.1.1.1.0; span = p.1.1.1.1.1.1.1 }) (λ z. refl) x
-      (tells-both (same-Ident x.name) (tells-both (same-TypeName x.input_ty) (tells-both (same-TypeName x.output_ty)
-        (tells-both (tells-list same-Option x.options) (tells-both (tells-option tells-span x.client_streaming)
-        (tells-both (tells-option tells-span x.server_streaming) (tells-both (same-Comments x.comments) (tells-span x.span))))))))
+    tells-parts (λ (z : Method). (
+      z.name,
+      (
+        z.input_ty,
+        (
+          z.output_ty,
+          (
+            z.options,
+            (
+              z.client_streaming,
+              (
+                z.server_streaming,
+                (
+                  z.comments,
+                  z.span,
+                ),
+              ),
+            ),
+          ),
+        ),
+      ),
+    ))
+    (λ p. record {
+      name = p.0;
+      input_ty = p.1.0;
+      output_ty = p.1.1.0;
+      options = p.1.1.1.0;
+      client_streaming = p.1.1.1.1.0;
+      server_streaming = p.1.1.1.1.1.0;
+      comments = p.1.1.1.1.1.1.0;
+      span = p.1.1.1.1.1.1.1;
+    }) (λ z. refl) x
+    (tells-both (same-Ident x.name) (tells-both (same-TypeName x.input_ty) (tells-both (same-TypeName x.output_ty)
+    (tells-both (tells-list same-Option x.options) (tells-both (tells-option tells-span x.client_streaming)
+    (tells-both (tells-option tells-span x.server_streaming) (tells-both (same-Comments x.comments) (tells-span x.span))))))))
 
 pub same-Service : (x : Service) → Tells service.ghosts.eq x
 same-Service x =
     tells-parts (λ (z : Service). (z.name, (z.options, (z.methods, (z.comments, z.span)))))
-      (λ p. record { name = p.0; options = p.1.0; methods = p.1.1.0; comments = p.1.1.1.0; span = p.1.1.1.1 }) (λ z. refl) x
-      (tells-both (same-Ident x.name) (tells-both (tells-list same-Option x.options) (tells-both (tells-list same-Method x.methods)
-        (tells-both (same-Comments x.comments) (tells-span x.span)))))
+    (λ p. record { name = p.0; options = p.1.0; methods = p.1.1.0; comments = p.1.1.1.0; span = p.1.1.1.1 }) (λ z. refl) x
+    (tells-both (same-Ident x.name) (tells-both (tells-list same-Option x.options) (tells-both (tells-list same-Method x.methods)
+    (tells-both (same-Comments x.comments) (tells-span x.span)))))

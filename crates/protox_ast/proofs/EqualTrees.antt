@@ -63,43 +63,80 @@ Held F = F (Told field_kind.ghosts.eq) (Told message_item.ghosts.eq) (Told exten
 of_extend : (x : Extend) → Tells (pointwise field.ghosts.eq) (out-Extend x).fields → Tells extend.ghosts.eq x
 of_extend x held = tells-alike (extend_laws.is x)
     (tells-parts (λ (z : Extend). ((out-Extend z).extendee, ((out-Extend z).fields, ((out-Extend z).comments, (out-Extend z).span))))
-      (λ p. roll-Extend (record { extendee = p.0; fields = p.1.0; comments = p.1.1.0; span = p.1.1.1 })) roll-out-Extend x
-      (tells-both (same-TypeName (out-Extend x).extendee) (tells-both held (tells-both (same-Comments (out-Extend x).comments)
-        (tells-span (out-Extend x).span)))))
+    (λ p. roll-Extend (record { extendee = p.0; fields = p.1.0; comments = p.1.1.0; span = p.1.1.1 })) roll-out-Extend x
+    (tells-both (same-TypeName (out-Extend x).extendee) (tells-both held (tells-both (same-Comments (out-Extend x).comments)
+    (tells-span (out-Extend x).span)))))
 
 of_field : (x : Field) → Tells field_kind.ghosts.eq (out-Field x).kind → Tells field.ghosts.eq x
 of_field x held = tells-alike (field_laws.is x)
-    (tells-parts (λ (z : Field). ((out-Field z).label, ((out-Field z).name, ((out-Field z).kind, ((out-Field z).number,
-      ((out-Field z).options, ((out-Field z).comments, (out-Field z).span)))))))
-      (λ p. roll-Field (record { label = p.0; name = p.1.0; kind = p.1.1.0; number = p.1.1.1.0; options = p.1.1.1.1.0;
-        comments = p.1.1.1.1.1.0; span = p.1.1.1.1.1.1 })) roll-out-Field x
-      (tells-both (tells-option (tells-pair same-FieldLabel tells-span) (out-Field x).label) (tells-both (same-Ident (out-Field x).name)
-        (tells-both held (tells-both (same-Int (out-Field x).number) (tells-both (tells-option same-OptionList (out-Field x).options)
-        (tells-both (same-Comments (out-Field x).comments) (tells-span (out-Field x).span))))))))
+    (tells-parts (λ (z : Field). (
+      (out-Field z).label,
+      (
+        (out-Field z).name,
+        (
+          (out-Field z).kind,
+          (
+            (out-Field z).number,
+            ((out-Field z).options, ((out-Field z).comments, (out-Field z).span)),
+          ),
+        ),
+      ),
+    ))
+    (λ p. roll-Field (record {
+      label = p.0;
+      name = p.1.0;
+      kind = p.1.1.0;
+      number = p.1.1.1.0;
+      options = p.1.1.1.1.0;
+      comments = p.1.1.1.1.1.0;
+      span = p.1.1.1.1.1.1;
+    })) roll-out-Field x
+    (tells-both (tells-option (tells-pair same-FieldLabel tells-span) (out-Field x).label) (tells-both (same-Ident (out-Field x).name)
+    (tells-both held (tells-both (same-Int (out-Field x).number) (tells-both (tells-option same-OptionList (out-Field x).options)
+    (tells-both (same-Comments (out-Field x).comments) (tells-span (out-Field x).span))))))))
 
 of_message : (x : Message) → Tells message_body.ghosts.eq (out-Message x).body → Tells message.ghosts.eq x
 of_message x held = tells-alike (message_laws.is x)
     (tells-parts (λ (z : Message). ((out-Message z).name, ((out-Message z).body, ((out-Message z).comments, (out-Message z).span))))
-      (λ p. roll-Message (record { name = p.0; body = p.1.0; comments = p.1.1.0; span = p.1.1.1 })) roll-out-Message x
-      (tells-both (same-Ident (out-Message x).name) (tells-both held (tells-both (same-Comments (out-Message x).comments)
-        (tells-span (out-Message x).span)))))
+    (λ p. roll-Message (record { name = p.0; body = p.1.0; comments = p.1.1.0; span = p.1.1.1 })) roll-out-Message x
+    (tells-both (same-Ident (out-Message x).name) (tells-both held (tells-both (same-Comments (out-Message x).comments)
+    (tells-span (out-Message x).span)))))
 
 of_message_body : (x : MessageBody) → Tells (pointwise message_item.ghosts.eq) (out-MessageBody x).items → Tells message_body.ghosts.eq x
 of_message_body x held = tells-alike (message_body_laws.is x)
-    (tells-parts (λ (z : MessageBody). ((out-MessageBody z).items, ((out-MessageBody z).extensions, ((out-MessageBody z).options,
-      (out-MessageBody z).reserved))))
-      (λ p. roll-MessageBody (record { items = p.0; extensions = p.1.0; options = p.1.1.0; reserved = p.1.1.1 })) roll-out-MessageBody x
-      (tells-both held (tells-both (tells-list same-Extensions (out-MessageBody x).extensions)
-        (tells-both (tells-list same-Option (out-MessageBody x).options) (tells-list same-Reserved (out-MessageBody x).reserved)))))
+    (tells-parts (λ (z : MessageBody). (
+      (out-MessageBody z).items,
+      (
+        (out-MessageBody z).extensions,
+        (
+          (out-MessageBody z).options,
+          (out-MessageBody z).reserved,
+        ),
+      ),
+    ))
+    (λ p. roll-MessageBody (record { items = p.0; extensions = p.1.0; options = p.1.1.0; reserved = p.1.1.1 })) roll-out-MessageBody x
+    (tells-both held (tells-both (tells-list same-Extensions (out-MessageBody x).extensions)
+    (tells-both (tells-list same-Option (out-MessageBody x).options) (tells-list same-Reserved (out-MessageBody x).reserved)))))
 
 of_oneof : (x : Oneof) → Tells (pointwise field.ghosts.eq) (out-Oneof x).fields → Tells oneof.ghosts.eq x
 of_oneof x held = tells-alike (oneof_laws.is x)
-    (tells-parts (λ (z : Oneof). ((out-Oneof z).name, ((out-Oneof z).options, ((out-Oneof z).fields, ((out-Oneof z).comments,
-      (out-Oneof z).span)))))
-      (λ p. roll-Oneof (record { name = p.0; options = p.1.0; fields = p.1.1.0; comments = p.1.1.1.0; span = p.1.1.1.1 }))
-        roll-out-Oneof x
-      (tells-both (same-Ident (out-Oneof x).name) (tells-both (tells-list same-Option (out-Oneof x).options)
-        (tells-both held (tells-both (same-Comments (out-Oneof x).comments) (tells-span (out-Oneof x).span))))))
+    (tells-parts (λ (z : Oneof). (
+      (out-Oneof z).name,
+      (
+        (out-Oneof z).options,
+        (
+          (out-Oneof z).fields,
+          (
+            (out-Oneof z).comments,
+            (out-Oneof z).span,
+          ),
+        ),
+      ),
+    ))
+    (λ p. roll-Oneof (record { name = p.0; options = p.1.0; fields = p.1.1.0; comments = p.1.1.1.0; span = p.1.1.1.1 }))
+    roll-out-Oneof x
+    (tells-both (same-Ident (out-Oneof x).name) (tells-both (tells-list same-Option (out-Oneof x).options)
+    (tells-both held (tells-both (same-Comments (out-Oneof x).comments) (tells-span (out-Oneof x).span))))))
 
 -- of the last part of a variant
 tells-last : {A : Type 0} {E : A → A → Bool} {x : A} → Tells E x → Tells (λ (p q : A × Unit {0}). E p.0 q.0) (x, tt)
@@ -205,8 +242,15 @@ same-FileItem x = tells-if (alike-FileItem x) (itself-FileItem x)
 pub same-File : (x : File) → Tells file.ghosts.eq x
 same-File x =
     tells-parts (λ (z : File). (z.span, (z.syntax, (z.syntax_span, (z.«package», (z.imports, (z.options, z.items)))))))
-      (λ p. record { span = p.0; syntax = p.1.0; syntax_span = p.1.1.0; «package» = p.1.1.1.0; imports = p.1.1.1.1.0;
-        options = p.1.1.1.1.1.0; items = p.1.1.1.1.1.1 }) (λ z. refl) x
-      (tells-both (tells-span x.span) (tells-both (same-Syntax x.syntax) (tells-both (tells-option (tells-pair tells-span same-Comments)
-        x.syntax_span) (tells-both (tells-option same-Package x.«package») (tells-both (tells-list same-Import x.imports)
-        (tells-both (tells-list same-Option x.options) (tells-list same-FileItem x.items)))))))
+    (λ p. record {
+      span = p.0;
+      syntax = p.1.0;
+      syntax_span = p.1.1.0;
+      «package» = p.1.1.1.0;
+      imports = p.1.1.1.1.0;
+      options = p.1.1.1.1.1.0;
+      items = p.1.1.1.1.1.1;
+    }) (λ z. refl) x
+    (tells-both (tells-span x.span) (tells-both (same-Syntax x.syntax) (tells-both (tells-option (tells-pair tells-span same-Comments)
+    x.syntax_span) (tells-both (tells-option same-Package x.«package») (tells-both (tells-list same-Import x.imports)
+    (tells-both (tells-list same-Option x.options) (tells-list same-FileItem x.items)))))))

@@ -2,5 +2,5 @@
 #![tactic(auto)]
 
 pub mod error;
-pub mod laws;
 mod fault_notes;
+pub mod laws;

@@ -90,7 +90,7 @@ last_is_kept : (tokens : List KeptToken) (token : KeptToken) (start number len :
     → IsKept (tokens ++ token ∷ []) record { start = start; token = number; len = own_len len }
 last_is_kept tokens token start number len e size ends =
     let long : unwrap_or (own_len len) (kept_at (tokens ++ token ∷ []) number).len ≡ len =
-      ap (λ k. unwrap_or (own_len len) k.len) (ap (kept_at (tokens ++ token ∷ [])) e ∙ kept_last tokens token) ∙ ap (unwrap_or (own_len len)) size ∙ own_or_kept len in
+    ap (λ k. unwrap_or (own_len len) k.len) (ap (kept_at (tokens ++ token ∷ [])) e ∙ kept_last tokens token) ∙ ap (unwrap_or (own_len len)) size ∙ own_or_kept len in
     (omega (arith, length-append tokens (token ∷ []), e), omega (arith, ends, long))
 
 kept_push : (tokens : List KeptToken) (token : KeptToken) (rows : List NumberedRow) (start number len : ℕ) → AreKept tokens rows → number ≡ length tokens → token.len ≡ kept_len len → start + len < 2 ^ 64

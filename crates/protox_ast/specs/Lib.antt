@@ -21,6 +21,8 @@ pub mod Fine
 pub mod AggregateWalk
 pub mod Fronts
 pub mod Truth
+pub mod FirstFault
+pub mod FaultList
 pub mod Accepted
 pub mod Spans
 pub mod Siblings

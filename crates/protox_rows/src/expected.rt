@@ -1,5 +1,8 @@
 //! What the grammar expects at a place, as a fault says it.
 
+ghost use Rattle.std.specs.Prelude.{◌≡◌, false};
+ghost use Rattle.protox_ast.specs.Truth.{is_terminator};
+
 /// What may stand at a place.
 #[derive(Clone, Copy, PartialEq, Debug)]
 pub enum Expected {
@@ -58,8 +61,10 @@ pub enum Expected {
 }
 
 impl Expected {
-    /// The text that stands behind `expected` in a fault.
-    pub fn text(self) -> &'static str {
+    /// The text that stands behind `expected` in a fault. It is none of those of a string or a comment without an end.
+    pub fn text(self) -> &'static str
+        ensures { is_terminator result.now ≡ false }
+    {
         match self {
             Expected::Syntax => "'syntax'",
             Expected::Import => "'import'",

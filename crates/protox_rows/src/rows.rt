@@ -1,6 +1,6 @@
 //! Where a reader stands among the rows of a table.
 
-ghost use Rattle.std.specs.Prelude.{◌≡◌, ◌==◌, IfOk, [], length, map, slice_index_or};
+ghost use Rattle.std.specs.Prelude.{◌≡◌, ◌==◌, ◌-◌, IfOk, [], drop, length, map, slice_index_or};
 ghost use Rattle.protox_ast.specs.Places.{placed};
 ghost use Rattle.protox_lexeme.specs.Gaps.{IsGap, attribution};
 ghost use Rattle.protox_comments.specs.Attributing.{attribution_of};
@@ -176,6 +176,16 @@ impl<'t, 'a> Unread<'t, 'a> {
         ensures { result ≡ placed table.now }
     {
         Unread { table, index: 0 }
+    }
+
+    /// The last rows of a table, this many of them, or all.
+    pub fn last(table: &'t TokenTable<'a>, count: usize) -> Unread<'t, 'a>
+        ensures { result ≡ drop (length table.now.rows - count) (placed table.now) }
+    {
+        Unread {
+            table,
+            index: table.rows().saturating_sub(count),
+        }
     }
 
     /// The same rows.

@@ -1,5 +1,5 @@
 -- What is judged of a table.
-use Rattle.std.proofs.Common.{◌≡◌, ◌≤◌, ◌<◌, ◌+◌, ◌-◌, ◌^◌, ℕ, zero, suc, Bool, true, false, cond, List, [], ◌∷◌, ◌++◌, length, Option, Some, None, Result, Ok, Err, refl, sym, ap, subst, ◌∙◌, arith}
+use Rattle.std.proofs.Common.{◌≡◌, ◌≤◌, ◌<◌, ◌+◌, ◌-◌, ◌^◌, ℕ, zero, suc, Bool, true, false, cond, List, [], ◌∷◌, ◌++◌, length, Option, Some, None, Result, Ok, Err, refl, sym, ap, subst, ◌∙◌, append-nil, arith}
 use Rattle.std.specs.Prelude.{slice_index_or, slice_get, option_to_list}
 use Rattle.std.specs.List.{All}
 use Rattle.protox_fault.specs.Faults.{Span, SpanLiesIn, LiesIn, faults_in}
@@ -14,15 +14,23 @@ use Rattle.protox_ast.proofs.Standing.{Stand, bare, bare-placed, as-many, count-
 use Rattle.protox_ast.specs.Keywords.{Each}
 use Rattle.protox_ast.specs.Places.{Place, placed}
 use Rattle.protox_ast.specs.Tree as tree
+use Rattle.protox_ast.specs.Truth.{is_terminator}
 use Rattle.protox_grammar.specs.Reader.{Refusal, Unexpected, Deep, head_in}
 use Rattle.protox_grammar.specs.Told.{Notes, is_invalid, then_notes}
 use Rattle.protox_grammar.specs.declared.note.Note.{Note}
+use Rattle.protox_grammar.specs.declared.note.Noted.TheVariants.{TextFormat}
 use Rattle.protox_grammar.proofs.FineNotes.{IsFaultless, faultless-first}
-use Rattle.protox_grammar.proofs.Telling.{AllLie}
+use Rattle.protox_grammar.proofs.Telling.{AllLie, both-lie}
+use Rattle.protox_rows.specs.Notes.{AddsTo}
+use Rattle.protox_rows.specs.Outcome.{Fails}
+use Rattle.protox_rows.specs.declared.refused.Refused.{Refused}
+use Rattle.protox_rows.specs.declared.refused.Refused.TheVariants.{OutOfMemory, At, TooDeep}
 use Rattle.protox_syntax.specs.Statements.{levels, syntax_if_any, notes_behind}
-use Rattle.protox_syntax.specs.Whole.{whole, all_notes}
+use Rattle.protox_syntax.specs.Whole.{Whole, whole, all_notes}
+use Rattle.protox_syntax.specs.Recovery.{FirstLies, IsBegun, Recovers, fault_note, plain_note}
 use Rattle.protox_syntax.specs.Weave.{weave, refusal, row_at}
-use Rattle.protox_syntax.specs.Judging.{IsTableOf, IsWhole, all_faults}
+use Rattle.protox_syntax.specs.Judging.{IsTableOf, IsWhole, IsWoven, stopped, ended, recovered, finished, all_faults, first_left, total_of}
+use Rattle.protox_syntax.proofs.Extending.{IsFront, weave-behind, weave-fault}
 use Rattle.protox_syntax.proofs.Entries.{append-empty, all-each, each-at, invalid-faulty}
 use Rattle.protox_syntax.proofs.Modes.{faults-none}
 use Rattle.protox_syntax.proofs.Reading.{left-within, deep-behind, none-read, notes-lie}
@@ -31,7 +39,7 @@ use Rattle.protox_syntax.proofs.Weaving.{each-append, faultless, weave-lie, weav
 
 -- what is said of the faults of a table
 abbrev pub IsJudged : Table → ℕ → List ParseErrorKind → Type 0
-IsJudged t size errors = (errors ≡ [] → ⊥) × Each (LiesIn size) errors × ((f : tree.File Place) → IsWhole t f → ⊥)
+IsJudged t size errors = (errors ≡ [] → ⊥) × Each (LiesIn size) errors × ((f : tree.File Place) → IsWhole t f → ⊥) × IsWoven t errors
 
 abbrev AllFaultsLie : ℕ → List ParseErrorKind → Type 0
 AllFaultsLie size f = All (LiesIn size) f
@@ -85,6 +93,9 @@ module _ (t : Table) (size : ℕ) (tab : IsTableOf size t) where
   many : length (placed t) ≡ length t.rows
   many = as-many true t.rows t.gaps
 
+  abbrev Total : ℕ → Type 0
+  Total total = total ≡ total_of t
+
   -- each row has a byte of its own
   pub total-fits : length t.rows + 1 < 2 ^ 64
   total-fits = omega (arith, tab.2, tab.4, count-fits 0 size (placed t) stood, many)
@@ -108,12 +119,13 @@ module _ (t : Table) (size : ℕ) (tab : IsTableOf size t) where
   not-whole h f w = h (faultless t.faults (length t.rows + 1) (all_notes (placed t)) 0 w.1)
 
   -- a check of the syntax statement failed
-  pub stopped-judged : (notes : Notes) (total left : ℕ) (errors : List ParseErrorKind) → notes ≡ syntax_if_any.notes (placed t) → (notes ≡ [] → ⊥) → errors ≡ weave t.faults total notes left → IsJudged t size errors
-  stopped-judged notes total left errors is some woven =
+  pub stopped-judged : (notes : Notes) (total left : ℕ) (errors : List ParseErrorKind) → Total total → notes ≡ syntax_if_any.notes (placed t) → (notes ≡ [] → ⊥) → left ≡ first_left notes → errors ≡ weave t.faults total notes left → IsJudged t size errors
+  stopped-judged notes total left errors all is some left_is woven =
       let some_fault : IsFaultless (syntax_if_any.notes (placed t)) → ⊥ = λ f. some (is ∙ faults-none (syntax_if_any.notes (placed t)) (syntax-faults (placed t)) f) in (
         (λ e. some_fault (subst IsFaultless is (faultless t.faults total notes left (sym woven ∙ e)))),
         subst (λ (xs : List ParseErrorKind). Each (LiesIn size) xs) (sym woven) (woven-lie left notes total (subst (AllLie size) (sym is) (syntax_if_any.tells.lies 0 size (placed t) stood))),
         not-whole (λ f. some_fault (front-faultless (placed t) f)),
+        stopped (λ e. some (is ∙ e)) (woven ∙ (λ i. weave t.faults (all i) (is i) ((left_is ∙ ap first_left is) i))),
       )
 
   fault-lies : (expected : List ℕ) (i : ℕ) (o : Option (Row Span)) → slice_get t.rows i ≡ o → Each (LiesIn size) (option_to_list (refusal expected o))
@@ -135,38 +147,96 @@ module _ (t : Table) (size : ℕ) (tab : IsTableOf size t) where
           let seen = weave-seen t.faults total notes left (length t.rows - left) none (omega (arith, is, within)) in
           invalid-entry (length t.rows - left) x e (is-invalid x.shape v) seen.0 seen.1
 
-  -- a row doesn't fit
-  pub refused-judged : (notes : Notes) (total left : ℕ) (expected : List ℕ) (woven errors : List ParseErrorKind) → total ≡ length t.rows + 1 → whole (placed t) ≡ Err (Unexpected left) → notes ≡ all_notes (placed t) → woven ≡ weave t.faults total notes left → errors ≡ woven ++ option_to_list (refusal expected (row_at t.rows left)) → IsJudged t size errors
-  refused-judged notes total left expected woven errors is read noted w e =
-      let all = e ∙ ap (λ v. v ++ option_to_list (refusal expected (row_at t.rows left))) w in (
-        (λ n. some-fault expected left total (row_at t.rows left) notes is (subst (λ n. left ≤ n) many (left-within (placed t) left read)) refl (sym all ∙ n)),
-        subst (λ (xs : List ParseErrorKind). Each (LiesIn size) xs) (sym all) (each-append (LiesIn size) (weave t.faults total notes left) _ (woven-lie left notes total (subst (AllLie size) (sym noted) noted-lie)) (fault-lies expected (length t.rows - left) (row_at t.rows left) refl)),
+  -- what is woven up to a row that doesn't fit
+  abbrev up_to : ℕ → List ℕ → List ParseErrorKind
+  up_to left expected = weave t.faults (total_of t) (all_notes (placed t)) left ++ option_to_list (refusal expected (row_at t.rows left))
+
+  some-up-to : (left : ℕ) (expected : List ℕ) → whole (placed t) ≡ Err (Unexpected left) → up_to left expected ≡ [] → ⊥
+  some-up-to left expected read = some-fault expected left (total_of t) (row_at t.rows left) (all_notes (placed t)) refl (subst (λ n. left ≤ n) many (left-within (placed t) left read)) refl
+
+  -- a row doesn't fit, and nothing behind it is read
+  pub ended-judged : (notes : Notes) (total left : ℕ) (expected : List ℕ) (woven errors : List ParseErrorKind) → Total total → is_terminator expected ≡ false → whole (placed t) ≡ Err (Unexpected left) → notes ≡ all_notes (placed t)
+      → woven ≡ weave t.faults total notes left → errors ≡ woven ++ option_to_list (refusal expected (row_at t.rows left)) → IsJudged t size errors
+  ended-judged notes total left expected woven errors is text read noted w e =
+      let all : errors ≡ up_to left expected = e ∙ ap (λ v. v ++ option_to_list (refusal expected (row_at t.rows left))) (w ∙ (λ i. weave t.faults (is i) (noted i) left)) in (
+        (λ n. some-up-to left expected read (sym all ∙ n)),
+        subst (λ (xs : List ParseErrorKind). Each (LiesIn size) xs) (sym all)
+            (each-append (LiesIn size) (weave t.faults (total_of t) (all_notes (placed t)) left) _ (woven-lie left (all_notes (placed t)) (total_of t) noted-lie) (fault-lies expected (length t.rows - left) (row_at t.rows left) refl)),
         (λ f v. none-read (placed t) (Unexpected left) read f v.0),
+        ended left expected text read all,
       )
 
-  -- a body is too deep
-  pub sunk-judged : (notes : Notes) (total left : ℕ) (errors : List ParseErrorKind) → total ≡ length t.rows + 1 → whole (placed t) ≡ Err (Deep left) → notes ≡ all_notes (placed t) → errors ≡ weave t.faults total notes (left - 1) → IsJudged t size errors
-  sunk-judged notes total left errors is read noted woven = (
-    λ n.
-        let none = sym woven ∙ n in
-        let b = deep-behind (placed t) left read (subst IsFaultless noted (faultless t.faults total notes (left - 1) none)) in
-        let seen = weave-seen t.faults total notes (left - 1) b.index none (omega (arith, is, b.counted, b.some_left, many)) in
-        let there = subst (λ (xs : Rows Span). slice_get xs b.index ≡ Some (bare_row b.row)) bare-rows (bare-get (placed t) b.index b.row b.there) in
-        invalid-entry b.index (bare_row b.row) there (is-invalid b.row.shape b.invalid) seen.0 seen.1,
-    subst (λ (xs : List ParseErrorKind). Each (LiesIn size) xs) (sym woven) (woven-lie (left - 1) notes total (subst (AllLie size) (sym noted) noted-lie)),
-    λ f v. none-read (placed t) (Deep left) read f v.0,
-  )
+  -- where a body is too deep, there is a fault up to the row behind its `{`
+  some-sunk : (left : ℕ) → whole (placed t) ≡ Err (Deep left) → weave t.faults (total_of t) (all_notes (placed t)) (left - 1) ≡ [] → ⊥
+  some-sunk left read none =
+      let b = deep-behind (placed t) left read (faultless t.faults (total_of t) (all_notes (placed t)) (left - 1) none) in
+      let seen = weave-seen t.faults (total_of t) (all_notes (placed t)) (left - 1) b.index none (omega (arith, b.counted, b.some_left, many)) in
+      let there = subst (λ (xs : Rows Span). slice_get xs b.index ≡ Some (bare_row b.row)) bare-rows (bare-get (placed t) b.index b.row b.there) in
+      invalid-entry b.index (bare_row b.row) there (is-invalid b.row.shape b.invalid) seen.0 seen.1
 
-  abbrev Total : ℕ → Type 0
-  Total total = total ≡ length t.rows + 1
+  -- what is noted of a refused statement itself lies in the source
+  begun-lies : (e : Refused) (begun : Notes) → IsBegun t.rows e begun → AllLie size begun
+  begun-lies OutOfMemory begun h = absurd h
+  begun-lies (At left expected) begun h = subst (AllLie size) (sym h.2) (by (refusal h.0 (row_at t.rows left)) (fault-lies h.0 (length t.rows - left) (row_at t.rows left) refl))
+    where
+      by : (o : Option ParseErrorKind) → Each (LiesIn size) (option_to_list o) → AllLie size (fault_note left o ++ plain_note left)
+      by None g = (tt, tt)
+      by (Some f) g = (g.0, (tt, tt))
+  begun-lies (TooDeep left) begun h = subst (AllLie size) (sym h) (tt, tt)
+
+  -- what is woven with these notes begins with what is woven up to the refused row
+  behind-up-to : (left : ℕ) (o : Option ParseErrorKind) (later : Notes)
+      → IsFront (weave t.faults (total_of t) (all_notes (placed t)) left ++ option_to_list o) (weave t.faults (total_of t) (all_notes (placed t) ++ ((fault_note left o ++ plain_note left) ++ later)) 0)
+  behind-up-to left None later =
+      let front = weave-behind t.faults (total_of t) (all_notes (placed t)) (record { left = left; noted = TextFormat false }) later left 0 (omega arith) in
+      (front.0, front.1 ∙ ap (λ v. v ++ front.0) (sym (append-nil (weave t.faults (total_of t) (all_notes (placed t)) left))))
+  behind-up-to left (Some f) later = weave-fault t.faults (total_of t) (all_notes (placed t)) f (plain_note left ++ later) left 0
+
+  some-recovered : (e : Refused) (begun later : Notes) → Fails e (whole (placed t)) → IsBegun t.rows e begun → weave t.faults (total_of t) (all_notes (placed t) ++ (begun ++ later)) 0 ≡ [] → ⊥
+  some-recovered OutOfMemory begun later read h n = absurd h
+  some-recovered (At left expected) begun later read h n =
+      let front = behind-up-to left (refusal h.0 (row_at t.rows left)) later in
+      some-up-to left h.0 read (append-empty _ front.0 (sym front.1 ∙ ap (λ v. weave t.faults (total_of t) (all_notes (placed t) ++ (v ++ later)) 0) (sym h.2) ∙ n)).0
+  some-recovered (TooDeep left) begun later read h n =
+      let front = weave-behind t.faults (total_of t) (all_notes (placed t)) (record { left = left - 1; noted = TextFormat false }) later (left - 1) 0 (omega arith) in
+      some-sunk left read (append-empty _ front.0 (sym front.1 ∙ ap (λ v. weave t.faults (total_of t) (all_notes (placed t) ++ (v ++ later)) 0) (sym h) ∙ n)).0
+
+  not-read : (e : Refused) → (e ≡ OutOfMemory → ⊥) → Fails e (whole (placed t)) → (f : tree.File Place) → IsWhole t f → ⊥
+  not-read OutOfMemory some read f v = absurd (some refl)
+  not-read (At left expected) some read f v = none-read (placed t) (Unexpected left) read f v.0
+  not-read (TooDeep left) some read f v = none-read (placed t) (Deep left) read f v.0
+
+  begun-some : (e : Refused) (begun : Notes) → IsBegun t.rows e begun → e ≡ OutOfMemory → ⊥
+  begun-some e begun h is = absurd (subst (λ (v : Refused). IsBegun t.rows v begun) is h)
+
+  is-noted : (e : Refused) (old : Notes) → (e ≡ OutOfMemory → ⊥) → AddsTo e [] (all_notes (placed t)) old → old ≡ all_notes (placed t)
+  is-noted OutOfMemory old some h = absurd (some refl)
+  is-noted (At left expected) old some h = h
+  is-noted (TooDeep left) old some h = h
+
+  -- a statement is refused, and reading goes on
+  pub recovered-judged : (e : Refused) (first : Option Span) (old notes : Notes) (total : ℕ) (errors : List ParseErrorKind) → Total total → Fails e (whole (placed t)) → AddsTo e [] (all_notes (placed t)) old → FirstLies (placed t) first
+      → Recovers t e first old notes → errors ≡ weave t.faults total notes 0 → IsJudged t size errors
+  recovered-judged e first old notes total errors is read noted lies r woven =
+      let some = begun-some e r.0 r.3 in
+      let begins : old ≡ all_notes (placed t) = is-noted e old some noted in
+      let all : errors ≡ weave t.faults (total_of t) (all_notes (placed t) ++ (r.0 ++ r.1)) 0 = woven ∙ (λ i. weave t.faults (is i) ((r.2 ∙ ap (λ v. v ++ (r.0 ++ r.1)) begins) i) 0) in
+      let later = r.4.1 size stood (lies 0 size stood) in (
+        (λ n. some-recovered e r.0 r.1 read r.3 (sym all ∙ n)),
+        subst (λ (xs : List ParseErrorKind). Each (LiesIn size) xs) (sym all) (woven-lie 0 (all_notes (placed t) ++ (r.0 ++ r.1)) (total_of t) (both-lie size (all_notes (placed t)) (r.0 ++ r.1) noted-lie (both-lie size r.0 r.1 (begun-lies e r.0 r.3) later))),
+        not-read e some read,
+        recovered e r.0 r.1 read r.3 r.4.0 all,
+      )
 
   -- all rows are read, and there are faults
-  pub faulty-judged : (notes : Notes) (total : ℕ) (errors : List ParseErrorKind) → Total total → notes ≡ all_notes (placed t) → errors ≡ weave t.faults total notes 0 → (errors ≡ [] → ⊥) → IsJudged t size errors
-  faulty-judged notes total errors is noted woven some = (
-    some,
-    subst (λ (xs : List ParseErrorKind). Each (LiesIn size) xs) (sym woven) (woven-lie 0 notes total (subst (AllLie size) (sym noted) noted-lie)),
-    λ f v. some (woven ∙ (λ i. weave t.faults (is i) (noted i) 0) ∙ v.1),
-  )
+  pub faulty-judged : (x : Whole) (notes : Notes) (total : ℕ) (errors : List ParseErrorKind) → Total total → whole (placed t) ≡ Ok (x, []) → notes ≡ all_notes (placed t) → errors ≡ weave t.faults total notes 0 → (errors ≡ [] → ⊥) → IsJudged t size errors
+  faulty-judged x notes total errors is read noted woven some =
+      let all : errors ≡ weave t.faults (total_of t) (all_notes (placed t)) 0 = woven ∙ (λ i. weave t.faults (is i) (noted i) 0) in (
+        some,
+        subst (λ (xs : List ParseErrorKind). Each (LiesIn size) xs) (sym woven) (woven-lie 0 notes total (subst (AllLie size) (sym noted) noted-lie)),
+        (λ f v. some (all ∙ v.1)),
+        finished x read all,
+      )
 
   -- or none
   pub no-faults-are : (notes : Notes) (total : ℕ) (errors : List ParseErrorKind) → Total total → notes ≡ all_notes (placed t) → errors ≡ weave t.faults total notes 0 → errors ≡ [] → all_faults t ≡ []

@@ -9,3 +9,5 @@ pub mod SyntaxNotes
 pub mod Judged
 pub mod Accepts
 pub mod Aggregates
+pub mod Extending
+pub mod Recovering

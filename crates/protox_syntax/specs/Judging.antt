@@ -1,5 +1,5 @@
 -- MACHINERY. What reading a table answers.
-use Rattle.std.specs.Prelude.{◌≡◌, ℕ, ◌+◌, List, [], ◌∷◌, length, Option, Some, None, option_map, Result, Ok, Err}
+use Rattle.std.specs.Prelude.{◌≡◌, ℕ, ◌+◌, false, List, [], ◌∷◌, ◌++◌, length, Option, Some, None, option_map, option_to_list, Result, Ok, Err}
 use Rattle.std.specs.Str.{IsUtf8}
 use Rattle.protox_fault.specs.Faults.{Span, LiesIn}
 use Rattle.protox_lexeme.specs.Shapes.{Row, Rows}
@@ -18,10 +18,16 @@ use Rattle.protox_ast.specs.declared.ast.Comments.{Comments}
 use Rattle.protox_ast.specs.declared.ast.Syntax.{Syntax}
 use Rattle.protox_ast.specs.declared.ast.Syntax.TheVariants.{Proto2}
 use Rattle.protox_ast.specs.declared.ast.File.{File}
+use Rattle.protox_ast.specs.Truth.{is_terminator}
+use Rattle.protox_grammar.specs.Reader.{Unexpected}
 use Rattle.protox_grammar.specs.Reads.{read}
-use Rattle.protox_syntax.specs.Statements.{levels}
-use Rattle.protox_syntax.specs.Whole.{Whole, all_notes}
-use Rattle.protox_syntax.specs.Weave.{weave}
+use Rattle.protox_grammar.specs.Told.{Notes}
+use Rattle.protox_rows.specs.Outcome.{Fails}
+use Rattle.protox_rows.specs.declared.refused.Refused.{Refused}
+use Rattle.protox_syntax.specs.Recovery.{AreNotable, IsBegun}
+use Rattle.protox_syntax.specs.Statements.{levels, syntax_if_any}
+use Rattle.protox_syntax.specs.Whole.{Whole, whole, all_notes}
+use Rattle.protox_syntax.specs.Weave.{refusal, row_at, weave}
 
 -- the table of a source of so many bytes, which fits the length limit
 abbrev pub IsTableOf : ℕ → Table → Type 0
@@ -59,9 +65,31 @@ all_faults t = weave t.faults (length t.rows + 1) (all_notes (placed t)) 0
 abbrev pub IsWhole : Table → tree.File Place → Type 0
 IsWhole t f = (read levels (placed t) ≡ Ok f) × (all_faults t ≡ [])
 
+-- all rows, and the end
+abbrev pub total_of : Table → ℕ
+total_of t = length t.rows + 1
+
+-- how many rows are left where the first note is made
+abbrev pub first_left : Notes → ℕ
+first_left [] = 0
+first_left (n ∷ ns) = n.left
+
+-- How the faults of a table come about, by how reading ends.
+pub data IsWoven (t : Table) (errors : List ParseErrorKind) : Type 0 where
+  -- A check of the syntax statement failed: nothing is read behind it.
+  stopped : (syntax_if_any.notes (placed t) ≡ [] → ⊥) → errors ≡ weave t.faults (total_of t) (syntax_if_any.notes (placed t)) (first_left (syntax_if_any.notes (placed t))) → IsWoven t errors
+  -- A row doesn't fit, and nothing is read behind it.
+  ended : (left : ℕ) (text : List ℕ) → is_terminator text ≡ false → whole (placed t) ≡ Err (Unexpected left)
+      → errors ≡ weave t.faults (total_of t) (all_notes (placed t)) left ++ option_to_list (refusal text (row_at t.rows left)) → IsWoven t errors
+  -- A statement is refused, and reading goes on behind it.
+  recovered : (refused : Refused) (begun later : Notes) → Fails refused (whole (placed t)) → IsBegun t.rows refused begun → AreNotable t.rows later
+      → errors ≡ weave t.faults (total_of t) (all_notes (placed t) ++ (begun ++ later)) 0 → IsWoven t errors
+  -- All rows are read.
+  finished : (x : Whole) → whole (placed t) ≡ Ok (x, []) → errors ≡ weave t.faults (total_of t) (all_notes (placed t)) 0 → IsWoven t errors
+
 abbrev pub JudgesFault : Table → ℕ → SyntaxFailure → Type 0
 JudgesFault t size OutOfMemory = Unit {0}
-JudgesFault t size (Faults v) = (v.items ≡ [] → ⊥) × Each (LiesIn size) v.items × ((f : tree.File Place) → IsWhole t f → ⊥)
+JudgesFault t size (Faults v) = (v.items ≡ [] → ⊥) × Each (LiesIn size) v.items × ((f : tree.File Place) → IsWhole t f → ⊥) × IsWoven t v.items
 
 -- a file where all is well, and else faults that lie in the source
 abbrev pub Judges : Table → ℕ → Result File SyntaxFailure → Type 0

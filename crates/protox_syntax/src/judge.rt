@@ -2,12 +2,16 @@
 
 ghost use Rattle.std.specs.Prelude.{◌≡◌, [], Ok, Err, option_map};
 ghost use Rattle.protox_ast.specs.Places.{placed};
-ghost use Rattle.protox_grammar.specs.Reader.{Unexpected, Deep};
-ghost use Rattle.protox_syntax.specs.Judging.{IsTableOf, Judges, bare_span, made, syntax_or_default, stated_at};
+ghost use Rattle.protox_grammar.specs.Reader.{Unexpected};
+ghost use Rattle.protox_rows.specs.Notes.{AddsTo};
+ghost use Rattle.protox_rows.specs.Outcome.{Fails};
+ghost use Rattle.protox_syntax.specs.Judging.{IsTableOf, Judges, bare_span, first_left, made, syntax_or_default, stated_at};
+ghost use Rattle.protox_syntax.specs.Recovery.{FirstLies};
 ghost use Rattle.protox_syntax.specs.Statements as rule;
 ghost use Rattle.protox_syntax.specs.Whole.{whole, all_notes};
 
 use crate::progress::{add_refusal, woven};
+use crate::recovery::recover;
 use crate::statement_types::Statements;
 use crate::statements::{statements, syntax_if_any};
 use protox_ast::ast::{Comments, File, Syntax};
@@ -73,6 +77,16 @@ fn made(
     }
 }
 
+// How many rows are left where the first note is made.
+fn first_left(notes: &Vec<Note>) -> usize
+    ensures { result ≡ first_left notes.now.items }
+{
+    match notes.first() {
+        Some(note) => note.left,
+        None => 0,
+    }
+}
+
 // A check of the syntax statement failed: nothing behind it is read.
 fn stopped(
     alloc: Global,
@@ -85,17 +99,14 @@ fn stopped(
     requires some { notes.items ≡ [] → ⊥ }
     ensures { Judges table.now size result }
 {
-    let left = match notes.first() {
-        Some(note) => note.left,
-        None => 0,
-    };
+    let left = first_left(&notes);
     let total = table.rows() + 1;
     let errors = woven(alloc, table, total, notes, left)?;
     Err(SyntaxFailure::Faults(errors))
 }
 
-// A row doesn't fit: nothing behind it is read.
-fn refused(
+// A row doesn't fit, the syntax statement's or the first of the file: nothing behind it is read.
+fn ended(
     alloc: Global,
     table: &TokenTable<'_>,
     size: usize,
@@ -114,22 +125,31 @@ fn refused(
     Err(SyntaxFailure::Faults(errors))
 }
 
-// A body is too deep: nothing behind its `{` and the token behind that is read.
-fn sunk(
+// A statement is refused: reading goes on behind it, so that all is said that is wrong.
+fn recovered(
     alloc: Global,
     table: &TokenTable<'_>,
     size: usize,
-    notes: Vec<Note>,
-    left: usize,
+    noted: Vec<Note>,
+    refused: Refused,
+    first: Option<Span>,
 ) -> Result<File, SyntaxFailure>
     requires table { IsTableOf size table.now }
-    requires read { whole (placed table.now) ≡ Err (Deep left) }
-    requires notes { notes.items ≡ all_notes (placed table.now) }
+    requires read { Fails refused (whole (placed table.now)) }
+    requires noted { AddsTo refused [] (all_notes (placed table.now)) noted.items }
+    requires first { FirstLies (placed table.now) first }
     ensures { Judges table.now size result }
 {
+    let mut notes = noted;
+    recover(alloc, table, &mut notes, &refused, first)?;
     let total = table.rows() + 1;
-    let errors = woven(alloc, table, total, notes, left.saturating_sub(1))?;
+    let errors = woven(alloc, table, total, notes, 0)?;
     Err(SyntaxFailure::Faults(errors))
+}
+
+// Whether the first row is invalid.
+fn begins_invalid(table: &TokenTable<'_>) -> bool {
+    matches!(table.row(0), Some(Err(_)))
 }
 
 // All rows are read.
@@ -169,11 +189,13 @@ fn after_syntax(
 {
     let mut notes = Vec::new(alloc);
     let mut rows = rest;
-    match statements(alloc, &mut notes, &mut rows) {
+    let mut first = None;
+    match statements(alloc, &mut notes, &mut rows, &mut first) {
         Ok(found) => finished(alloc, table, size, notes, syntax, found),
-        Err(Refused::OutOfMemory) => Err(SyntaxFailure::OutOfMemory),
-        Err(Refused::At { left, expected }) => refused(alloc, table, size, notes, left, expected),
-        Err(Refused::TooDeep { left }) => sunk(alloc, table, size, notes, left),
+        Err(Refused::At { left, expected }) if begins_invalid(table) => {
+            ended(alloc, table, size, notes, left, expected)
+        }
+        Err(refused) => recovered(alloc, table, size, notes, refused, first),
     }
 }
 
@@ -192,8 +214,8 @@ pub(crate) fn judge(
     match syntax_if_any(alloc, &mut notes, &mut rows) {
         Err(Refused::OutOfMemory) => Err(SyntaxFailure::OutOfMemory),
         _ if !notes.is_empty() => stopped(alloc, table, size, notes),
-        Err(Refused::At { left, expected }) => refused(alloc, table, size, notes, left, expected),
-        Err(Refused::TooDeep { left }) => sunk(alloc, table, size, notes, left),
+        Err(Refused::At { left, expected }) => ended(alloc, table, size, notes, left, expected),
+        Err(refused) => recovered(alloc, table, size, notes, refused, None),
         Ok(syntax) => after_syntax(alloc, table, size, syntax, rows),
     }
 }

@@ -6,5 +6,6 @@ mod expected_token;
 mod judge;
 pub mod parse;
 mod progress;
+mod recovery;
 mod statement_types;
 mod statements;

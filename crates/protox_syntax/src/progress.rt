@@ -125,8 +125,8 @@ fn unexpected_token(
     }))
 }
 
-// The fault of the row from which on `left` rows are left. That of an invalid one is among its own.
-fn refusal(
+/// The fault of the row from which on `left` rows are left. That of an invalid one is among its own.
+pub(crate) fn refusal(
     alloc: Global,
     table: &TokenTable<'_>,
     left: usize,

@@ -1,10 +1,11 @@
 //! The syntax statement, and the statements of a file.
 
-ghost use Rattle.std.specs.Prelude.{◌≡◌, ◌++◌, [], OnOk, IfOk, option_map};
+ghost use Rattle.std.specs.Prelude.{◌≡◌, ◌++◌, [], OnOk, IfErr, IfOk, option_map};
 ghost use Rattle.protox_ast.specs.Ast.{syntax_of, text_of};
 ghost use Rattle.protox_grammar.specs.Told.{import_notes};
 ghost use Rattle.protox_rows.specs.Outcome.{Gives};
 ghost use Rattle.protox_rows.specs.Notes.{Adds};
+ghost use Rattle.protox_syntax.specs.Recovery.{FirstLies};
 ghost use Rattle.protox_syntax.specs.Statements as rule;
 
 use crate::checks::{check_package, check_path, check_syntax};
@@ -265,7 +266,7 @@ fn declared(
 
 /// statement = ";" | import | package | option | extend | message | enum | service
 #[tactic(auto, unfolding(crate::specs::Statements::statement))]
-fn statement(
+pub(crate) fn statement(
     alloc: Global,
     notes: &mut Vec<Note>,
     rows: &mut Unread<'_, '_>,
@@ -322,15 +323,17 @@ fn put_package(file: &mut Statements, found: Package)
     }
 }
 
-/// statement*, up to the end or to the first that is refused.
+/// statement*, up to the end or to the first that is refused. The place of the first package statement before that is kept.
 #[tactic(auto, unfolding(crate::specs::Statements::statements_at))]
 pub(crate) fn statements(
     alloc: Global,
     notes: &mut Vec<Note>,
     rows: &mut Unread<'_, '_>,
+    first: &mut Option<Span>,
 ) -> Result<Statements, Refused>
     ensures read { Gives (λ x. x) result [] (rule.statements_at rows.old) }
     ensures notes { Adds result notes.old.items (rule.notes_behind None rows.old) notes.new.items }
+    ensures first { IfErr result (λ refused. FirstLies rows.old first.new) }
 {
     let mut file = Statements {
         first: None,
@@ -339,8 +342,8 @@ pub(crate) fn statements(
         items: Items::new(alloc),
     };
     'more: while !rows.is_empty() {
-        let first = first_place(&file);
-        let statement = statement(alloc, notes, rows, &first)?;
+        *first = first_place(&file);
+        let statement = statement(alloc, notes, rows, first)?;
         put_statement(&mut file, statement)?;
     }
     Ok(file)

@@ -21,4 +21,4 @@ returns-then-is_empty c =
 
 pub returns : goal.returns
 returns c =
-    faulty-judged c.args.table.now c.args.size c.requires.table c.args.notes.items _ c.in_ok-errors.errors.items (ap (λ n. n + 1) c.rows-total.ensures) c.requires.notes c.in_ok-errors.ensures (some-if-not-empty c.in_ok-errors.errors.items c.in_ok-errors.errors.len c.in_ok-errors.errors.ok.0 c.if-is_empty.ensures)
+    faulty-judged c.args.table.now c.args.size c.requires.table (c.args.syntax, c.args.statements) c.args.notes.items _ c.in_ok-errors.errors.items (ap (λ n. n + 1) c.rows-total.ensures) c.requires.read c.requires.notes c.in_ok-errors.ensures (some-if-not-empty c.in_ok-errors.errors.items c.in_ok-errors.errors.len c.in_ok-errors.errors.ok.0 c.if-is_empty.ensures)

@@ -1,9 +1,11 @@
-use Rattle.std.proofs.Common.{None, sym, ◌∙◌, refl}
+use Rattle.std.proofs.Common.{None, sym, subst, ◌∙◌, refl}
 use Rattle.std.proofs.lemmas.Result.{err_from_is_err_and}
 use Rattle.protox_grammar.specs.Class.{all, in_set}
 use Rattle.protox_rows.proofs.Turns as turns
 use Rattle.protox_syntax.specs.Statements as rule
-use Rattle.protox_syntax.proofs.Turns.{statement-eats, more-notes, last-notes, no-notes}
+use Rattle.protox_syntax.specs.Recovery.{FirstLies}
+use Rattle.protox_syntax.proofs.Recovering.{further-lies, last-last, statement-last}
+use Rattle.protox_syntax.proofs.Turns.{first-added, statement-eats, more-notes, last-notes, no-notes}
 use Rattle.protox_syntax.proofs.statements.statements.Goals as goal
 
 pub returns-in_err-statement-clause-read : goal.returns-in_err-statement-clause-read
@@ -15,7 +17,7 @@ pub returns-in_err-statement-clause-notes : goal.returns-in_err-statement-clause
 returns-in_err-statement-clause-notes c =
     let p = err_from_is_err_and c.from_residual.result c.from_residual.ensures.1 in
     let q = rule.first_place c.more.file in
-    rw (p.1, p.2) (last-notes q c.args.notes.now.items c.more.notes.items c.statement.new.notes.items (rule.notes_behind None c.args.rows.now) c.more.rows c.in_err-statement.field-0.0 (turns.some_left c.more.rows (sym c.is_empty.ensures ∙ c.more-test.true)) c.in_err-statement.ensures.read (rw (sym c.first_place-first.ensures) c.in_err-statement.ensures.notes) c.more.invariant.notes)
+    rw (p.1, p.2) (last-notes q c.args.notes.now.items c.more.notes.items c.statement.new.notes.items (rule.notes_behind None c.args.rows.now) c.more.rows c.in_err-statement.field-0.0 (turns.some_left c.more.rows (sym c.is_empty.ensures ∙ c.more-test.true)) c.in_err-statement.ensures.read (rw (sym c.first_place.ensures) c.in_err-statement.ensures.notes) c.more.invariant.notes)
 
 pub more-smaller : goal.more-smaller
 more-smaller c = turns.shorter (rule.statement).code statement-eats c.more.rows c.statement.new.rows _ c.in_ok-statement.ensures.read
@@ -23,7 +25,9 @@ more-smaller c = turns.shorter (rule.statement).code statement-eats c.more.rows 
 pub more-preserved : goal.more-preserved
 more-preserved c = record {
   read = rw c.in_ok-put_statement.ensures (turns.more rule.add_statement (in_set all) (rule.statement).code statement-eats (rule.statements_at c.args.rows.now) _ _ _ _ (turns.some_left c.more.rows (sym c.is_empty.ensures ∙ c.more-test.true)) c.in_ok-statement.ensures.read c.more.invariant.read);
-  notes = rw c.in_ok-put_statement.ensures (more-notes c.first_place-first.result c.args.notes.now.items c.more.notes.items c.statement.new.notes.items (rule.notes_behind None c.args.rows.now) c.more.rows c.statement.new.rows c.in_ok-statement.statement c.more.file (turns.some_left c.more.rows (sym c.is_empty.ensures ∙ c.more-test.true)) c.in_ok-statement.ensures.read c.first_place-first.ensures c.in_ok-statement.ensures.notes (rw c.first_place-first.ensures c.more.invariant.notes));
+  notes = rw c.in_ok-put_statement.ensures (more-notes c.first_place.result c.args.notes.now.items c.more.notes.items c.statement.new.notes.items (rule.notes_behind None c.args.rows.now) c.more.rows c.statement.new.rows c.in_ok-statement.statement c.more.file (turns.some_left c.more.rows (sym c.is_empty.ensures ∙ c.more-test.true)) c.in_ok-statement.ensures.read c.first_place.ensures c.in_ok-statement.ensures.notes (rw c.first_place.ensures c.more.invariant.notes));
+  last = last-last c.args.rows.now c.more.rows c.statement.new.rows c.more.invariant.last (statement-last c.more.rows c.statement.new.rows c.in_ok-statement.statement c.in_ok-statement.ensures.read);
+  first = rw c.in_ok-put_statement.ensures (subst (FirstLies c.args.rows.now) (sym (first-added c.more.file c.in_ok-statement.statement)) (further-lies c.args.rows.now c.more.rows c.statement.new.rows (rule.first_place c.more.file) c.in_ok-statement.statement c.more.invariant.last c.more.invariant.first c.in_ok-statement.ensures.read));
 }
 
 pub returns-clause-read : goal.returns-clause-read
@@ -33,3 +37,9 @@ returns-clause-read c =
 
 pub returns-clause-notes : goal.returns-clause-notes
 returns-clause-notes c = no-notes (rule.first_place c.more.file) c.args.notes.now.items c.more.notes.items c.more.notes.items (rule.notes_behind None c.args.rows.now) c.more.rows (turns.none_left c.more.rows (sym c.is_empty.ensures ∙ c.more-test.false)) c.more.invariant.notes
+
+pub returns-in_err-statement-clause-first : goal.returns-in_err-statement-clause-first
+returns-in_err-statement-clause-first c = subst (FirstLies c.args.rows.now) (sym c.first_place.ensures) c.more.invariant.first
+
+pub returns-in_err-put_statement-clause-first : goal.returns-in_err-put_statement-clause-first
+returns-in_err-put_statement-clause-first c = subst (FirstLies c.args.rows.now) (sym c.first_place.ensures) c.more.invariant.first

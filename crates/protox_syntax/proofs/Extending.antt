@@ -40,7 +40,7 @@ module _ (faults : List Faults) (total : ℕ) where
       let e : to_read total further p.next ≡ m + n = omega (arith, h) in (
         released p.text_format faults (p.next + m) n,
         ap (λ v. p.errors ++ released p.text_format faults p.next v) e ∙ ap (λ v. p.errors ++ v) (released-more p.text_format p.next m n)
-        ∙ sym (append_assoc p.errors (released p.text_format faults p.next m) (released p.text_format faults (p.next + m) n)),
+            ∙ sym (append_assoc p.errors (released p.text_format faults p.next m) (released p.text_format faults (p.next + m) n)),
       )
 
   noted-grows : (v : Noted) (p : Progress) → IsFront p.errors (with_noted v p).errors
@@ -66,7 +66,7 @@ module _ (faults : List Faults) (total : ℕ) where
   weave-behind xs n ys left last h =
       let p = play faults total xs beginning in
       let front = front-front _ _ _ (read-further p left n.left h)
-          (front-front _ _ _ (noted-grows n.noted (read_to faults total n.left p)) (woven-further ys last (noted_in faults total n p))) in
+      (front-front _ _ _ (noted-grows n.noted (read_to faults total n.left p)) (woven-further ys last (noted_in faults total n p))) in
       (front.0, ap (λ q. (read_to faults total last q).errors) (play-append xs (n ∷ ys) beginning) ∙ front.1)
 
   -- behind a fault that is noted there

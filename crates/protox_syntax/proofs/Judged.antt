@@ -60,7 +60,7 @@ in-order low high [] h = h
 in-order low high (x ∷ a) h = omega (arith, h.0, h.1, in-order x.at.end high a h.2)
 
 -- a row of those that stand in order lies where they stand
-row-lies : (low high : ℕ) (rows : Rows Span) (i : ℕ) (x : Row Span) → StandBetween low high rows → slice_get rows i ≡ Some x → SpanLiesIn high x.at
+pub row-lies : (low high : ℕ) (rows : Rows Span) (i : ℕ) (x : Row Span) → StandBetween low high rows → slice_get rows i ≡ Some x → SpanLiesIn high x.at
 row-lies low high [] i x h e = absurd cc
 row-lies low high (y ∷ ys) zero x h e =
     let same : y ≡ x = cc in

@@ -11,3 +11,4 @@ pub mod Accepts
 pub mod Aggregates
 pub mod Extending
 pub mod Recovering
+pub mod Refusing

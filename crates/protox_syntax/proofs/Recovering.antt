@@ -1,5 +1,5 @@
 -- Rows that are skipped behind a refused statement, and what may be noted of those behind them.
-use Rattle.std.proofs.Common.{◌≡◌, ◌<◌, ◌≤◌, ◌-◌, ℕ, zero, suc, Bool, true, false, cond, List, [], ◌∷◌, ◌++◌, drop, length, Option, Some, None, Ok, refl, sym, ap, subst, ◌∙◌, append-nil, append_assoc, arith, inl, inr}
+use Rattle.std.proofs.Common.{◌≡◌, ◌<◌, ◌≤◌, ◌-◌, ℕ, zero, suc, Bool, true, false, cond, List, [], ◌∷◌, ◌++◌, drop, length, Option, Some, None, option_map, Ok, refl, sym, ap, subst, ◌∙◌, append-nil, append_assoc, arith, inl, inr}
 use Rattle.std.proofs.lemmas.List.{length-append, length-drop}
 use Rattle.std.specs.Prelude.{◌==◌, nat_lt}
 use Rattle.std.proofs.lemmas.Bool.{cases_lt, lt-ltb, le-ltb}
@@ -16,7 +16,7 @@ use Rattle.protox_ast.specs.Checks.{is_import_path, is_known_syntax, is_text, pa
 use Rattle.protox_ast.specs.KeywordWalk.{Given}
 use Rattle.protox_ast.specs.Places.{Place, placed}
 use Rattle.protox_ast.specs.Tree as tree
-use Rattle.protox_grammar.specs.Class.{among, in_set}
+use Rattle.protox_grammar.specs.Class.{among, in_set, only}
 use Rattle.protox_grammar.specs.Reader.{head_in}
 use Rattle.protox_grammar.specs.Steps.{ANode, APackage, AKeyword, ADeepBody, ADeeperBody, AnOpenBrace, ACloseBrace, Token, Note, Steps}
 use Rattle.protox_grammar.specs.Told.{Notes, at_once, behind, is_group_name, is_ident, is_invalid, node_notes, noted, one_note, past, span_of, told, unless_so}
@@ -29,7 +29,11 @@ use Rattle.protox_options.specs.Options.{here}
 use Rattle.protox_rows.specs.declared.refused.Refused.{Refused}
 use Rattle.protox_rows.specs.declared.refused.Refused.TheVariants.{OutOfMemory, At, TooDeep}
 use Rattle.protox_syntax.specs.Recovery.{AreLast, AreLater, AreNotable, FirstLies, IsBegun, LiesToo, Recovers, at_most, behind_block, from_statement, last_rows, next_rows, statement_words}
-use Rattle.protox_syntax.specs.Statements.{next_first, statement, statement_rule, statement_seen}
+use Rattle.protox_ast.specs.declared.ast.Comments.{Comments}
+use Rattle.protox_ast.specs.declared.ast.Syntax as syntax_type
+use Rattle.protox_grammar.specs.Rule as rule
+use Rattle.protox_grammar.specs.Rules as r
+use Rattle.protox_syntax.specs.Statements.{next_first, statement, statement_rule, statement_seen, syntax_if_any, syntax_seen}
 use Rattle.protox_syntax.specs.declared.statement_types.Statement as statement_type
 
 -- ---- the last of some rows
@@ -93,12 +97,12 @@ module _ (t : Table) where
   from-block rows = last-last rows (behind_block 0 rows) _ (block-last 0 rows) (from-last (behind_block 0 rows))
 
   pub next-last : (e : Refused) (most : ℕ) → AreLast t (next_rows t e most)
-  next-last OutOfMemory most = (placed t, sym (append-nil (placed t)))
+  next-last OutOfMemory most = drop-last (length t.rows - 0) (placed t)
   next-last (At left expected) most = last-last (placed t) (last_rows t (at_most most left)) _ (drop-last (length t.rows - at_most most left) (placed t)) (from-last (last_rows t (at_most most left)))
   next-last (TooDeep left) most = last-last (placed t) (last_rows t (at_most most (left - 1))) _ (drop-last (length t.rows - at_most most (left - 1)) (placed t)) (from-block (last_rows t (at_most most (left - 1))))
 
   pub next-fewer : (e : Refused) (most : ℕ) → length (next_rows t e most) ≤ most
-  next-fewer OutOfMemory most = omega arith
+  next-fewer OutOfMemory most = omega (arith, count-last 0)
   next-fewer (At left expected) most = within-last most left _ (from-last (last_rows t (at_most most left)))
   next-fewer (TooDeep left) most = within-last most (left - 1) _ (from-block (last_rows t (at_most most (left - 1))))
 
@@ -251,3 +255,17 @@ pub further-lies : (all xs ys : Rows Place) (q : Option Span) (x : statement_typ
 further-lies all xs ys q x last lies e low size h =
     let p = stand-after low size last.0 xs (subst (Stand low size) last.1 h) in
     next-lies q p.0 size xs ys x e (lies low size h) p.2
+
+-- the rows behind the syntax statement
+pub behind-syntax : (xs rest : Rows Place) (s : Option (syntax_type.Syntax × (Span × Comments))) → syntax_if_any.code xs ≡ Ok (s, rest) → IsLastOf xs rest
+behind-syntax xs rest s e =
+    let a = rule.optional (only 0) r.syntax in
+    let p = bind_ok (a.read xs) (λ y. Ok (option_map syntax_seen y.0, y.1)) (s, rest) (sym (syntax_if_any.shows.same xs) ∙ e) in
+    let same = ok_is (option_map syntax_seen p.0.0, p.0.1) (s, rest) p.2 in
+    subst (IsLastOf xs) (syntax_if_any.tells.left xs p.0 p.1 ∙ ap (λ (v : Option (syntax_type.Syntax × (Span × Comments)) × Rows Place). v.1) same) (past-last (a.trace xs) xs)
+
+pub first-of-all : (xs rest : Rows Place) (s : Option (syntax_type.Syntax × (Span × Comments))) (first : Option Span) → syntax_if_any.code xs ≡ Ok (s, rest) → FirstLies rest first → FirstLies xs first
+first-of-all xs rest s first e lies low size h =
+    let last = behind-syntax xs rest s e in
+    let p = stand-after low size last.0 rest (subst (Stand low size) last.1 h) in
+    lies p.0 size p.2

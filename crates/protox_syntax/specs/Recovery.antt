@@ -49,7 +49,7 @@ at_most most n = if nat_lt n most then n else most
 
 -- the rows with which reading goes on behind a statement that is refused, not more than these
 abbrev pub next_rows : Table → Refused → ℕ → Rows Place
-next_rows t OutOfMemory most = []
+next_rows t OutOfMemory most = last_rows t 0
 next_rows t (At left expected) most = from_statement (last_rows t (at_most most left))
 next_rows t (TooDeep left) most = from_statement (behind_block 0 (last_rows t (at_most most (left - 1))))
 

@@ -2,7 +2,7 @@
 
 ghost use Rattle.std.specs.Prelude.{◌≡◌, ◌≢◌, ◌<◌, ◌++◌, [], OnOk, length};
 ghost use Rattle.protox_grammar.specs.Told.{Notes};
-ghost use Rattle.protox_syntax.specs.Recovery.{AreLast, AreLater, IsBegun, LiesToo, Recovers, at_most, behind_block, from_statement, next_rows, plain_note, refusal_notes};
+ghost use Rattle.protox_syntax.specs.Recovery.{AreLast, AreLater, IsBegun, LiesToo, Recovers, at_most, behind_block, from_statement, last_rows, next_rows, plain_note, refusal_notes};
 ghost use Rattle.protox_syntax.specs.Statements.{next_first};
 
 use crate::progress::refusal;
@@ -61,21 +61,34 @@ fn at_most(most: usize, left: usize) -> usize
     if left < most { left } else { most }
 }
 
+// Of so many last rows, those from the next statement on.
+fn from_last<'t, 'a>(table: &'t TokenTable<'a>, count: usize) -> Unread<'t, 'a>
+    ensures { result ≡ from_statement (last_rows table.now count) }
+{
+    let mut rows = Unread::last(table, count);
+    skip_to_statement(&mut rows);
+    rows
+}
+
+// Of so many last rows, those from the next statement on behind the block that is open.
+fn behind_last<'t, 'a>(table: &'t TokenTable<'a>, count: usize) -> Unread<'t, 'a>
+    ensures { result ≡ from_statement (behind_block 0 (last_rows table.now count)) }
+{
+    let mut rows = Unread::last(table, count);
+    skip_block(&mut rows);
+    skip_to_statement(&mut rows);
+    rows
+}
+
 // The rows with which reading goes on behind a refused statement, at most so many.
 fn next_rows<'t, 'a>(table: &'t TokenTable<'a>, refused: &Refused, most: usize) -> Unread<'t, 'a>
     ensures { result ≡ next_rows table.now refused.now most }
 {
-    let mut rows = match refused {
+    match refused {
         Refused::OutOfMemory => Unread::last(table, 0),
-        Refused::At { left, .. } => Unread::last(table, at_most(most, *left)),
-        Refused::TooDeep { left } => {
-            let mut block = Unread::last(table, at_most(most, left.saturating_sub(1)));
-            skip_block(&mut block);
-            block
-        }
-    };
-    skip_to_statement(&mut rows);
-    rows
+        Refused::At { left, .. } => from_last(table, at_most(most, *left)),
+        Refused::TooDeep { left } => behind_last(table, at_most(most, left.saturating_sub(1))),
+    }
 }
 
 // Nothing that is skipped is in text format.

@@ -6,4 +6,4 @@ pub overflow_add-total : goal.overflow_add-total
 overflow_add-total c = omega (arith, c.rows-total.ensures, total-fits c.args.table.now c.args.size c.requires.table)
 
 pub returns : goal.returns
-returns c = stopped-judged c.args.table.now c.args.size c.requires.table c.args.notes.items _ _ c.in_ok-errors.errors.items (ap (λ n. n + 1) c.rows-total.ensures) c.requires.notes c.requires.some c.first_left.ensures c.in_ok-errors.ensures
+returns c = stopped-judged c.args.table.now c.args.size c.requires.table c.args.notes.items _ _ c.in_ok-errors.errors.items (ap (λ n. n + 1) c.rows-total.ensures) c.requires.notes c.requires.some c.first_left-left.ensures c.in_ok-errors.ensures

@@ -39,7 +39,11 @@ pub returns-clause-notes : goal.returns-clause-notes
 returns-clause-notes c = no-notes (rule.first_place c.more.file) c.args.notes.now.items c.more.notes.items c.more.notes.items (rule.notes_behind None c.args.rows.now) c.more.rows (turns.none_left c.more.rows (sym c.is_empty.ensures ∙ c.more-test.false)) c.more.invariant.notes
 
 pub returns-in_err-statement-clause-first : goal.returns-in_err-statement-clause-first
-returns-in_err-statement-clause-first c = subst (FirstLies c.args.rows.now) (sym c.first_place.ensures) c.more.invariant.first
+returns-in_err-statement-clause-first c =
+    let p = err_from_is_err_and c.from_residual.result c.from_residual.ensures.1 in
+    rw (p.1) (subst (FirstLies c.args.rows.now) (sym c.first_place.ensures) c.more.invariant.first)
 
 pub returns-in_err-put_statement-clause-first : goal.returns-in_err-put_statement-clause-first
-returns-in_err-put_statement-clause-first c = subst (FirstLies c.args.rows.now) (sym c.first_place.ensures) c.more.invariant.first
+returns-in_err-put_statement-clause-first c =
+    let p = err_from_is_err_and c.from_residual-in_err-put_statement.result c.from_residual-in_err-put_statement.ensures.1 in
+    rw (p.1) (subst (FirstLies c.args.rows.now) (sym c.first_place.ensures) c.more.invariant.first)

@@ -1,0 +1,10 @@
+use Rattle.std.proofs.Common.{◌+◌, ap, arith}
+use Rattle.protox_syntax.proofs.Judged.{total-fits, recovered-judged}
+use Rattle.protox_syntax.proofs.judge.recovered.Goals as goal
+
+pub overflow_add-total : goal.overflow_add-total
+overflow_add-total c = omega (arith, c.rows-total.ensures, total-fits c.args.table.now c.args.size c.requires.table)
+
+pub returns : goal.returns
+returns c =
+    recovered-judged c.args.table.now c.args.size c.requires.table c.args.refused c.args.first c.args.noted.items c.recover.new.notes.items _ c.in_ok-errors.errors.items (ap (λ n. n + 1) c.rows-total.ensures) c.requires.read c.requires.noted c.requires.first c.in_ok-recover.ensures c.in_ok-errors.ensures

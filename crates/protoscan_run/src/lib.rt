@@ -18,6 +18,9 @@ const REFUSED: u8 = 1;
 /// The status where there is no file, no text, no memory, or a write failed.
 pub const FAILED: u8 = 2;
 
+/// The line that says that memory ran out.
+const OUT_OF_MEMORY: &str = "protoscan: out of memory\n";
+
 /// How many bytes of lines are written at a time, but for those of one line more.
 const AT_ONCE: usize = 16384;
 
@@ -115,14 +118,42 @@ fn scan<W: Write, E: Write>(
             writeln!(err, "{error:?}")?;
             Ok(REFUSED)
         }
-        Err(ParseFailure::OutOfMemory) => Ok(FAILED),
+        Err(ParseFailure::OutOfMemory) => Ok(failed(err, OUT_OF_MEMORY, "", "")),
     }
+}
+
+// A line in three parts, for which no memory is asked.
+fn write_line<E: Write>(err: &mut E, before: &str, name: &str, behind: &str) -> io::Result<()> {
+    err.write_all(before.as_bytes())?;
+    err.write_all(name.as_bytes())?;
+    err.write_all(behind.as_bytes())
+}
+
+// Says why nothing is printed. Where that can't be written, nothing more is.
+fn failed<E: Write>(err: &mut E, before: &str, name: &str, behind: &str) -> u8
+    ensures { result ≡ 2 }
+{
+    match write_line(err, before, name, behind) {
+        Ok(()) => FAILED,
+        Err(_) => FAILED,
+    }
+}
+
+/// The status where reading or writing failed. Where memory ran out, this is said; of a failed write nothing is.
+pub fn broken<E: Write>(err: &mut E, error: &io::Error) -> u8
+    ensures { result ≡ 2 }
+{
+    if error.kind() == io::ErrorKind::OutOfMemory {
+        return failed(err, OUT_OF_MEMORY, "", "");
+    }
+    FAILED
 }
 
 /// Parses `file` under the name that is the only one of `words`, and writes its locations to `out`
 /// or what is wrong with it to `err`. The answer is the status: 0 where the file was accepted, 1
 /// where it was refused, 2 where there is not one word, no file (`None`: it could not be read), no
-/// UTF-8 text, or where memory ran out or a write failed.
+/// UTF-8 text, or where memory ran out; each of these in a line of its own to `err`. It is 2 too where
+/// a write failed, and then nothing more is written.
 pub fn run<W: Write, E: Write>(
     alloc: Global,
     words: &[String],
@@ -137,13 +168,16 @@ pub fn run<W: Write, E: Write>(
     ensures refused { result ≡ 1 → IfSome file.entry (λ bytes. IsFile bytes.now → ⊥) }
 {
     let [name] = words else {
-        return FAILED;
+        return failed(err, "usage: protoscan FILE\n", "", "");
     };
     let Some(bytes) = file else {
-        return FAILED;
+        return failed(err, "protoscan: cannot read ", name.as_str(), "\n");
     };
-    match str::from_utf8(bytes) {
-        Ok(source) => scan(alloc, name.as_str(), source, out, err).unwrap_or(FAILED),
-        Err(_) => FAILED,
+    let Ok(source) = str::from_utf8(bytes) else {
+        return failed(err, "protoscan: ", name.as_str(), " is not UTF-8\n");
+    };
+    match scan(alloc, name.as_str(), source, out, err) {
+        Ok(status) => status,
+        Err(error) => broken(err, &error),
     }
 }

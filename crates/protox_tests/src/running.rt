@@ -51,10 +51,10 @@ fn runs(rt: HostRuntime) -> Result<(), Fail> {
 #[test]
 fn without_a_file_to_read(rt: HostRuntime) -> Result<(), Fail> {
     let missing = scanned_as(rt.alloc(), "a", None)?;
-    assert_eq!(rt; missing.as_str(), "2");
+    assert_eq!(rt; missing.as_str(), "protoscan: cannot read a\n2");
     let bytes = scanned_as(rt.alloc(), "a", Some([255, 254].as_slice()))?;
-    assert_eq!(rt; bytes.as_str(), "2");
+    assert_eq!(rt; bytes.as_str(), "protoscan: a is not UTF-8\n2");
     let wordless = scanned(rt.alloc(), &[], Some(b"".as_slice()))?;
-    assert_eq!(rt; wordless.as_str(), "2");
+    assert_eq!(rt; wordless.as_str(), "usage: protoscan FILE\n2");
     Ok(())
 }

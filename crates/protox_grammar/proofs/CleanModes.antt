@@ -1,5 +1,5 @@
 -- A source's lexemes are clean exactly where no gap and no row of its table has a fault in the mode of its place.
-use Rattle.std.proofs.Common.{◌≡◌, ◌↔◌, ◌+◌, ℕ, zero, suc, Bool, true, false, not, cond, List, [], ◌∷◌, ◌++◌, refl, sym, ap, subst, ◌∙◌, arith, true≢false}
+use Rattle.std.proofs.Common.{◌≡◌, ◌↔◌, ◌+◌, ℕ, zero, suc, Bool, true, false, not, cond, List, [], ◌∷◌, ◌++◌, refl, sym, ap, subst, ◌∙◌, arith, append-nil, true≢false}
 use Rattle.std.specs.Prelude.{slice_index_or}
 use Rattle.std.proofs.lemmas.List.Elements.{filter-append}
 use Rattle.protox_fault.specs.Faults.{Span, faults_in, is_of_mode, span_from}
@@ -14,10 +14,12 @@ Faults = List ParseErrorKind
 
 -- ---- faults in a mode
 
+-- the faults in a mode of two lists are those of the one and then those of the other
 pub in-append : (b : Bool) (x y : Faults) → faults_in b (x ++ y) ≡ faults_in b x ++ faults_in b y
 in-append true x y = filter-append (λ f. not (is_of_mode f)) x y
 in-append false x y = refl
 
+-- no faults are none in each mode
 pub in-none : (b : Bool) → faults_in b [] ≡ []
 in-none true = refl
 in-none false = refl
@@ -30,7 +32,8 @@ last-none : (x y : Faults) → x ++ y ≡ [] → y ≡ []
 last-none [] y e = e
 last-none (f ∷ x) y e = absurd cc
 
-both-none : (b : Bool) (x y : Faults) → faults_in b (x ++ y) ≡ [] → (faults_in b x ≡ []) × (faults_in b y ≡ [])
+-- none in two lists: none in each
+pub both-none : (b : Bool) (x y : Faults) → faults_in b (x ++ y) ≡ [] → (faults_in b x ≡ []) × (faults_in b y ≡ [])
 both-none b x y e = let h = sym (in-append b x y) ∙ e in (first-none (faults_in b x) (faults_in b y) h, last-none (faults_in b x) (faults_in b y) h)
 
 none-both : (b : Bool) (x y : Faults) → faults_in b x ≡ [] → faults_in b y ≡ [] → faults_in b (x ++ y) ≡ []
@@ -58,6 +61,35 @@ invalid-none b Newline span h = in-none b
 gap-valid : (s : Shape) → is_gap s ≡ true → s ≡ Invalid → ⊥
 gap-valid s g e = true≢false (sym (subst (λ v. is_gap v ≡ true) e g))
 
+-- a comment or a newline has no faults but its own
+pub gap-own : (x : Lexeme) → is_gap x.shape ≡ true → row_faults x ≡ x.faults
+gap-own x g = ap (λ fs. x.faults ++ fs) (invalid-none false x.shape (span_from x.start x.stop) (gap-valid x.shape g)) ∙ append-nil x.faults
+
+-- ---- one lexeme, in a mode that is that of an aggregate only inside one
+
+fault-clean : (lexemes : List Lexeme) (b : Bool) (k : ℕ) (fs : Faults) → (b ≡ true → Inside lexemes k) → faults_in b fs ≡ [] → (faults_in true fs ≡ []) × ((fs ≡ [] → ⊥) → Inside lexemes k)
+fault-clean lexemes true k fs inside h = (h, λ some. inside refl)
+fault-clean lexemes false k fs inside h = (ap (faults_in true) h, λ some. absurd (some h))
+
+-- A lexeme with no fault in its mode is clean.
+pub lexeme-clean : (lexemes : List Lexeme) (b : Bool) (k : ℕ) (x : Lexeme) → (b ≡ true → Inside lexemes k) → faults_in b (row_faults x) ≡ [] → IsCleanBehind lexemes k x
+lexeme-clean lexemes b k x inside h =
+    let span : Span = span_from x.start x.stop in
+    let p = both-none b x.faults (invalid_faults x.shape span) h in
+    let q = fault-clean lexemes b k x.faults inside p.0 in
+    ((λ is. invalid-some b x.shape span is p.1), q.0, q.1)
+
+-- ---- entries
+
+entry-by : (x : Lexeme) (xs : List Lexeme) → (fs : Faults) × (fss : List Faults) × (faults_of xs ≡ fs ∷ fss) → (b : Bool) → (fs : Faults) × (fss : List Faults) × (cond b (in_front x.faults (faults_of xs)) (row_faults x ∷ faults_of xs) ≡ fs ∷ fss)
+entry-by x xs e true = (x.faults ++ e.0, e.1, ap (in_front x.faults) e.2)
+entry-by x xs e false = (row_faults x, faults_of xs, refl)
+
+-- a source has a first entry
+pub some-entry : (xs : List Lexeme) → (fs : Faults) × (fss : List Faults) × (faults_of xs ≡ fs ∷ fss)
+some-entry [] = ([], [], refl)
+some-entry (x ∷ xs) = entry-by x xs (some-entry xs) (is_gap x.shape)
+
 -- ---- the modes of places: where a file goes on inside an aggregate
 
 module _ (lexemes : List Lexeme) (on : ℕ → Bool) (is_inside : (k : ℕ) → on k ≡ true → Inside lexemes k) (is_on : (k : ℕ) → Inside lexemes k → on k ≡ true) where
@@ -66,10 +98,6 @@ module _ (lexemes : List Lexeme) (on : ℕ → Bool) (is_inside : (k : ℕ) → 
   clean-fault true k fs e h inside = h
   clean-fault false k [] e h inside = refl
   clean-fault false k (f ∷ fs) e h inside = absurd (true≢false (sym (is_on k (inside (λ g. absurd cc))) ∙ e))
-
-  fault-clean : (b : Bool) (k : ℕ) (fs : Faults) → on k ≡ b → faults_in b fs ≡ [] → (faults_in true fs ≡ []) × ((fs ≡ [] → ⊥) → Inside lexemes k)
-  fault-clean true k fs e h = (h, λ some. is_inside k e)
-  fault-clean false k fs e h = (ap (faults_in true) h, λ some. absurd (some h))
 
   abbrev NoneFrom : ℕ → List Faults → Type 0
   NoneFrom n fss = (k : ℕ) → faults_in (on (n + k)) (slice_index_or fss k []) ≡ []
@@ -94,14 +122,6 @@ module _ (lexemes : List Lexeme) (on : ℕ → Bool) (is_inside : (k : ℕ) → 
       let both = both-none (on n) ys fs (none-first n (ys ++ fs) fss h) in
       (both.0, none-from n fs fss both.1 (none-later n (ys ++ fs) fss h))
 
-  entry-by : (x : Lexeme) (xs : List Lexeme) → (fs : Faults) × (fss : List Faults) × (faults_of xs ≡ fs ∷ fss) → (b : Bool) → (fs : Faults) × (fss : List Faults) × (cond b (in_front x.faults (faults_of xs)) (row_faults x ∷ faults_of xs) ≡ fs ∷ fss)
-  entry-by x xs e true = (x.faults ++ e.0, e.1, ap (in_front x.faults) e.2)
-  entry-by x xs e false = (row_faults x, faults_of xs, refl)
-
-  some-entry : (xs : List Lexeme) → (fs : Faults) × (fss : List Faults) × (faults_of xs ≡ fs ∷ fss)
-  some-entry [] = ([], [], refl)
-  some-entry (x ∷ xs) = entry-by x xs (some-entry xs) (is_gap x.shape)
-
   nothing-there : (n k : ℕ) → faults_in (on (n + k)) (slice_index_or ([] ∷ []) k []) ≡ []
   nothing-there n zero = in-none (on (n + 0))
   nothing-there n (suc k) = in-none (on (n + suc k))
@@ -119,8 +139,7 @@ module _ (lexemes : List Lexeme) (on : ℕ → Bool) (is_inside : (k : ℕ) → 
       back c =
           let e = some-entry xs in
           let p = in-front-none n x.faults e.0 e.1 (subst (λ v. NoneFrom n (in_front x.faults v)) e.2 c) in
-          let q = fault-clean (on n) n x.faults refl p.0 in
-          ((gap-valid x.shape g, q.0, q.1), h.1 (subst (NoneFrom n) (sym e.2) p.1))
+          (lexeme-clean lexemes (on n) n x (is_inside n) (ap (faults_in (on n)) (gap-own x g) ∙ p.0), h.1 (subst (NoneFrom n) (sym e.2) p.1))
   one-step false n x xs g h = (forth, back)
     where
       forth : IsCleanBehind lexemes n x × AreCleanBehind lexemes (suc n) xs → NoneFrom n (row_faults x ∷ faults_of xs)
@@ -128,10 +147,7 @@ module _ (lexemes : List Lexeme) (on : ℕ → Bool) (is_inside : (k : ℕ) → 
           (none-both (on n) x.faults (invalid_faults x.shape (span_from x.start x.stop)) (clean-fault (on n) n x.faults refl c.0.1 c.0.2) (invalid-none (on n) x.shape (span_from x.start x.stop) c.0.0)) (h.0 c.1)
 
       back : NoneFrom n (row_faults x ∷ faults_of xs) → IsCleanBehind lexemes n x × AreCleanBehind lexemes (suc n) xs
-      back c =
-          let p = both-none (on n) x.faults (invalid_faults x.shape (span_from x.start x.stop)) (none-first n (row_faults x) (faults_of xs) c) in
-          let q = fault-clean (on n) n x.faults refl p.0 in
-          (((λ is. invalid-some (on n) x.shape (span_from x.start x.stop) is p.1), q.0, q.1), h.1 (none-later n (row_faults x) (faults_of xs) c))
+      back c = (lexeme-clean lexemes (on n) n x (is_inside n) (none-first n (row_faults x) (faults_of xs) c), h.1 (none-later n (row_faults x) (faults_of xs) c))
 
   clean-from : (n : ℕ) (xs : List Lexeme) → AreCleanBehind lexemes n xs ↔ NoneFrom n (faults_of xs)
   clean-from n [] = ((λ h k. nothing-there n k), (λ h. tt))

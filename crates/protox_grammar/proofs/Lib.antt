@@ -65,4 +65,6 @@ pub mod Kept
 pub mod NotedWrong
 pub mod NotedModes
 pub mod CleanModes
+pub mod CleanFronts
+pub mod ModeFaults
 pub mod Tests

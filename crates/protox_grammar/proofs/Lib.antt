@@ -66,3 +66,4 @@ pub mod NotedWrong
 pub mod NotedModes
 pub mod CleanModes
 pub mod Tests
+pub mod NonePassed

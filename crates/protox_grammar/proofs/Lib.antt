@@ -67,3 +67,4 @@ pub mod NotedModes
 pub mod CleanModes
 pub mod Tests
 pub mod NonePassed
+pub mod FirstCheck

@@ -68,3 +68,5 @@ pub mod CleanModes
 pub mod Tests
 pub mod NonePassed
 pub mod FirstCheck
+pub mod FirstWords
+pub mod CheckedFirst

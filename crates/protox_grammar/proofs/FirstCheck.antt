@@ -72,7 +72,7 @@ not-so : (b : Bool) → b ≡ false → b ≡ true → ⊥
 not-so true e f = absurd cc
 not-so false e f = absurd cc
 
-node-by : (x : CheckedNode Place) (xs : Rows Place) → (node_notes x xs ≡ []) ⊎ IsNodeFault x xs
+pub node-by : (x : CheckedNode Place) (xs : Rows Place) → (node_notes x xs ≡ []) ⊎ IsNodeFault x xs
 node-by (ASyntax x) xs = elim (test-by (is_known_syntax (strings_value x)) (fault.UnknownSyntax (strings_span x) (text_of (strings_value x))) xs) [
   | inl e ↦ inl e
   | inr e ↦ inr (record { fault = fault.UnknownSyntax (strings_span x) (text_of (strings_value x)); left = length xs; more = []; is = e.2; left_is = e.1; is_wrong = (e.0, refl) })

@@ -70,3 +70,5 @@ pub mod NonePassed
 pub mod FirstCheck
 pub mod FirstWords
 pub mod CheckedFirst
+pub mod Falling
+pub mod InsideModes

@@ -63,11 +63,11 @@ some-at-once : (b : Bool) (f : ParseErrorKind) (xs : Rows Place) → IsFaultless
 some-at-once true f xs h = refl
 some-at-once false f xs h = absurd h.0
 
-ident-test : (name : List ℕ) → Decides (is_ident name) (IsIdent name)
+pub ident-test : (name : List ℕ) → Decides (is_ident name) (IsIdent name)
 ident-test [] = ((λ e. absurd (true≢false (sym e))), (λ h. absurd h))
 ident-test (c ∷ cs) = ident-decides c cs
 
-group-name-test : (name : List ℕ) → Decides (is_group_name name) (IsGroupName name)
+pub group-name-test : (name : List ℕ) → Decides (is_group_name name) (IsGroupName name)
 group-name-test [] = ((λ e. absurd (true≢false (sym e))), (λ h. absurd h))
 group-name-test (c ∷ cs) = group-name-decides c cs
 

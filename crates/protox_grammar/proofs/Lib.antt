@@ -68,3 +68,9 @@ pub mod CleanModes
 pub mod CleanFronts
 pub mod ModeFaults
 pub mod Tests
+pub mod NonePassed
+pub mod FirstCheck
+pub mod FirstWords
+pub mod CheckedFirst
+pub mod Falling
+pub mod InsideModes

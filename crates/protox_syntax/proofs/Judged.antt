@@ -1,5 +1,5 @@
 -- What is judged of a table.
-use Rattle.std.proofs.Common.{◌≡◌, ◌≤◌, ◌<◌, ◌+◌, ◌-◌, ◌^◌, ℕ, zero, suc, Bool, true, false, cond, List, [], ◌∷◌, ◌++◌, length, Option, Some, None, Result, Ok, Err, refl, sym, ap, subst, ◌∙◌, append-nil, arith}
+use Rattle.std.proofs.Common.{◌≡◌, ◌≤◌, ◌<◌, ◌+◌, ◌-◌, ◌^◌, ℕ, zero, suc, Bool, true, false, cond, List, [], ◌∷◌, ◌++◌, length, Option, Some, None, Result, Ok, Err, refl, sym, ap, subst, ◌∙◌, append-nil, append_assoc, arith}
 use Rattle.std.specs.Prelude.{slice_index_or, slice_get, option_to_list}
 use Rattle.std.specs.List.{All}
 use Rattle.protox_fault.specs.Faults.{Span, SpanLiesIn, LiesIn, faults_in}
@@ -30,11 +30,11 @@ use Rattle.protox_syntax.specs.Whole.{Whole, whole, all_notes}
 use Rattle.protox_syntax.specs.Recovery.{FirstLies, IsBegun, Recovers, fault_note, plain_note}
 use Rattle.protox_syntax.specs.Weave.{weave, refusal, row_at}
 use Rattle.protox_syntax.specs.Judging.{IsTableOf, IsWhole, IsWoven, stopped, ended, recovered, finished, all_faults, first_left, total_of}
-use Rattle.protox_syntax.proofs.Extending.{IsFront, weave-behind, weave-fault}
 use Rattle.protox_syntax.proofs.Entries.{append-empty, all-each, each-at, invalid-faulty}
 use Rattle.protox_syntax.proofs.Modes.{faults-none}
 use Rattle.protox_syntax.proofs.Reading.{left-within, deep-behind, none-read, notes-lie}
 use Rattle.protox_syntax.proofs.SyntaxNotes.{syntax-faults}
+use Rattle.protox_syntax.proofs.WeaveParts.{Grows, weave-behind, weave-note}
 use Rattle.protox_syntax.proofs.Weaving.{each-append, faultless, weave-lie, weave-seen}
 
 -- what is said of the faults of a table
@@ -76,7 +76,7 @@ bare-get [] i r e = absurd cc
 bare-get (x ∷ xs) zero r e = let same : x ≡ r = cc in ap (λ v. Some (bare_row v)) same
 bare-get (x ∷ xs) (suc i) r e = bare-get xs i r e
 
-front-faultless : (xs : Rows Place) → IsFaultless (all_notes xs) → IsFaultless (syntax_if_any.notes xs)
+pub front-faultless : (xs : Rows Place) → IsFaultless (all_notes xs) → IsFaultless (syntax_if_any.notes xs)
 unfolding all_notes
 front-faultless xs f = faultless-first (syntax_if_any.notes xs) (then_notes (notes_behind None) (syntax_if_any.code xs)) f
 
@@ -186,11 +186,13 @@ module _ (t : Table) (size : ℕ) (tab : IsTableOf size t) where
 
   -- what is woven with these notes begins with what is woven up to the refused row
   behind-up-to : (left : ℕ) (o : Option ParseErrorKind) (later : Notes)
-      → IsFront (weave t.faults (total_of t) (all_notes (placed t)) left ++ option_to_list o) (weave t.faults (total_of t) (all_notes (placed t) ++ ((fault_note left o ++ plain_note left) ++ later)) 0)
+      → Grows (weave t.faults (total_of t) (all_notes (placed t)) left ++ option_to_list o) (weave t.faults (total_of t) (all_notes (placed t) ++ ((fault_note left o ++ plain_note left) ++ later)) 0)
   behind-up-to left None later =
       let front = weave-behind t.faults (total_of t) (all_notes (placed t)) (record { left = left; noted = TextFormat false }) later left 0 (omega arith) in
       (front.0, front.1 ∙ ap (λ v. v ++ front.0) (sym (append-nil (weave t.faults (total_of t) (all_notes (placed t)) left))))
-  behind-up-to left (Some f) later = weave-fault t.faults (total_of t) (all_notes (placed t)) f (plain_note left ++ later) left 0
+  behind-up-to left (Some f) later =
+      let front = weave-note t.faults (total_of t) (all_notes (placed t)) (plain_note left ++ later) f left 0 in
+      (front.0, front.1 ∙ sym (append_assoc (weave t.faults (total_of t) (all_notes (placed t)) left) (f ∷ []) front.0))
 
   some-recovered : (e : Refused) (begun later : Notes) → Fails e (whole (placed t)) → IsBegun t.rows e begun → weave t.faults (total_of t) (all_notes (placed t) ++ (begun ++ later)) 0 ≡ [] → ⊥
   some-recovered OutOfMemory begun later read h n = absurd h

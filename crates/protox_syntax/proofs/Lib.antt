@@ -9,6 +9,8 @@ pub mod SyntaxNotes
 pub mod Judged
 pub mod Accepts
 pub mod Aggregates
-pub mod Extending
+pub mod WeaveParts
+pub mod WeaveFirst
 pub mod Recovering
 pub mod Refusing
+pub mod LexicalAlone

@@ -117,7 +117,7 @@ told-fall p w (Note (ACloseBrace m) ∷ l) xs f = (omega arith, told-fall p w l 
 
 -- ---- lexemes that are clean are tokens
 
-abbrev AreValid : Rows Span → Type 0
+abbrev pub AreValid : Rows Span → Type 0
 AreValid rows = k.Each (λ (r : Row Span). is_invalid r.shape ≡ false) rows
 
 not-invalid : (s : Shape) → (s ≡ Invalid → ⊥) → is_invalid s ≡ false
@@ -131,7 +131,7 @@ not-invalid (LineComment t) h = refl
 not-invalid (BlockComment t) h = refl
 not-invalid Newline h = refl
 
-valid-by : (x : Lexeme) (xs : List Lexeme) (b : Bool) → (x.shape ≡ Invalid → ⊥) → AreValid (rows_of xs) → AreValid (cond b (rows_of xs) (record { shape = x.shape; at = span_from x.start x.stop } ∷ rows_of xs))
+pub valid-by : (x : Lexeme) (xs : List Lexeme) (b : Bool) → (x.shape ≡ Invalid → ⊥) → AreValid (rows_of xs) → AreValid (cond b (rows_of xs) (record { shape = x.shape; at = span_from x.start x.stop } ∷ rows_of xs))
 valid-by x xs true h g = g
 valid-by x xs false h g = (not-invalid x.shape h, g)
 
@@ -139,7 +139,7 @@ clean-valid : (all : List Lexeme) (n : ℕ) (xs : List Lexeme) → AreCleanBehin
 clean-valid all n [] h = tt
 clean-valid all n (x ∷ xs) h = valid-by x xs (is_gap x.shape) h.0.0 (clean-valid all _ xs h.1)
 
-valid-tokens : (first : Bool) (rows : Rows Span) (gaps : List (List Shape)) → AreValid rows → AreTokens (placed_from first rows gaps)
+pub valid-tokens : (first : Bool) (rows : Rows Span) (gaps : List (List Shape)) → AreValid rows → AreTokens (placed_from first rows gaps)
 valid-tokens first [] gaps h = tt
 valid-tokens first (r ∷ rs) gaps h = (h.0, valid-tokens false rs (later_gaps gaps) h.1)
 
@@ -187,7 +187,7 @@ module _ (lexemes : List Lexeme) (f : tree.File Place) (spelled : Spells (placed
   abbrev open_at : ℕ → Bool
   open_at n = open_behind false (until n (trace levels rows))
 
-  abbrev on : ℕ → Bool
+  abbrev pub on : ℕ → Bool
   on n = cond (nat_lt (length rows) n) false (open_at n)
 
   on-within : (n : ℕ) → n ≤ length rows → on n ≡ open_at n
@@ -196,7 +196,7 @@ module _ (lexemes : List Lexeme) (f : tree.File Place) (spelled : Spells (placed
   on-beyond : (n : ℕ) → length rows < n → on n ≡ false
   on-beyond n h = ap (λ c. cond c false (open_at n)) (lt-ltb (length rows) n h)
 
-  is_inside : (n : ℕ) → on n ≡ true → Inside lexemes n
+  pub is_inside : (n : ℕ) → on n ≡ true → Inside lexemes n
   is_inside n e = elim (cases_lt (length rows) n) [
     | inl lt ↦ absurd (true≢false (sym e ∙ on-beyond n lt))
     | inr le ↦
@@ -205,7 +205,7 @@ module _ (lexemes : List Lexeme) (f : tree.File Place) (spelled : Spells (placed
         insides.open_is_inside lexemes n (flat n) took open_now
   ]
 
-  is_on : (n : ℕ) → Inside lexemes n → on n ≡ true
+  pub is_on : (n : ℕ) → Inside lexemes n → on n ≡ true
   is_on n i =
       let le : n ≤ length rows = omega (arith, i.1.there, many, shapes-many (rows_of lexemes)) in
       on-within n le ∙ (noted_alike lexemes n).is_open false ∙ insides.inside_is_open lexemes n (flat n) i
@@ -216,7 +216,7 @@ module _ (lexemes : List Lexeme) (f : tree.File Place) (spelled : Spells (placed
   abbrev pub entries : List (List ParseErrorKind)
   entries = faults_of lexemes
 
-  mode-is : (n : ℕ) → n < total → mode_at false (total - suc n) (all_notes rows) ≡ on n
+  pub mode-is : (n : ℕ) → n < total → mode_at false (total - suc n) (all_notes rows) ≡ on n
   mode-is n h =
       let le : n ≤ length rows = omega (arith, h, many) in
       let count : length rows ≡ n + (total - suc n) = omega (arith, h, many) in
@@ -238,12 +238,12 @@ module _ (lexemes : List Lexeme) (f : tree.File Place) (spelled : Spells (placed
   unfolding bodies.file
   keeps = main.may-of here levels f spelled.1
 
-  wrong : AreTokens rows → IsFaultless (all_notes rows) ↔ NothingWrong f
+  pub wrong : AreTokens rows → IsFaultless (all_notes rows) ↔ NothingWrong f
   wrong a =
       let h = noted-wrong here rows f a keeps (taken lexemes f spelled deep).same in
       (λ g. h.0 (subst IsFaultless (sym (file-told rows)) g), λ g. subst IsFaultless (file-told rows) (h.1 g))
 
-  falls : IsFaultless (all_notes rows) → Fall (suc (length rows)) (all_notes rows)
+  pub falls : IsFaultless (all_notes rows) → Fall (suc (length rows)) (all_notes rows)
   falls g = subst (Fall (suc (length rows))) (file-told rows) (told-fall None here (trace levels rows) rows (subst IsFaultless (sym (file-told rows)) g))
 
   pub no-faults : (weave entries total (all_notes rows) 0 ≡ []) ↔ (NothingWrong f × AreClean lexemes)

@@ -11,6 +11,7 @@ use Rattle.protox_grammar.specs.Told.{Notes}
 use Rattle.protox_grammar.specs.declared.note.Note.{Note}
 use Rattle.protox_grammar.specs.declared.note.Noted.{Noted}
 use Rattle.protox_grammar.specs.declared.note.Noted.TheVariants.{Fault, TextFormat}
+pub use Rattle.protox_grammar.proofs.Falling.{Fall}
 use Rattle.protox_grammar.proofs.FineNotes.{IsNoFault, IsFaultless}
 use Rattle.protox_grammar.proofs.NotedModes.{mode_at, mode_of}
 use Rattle.protox_grammar.proofs.Telling.{AllLie, NotedLies}
@@ -24,10 +25,11 @@ pub each-append : {A : Type 0} (P : A → Type 0) (xs ys : List A) → Each P xs
 each-append P [] ys h k = k
 each-append P (x ∷ xs) ys h k = (h.0, each-append P xs ys h.1 k)
 
--- each note is made where no more rows are left than where the one before it was
-abbrev pub Fall : ℕ → Notes → Type 0
-Fall bound [] = Unit {0}
-Fall bound (n ∷ ns) = (n.left ≤ bound) × Fall n.left ns
+-- where no note is made while more rows are left, the mode stays
+pub unset : (m : Bool) (left bound : ℕ) (ns : Notes) → Fall bound ns → bound ≤ left → mode_at m left ns ≡ m
+unset m left bound [] h g = refl
+unset m left bound (n ∷ ns) h g =
+    ap (λ c. mode_at (cond c (mode_of m n.noted) m) left ns) (le-ltb left n.left (omega (arith, h.0, g))) ∙ unset m left n.left ns h.1 (omega (arith, h.0, g))
 
 module _ (faults : List Faults) (total : ℕ) where
   play-more : (xs : Notes) (x : Note) (p : Progress) → play faults total (xs ++ x ∷ []) p ≡ noted_in faults total x (play faults total xs p)
@@ -129,11 +131,6 @@ module _ (faults : List Faults) (total : ℕ) where
   -- no row from there on has a fault in its mode
   abbrev pub AreClear : Bool → Notes → ℕ → Type 0
   AreClear mode notes next = (k : ℕ) → next ≤ k → k < total → faults_in (mode_at mode (total - suc k) notes) (slice_index_or faults k []) ≡ []
-
-  unset : (m : Bool) (left bound : ℕ) (ns : Notes) → Fall bound ns → bound ≤ left → mode_at m left ns ≡ m
-  unset m left bound [] h g = refl
-  unset m left bound (n ∷ ns) h g =
-      ap (λ c. mode_at (cond c (mode_of m n.noted) m) left ns) (le-ltb left n.left (omega (arith, h.0, g))) ∙ unset m left n.left ns h.1 (omega (arith, h.0, g))
 
   abbrev IsEmptyAt : Notes → Progress → Type 0
   IsEmptyAt ns p = (read_to faults total 0 (play faults total ns p)).errors ≡ []

@@ -5,3 +5,4 @@ pub mod Recovery
 pub mod Judging
 pub mod ExpectedTokens
 pub mod Aggregates
+pub mod LexicalFaults

@@ -7,6 +7,7 @@ ghost use Rattle.protox_ast.specs.Tree as tree;
 ghost use Rattle.protox_ast.specs.Places.{Place};
 ghost use Rattle.protox_grammar.specs.Grammar.{OneTree};
 ghost use Rattle.protox_syntax.specs.Aggregates.{AggregatesLexBack};
+ghost use Rattle.protox_syntax.specs.LexicalFaults.{AreLexicalAlone};
 
 pub use crate::expected_token::ExpectedToken;
 use crate::judge::judge;
@@ -27,6 +28,8 @@ pub fn parse_file(alloc: Global, source: &str) -> Result<File, SyntaxFailure>
         → MatchResult result (λ file. file ≡ ast_of.file (length source.now) f) IsOutOfMemory }
     // There is a fault, and the faults lie in the source.
     ensures refused { IfErr result (FaultsLieIn source.now) }
+    // Of tokens of a file with which nothing is wrong the faults are those of the lexemes, and no others.
+    ensures lexical { IfErr result (AreLexicalAlone source.now) }
     // No tokens are the spelling of two trees, with their places or without.
     ensures one_tree { OneTree (Unit {0}) }
     ensures one_placed_tree { OneTree Place }

@@ -4,6 +4,7 @@ use Rattle.protox_options.specs.Options.{here}
 use Rattle.protox_syntax.specs.Judging.{Judges}
 use Rattle.protox_syntax.proofs.Accepts.{judged-found, judged-only}
 use Rattle.protox_syntax.proofs.Aggregates.{aggregates-lex-back}
+use Rattle.protox_syntax.proofs.LexicalAlone.{judged-result}
 use Rattle.protox_syntax.proofs.parse.parse_file.Goals as goal
 
 pub returns-clause-found : goal.returns-clause-found
@@ -15,6 +16,11 @@ pub returns-clause-only : goal.returns-clause-only
 returns-clause-only c =
     let judged = subst (λ t. Judges t (length c.args.source.now) c.judge.result) c.in_ok-table.ensures c.judge.ensures in
     judged-only c.args.source.now c.judge.result judged
+
+pub returns-clause-lexical : goal.returns-clause-lexical
+returns-clause-lexical c =
+    let judged = subst (λ t. Judges t (length c.args.source.now) c.judge.result) c.in_ok-table.ensures c.judge.ensures in
+    judged-result c.args.source.now c.judge.result judged
 
 pub returns-in_err-table-clause-one_tree : goal.returns-in_err-table-clause-one_tree
 returns-in_err-table-clause-one_tree c = main.one_tree tt

@@ -1,0 +1,95 @@
+-- Of a source whose tokens are those of a file with which nothing is wrong, the faults are those of its lexemes.
+use Rattle.std.proofs.Common.{◌≡◌, ◌≤◌, ◌<◌, ◌+◌, ◌-◌, ℕ, zero, suc, Bool, true, List, [], ◌∷◌, ◌++◌, length, Result, Ok, Err, IfErr, refl, sym, ap, subst, ◌∙◌, arith}
+use Rattle.std.specs.Prelude.{slice_index_or}
+use Rattle.protox_fault.specs.Faults.{faults_in}
+use Rattle.protox_fault.specs.declared.error.ParseErrorKind.{ParseErrorKind}
+use Rattle.protox_fault.specs.declared.error.SyntaxFailure.{SyntaxFailure}
+use Rattle.protox_fault.specs.declared.error.SyntaxFailure.TheVariants.{Faults, OutOfMemory}
+use Rattle.protox_lexeme.specs.Lexemes.{Lexeme, cut}
+use Rattle.protox_lexeme.specs.Shapes.{Rows}
+use Rattle.protox_lexeme.specs.Table.{faults_of, is_gap, rows_of, table_of}
+use Rattle.protox_ast.specs.Checks.{NothingWrong}
+use Rattle.protox_ast.specs.FaultList.{AreFaultsOf}
+use Rattle.protox_ast.specs.Nodes.{depth}
+use Rattle.protox_ast.specs.Places.{Place, placed}
+use Rattle.protox_ast.specs.Spells.{Spells}
+use Rattle.protox_ast.specs.Tree as tree
+use Rattle.protox_ast.specs.declared.ast.File.{File}
+use Rattle.protox_grammar.specs.MarkLaws.{placed_tokens}
+use Rattle.protox_grammar.specs.Reader.{Refusal, Unexpected, Deep}
+use Rattle.protox_grammar.specs.Reads.{read}
+use Rattle.protox_grammar.specs.Told.{Notes}
+use Rattle.protox_grammar.proofs.FineNotes.{IsFaultless}
+use Rattle.protox_grammar.proofs.Main as main
+use Rattle.protox_grammar.proofs.ModeFaults as mode
+use Rattle.protox_options.specs.Options.{here}
+use Rattle.protox_rows.specs.Outcome.{Fails}
+use Rattle.protox_rows.specs.declared.refused.Refused.{Refused}
+use Rattle.protox_rows.specs.declared.refused.Refused.TheVariants as refused
+use Rattle.protox_syntax.specs.Judging.{IsWoven, Judges, JudgesFault, stopped, ended, recovered, finished, total_of}
+use Rattle.protox_syntax.specs.LexicalFaults.{AreLexicalAlone, AreTokens}
+use Rattle.protox_syntax.specs.Recovery.{IsBegun}
+use Rattle.protox_syntax.specs.Statements.{levels, syntax_if_any}
+use Rattle.protox_syntax.specs.Weave.{weave}
+use Rattle.protox_syntax.specs.Whole.{all_notes, whole}
+use Rattle.protox_syntax.proofs.Judged.{front-faultless}
+use Rattle.protox_syntax.proofs.Modes as modes
+use Rattle.protox_syntax.proofs.Reading.{none-read}
+use Rattle.protox_syntax.proofs.SyntaxNotes.{syntax-faults}
+use Rattle.protox_syntax.proofs.WeaveParts.{all-first, all-same, all_from, seen_faults, weave-exact}
+
+each-valid : (xs : List Lexeme) → AreTokens xs → modes.AreValid (rows_of xs)
+each-valid [] h = tt
+each-valid (x ∷ xs) h = modes.valid-by x xs (is_gap x.shape) h.0 (each-valid xs h.1)
+
+-- the entries one by one, from the first on
+from-first : (lexemes : List Lexeme) (on : ℕ → Bool) (low n : ℕ) → all_from (λ k. faults_in (on k) (slice_index_or (faults_of lexemes) k [])) low n ≡ mode.all_from lexemes on low n
+from-first lexemes on low zero = refl
+from-first lexemes on low (suc n) =
+    all-first (λ k. faults_in (on k) (slice_index_or (faults_of lexemes) k [])) low n
+    ∙ ap (λ v. faults_in (on low) (slice_index_or (faults_of lexemes) low []) ++ v) (from-first lexemes on (suc low) n)
+
+module _ (lexemes : List Lexeme) (f : tree.File Place) (spelled : Spells (placed_tokens lexemes) f) (deep : depth f ≤ levels) (nothing : NothingWrong f) (valid : AreTokens lexemes) where
+  abbrev rows : Rows Place
+  rows = placed_tokens lexemes
+
+  fine : IsFaultless (all_notes rows)
+  fine = (modes.wrong lexemes f spelled deep (modes.valid-tokens true (rows_of lexemes) (table_of lexemes).gaps (each-valid lexemes valid))).1 nothing
+
+  abbrev on : ℕ → Bool
+  on = modes.on lexemes f spelled deep
+
+  abbrev total : ℕ
+  total = length (rows_of lexemes) + 1
+
+  are-faults : AreFaultsOf lexemes (weave (faults_of lexemes) total (all_notes rows) 0)
+  are-faults =
+      let exact = weave-exact (faults_of lexemes) total (all_notes rows) (suc (length rows)) fine (modes.falls lexemes f spelled deep fine) in
+      let same = all-same (seen_faults (faults_of lexemes) total (all_notes rows)) (λ k. faults_in (on k) (slice_index_or (faults_of lexemes) k [])) 0 total
+      (λ k a b. ap (λ v. faults_in v (slice_index_or (faults_of lexemes) k [])) (modes.mode-is lexemes f spelled deep k (omega (arith, b)))) in
+      let count : total ≡ suc (length (rows_of lexemes)) = omega arith in
+      subst (AreFaultsOf lexemes) (sym (exact ∙ same ∙ from-first lexemes on 0 total ∙ ap (mode.all_from lexemes on 0) count))
+      (mode.faults-are lexemes on (λ k h. (modes.is_inside lexemes f spelled deep k, modes.is_on lexemes f spelled deep k)))
+
+  is-read : read levels rows ≡ Ok f
+  is-read = (main.accepts_iff here levels rows f).1 (spelled, deep)
+
+  refused-not : (e : Refused) (begun : Notes) → Fails e (whole rows) → IsBegun (table_of lexemes).rows e begun → ⊥
+  refused-not refused.OutOfMemory begun h g = g
+  refused-not (refused.At left expected) begun h g = none-read rows (Unexpected left) h f is-read
+  refused-not (refused.TooDeep left) begun h g = none-read rows (Deep left) h f is-read
+
+  woven-alone : (errors : List ParseErrorKind) → IsWoven (table_of lexemes) errors → AreFaultsOf lexemes errors
+  woven-alone errors (stopped some w) = absurd (some (modes.faults-none (syntax_if_any.notes rows) (syntax-faults rows) (front-faultless rows fine)))
+  woven-alone errors (ended left text plain e w) = absurd (none-read rows (Unexpected left) e f is-read)
+  woven-alone errors (recovered e begun later h g notable w) = absurd (refused-not e begun h g)
+  woven-alone errors (finished x e w) = subst (AreFaultsOf lexemes) (sym w) are-faults
+
+-- what is judged of the table of a source
+pub judged-alone : (source : List ℕ) (e : SyntaxFailure) → JudgesFault (table_of (cut 0 source)) (length source) e → AreLexicalAlone source e
+judged-alone source OutOfMemory j = tt
+judged-alone source (Faults v) j = λ f spelled deep nothing valid. woven-alone (cut 0 source) f spelled deep nothing valid v.items j.3
+
+pub judged-result : (source : List ℕ) (r : Result File SyntaxFailure) → Judges (table_of (cut 0 source)) (length source) r → IfErr r (AreLexicalAlone source)
+judged-result source (Ok file) j = tt
+judged-result source (Err e) j = judged-alone source e j

@@ -1,7 +1,7 @@
 //! The lines of locations.
 
 use crate::lines::{Level, write_bytes};
-use protoscan_run::push_location;
+use protoscan_run::{LastPrinted, push_location};
 use protox_parse::descriptor::FileDescriptorProto;
 use protox_parse::descriptor::source_code_info::Location;
 use protox_parse::values::Text;
@@ -23,7 +23,7 @@ fn write_comment<W: Write>(
 // Its line, and a line for each of its comments.
 fn write_commented<W: Write>(alloc: Global, out: &mut W, location: &Location) -> io::Result<()> {
     let mut line = Vec::new(alloc);
-    push_location(&mut line, location)?;
+    push_location(&mut LastPrinted::new(alloc), &mut line, location)?;
     out.write_all(line.as_slice())?;
     let level = Level { alloc, depth: 1 };
     write_comment(out, level, "leading_comments", location.leading_comments())?;

@@ -67,14 +67,99 @@ fn push_numbers(
     Ok(())
 }
 
+/// The path and the line of a source that were printed last: a location often begins as the one before it, and then
+/// their text is copied.
+#[derive(Drop)]
+pub struct LastPrinted {
+    // Each number of the path, and where its text ends.
+    path: Vec<(i32, usize)>,
+    // The numbers of the path, each with a dot behind it.
+    path_text: Vec<u8>,
+    line: Option<i32>,
+    // The line's number with a comma behind it.
+    line_text: Vec<u8>,
+}
+
+impl LastPrinted {
+    /// Nothing is printed yet. It takes no memory: `alloc` serves later growths.
+    pub fn new(alloc: Global) -> LastPrinted {
+        LastPrinted {
+            path: Vec::new(alloc),
+            path_text: Vec::new(alloc),
+            line: None,
+            line_text: Vec::new(alloc),
+        }
+    }
+
+    // Forgets the path but for its first numbers.
+    fn keep(&mut self, numbers: usize) {
+        self.path.truncate(numbers);
+        let end = match self.path.last() {
+            Some((_, end)) => *end,
+            None => 0,
+        };
+        self.path_text.truncate(end);
+    }
+
+    // Has this path, of which the numbers that it begins with as the last one are there.
+    fn turn_to(&mut self, path: &[i32]) -> Result<(), AllocError> {
+        let mut shared = true;
+        for (index, number) in path.iter().enumerate() {
+            if shared {
+                match self.path.get(index) {
+                    Some((last, _)) if *last == *number => continue,
+                    _ => (),
+                }
+                shared = false;
+                self.keep(index);
+            }
+            push_number(&mut self.path_text, *number, b'.')?;
+            self.path.push((*number, self.path_text.len()))?;
+        }
+        if shared {
+            self.keep(path.len());
+        }
+        Ok(())
+    }
+
+    // Adds the path with dots and a blank behind it, or one dot for that of the file.
+    fn push_path(&mut self, text: &mut Vec<u8>, path: &[i32]) -> Result<(), AllocError> {
+        if path.is_empty() {
+            return text.extend_from_slice(b". ");
+        }
+        self.turn_to(path)?;
+        text.extend_from_slice(self.path_text.as_slice())?;
+        if let Some(behind) = text.last_mut() {
+            *behind = b' ';
+        }
+        Ok(())
+    }
+
+    // Adds the line with a comma behind it.
+    fn push_line(&mut self, text: &mut Vec<u8>, line: i32) -> Result<(), AllocError> {
+        if self.line != Some(line) {
+            self.line = None;
+            self.line_text.clear();
+            push_number(&mut self.line_text, line, b',')?;
+            self.line = Some(line);
+        }
+        text.extend_from_slice(self.line_text.as_slice())
+    }
+}
+
 /// Adds a line to a text: the path of a location with dots, one dot for that of the file, and its span
 /// with commas.
-pub fn push_location(text: &mut Vec<u8>, location: &Location) -> Result<(), AllocError> {
-    if location.path.is_empty() {
-        text.extend_from_slice(b". ")?;
+pub fn push_location(
+    last: &mut LastPrinted,
+    text: &mut Vec<u8>,
+    location: &Location,
+) -> Result<(), AllocError> {
+    last.push_path(text, location.path.as_slice())?;
+    if let [line, columns @ ..] = location.span.as_slice() {
+        last.push_line(text, *line)?;
+        push_numbers(text, columns, b',', b'\n')?;
     }
-    push_numbers(text, location.path.as_slice(), b'.', b' ')?;
-    push_numbers(text, location.span.as_slice(), b',', b'\n')
+    Ok(())
 }
 
 // Formatting straight into the writer would cost more than the parse: so it gets many lines at a time.
@@ -86,9 +171,10 @@ fn write_locations<W: Write>(
     let Some(info) = &file.source_code_info else {
         return Ok(());
     };
+    let mut last = LastPrinted::new(alloc);
     let mut lines = Vec::new(alloc);
     for location in info.location.iter() {
-        push_location(&mut lines, location)?;
+        push_location(&mut last, &mut lines, location)?;
         if AT_ONCE <= lines.len() {
             out.write_all(lines.as_slice())?;
             lines.clear();

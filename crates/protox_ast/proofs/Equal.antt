@@ -3,7 +3,7 @@ use Rattle.std.proofs.Common.{◌≡◌, Bool, true, ◌&&◌, ◌==◌, List, �
 use Rattle.std.proofs.lemmas.Bool.{false≢true}
 use Rattle.protox_descriptor.proofs.Sameness.{Tells, same, itself, tells-bool, tells-both, tells-if, tells-list, tells-option, tells-parts, tells-text, tells-unsigned}
 use Rattle.protox_fault.specs.Faults.{Span}
-use Rattle.protox_ast.specs.contracts.ast.CommentsPartialEq.TheImpl as comments
+use Rattle.protox_ast.specs.contracts.ast.commented.CommentsPartialEq.TheImpl as comments
 use Rattle.protox_ast.specs.contracts.ast.EnumPartialEq.TheImpl as enumeration
 use Rattle.protox_ast.specs.contracts.ast.EnumValuePartialEq.TheImpl as enum_value
 use Rattle.protox_ast.specs.contracts.ast.ExtensionsPartialEq.TheImpl as extensions

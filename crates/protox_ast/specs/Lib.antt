@@ -1,4 +1,6 @@
 pub mod Basics
+pub mod Comments
+pub mod HeldComments
 pub mod Names
 pub mod Numbers
 pub mod Printed
@@ -30,3 +32,4 @@ pub mod FieldNumbers
 pub mod Values
 pub mod Options
 pub mod Ranges
+pub mod formers

@@ -2,10 +2,13 @@
 //! the constructs of the Protocol Buffers language, so `Option` and `String` are types of this module
 //! and `Opt` is the standard optional. A span begins at a part's first token and ends with its last.
 
+pub use crate::held::Boxed;
 use protox_descriptor::values::{Items, Text};
 use protox_fault::error::Span;
+use std::boxed::Box;
 use std::marker::Model;
 
+mod commented;
 mod names;
 mod numbers;
 mod options;
@@ -48,15 +51,32 @@ pub enum FileItem {
     Service(Service),
 }
 
-/// The comments that belong to a declaration.
-#[derive(PartialEq, Debug, Drop)]
+// The comments of a declaration that has some.
+#[derive(Drop)]
+struct HeldComments {
+    detached: Items<Text>,
+    leading: Opt<Text>,
+    trailing: Opt<Text>,
+}
+
+/// The comments that belong to a declaration. Most have none, so there is room for them only where there is
+/// one, and functions read them.
+#[derive(Drop)]
 pub struct Comments {
-    /// The blocks before it but the one that leads it, in order.
-    pub leading_detached_comments: Items<Text>,
-    /// The block right before it.
-    pub leading_comment: Opt<Text>,
-    /// The block behind its `;` or behind the brace that opens its body; behind the one that closes that of a method.
-    pub trailing_comment: Opt<Text>,
+    held: Opt<Box<HeldComments>>,
+}
+
+// Each declaration has this, most of them with no comment.
+const _: () = prove!(size_of::<Comments>() == 16);
+
+impl Model for Comments {
+    ghost use Rattle.protox_ast.specs.Comments as seen;
+
+    ghost Value = { seen.Comments };
+
+    ghost use Rattle.protox_ast.specs.HeldComments.{comments_of};
+
+    ghost view = { comments_of };
 }
 
 /// An identifier.
@@ -224,7 +244,7 @@ pub struct Field {
     pub name: Ident,
     pub kind: FieldKind,
     pub number: Int,
-    pub options: Opt<OptionList>,
+    pub options: Opt<Boxed<OptionList>>,
     pub comments: Comments,
     pub span: Span,
 }
@@ -248,13 +268,13 @@ pub enum FieldKind {
     },
     Group {
         ty_span: Span,
-        body: MessageBody,
+        body: Boxed<MessageBody>,
     },
     Map {
         ty_span: Span,
-        key_ty: Ty,
+        key_ty: Boxed<Ty>,
         key_ty_span: Span,
-        value_ty: Ty,
+        value_ty: Boxed<Ty>,
         value_ty_span: Span,
     },
 }
@@ -320,7 +340,7 @@ pub enum ReservedKind {
 #[derive(PartialEq, Debug, Drop)]
 pub struct Extensions {
     pub ranges: Items<ReservedRange>,
-    pub options: Opt<OptionList>,
+    pub options: Opt<Boxed<OptionList>>,
     pub comments: Comments,
     pub span: Span,
 }
@@ -356,7 +376,7 @@ pub struct Enum {
 pub struct EnumValue {
     pub name: Ident,
     pub number: Int,
-    pub options: Opt<OptionList>,
+    pub options: Opt<Boxed<OptionList>>,
     pub comments: Comments,
     pub span: Span,
 }

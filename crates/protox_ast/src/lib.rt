@@ -2,4 +2,5 @@
 #![tactic(auto)]
 
 pub mod ast;
+mod held;
 pub mod laws;

@@ -10,7 +10,7 @@ ghost use Rattle.protox_rows.specs.Notes.{Adds};
 ghost use Rattle.protox_blocks.specs.Ranges as rule;
 
 use protox_ast::ast::{
-    Extensions, Ident, OptionList, Reserved, ReservedKind, ReservedRange, ReservedRangeEnd,
+    Boxed, Extensions, Ident, OptionList, Reserved, ReservedKind, ReservedRange, ReservedRangeEnd,
 };
 use protox_descriptor::values::{Items, Text};
 use protox_grammar::note::Note;
@@ -201,7 +201,7 @@ pub fn reserved(
 }
 
 // Behind the ranges a list may stand.
-fn after_ranges(options: &Option<OptionList>) -> Expected {
+fn after_ranges(options: &Option<Boxed<OptionList>>) -> Expected {
     match options {
         Some(_) => Expected::Semicolon,
         None => Expected::AfterRange,

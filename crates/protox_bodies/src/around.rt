@@ -10,7 +10,7 @@ ghost use Rattle.protox_bodies.specs.Bodies as rule;
 ghost use Rattle.protox_bodies.specs.Fields.{first_span};
 
 use crate::parts::Element;
-use protox_ast::ast::OptionList;
+use protox_ast::ast::{Boxed, OptionList};
 use protox_blocks::ranges::{extensions, reserved};
 use protox_grammar::note::Note;
 use protox_lex::error::{ParseErrorKind, Span};
@@ -34,7 +34,7 @@ pub(crate) fn first_span(rows: &Unread<'_, '_>) -> Span
 }
 
 /// Behind a group's number its body or a list may stand.
-pub(crate) fn before_body(options: &Option<OptionList>) -> Expected {
+pub(crate) fn before_body(options: &Option<Boxed<OptionList>>) -> Expected {
     match options {
         Some(_) => Expected::LeftBrace,
         None => Expected::BraceOrOptions,

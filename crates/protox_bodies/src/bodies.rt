@@ -10,7 +10,8 @@ use crate::parts::{
     Element, FieldParts, Inside, OneofElement, OneofInside, put, put_in_extend, put_in_oneof,
 };
 use protox_ast::ast::{
-    Extend, Field, FieldKind, FieldLabel, Int, Message, MessageBody, MessageItem, Oneof, OptionList,
+    Boxed, Extend, Field, FieldKind, FieldLabel, Int, Message, MessageBody, MessageItem, Oneof,
+    OptionList,
 };
 use protox_blocks::enums::enum_;
 use protox_descriptor::values::Items;
@@ -40,7 +41,7 @@ fn numbered<'t, 'a>(
 ) -> Result<
     (
         Int,
-        Option<OptionList>,
+        Option<Boxed<OptionList>>,
         (MessageBody, (RowAt<'t, 'a>, RowAt<'t, 'a>)),
     ),
     Refused,
@@ -71,6 +72,7 @@ fn group<'t, 'a>(
     let ty_span = start.span();
     let name = group_name(alloc, notes, rows)?;
     let (number, options, (body, braces)) = numbered(alloc, notes, rows, level, &ty_span)?;
+    let body = Boxed::new(alloc, body)?;
     let parts = FieldParts {
         name,
         kind: FieldKind::Group { ty_span, body },

@@ -7,7 +7,7 @@ ghost use Rattle.protox_rows.specs.Notes.{Adds};
 ghost use Rattle.protox_bodies.specs.Fields as rule;
 
 use crate::parts::FieldParts;
-use protox_ast::ast::{FieldKind, Ident, Int, OptionList, Ty};
+use protox_ast::ast::{Boxed, FieldKind, Ident, Int, OptionList, Ty};
 use protox_descriptor::case::is_valid_group_name;
 use protox_grammar::note::{Note, Noted};
 use protox_lex::error::{ParseErrorKind, Span};
@@ -34,7 +34,7 @@ fn numbered<'t, 'a>(
     notes: &mut Vec<Note>,
     rows: &mut Unread<'t, 'a>,
     expected: Expected,
-) -> Result<(Ident, Int, Option<OptionList>, RowAt<'t, 'a>), Refused>
+) -> Result<(Ident, Int, Option<Boxed<OptionList>>, RowAt<'t, 'a>), Refused>
     ensures read { Gives (λ x. (x.0, (x.1, (x.2, x.3.at)))) result rows.new ((rule.numbered).code rows.old) }
     ensures notes { Adds result notes.old.items ((rule.numbered).notes rows.old) notes.new.items }
 {
@@ -96,9 +96,9 @@ pub(crate) fn map_field<'t, 'a>(
     let last = end.again();
     let kind = FieldKind::Map {
         ty_span: span_between(&start, &close),
-        key_ty,
+        key_ty: Boxed::new(alloc, key_ty)?,
         key_ty_span,
-        value_ty,
+        value_ty: Boxed::new(alloc, value_ty)?,
         value_ty_span,
     };
     let parts = FieldParts {

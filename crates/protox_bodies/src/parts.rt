@@ -4,7 +4,7 @@ ghost use Rattle.std.specs.Prelude.{◌≡◌, OnOk};
 ghost use Rattle.protox_bodies.specs.Bodies as rule;
 
 use protox_ast::ast::{
-    Extensions, Field, FieldKind, Ident, Int, MessageItem, Opt, Option as OptionStatement,
+    Boxed, Extensions, Field, FieldKind, Ident, Int, MessageItem, Opt, Option as OptionStatement,
     OptionList, Reserved,
 };
 use protox_descriptor::values::Items;
@@ -16,7 +16,7 @@ pub(crate) struct FieldParts {
     pub name: Ident,
     pub kind: FieldKind,
     pub number: Int,
-    pub options: Opt<OptionList>,
+    pub options: Opt<Boxed<OptionList>>,
 }
 
 /// A declaration in a message.

@@ -121,7 +121,14 @@ fn check_kind(
                 ..
             },
             _,
-        ) => check_map(scope, &ast.label, &ast.span, key_ty, key_ty_span, errors),
+        ) => check_map(
+            scope,
+            &ast.label,
+            &ast.span,
+            key_ty.get(),
+            key_ty_span,
+            errors,
+        ),
     }
 }
 

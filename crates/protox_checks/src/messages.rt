@@ -140,7 +140,7 @@ fn check_inside(syntax: Syntax, kind: &FieldKind, errors: &mut Found) -> Result<
 {
     match kind {
         FieldKind::Normal { .. } => Ok(()),
-        FieldKind::Group { body, .. } => check_body(syntax, body, errors),
+        FieldKind::Group { body, .. } => check_body(syntax, body.get(), errors),
         FieldKind::Map { .. } => Ok(()),
     }
 }

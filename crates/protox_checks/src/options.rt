@@ -8,7 +8,7 @@ ghost use Rattle.protox_checks.specs.Walk.{Adds, others};
 
 use crate::found::Found;
 use crate::values::{check_text, check_uninterpreted};
-use protox_ast::ast::{Opt, Option, OptionBody, OptionList};
+use protox_ast::ast::{Boxed, Opt, Option, OptionBody, OptionList};
 use std::alloc::AllocError;
 
 fn check_body(body: &OptionBody, errors: &mut Found) -> Result<(), AllocError>
@@ -37,12 +37,15 @@ fn check_bodies(bodies: &[OptionBody], errors: &mut Found) -> Result<(), AllocEr
 }
 
 /// The values of options in brackets.
-pub(crate) fn check_listed(list: &Opt<OptionList>, errors: &mut Found) -> Result<(), AllocError>
+pub(crate) fn check_listed(
+    list: &Opt<Boxed<OptionList>>,
+    errors: &mut Found,
+) -> Result<(), AllocError>
     ensures { OnOk result (Adds errors.old errors.new (option_nodes (listed list.now))) }
 {
     match list {
         None => Ok(()),
-        Some(list) => check_bodies(list.options.as_slice(), errors),
+        Some(list) => check_bodies(list.get().options.as_slice(), errors),
     }
 }
 
@@ -53,16 +56,16 @@ fn first_named<'a>(bodies: &'a [OptionBody], name: &str) -> Opt<&'a OptionBody>
 }
 
 /// The first option of that name.
-pub(crate) fn named<'a>(list: &'a Opt<OptionList>, name: &str) -> Opt<&'a OptionBody>
+pub(crate) fn named<'a>(list: &'a Opt<Boxed<OptionList>>, name: &str) -> Opt<&'a OptionBody>
     ensures { option_copied result ≡ find (has_name name.now) (listed list.now) }
 {
     match list {
         None => None,
-        Some(list) => first_named(list.options.as_slice(), name),
+        Some(list) => first_named(list.get().options.as_slice(), name),
     }
 }
 
-fn check_json_name(list: &Opt<OptionList>, errors: &mut Found) -> Result<(), AllocError>
+fn check_json_name(list: &Opt<Boxed<OptionList>>, errors: &mut Found) -> Result<(), AllocError>
     ensures { OnOk result (Adds errors.old errors.new (json_name_nodes (json_name_of list.now))) }
 {
     match named(list, "json_name") {
@@ -100,18 +103,18 @@ fn check_others(bodies: &[OptionBody], errors: &mut Found) -> Result<(), AllocEr
     Ok(())
 }
 
-fn check_options_left(list: &Opt<OptionList>, errors: &mut Found) -> Result<(), AllocError>
+fn check_options_left(list: &Opt<Boxed<OptionList>>, errors: &mut Found) -> Result<(), AllocError>
     ensures { OnOk result (Adds errors.old errors.new (option_nodes (options_left list.now))) }
 {
     match list {
         None => Ok(()),
-        Some(list) => check_others(list.options.as_slice(), errors),
+        Some(list) => check_others(list.get().options.as_slice(), errors),
     }
 }
 
 /// The options of a field but its default: its `json_name`, and what isn't interpreted.
 pub(crate) fn check_field_options(
-    list: &Opt<OptionList>,
+    list: &Opt<Boxed<OptionList>>,
     errors: &mut Found,
 ) -> Result<(), AllocError>
     ensures { OnOk result (Adds errors.old errors.new (json_name_nodes (json_name_of list.now) ++ option_nodes (options_left list.now))) }

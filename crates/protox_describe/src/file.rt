@@ -37,17 +37,18 @@ fn push_messages(
     }
 }
 
+// Each item is dropped as soon as its message is made, so that the memory of the tree serves the descriptor.
 fn messages(
     alloc: Global,
     syntax: Syntax,
-    items: &[FileItem],
+    items: Items<FileItem>,
 ) -> Result<Items<DescriptorProto>, AllocError>
-    requires { greatest (map file_item_width items.now) ≤ 2147483647 }
-    ensures { IfOk result (λ found. found ≡ flat_map (item_messages syntax) items.now) }
+    requires { greatest (map file_item_width items) ≤ 2147483647 }
+    ensures { IfOk result (λ found. found ≡ flat_map (item_messages syntax) items) }
 {
     let mut found = Items::new(alloc);
-    for item in items {
-        push_messages(alloc, syntax, item, &mut found)?;
+    for item in items.into_vec() {
+        push_messages(alloc, syntax, &item, &mut found)?;
     }
     Ok(found)
 }
@@ -133,17 +134,16 @@ fn extensions(
 }
 
 /// The descriptor of a file of that name, apart from where its parts stand in the source. Or
-/// `AllocError`. A message of the file has no more items, and the file no more imports, than an `i32`
+/// `AllocError`. It uses the tree up. A message of the file has no more items, and the file no more imports, than an `i32`
 /// counts.
 pub fn describe_file(
     alloc: Global,
     name: &str,
-    ast: &File,
+    ast: File,
 ) -> Result<FileDescriptorProto, AllocError>
-    requires { file_width ast.now ≤ 2147483647 }
-    ensures { IfOk result (λ file. file ≡ file_proto name.now ast.now) }
+    requires { file_width ast ≤ 2147483647 }
+    ensures { IfOk result (λ file. file ≡ file_proto name.now ast) }
 {
-    let message_type = messages(alloc, ast.syntax, ast.items.as_slice())?;
     let enum_type = enums(alloc, ast.items.as_slice())?;
     let service = services(alloc, ast.items.as_slice())?;
     let extension = extensions(alloc, ast.syntax, ast.items.as_slice())?;
@@ -154,6 +154,7 @@ pub fn describe_file(
     let name = Text::copy(alloc, name)?;
     let package = package_name(alloc, &ast.package)?;
     let syntax = syntax_name(alloc, ast.syntax)?;
+    let message_type = messages(alloc, ast.syntax, ast.items)?;
     Ok(FileDescriptorProto {
         name: Some(name),
         package,

@@ -223,13 +223,19 @@ fn push_field_messages(
     match &ast.kind {
         FieldKind::Normal { .. } => Ok(()),
         FieldKind::Group { body, .. } => {
-            push_group(alloc, syntax, ast.name.value.as_str(), body, found)
+            push_group(alloc, syntax, ast.name.value.as_str(), body.get(), found)
         }
         FieldKind::Map {
             key_ty,
             value_ty,
             ..
-        } => push_entry(alloc, ast.name.value.as_str(), key_ty, value_ty, found),
+        } => push_entry(
+            alloc,
+            ast.name.value.as_str(),
+            key_ty.get(),
+            value_ty.get(),
+            found,
+        ),
     }
 }
 

@@ -7,7 +7,7 @@ ghost use Rattle.protox_ast.specs.Options.{bodies_of, listed, default_of, json_n
 
 use crate::values::{default_text, text_value};
 use protox_ast::ast;
-use protox_ast::ast::{OptionBody, OptionList, OptionNamePart, OptionValue, Ty};
+use protox_ast::ast::{Boxed, OptionBody, OptionList, OptionNamePart, OptionValue, Ty};
 use protox_descriptor::descriptor::uninterpreted_option::NamePart;
 use protox_descriptor::descriptor::{
     EnumOptions, EnumValueOptions, ExtensionRangeOptions, FieldOptions, FileOptions,
@@ -161,13 +161,13 @@ fn some_if_any(options: Items<UninterpretedOption>) -> Option<Items<Uninterprete
 // Those between brackets, if there are any.
 fn of_list(
     alloc: Global,
-    list: &Option<OptionList>,
+    list: &Option<Boxed<OptionList>>,
 ) -> Result<Option<Items<UninterpretedOption>>, AllocError>
     ensures { IfOk result (λ options. options ≡ options_message (λ options. options) (listed list.now)) }
 {
     match list {
         None => Ok(None),
-        Some(list) => Ok(some_if_any(all(alloc, list.options.as_slice())?)),
+        Some(list) => Ok(some_if_any(all(alloc, list.get().options.as_slice())?)),
     }
 }
 
@@ -184,13 +184,13 @@ fn all(alloc: Global, bodies: &[OptionBody]) -> Result<Items<UninterpretedOption
 // Those of a field but the first `default` and the first `json_name`, if there are any.
 fn left_of_list(
     alloc: Global,
-    list: &Option<OptionList>,
+    list: &Option<Boxed<OptionList>>,
 ) -> Result<Option<Items<UninterpretedOption>>, AllocError>
     ensures { IfOk result (λ options. options ≡ options_message (λ options. options) (options_left list.now)) }
 {
     match list {
         None => Ok(None),
-        Some(list) => Ok(some_if_any(left(alloc, list.options.as_slice())?)),
+        Some(list) => Ok(some_if_any(left(alloc, list.get().options.as_slice())?)),
     }
 }
 
@@ -227,13 +227,13 @@ fn default_among(alloc: Global, ty: &Ty, bodies: &[OptionBody]) -> Result<Option
 pub(crate) fn default_value(
     alloc: Global,
     ty: &Ty,
-    list: &Option<OptionList>,
+    list: &Option<Boxed<OptionList>>,
 ) -> Result<Option<Text>, AllocError>
     ensures { IfOk result (λ text. text ≡ option_and_then (λ (body : body_type.OptionBody). default_text (wanted ty.now) body.value) (default_of list.now)) }
 {
     match list {
         None => Ok(None),
-        Some(list) => default_among(alloc, ty, list.options.as_slice()),
+        Some(list) => default_among(alloc, ty, list.get().options.as_slice()),
     }
 }
 
@@ -251,13 +251,13 @@ fn json_name_among(alloc: Global, bodies: &[OptionBody]) -> Result<Option<Text>,
 /// The JSON name of a field: the text of the first option `json_name`.
 pub(crate) fn json_name(
     alloc: Global,
-    list: &Option<OptionList>,
+    list: &Option<Boxed<OptionList>>,
 ) -> Result<Option<Text>, AllocError>
     ensures { IfOk result (λ text. text ≡ json_name (json_name_of list.now)) }
 {
     match list {
         None => Ok(None),
-        Some(list) => json_name_among(alloc, list.options.as_slice()),
+        Some(list) => json_name_among(alloc, list.get().options.as_slice()),
     }
 }
 
@@ -355,7 +355,7 @@ pub(crate) fn method_options(
 /// The options of a value of an enum.
 pub(crate) fn enum_value_options(
     alloc: Global,
-    ast: &Option<OptionList>,
+    ast: &Option<Boxed<OptionList>>,
 ) -> Result<Option<EnumValueOptions>, AllocError>
     ensures { IfOk result (λ message. message ≡ options_message (λ options. record { uninterpreted_option = options }) (listed ast.now)) }
 {
@@ -370,7 +370,7 @@ pub(crate) fn enum_value_options(
 /// The options of a range of extension numbers.
 pub(crate) fn extension_range_options(
     alloc: Global,
-    ast: &Option<OptionList>,
+    ast: &Option<Boxed<OptionList>>,
 ) -> Result<Option<ExtensionRangeOptions>, AllocError>
     ensures { IfOk result (λ message. message ≡ options_message (λ options. record { uninterpreted_option = options }) (listed ast.now)) }
 {
@@ -385,7 +385,7 @@ pub(crate) fn extension_range_options(
 /// The options of a field, but for its default value and its JSON name.
 pub(crate) fn field_options(
     alloc: Global,
-    ast: &Option<OptionList>,
+    ast: &Option<Boxed<OptionList>>,
 ) -> Result<Option<FieldOptions>, AllocError>
     ensures { IfOk result (λ message. message ≡ options_message (λ options. record { uninterpreted_option = options }) (options_left ast.now)) }
 {

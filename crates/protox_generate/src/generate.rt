@@ -22,19 +22,19 @@ use std::alloc::{AllocError, Global};
 // What the tree gives, where it stands in the source, and its spans and places fit an i32.
 fn described(
     alloc: Global,
-    ast: &File,
+    ast: File,
     name: &str,
     source: &str,
 ) -> Result<FileDescriptorProto, AllocError>
     requires length { length source.now ≤ 2147483647 }
-    requires width { file_width ast.now ≤ 2147483647 }
-    requires room { file_weight ast.now ≤ 2147483647 }
-    requires reach { file_reach ast.now ≤ 2147483647 }
-    requires stands { FileStands (length source.now) ast.now }
-    ensures found { IfOk result (λ file. file ≡ file_descriptor name.now source.now ast.now) }
+    requires width { file_width ast ≤ 2147483647 }
+    requires room { file_weight ast ≤ 2147483647 }
+    requires reach { file_reach ast ≤ 2147483647 }
+    requires stands { FileStands (length source.now) ast }
+    ensures found { IfOk result (λ file. file ≡ file_descriptor name.now source.now ast) }
     ensures located { IfOk result AreLocated }
 {
-    let info = locate_file(alloc, source, ast)?;
+    let info = locate_file(alloc, source, &ast)?;
     let mut file = describe_file(alloc, name, ast)?;
     file.source_code_info = Some(info);
     Ok(file)
@@ -70,5 +70,5 @@ pub fn generate_file(
     if !faults.is_empty() {
         return Err(SyntaxFailure::Faults(faults.into_vec()));
     }
-    Ok(described(alloc, &ast, name, source)?)
+    Ok(described(alloc, ast, name, source)?)
 }

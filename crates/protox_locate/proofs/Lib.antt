@@ -4,6 +4,7 @@ pub mod InOrder
 pub mod Keeps
 pub mod Left
 pub mod LineFacts
+pub mod Newlines
 pub mod Numbered
 pub mod Order
 pub mod OrderLaw

@@ -1,6 +1,7 @@
 //! Where the walk over a tree is, and what it has located.
 
 ghost use Rattle.std.specs.Prelude.{◌≡◌, ◌≤◌, ◌++◌, ◌∷◌, [], ℤ, pos, length, IfOk, OnOk, List};
+ghost use Rattle.std.specs.Option.{option_copied};
 ghost use Rattle.protox_locate.specs.Bounds.{reach};
 ghost use Rattle.protox_locate.specs.Lines.{numbers_at};
 ghost use Rattle.protox_locate.specs.LocationWords.{bare, commented, part};
@@ -28,8 +29,8 @@ fn copied_span(span: &Span) -> Span
     span.start..span.end
 }
 
-fn copied_option(alloc: Global, text: &Option<Text>) -> Result<Option<Text>, AllocError>
-    ensures { IfOk result (λ copy. copy ≡ text.now) }
+fn copied_option(alloc: Global, text: Option<&Text>) -> Result<Option<Text>, AllocError>
+    ensures { IfOk result (λ copy. copy ≡ option_copied text.entry) }
 {
     match text {
         None => Ok(None),
@@ -88,9 +89,9 @@ impl Context {
         requires { reach span.now ≤ 2147483647 }
         ensures { OnOk result (Emits self.old self.new (commented (numbers_at lines.now) (self.old.path ++ tags.now) span.now comments.now ∷ [])) }
     {
-        let leading = copied_option(alloc, &comments.leading_comment)?;
-        let trailing = copied_option(alloc, &comments.trailing_comment)?;
-        let detached = copied(alloc, comments.leading_detached_comments.as_slice())?;
+        let leading = copied_option(alloc, comments.leading_comment())?;
+        let trailing = copied_option(alloc, comments.trailing_comment())?;
+        let detached = copied(alloc, comments.leading_detached_comments())?;
         let path = Numbers::joined(alloc, self.path.as_slice(), tags)?;
         let span = lines.numbers_near(&mut self.near, copied_span(span));
         let location = Location::commented(alloc, path, span, leading, trailing, detached)?;

@@ -10,7 +10,7 @@ ghost use Rattle.protox_locate.specs.Walk.{Emits, left};
 
 use crate::context::Context;
 use crate::lines::LineResolver;
-use protox_ast::ast::{Opt, OptionBody, OptionList};
+use protox_ast::ast::{Boxed, Opt, OptionBody, OptionList};
 use protox_descriptor::tag::UNINTERPRETED_OPTION;
 use protox_descriptor::tag::field::{DEFAULT_VALUE, JSON_NAME, OPTIONS};
 use std::alloc::{AllocError, Global};
@@ -27,14 +27,14 @@ pub(crate) fn locate_default(
     alloc: Global,
     lines: &LineResolver,
     context: &mut Context,
-    options: &Opt<OptionList>,
+    options: &Opt<Boxed<OptionList>>,
 ) -> Result<(), AllocError>
     requires { list_reach options.now ≤ 2147483647 }
     ensures { OnOk result (Emits context.old context.new (defaulted (numbers_at lines.now) context.old.path (default_of options.now))) }
 {
     match options {
         None => Ok(()),
-        Some(list) => default_in(alloc, lines, context, list.options.as_slice()),
+        Some(list) => default_in(alloc, lines, context, list.get().options.as_slice()),
     }
 }
 
@@ -61,14 +61,14 @@ pub(crate) fn locate_json_name(
     alloc: Global,
     lines: &LineResolver,
     context: &mut Context,
-    options: &Opt<OptionList>,
+    options: &Opt<Boxed<OptionList>>,
 ) -> Result<(), AllocError>
     requires { list_reach options.now ≤ 2147483647 }
     ensures { OnOk result (Emits context.old context.new (json_named (numbers_at lines.now) context.old.path (json_name_of options.now))) }
 {
     match options {
         None => Ok(()),
-        Some(list) => json_name_in(alloc, lines, context, list.options.as_slice()),
+        Some(list) => json_name_in(alloc, lines, context, list.get().options.as_slice()),
     }
 }
 
@@ -109,7 +109,7 @@ pub(crate) fn locate_others(
     alloc: Global,
     lines: &LineResolver,
     context: &mut Context,
-    options: &Opt<OptionList>,
+    options: &Opt<Boxed<OptionList>>,
 ) -> Result<(), AllocError>
     requires room { list_weight options.now ≤ 2147483647 }
     requires reach { list_reach options.now ≤ 2147483647 }
@@ -117,7 +117,7 @@ pub(crate) fn locate_others(
 {
     match options {
         None => Ok(()),
-        Some(list) => locate_brackets(alloc, lines, context, list),
+        Some(list) => locate_brackets(alloc, lines, context, list.get()),
     }
 }
 

@@ -3,6 +3,7 @@
 ghost use Rattle.std.specs.Prelude.{◌≡◌, ◌≤◌, ◌-◌, true, ℕ, List, pos, length, IfOk};
 ghost use Rattle.protox_locate.specs.Lines.{line, column, starts, starts as starts_in, span_numbers, numbers_at, count_le, last_le, Rises, Found};
 
+use memchr::memchr_iter;
 use protox_descriptor::values::Numbers;
 use protox_fault::error::Span;
 use std::alloc::{AllocError, Global};
@@ -25,14 +26,13 @@ impl Model for LineResolver {
     ghost invariant = { λ lines. Rises 0 lines.starts.items };
 }
 
+#[tactic(auto, using(crate::proofs::Newlines::starts_places, crate::proofs::Newlines::places_below))]
 fn starts_of(alloc: Global, source: &[u8]) -> Result<Vec<usize>, AllocError>
     ensures { IfOk result (λ found. found.items ≡ starts 0 source.now) }
 {
     let mut found = Vec::new(alloc);
-    for (i, byte) in source.iter().enumerate() {
-        if *byte == b'\n' {
-            found.push(i + 1)?;
-        }
+    for newline in memchr_iter(b'\n', source) {
+        found.push(newline + 1)?;
     }
     Ok(found)
 }

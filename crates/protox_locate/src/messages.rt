@@ -197,7 +197,7 @@ fn message_of(
             context.enter(tag, first)?;
             context.add_with(alloc, lines, &[], &ast.span, &ast.comments)?;
             context.add(alloc, lines, &[NAME], &ast.name.span)?;
-            locate_body(alloc, lines, context, body)?;
+            locate_body(alloc, lines, context, body.get())?;
             context.leave();
             Ok(first + 1)
         }

@@ -9,7 +9,7 @@ ghost use Rattle.protox_locate.specs.Walk.{Emits};
 
 use crate::context::Context;
 use crate::lines::LineResolver;
-use protox_ast::ast::{Opt, Option as OptionStatement, OptionBody, OptionList};
+use protox_ast::ast::{Boxed, Opt, Option as OptionStatement, OptionBody, OptionList};
 use protox_descriptor::tag::UNINTERPRETED_OPTION;
 use std::alloc::{AllocError, Global};
 
@@ -76,7 +76,7 @@ pub(crate) fn locate_list(
     lines: &LineResolver,
     context: &mut Context,
     tag: i32,
-    list: &Opt<OptionList>,
+    list: &Opt<Boxed<OptionList>>,
 ) -> Result<(), AllocError>
     requires room { list_weight list.now ≤ 2147483647 }
     requires reach { list_reach list.now ≤ 2147483647 }
@@ -84,7 +84,7 @@ pub(crate) fn locate_list(
 {
     match list {
         None => Ok(()),
-        Some(list) => locate_brackets(alloc, lines, context, tag, list),
+        Some(list) => locate_brackets(alloc, lines, context, tag, list.get()),
     }
 }
 

@@ -6,7 +6,7 @@ ghost use Rattle.protox_rows.specs.Notes.{Adds};
 ghost use Rattle.protox_options.specs.Options as rule;
 
 use crate::values::value;
-use protox_ast::ast::{Option as OptionStatement, OptionBody, OptionList, OptionNamePart};
+use protox_ast::ast::{Boxed, Option as OptionStatement, OptionBody, OptionList, OptionNamePart};
 use protox_descriptor::values::Items;
 use protox_grammar::note::Note;
 use protox_rows::class::{COMMA, DOT, INTEGER, LEFT_BRACKET, sees, sees_below};
@@ -127,13 +127,13 @@ pub fn list_if_any(
     alloc: Global,
     notes: &mut Vec<Note>,
     rows: &mut Unread<'_, '_>,
-) -> Result<Option<OptionList>, Refused>
+) -> Result<Option<Boxed<OptionList>>, Refused>
     ensures read { Gives (λ x. x) result rows.new ((rule.list_if_any).code rows.old) }
     ensures notes { Adds result notes.old.items ((rule.list_if_any).notes rows.old) notes.new.items }
 {
     if sees(rows, LEFT_BRACKET) {
         let options = list(alloc, notes, rows)?;
-        return Ok(Some(options));
+        return Ok(Some(Boxed::new(alloc, options)?));
     }
     Ok(None)
 }
@@ -162,7 +162,7 @@ pub fn option(
 }
 
 /// What may stand behind a number, where a list may.
-pub fn after_list(options: &Option<OptionList>) -> Expected {
+pub fn after_list(options: &Option<Boxed<OptionList>>) -> Expected {
     match options {
         Some(_) => Expected::Semicolon,
         None => Expected::SemicolonOrOptions,

@@ -257,22 +257,14 @@ pub fn comments_between(
 {
     let before = first.before(alloc)?;
     let after = last.after(alloc)?;
-    Ok(Comments {
-        leading_detached_comments: before.detached,
-        leading_comment: before.leading,
-        trailing_comment: after.trailing,
-    })
+    Comments::new(alloc, before.detached, before.leading, after.trailing)
 }
 
 fn comments_behind(alloc: Global, last: &RowAt<'_, '_>) -> Result<Comments, AllocError>
     ensures { IfOk result (λ c. c ≡ declared [] last.now.at) }
 {
     let behind = last.after(alloc)?;
-    Ok(Comments {
-        leading_detached_comments: Items::new(alloc),
-        leading_comment: None,
-        trailing_comment: behind.trailing,
-    })
+    Comments::new(alloc, Items::new(alloc), None, behind.trailing)
 }
 
 /// The comments of a declaration that begins with the first of these rows, and that ends or opens its

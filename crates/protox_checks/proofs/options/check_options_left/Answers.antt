@@ -6,4 +6,4 @@ use Rattle.protox_checks.proofs.Adding.{on-ok, same}
 use Rattle.protox_checks.proofs.options.check_options_left.Goals as goal
 
 pub returns-in-Some : goal.returns-in-Some
-returns-in-Some c = on-ok c.check_others.result (same _ _ _ _ (ap (λ l. option_nodes (others l)) (c.as_slice.ensures ∙ sym (ap listed c.in-Some.is)))) c.check_others.ensures
+returns-in-Some c = on-ok c.check_others.result (same _ _ _ _ (ap (λ l. option_nodes (others l)) (c.as_slice.ensures ∙ ap (λ list. list.options) c.get.ensures ∙ sym (ap listed c.in-Some.is)))) c.check_others.ensures

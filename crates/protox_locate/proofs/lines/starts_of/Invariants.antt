@@ -1,6 +1,10 @@
-use Rattle.std.proofs.Common.{◌≡◌, ◌++◌, drop}
+use Rattle.std.proofs.Common.{◌≡◌, ◌+◌, ◌++◌, map, length}
 use Rattle.protox_locate.specs.Lines.{starts}
+use Rattle.protox_locate.proofs.Newlines.{Below}
 use Rattle.protox_locate.proofs.lines.starts_of.Given as goal
 
-abbrev pub invariant-loop-i : goal.invariant-loop-i
-invariant-loop-i l = l.found.items ++ starts l.i (drop l.i l.source) ≡ starts 0 l.source
+abbrev pub invariant-loop-newline : goal.invariant-loop-newline
+invariant-loop-newline l = record {
+  found : l.found.items ++ map (λ at. at + 1) l.newline-iterator ≡ starts 0 l.source;
+  below : Below (length l.source) l.newline-iterator;
+}

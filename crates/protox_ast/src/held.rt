@@ -1,0 +1,69 @@
+//! What lies in a block of its own.
+
+ghost use Rattle.std.specs.Prelude.{◌≡◌, IfOk};
+
+use std::alloc::{AllocError, Global};
+use std::boxed::Box;
+use std::fmt;
+use std::marker::Model;
+
+/// A value in a block of its own, so that it takes the room of an address where it stands. Contracts see it as
+/// the value.
+#[derive(Drop)]
+pub struct Boxed<T> {
+    held: Box<T>,
+}
+
+impl<T> Model for Boxed<T> {
+    ghost Value = { T };
+
+    ghost coded = { T.code };
+
+    ghost view = { λ boxed. boxed.held.value };
+}
+
+impl<T: Drop> Boxed<T> {
+    /// This value, or `AllocError`.
+    pub fn new(alloc: Global, value: T) -> Result<Boxed<T>, AllocError>
+        ensures { IfOk result (λ made. made ≡ value) }
+    {
+        Ok(Boxed {
+            held: Box::new(alloc, value)?,
+        })
+    }
+}
+
+impl<T> Boxed<T> {
+    /// The value, lent.
+    pub fn get(&self) -> &T
+        ensures { result.now ≡ self.now }
+    {
+        &self.held
+    }
+
+    /// The value itself.
+    pub fn into_inner(self) -> T
+        ensures { result ≡ self }
+    {
+        let Boxed { held } = self;
+        Box::into_inner(held)
+    }
+}
+
+impl<T: PartialEq> PartialEq for Boxed<T> {
+    ghost eq = { T.eq };
+
+    ghost laws = { T.laws };
+
+    fn eq(&self, other: &Boxed<T>) -> bool {
+        *self.get() == *other.get()
+    }
+}
+
+impl<T: fmt::Debug> fmt::Debug for Boxed<T> {
+    ghost debug_output = { T.debug_output };
+
+    fn fmt<W: fmt::Write>(&self, f: &mut fmt::Formatter<W>) -> fmt::Result {
+        fmt::Debug::fmt(self.get(), f)
+    }
+}

@@ -10,3 +10,4 @@ pub mod NodeLevels
 pub mod NodesLie
 pub mod Texts
 pub mod OneofLabels
+pub mod PlainFaults

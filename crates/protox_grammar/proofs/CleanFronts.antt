@@ -303,7 +303,7 @@ valid-at b (suc j) (x ∷ xs) l e is = elim (cases_Bool (is_gap x.shape)) [
 pub row-clear : (lexemes : List Lexeme) (on : ℕ → Bool) (n : ℕ) → n < length (rows_of lexemes) → AreClearTo lexemes on (suc n) → (source_row (rows_of lexemes) n).shape ≡ Invalid → ⊥
 row-clear lexemes on n l h = valid-at (on n) n lexemes l (h n (omega arith))
 
-row-there : (rows : Rows Span) (n : ℕ) (r : Row Span) → slice_get rows n ≡ Some r → (n < length rows) × (source_row rows n ≡ r)
+pub row-there : (rows : Rows Span) (n : ℕ) (r : Row Span) → slice_get rows n ≡ Some r → (n < length rows) × (source_row rows n ≡ r)
 row-there [] n r e = absurd cc
 row-there (x ∷ rows) zero r e = let same : x ≡ r = cc in (omega arith, same)
 row-there (x ∷ rows) (suc n) r e = let h = row-there rows n r e in (omega arith, h.1)

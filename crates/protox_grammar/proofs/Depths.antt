@@ -112,7 +112,7 @@ module _ {M : Type 0} (m : M) where
     not-run o h = true-false (is_run_event (note o)) h (sym (no-run o))
 
     placed-here : (r : Row M) (rs : Rows M) → is_string r.shape ≡ false → ArePlaced None (Token r ∷ (Note (note r.at) ∷ [])) rs
-    placed-here r rs h = ((is-at r.at, h ∙ no-run r.at, λ q. absurd (not-run r.at q)), tt)
+    placed-here r rs h = ((is-at r.at, h ∙ no-run r.at, λ q. absurd (not-run r.at q), λ q. absurd (true-false (is_too_deep (note r.at)) (is-deep r.at) q)), tt)
 
     deep-halts : (xs : Rows M) (e : Refusal) → rule.deep_read xs ≡ Err e → Halts deep_rule xs e
     unfolding rule.deep_read reader.too_deep rule.deep_trace
@@ -192,9 +192,9 @@ module _ {M : Type 0} (m : M) where
       agrees = λ front rest x z more h q alike. deep-agrees front rest x z more q;
     }
 
-  module _ (note : M → Event M) (is-at : (o : M) → o ≡ event_end (note o)) (no-run : (o : M) → false ≡ is_run_event (note o)) where
+  module _ (note : M → Event M) (is-deep : (o : M) → is_too_deep (note o) ≡ true) (is-at : (o : M) → o ≡ event_end (note o)) (no-run : (o : M) → false ≡ is_run_event (note o)) where
     placed-brace : (r : Row M) (o : M) (z : Rows M) → r ≡ row (Mark s.open_brace) o → IsPlaced (Some r) (note o) z
-    placed-brace r o z e = (ap (λ (u : Row M). u.at) e ∙ is-at o, ap (λ (u : Row M). is_string u.shape) e ∙ no-run o, λ q. absurd (true-false (is_run_event (note o)) q (sym (no-run o))))
+    placed-brace r o z e = (ap (λ (u : Row M). u.at) e ∙ is-at o, ap (λ (u : Row M). is_string u.shape) e ∙ no-run o, λ q. absurd (true-false (is_run_event (note o)) q (sym (no-run o))), λ q. absurd (true-false (is_too_deep (note o)) (is-deep o) q))
 
     flat-begins : (x : t.Mbody M) → BeginsDeep note (rule.deep_steps note 0 x) x
     unfolding rule.deep_steps
@@ -213,14 +213,14 @@ module _ {M : Type 0} (m : M) where
   level-laws zero = record {
     spelled = record { starts = λ x z h. empty-starts x z; follow = λ x z h w. h; ahead = λ x v y z h. h; once = zero-once };
     read = too_deep-read (Mark s.open_brace) (mark-back s.open_brace) (level 0) some_body refl body-begins;
-    traced = deep-traced ADeeperBody (λ o. refl) (λ o. refl) (λ o. refl) (At 0) (rule.deep_steps ADeeperBody 0) (flat-begins ADeeperBody (λ o. refl) (λ o. refl)) (flat-rows ADeeperBody (λ o. refl) (λ o. refl)) (λ x z h. flat-placed ADeeperBody (λ o. refl) (λ o. refl) x z) (λ o. refl);
+    traced = deep-traced ADeeperBody (λ o. refl) (λ o. refl) (λ o. refl) (At 0) (rule.deep_steps ADeeperBody 0) (flat-begins ADeeperBody (λ o. refl) (λ o. refl) (λ o. refl)) (flat-rows ADeeperBody (λ o. refl) (λ o. refl) (λ o. refl)) (λ x z h. flat-placed ADeeperBody (λ o. refl) (λ o. refl) (λ o. refl) x z) (λ o. refl);
   }
   level-laws (suc n) =
       let l = sealed-spelled (mbody-laws m (At n) (λ x. ⊥) rule.deep_read (rule.deep_steps ADeeperBody 0) (rule.deep_trace ADeeperBody) (level-laws n)).spelled in
       record {
         spelled = record { starts = l.starts; follow = l.follow; ahead = l.ahead; once = l.once };
         read = too_deep-read (Mark s.open_brace) (mark-back s.open_brace) (level (suc n)) some_body tt body-begins;
-        traced = deep-traced ADeeperBody (λ o. refl) (λ o. refl) (λ o. refl) (At (suc n)) (rule.deep_steps ADeeperBody 0) (flat-begins ADeeperBody (λ o. refl) (λ o. refl)) (flat-rows ADeeperBody (λ o. refl) (λ o. refl)) (λ x z h. flat-placed ADeeperBody (λ o. refl) (λ o. refl) x z) (λ o. tt);
+        traced = deep-traced ADeeperBody (λ o. refl) (λ o. refl) (λ o. refl) (At (suc n)) (rule.deep_steps ADeeperBody 0) (flat-begins ADeeperBody (λ o. refl) (λ o. refl) (λ o. refl)) (flat-rows ADeeperBody (λ o. refl) (λ o. refl) (λ o. refl)) (λ x z h. flat-placed ADeeperBody (λ o. refl) (λ o. refl) (λ o. refl) x z) (λ o. tt);
       }
 
   -- at any depth
@@ -257,13 +257,13 @@ module _ {M : Type 0} (m : M) where
 
     deep-begins : (n : ℕ) (x : t.Mbody M) → BeginsDeep note (rule.deep_steps note n x) x
     unfolding rule.deep_steps rule.mbody
-    deep-begins zero x = flat-begins note is-at no-run x
+    deep-begins zero x = flat-begins note is-deep is-at no-run x
     deep-begins (suc n) (t.mbody_of o es c) = (_, refl)
 
     placed-behind : (x : t.Mbody M) (l : Steps M) (z : Rows M) → BeginsDeep note (rule.behind_first (note (rule.opening x)) l) x → ArePlaced None l z → ArePlaced None (rule.behind_first (note (rule.opening x)) l) z
     placed-behind x [] z b h = absurd (subst Quiet (sym b.1) tt)
     placed-behind x (Note e ∷ l) z b h = absurd (subst Quiet (sym b.1) tt)
-    placed-behind x (Token r ∷ l) z b h = (placed-brace note is-at no-run r (rule.opening x) _ (token-same r (row (Mark s.open_brace) (rule.opening x)) _ _ b.1), h)
+    placed-behind x (Token r ∷ l) z b h = (placed-brace note is-deep is-at no-run r (rule.opening x) _ (token-same r (row (Mark s.open_brace) (rule.opening x)) _ _ b.1), h)
       where
         token-same : (r q : Row M) (l k : Steps M) → Token r ∷ l ≡ Token q ∷ k → r ≡ q
         token-same r q l k e = cc
@@ -273,7 +273,7 @@ module _ {M : Type 0} (m : M) where
     DeepIsWell n = ((x : t.Mbody M) → tokens (rule.deep_steps note n x) ≡ s.mbody x) × ((x : t.Mbody M) (z : Rows M) → k.KeepsMbody x → ArePlaced None (rule.deep_steps note n x) z)
 
     deep-flat : DeepIsWell 0
-    deep-flat = (flat-rows note is-at no-run, λ x z h. flat-placed note is-at no-run x z)
+    deep-flat = (flat-rows note is-deep is-at no-run, λ x z h. flat-placed note is-deep is-at no-run x z)
 
     deep-over : (n : ℕ) → Lawful (inner n) false (just_mark s.open_brace) none → DeepIsWell (suc n)
     unfolding rule.deep_steps rule.mbody
@@ -289,6 +289,10 @@ module _ {M : Type 0} (m : M) where
   deeper-is-well : (n : ℕ) → DeepIsWell ADeeperBody (λ o. refl) (λ o. refl) (λ o. refl) n
   deeper-is-well zero = deep-flat ADeeperBody (λ o. refl) (λ o. refl) (λ o. refl)
   deeper-is-well (suc n) = deep-over ADeeperBody (λ o. refl) (λ o. refl) (λ o. refl) n (inner-of n (deeper-is-well n))
+
+  -- of bodies in one that is too deep
+  pub inner-laws : (n : ℕ) → Lawful (inner n) false (just_mark s.open_brace) none
+  inner-laws n = inner-of n (deeper-is-well n)
 
   deep-is-well : (n : ℕ) → DeepIsWell ADeepBody (λ o. refl) (λ o. refl) (λ o. refl) n
   deep-is-well zero = deep-flat ADeepBody (λ o. refl) (λ o. refl) (λ o. refl)

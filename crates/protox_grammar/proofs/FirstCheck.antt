@@ -106,9 +106,16 @@ node-by (ATooDeep keyword open_at) xs = elim (one-by (head_in is_invalid xs) (fa
 
 -- ---- of a note
 
+-- it is no brace of an aggregate
+abbrev pub IsNoBrace : {M : Type 0} → Event M → Type 0
+IsNoBrace (AnOpenBrace m) = ⊥
+IsNoBrace (ACloseBrace m) = ⊥
+IsNoBrace e = Unit {0}
+
 -- What is told of the note begins with a fault of a node that it notes.
 pub record IsEventFault (first : Option (t.Package Place)) (w : Place) (e : Event Place) (xs : Rows Place) : Type 0 where
   pub node : CheckedNode Place
+  pub no_brace : IsNoBrace e
   pub its : IsNodeFault node xs
   pub told_is : told first w (Note e ∷ []) xs ≡ node_notes node xs
   pub noted : noted_nodes first w (Note e ∷ []) ≡ node ∷ []
@@ -116,19 +123,19 @@ pub record IsEventFault (first : Option (t.Package Place)) (w : Place) (e : Even
 none-so : (ns : Notes) → ns ≡ [] → IsFaultless ns
 none-so ns e = subst IsFaultless (sym e) tt
 
-of-node : (first : Option (t.Package Place)) (w : Place) (e : Event Place) (x : CheckedNode Place) (xs : Rows Place) → told first w (Note e ∷ []) xs ≡ node_notes x xs ++ [] → noted_nodes first w (Note e ∷ []) ≡ x ∷ []
+of-node : (first : Option (t.Package Place)) (w : Place) (e : Event Place) (x : CheckedNode Place) (xs : Rows Place) → IsNoBrace e → told first w (Note e ∷ []) xs ≡ node_notes x xs ++ [] → noted_nodes first w (Note e ∷ []) ≡ x ∷ []
     → IsFaultless (told first w (Note e ∷ []) xs) ⊎ IsEventFault first w e xs
-of-node first w e x xs q n = elim (node-by x xs) [
+of-node first w e x xs b q n = elim (node-by x xs) [
   | inl h ↦ inl (none-so (told first w (Note e ∷ []) xs) (q ∙ append-nil (node_notes x xs) ∙ h))
-  | inr h ↦ inr (record { node = x; its = h; told_is = q ∙ append-nil (node_notes x xs); noted = n })
+  | inr h ↦ inr (record { node = x; no_brace = b; its = h; told_is = q ∙ append-nil (node_notes x xs); noted = n })
 ]
 
 event-by : (first : Option (t.Package Place)) (w : Place) (e : Event Place) (xs : Rows Place) → IsFaultless (told first w (Note e ∷ []) xs) ⊎ IsEventFault first w e xs
-event-by first w (ANode x) xs = of-node first w (ANode x) x xs refl refl
+event-by first w (ANode x) xs = of-node first w (ANode x) x xs tt refl refl
 event-by None w (APackage x) xs = inl tt
-event-by (Some f) w (APackage x) xs = of-node (Some f) w (APackage x) (APackageAgain f x) xs refl refl
+event-by (Some f) w (APackage x) xs = of-node (Some f) w (APackage x) (APackageAgain f x) xs tt refl refl
 event-by first w (AKeyword m) xs = inl tt
-event-by first w (ADeepBody m) xs = of-node first w (ADeepBody m) (ATooDeep w m) xs refl refl
+event-by first w (ADeepBody m) xs = of-node first w (ADeepBody m) (ATooDeep w m) xs tt refl refl
 event-by first w (ADeeperBody m) xs = inl tt
 event-by first w (AnOpenBrace m) xs = inl (tt, tt)
 event-by first w (ACloseBrace m) xs = inl (tt, tt)
@@ -139,6 +146,7 @@ event-by first w (ACloseBrace m) xs = inl (tt, tt)
 pub record FirstCheck (first : Option (t.Package Place)) (w : Place) (l : Steps Place) (xs : Rows Place) : Type 0 where
   pub before : Steps Place
   pub event : Event Place
+  pub no_brace : IsNoBrace event
   pub later : Steps Place
   pub parts : l ≡ before ++ (Note event ∷ later)
   pub faultless : IsFaultless (told first w before xs)
@@ -179,6 +187,7 @@ module _ (first : Option (t.Package Place)) (w : Place) (e : Event Place) (l : S
   later-on h v = record {
     before = Note e ∷ v.before;
     event = v.event;
+    no_brace = v.no_brace;
     later = v.later;
     parts = ap (λ u. Note e ∷ u) v.parts;
     faultless = subst IsFaultless (sym (split v.before)) (faultless-both own (next v.before) h v.faultless);
@@ -196,6 +205,7 @@ module _ (first : Option (t.Package Place)) (w : Place) (e : Event Place) (l : S
   right-here v = record {
     before = [];
     event = e;
+    no_brace = v.no_brace;
     later = l;
     parts = refl;
     faultless = tt;
@@ -217,6 +227,7 @@ first-check first w (Token r ∷ l) xs = elim (first-check first w l (behind xs)
   | inr v ↦ inr (record {
     before = Token r ∷ v.before;
     event = v.event;
+    no_brace = v.no_brace;
     later = v.later;
     parts = ap (λ u. Token r ∷ u) v.parts;
     faultless = v.faultless;

@@ -59,10 +59,10 @@ module _ (lexemes : List Lexeme) where
   abbrev Same : ℕ → t.File ℕ → Type 0
   Same n f = (open_behind false (steps_by lexemes n) ≡ open_behind false (until n (steps 31 f))) × (has_deep (until n (steps 31 f)) ≡ has_deep (steps_by lexemes n))
 
-  file-tokens : (n : ℕ) (f : t.File ℕ) (go : GoesOn (shapes (rows_of lexemes)) n f) → tokens (steps 31 f) ≡ numbered 0 (take n all_shapes ++ go.more)
+  pub file-tokens : (n : ℕ) (f : t.File ℕ) (go : GoesOn (shapes (rows_of lexemes)) n f) → tokens (steps 31 f) ≡ numbered 0 (take n all_shapes ++ go.more)
   file-tokens n f go = (main.laws 0 31).traced.rows f ∙ main.spelling 0 31 f ∙ sym go.spells.0
 
-  file-placed : (n : ℕ) (f : t.File ℕ) → GoesOn (shapes (rows_of lexemes)) n f → ArePlaced None (steps 31 f) []
+  pub file-placed : (n : ℕ) (f : t.File ℕ) → GoesOn (shapes (rows_of lexemes)) n f → ArePlaced None (steps 31 f) []
   file-placed n f go = (main.laws 0 31).traced.placed f [] (main.ends-of 0 31 f go.spells.1)
 
   abbrev goes-before : (m : ℕ) (f : t.File ℕ) → GoesOn (shapes (rows_of lexemes)) (suc m) f → GoesOn (shapes (rows_of lexemes)) m f
@@ -121,7 +121,7 @@ module _ (lexemes : List Lexeme) where
 
   -- ---- a file that goes on where reading got
 
-  some-file : (n : ℕ) → length (tokens (steps_by lexemes n)) ≡ n → (f : t.File ℕ) × GoesOn (shapes (rows_of lexemes)) n f
+  pub some-file : (n : ℕ) → length (tokens (steps_by lexemes n)) ≡ n → (f : t.File ℕ) × GoesOn (shapes (rows_of lexemes)) n f
   some-file n len =
       let l = steps_by lexemes n in
       let j = until-front n (trace 31 (tokens_of lexemes)) in

@@ -28,22 +28,22 @@ counts i (s ∷ a) (Token r ∷ l) z e =
 counts i a (Note d ∷ l) z e = counts i a l z e
 
 -- the row before has the number before
-abbrev Before : Option (Row ℕ) → ℕ → Type 0
+abbrev pub Before : Option (Row ℕ) → ℕ → Type 0
 Before None i = Unit {0}
 Before (Some r) i = suc r.at ≡ i
 
-placed-at : (last : Option (Row ℕ)) (i : ℕ) (e : Event ℕ) (z : Rows ℕ) (m : ℕ) → Before last i → IsPlaced last e z → event_end e ≡ m → suc m ≡ i
+pub placed-at : (last : Option (Row ℕ)) (i : ℕ) (e : Event ℕ) (z : Rows ℕ) (m : ℕ) → Before last i → IsPlaced last e z → event_end e ≡ m → suc m ≡ i
 placed-at None i e z m b p h = absurd p
 placed-at (Some r) i e z m b p h = omega (arith, b, p.0, h)
 
-abbrev From : ℕ → Bool × ℕ → Type 0
+abbrev pub From : ℕ → Bool × ℕ → Type 0
 From i x = i ≤ suc x.1
 
 weaken : (i : ℕ) (xs : List (Bool × ℕ)) → Each (From (suc i)) xs → Each (From i) xs
 weaken i [] h = tt
 weaken i (x ∷ xs) h = (omega (arith, h.0), weaken i xs h.1)
 
-notes-from : (l : Steps ℕ) (i : ℕ) (last : Option (Row ℕ)) (z : Rows ℕ) → Counts i l → Before last i → ArePlaced last l z → Each (From i) (brace_notes l)
+pub notes-from : (l : Steps ℕ) (i : ℕ) (last : Option (Row ℕ)) (z : Rows ℕ) → Counts i l → Before last i → ArePlaced last l z → Each (From i) (brace_notes l)
 notes-from [] i last z c b w = tt
 notes-from (Token r ∷ l) i last z c b w = weaken i (brace_notes l) (notes-from l (suc i) (Some r) z c.1 (ap suc c.0) w)
 notes-from (Note (AnOpenBrace m) ∷ l) i last z c b w = (omega (arith, placed-at last i (AnOpenBrace m) _ m b w.0 refl), notes-from l i last z c b w.1)
@@ -58,17 +58,17 @@ notes-from (Note (ADeeperBody x) ∷ l) i last z c b w = notes-from l i last z c
 abbrev pub IsIn : ℕ → ℕ × ℕ → Type 0
 IsIn m x = (x.0 < m) × (m ≤ x.1)
 
-none-in : (i : ℕ) (ps : Braces ℕ) → Each (From (suc i)) (brace_pairs ps) → Holds (IsIn (i + 0)) ps → ⊥
+pub none-in : (i : ℕ) (ps : Braces ℕ) → Each (From (suc i)) (brace_pairs ps) → Holds (IsIn (i + 0)) ps → ⊥
 none-in i [] h a = a
 none-in i (p ∷ ps) h (inl a) = omega (arith, h.0, a.0)
 none-in i (p ∷ ps) h (inr a) = none-in i ps h.1.1 a
 
 -- the notes that are to come where an aggregate is open, or none
-abbrev Comes : Bool → ℕ → Braces ℕ → List (Bool × ℕ)
+abbrev pub Comes : Bool → ℕ → Braces ℕ → List (Bool × ℕ)
 Comes true c ps = (false, c) ∷ brace_pairs ps
 Comes false c ps = brace_pairs ps
 
-abbrev In : Bool → ℕ → Braces ℕ → ℕ → Type 0
+abbrev pub In : Bool → ℕ → Braces ℕ → ℕ → Type 0
 In true c ps m = (m ≤ c) ⊎ Holds (IsIn m) ps
 In false c ps m = Holds (IsIn m) ps
 
@@ -79,22 +79,22 @@ until-nil : (n : ℕ) → until {M = ℕ} n [] ≡ []
 until-nil zero = refl
 until-nil (suc n) = refl
 
-parts : (x y : Bool × ℕ) (xs ys : List (Bool × ℕ)) → x ∷ xs ≡ y ∷ ys → (x.0 ≡ y.0) × (x.1 ≡ y.1) × (xs ≡ ys)
+pub parts : (x y : Bool × ℕ) (xs ys : List (Bool × ℕ)) → x ∷ xs ≡ y ∷ ys → (x.0 ≡ y.0) × (x.1 ≡ y.1) × (xs ≡ ys)
 parts x y xs ys e = let h = head-same x y xs ys e in (ap (λ (u : Bool × ℕ). u.0) h.0, ap (λ (u : Bool × ℕ). u.1) h.0, h.1)
 
-not-true : false ≡ true → ⊥
+pub not-true : false ≡ true → ⊥
 not-true e = absurd cc
 
-no-notes : (x : Bool × ℕ) (xs : List (Bool × ℕ)) → [] ≡ x ∷ xs → ⊥
+pub no-notes : (x : Bool × ℕ) (xs : List (Bool × ℕ)) → [] ≡ x ∷ xs → ⊥
 no-notes x xs e = absurd cc
 
 deep-no : (n : ℕ) (e : Event ℕ) (l : Steps ℕ) → is_too_deep e ≡ true → has_deep (until n (Note e ∷ l)) ≡ false → ⊥
 deep-no n e l d h = not-true (sym h ∙ ap has_deep (until-note n e l) ∙ ap (λ u. u || has_deep (cond u [] (until n l))) d)
 
-not-sunk : (n : ℕ) (e : Event ℕ) (l : Steps ℕ) → is_too_deep e ≡ false → has_deep (until n (Note e ∷ l)) ≡ false → has_deep (until n l) ≡ false
+pub not-sunk : (n : ℕ) (e : Event ℕ) (l : Steps ℕ) → is_too_deep e ≡ false → has_deep (until n (Note e ∷ l)) ≡ false → has_deep (until n l) ≡ false
 not-sunk n e l d h = sym (ap has_deep (until-note n e l) ∙ ap (λ u. u || has_deep (cond u [] (until n l))) d) ∙ h
 
-until-on : (n : ℕ) (e : Event ℕ) (l : Steps ℕ) → is_too_deep e ≡ false → until n (Note e ∷ l) ≡ Note e ∷ until n l
+pub until-on : (n : ℕ) (e : Event ℕ) (l : Steps ℕ) → is_too_deep e ≡ false → until n (Note e ∷ l) ≡ Note e ∷ until n l
 until-on n e l d = until-note n e l ∙ ap (λ u. Note e ∷ cond u [] (until n l)) d
 
 pub tells : (l : Steps ℕ) (b : Bool) (c : ℕ) (ps : Braces ℕ) (i n : ℕ) (last : Option (Row ℕ)) (z : Rows ℕ) → Counts i l → Before last i → ArePlaced last l z → brace_notes l ≡ Comes b c ps → has_deep (until n l) ≡ false → Tells b c ps (i + n) (until n l)

@@ -74,3 +74,6 @@ pub mod FirstWords
 pub mod CheckedFirst
 pub mod Falling
 pub mod InsideModes
+pub mod FrontModes
+pub mod Outside
+pub mod DeepOutside

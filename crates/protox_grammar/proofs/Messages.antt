@@ -30,10 +30,10 @@ module _ {M : Type 0} (m : M) (P F : t.Mbody M → Type 0) (read : Reader M (t.M
   some_field = t.field_of None (t.normal some_normal)
 
   opener-laws : (w : List ℕ) → Lawful {M = M} (noting AKeyword (r.the w)) false (just_word w) none
-  opener-laws w = noting-laws AKeyword (word-laws m w) (λ x h. tt) (λ x y z h a. tt) (λ x. omega arith) (λ x z h. (refl, refl, λ g. absurd cc)) (λ x. refl)
+  opener-laws w = noting-laws AKeyword (word-laws m w) (λ x h. tt) (λ x y z h a. tt) (λ x. omega arith) (λ x z h. (refl, refl, λ g. absurd cc, λ g. refl)) (λ x. refl)
 
   group_name-laws : Lawful {M = M} (noting (λ x. ANode (AGroupName x)) r.ident) false words none
-  group_name-laws = noting-laws (λ x. ANode (AGroupName x)) (parts.ident-laws m) (λ x h. tt) (λ x y z h a. tt) (λ x. omega arith) (λ x z h. (refl, refl, λ g. absurd cc)) (λ x. refl)
+  group_name-laws = noting-laws (λ x. ANode (AGroupName x)) (parts.ident-laws m) (λ x h. tt) (λ x y z h a. tt) (λ x. omega arith) (λ x z h. (refl, refl, λ g. absurd cc, λ g. refl)) (λ x. refl)
 
   pub group-laws : Lawful (rule.group body) false (just_word (codes "group")) none
   unfolding rule.group r.int r.list

@@ -20,11 +20,11 @@ module _ {M : Type 0} (m : M) where
   closed-laws = record { spelled = closed-spelled; read = closed-read m; traced = plain-traced r.closed false all none closed-spelled (closed-read m) closed-deep (λ t. refl) (λ xs. refl) }
 
   opened-laws : Lawful {M = M} (noting AnOpenBrace (r.sign s.open_brace)) false (just_mark s.open_brace) none
-  opened-laws = noting-laws AnOpenBrace (mark-laws m s.open_brace) (λ x h. tt) (λ x y z h a. tt) (λ x. omega arith) (λ x z h. (refl, refl, λ g. absurd cc)) (λ x. refl)
+  opened-laws = noting-laws AnOpenBrace (mark-laws m s.open_brace) (λ x h. tt) (λ x y z h a. tt) (λ x. omega arith) (λ x z h. (refl, refl, λ g. absurd cc, λ g. refl)) (λ x. refl)
 
   noted_closed-laws : Lawful {M = M} (noting (λ x. ACloseBrace x.1) r.closed) false all none
   noted_closed-laws = noting-laws (λ x. ACloseBrace x.1) closed-laws (λ x h. h) (λ x y z h a. h) (λ x. omega (arith, length-append x.0 (row (Mark s.close_brace) x.1 ∷ [])))
-      (λ x z h. subst (λ u. IsPlaced u (ACloseBrace x.1) z) (sym (last-past None x.0 (row (Mark s.close_brace) x.1) [])) (refl, refl, λ g. absurd cc)) (λ x. refl)
+      (λ x z h. subst (λ u. IsPlaced u (ACloseBrace x.1) z) (sym (last-past None x.0 (row (Mark s.close_brace) x.1) [])) (refl, refl, λ g. absurd cc, λ g. refl)) (λ x. refl)
 
   part-back : (x : t.Part M) → r.to_part (r.from_part x) ≡ x
   part-back (t.plain_part a) = refl

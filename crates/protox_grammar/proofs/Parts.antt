@@ -188,7 +188,7 @@ module _ {M : Type 0} (m : M) where
   unfolding r.strings
   run-placed node e run x z h =
       let l = last-text None x.first x.others in
-      subst (λ u. IsPlaced u (ANode (node x)) z) (sym l.1) (e x, run x, λ g. stop-head z (texts-stop x.others z h.1))
+      subst (λ u. IsPlaced u (ANode (node x)) z) (sym l.1) (e x, run x, λ g. stop-head z (texts-stop x.others z h.1), λ g. refl)
 
   pub noted_strings-laws : (node : t.Strings M → CheckedNode M) → ((x : t.Strings M) → run_end x ≡ node_end (node x)) → ((x : t.Strings M) → true ≡ is_run (node x)) → Lawful {M = M} (r.noted_strings node) false (only a_string) (only a_string)
   unfolding r.strings
@@ -250,7 +250,7 @@ module _ {M : Type 0} (m : M) where
   pub noted_package-laws : Lawful {M = M} (noting APackage r.«package») false (just_word (codes "package")) none
   unfolding r.«package» r.fullident
   noted_package-laws = noting-laws APackage package-laws (λ x h. tt) (λ x y z h a. package-laws.spelled.follow x z tt (stops-none z)) (λ x. omega arith)
-      (λ x z h. subst (λ u. IsPlaced u (APackage x) z) (sym (last-past (Some (row (Ident (codes "package")) x.keyword)) (s.fullident x.name) (row (shape.Mark s.semicolon) x.end) [])) (refl, refl, λ g. absurd cc)) (λ x. refl)
+      (λ x z h. subst (λ u. IsPlaced u (APackage x) z) (sym (last-past (Some (row (Ident (codes "package")) x.keyword)) (s.fullident x.name) (row (shape.Mark s.semicolon) x.end) [])) (refl, refl, λ g. absurd cc, λ g. refl)) (λ x. refl)
 
   pub typename-laws : Lawful {M = M} r.typename false (union (just_mark s.dot) words) (just_mark s.dot)
   unfolding r.typename r.fullident

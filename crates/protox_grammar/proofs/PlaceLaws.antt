@@ -18,7 +18,7 @@ use Rattle.protox_grammar.proofs.NotedTrue.{all_is_noted}
 
 -- ---- places
 
-placed-shapes : (first : Bool) (rows : Rows Span) (gaps : List (List Shape)) → shapes (placed_from first rows gaps) ≡ shapes rows
+pub placed-shapes : (first : Bool) (rows : Rows Span) (gaps : List (List Shape)) → shapes (placed_from first rows gaps) ≡ shapes rows
 placed-shapes first [] gaps = refl
 placed-shapes first (r ∷ rs) gaps = ap (λ u. r.shape ∷ u) (placed-shapes false rs (later_gaps gaps))
 

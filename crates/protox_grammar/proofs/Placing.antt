@@ -1,11 +1,13 @@
 -- Where notes stand among steps: each right behind the last row of what is noted.
-use Rattle.std.proofs.Common.{◌≡◌, Bool, true, false, [], ◌∷◌, ◌++◌, Option, Some, None, refl, sym, ap, subst, ◌∙◌, append_assoc}
+use Rattle.std.proofs.Common.{◌≡◌, Bool, true, false, ◌||◌, [], ◌∷◌, ◌++◌, Option, Some, None, refl, sym, ap, subst, ◌∙◌, append_assoc}
+use Rattle.std.specs.Prelude.{◌==◌}
 use Rattle.std.proofs.lemmas.List.{append-nil}
-use Rattle.protox_lexeme.specs.Shapes.{Row, Rows}
+use Rattle.protox_lexeme.specs.Shapes.{Shape, Mark, Row, Rows}
 use Rattle.protox_ast.specs.CheckedNodes.{node_end}
 use Rattle.protox_ast.specs.Truth.{is_run}
+use Rattle.protox_ast.specs.Spelling as s
 use Rattle.protox_grammar.specs.Reader.{head_in, is_string}
-use Rattle.protox_grammar.specs.Steps.{Event, ANode, APackage, AKeyword, ADeepBody, ADeeperBody, AnOpenBrace, ACloseBrace, Token, Note, Steps, tokens, plainly}
+use Rattle.protox_grammar.specs.Steps.{Event, ANode, APackage, AKeyword, ADeepBody, ADeeperBody, AnOpenBrace, ACloseBrace, Token, Note, Steps, is_too_deep, tokens, plainly}
 use Rattle.protox_grammar.proofs.StepLists.{Quiet, tokens-append}
 
 -- the last row of what is noted
@@ -31,10 +33,21 @@ abbrev pub is_string_row : {M : Type 0} → Option (Row M) → Bool
 is_string_row None = false
 is_string_row (Some r) = is_string r.shape
 
--- A note stands behind the last row of its event. Behind a string only runs of strings are noted, and a run is taken whole.
+-- the event is that of a brace of an aggregate
+abbrev pub is_brace_event : {M : Type 0} → Event M → Bool
+is_brace_event (AnOpenBrace m) = true
+is_brace_event (ACloseBrace m) = true
+is_brace_event _ = false
+
+abbrev pub is_brace : Shape → Bool
+is_brace (Mark b) = (b == s.open_brace) || (b == s.close_brace)
+is_brace _ = false
+
+-- A note stands behind the last row of its event. Behind a string only runs of strings are noted, and a run is taken whole. Behind a brace only
+-- braces of aggregates are noted, or that a body is too deep.
 abbrev pub IsPlaced : {M : Type 0} → Option (Row M) → Event M → Rows M → Type 0
 IsPlaced None e rest = ⊥
-IsPlaced (Some r) e rest = (r.at ≡ event_end e) × (is_string r.shape ≡ is_run_event e) × (is_run_event e ≡ true → head_in is_string rest ≡ false)
+IsPlaced (Some r) e rest = (r.at ≡ event_end e) × (is_string r.shape ≡ is_run_event e) × (is_run_event e ≡ true → head_in is_string rest ≡ false) × (is_too_deep e ≡ false → is_brace_event e ≡ is_brace r.shape)
 
 -- so does each note among these steps, behind this row and in front of those
 abbrev pub ArePlaced : {M : Type 0} → Option (Row M) → Steps M → Rows M → Type 0

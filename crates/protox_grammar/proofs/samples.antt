@@ -8,3 +8,4 @@ pub mod Sources
 pub mod True
 pub mod Everywhere
 pub mod Noted
+pub mod Tight

@@ -17,4 +17,8 @@ pub mod BlockExtent
 pub mod Extents
 pub mod Places
 pub mod FaultPlaces
+pub mod FaultModes
+pub mod FaultOrder
+pub mod FaultsOnce
+pub mod TableOrder
 pub mod Keywords

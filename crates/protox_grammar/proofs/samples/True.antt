@@ -108,7 +108,7 @@ second-there : IsTrueOf two (fault.IntegerOutOfRange (span_from 0 21)) → ⊥
 second-there h = elim (somewhere-from (λ y. first_of y.faults ≡ Some (fault.IntegerOutOfRange (span_from 0 21))) two h) as (λ _. ⊥) [ inl e ↦ (let z : 0 ≡ 1 = ap is_range e in omega (arith, z)) | inr e ↦ e ]
 
 -- nothing stands inside an aggregate before the first token
-inside-none : (lexemes : List Lexeme) → Inside lexemes 0 → ⊥
+pub inside-none : (lexemes : List Lexeme) → Inside lexemes 0 → ⊥
 inside-none lexemes h = none (aggregates h.0) h.2
   where
     none : (all : List (ℕ × ℕ)) → Any (λ braces. (braces.0 < 0) × (0 ≤ braces.1)) all → ⊥
@@ -274,12 +274,13 @@ text-there = (
 )
 
 -- import '..' is wrong, whatever stands behind it but a string
+pub parent-behind : IsWrongBehind x.parent 2 (fault.InvalidImport (span_from 7 11))
+parent-behind =
+    by-node x.parent 2 (Mark s.semicolon ∷ []) (fault.InvalidImport (span_from 7 11)) (node.AnImport (run (codes "..") 1)) (omega arith) are_made.import_made
+    (refl, (λ _. refl), inr (ap is_import_path (text-same (codes "..") refl), refl))
+
 parent-there : IsTrueOf x.parent (fault.InvalidImport (span_from 7 11))
-parent-there = (
-  2,
-  by-node x.parent 2 (Mark s.semicolon ∷ []) (fault.InvalidImport (span_from 7 11)) (node.AnImport (run (codes "..") 1)) (omega arith) are_made.import_made
-      (refl, (λ _. refl), inr (ap is_import_path (text-same (codes "..") refl), refl)),
-)
+parent-there = (2, parent-behind)
 
 packages-there : IsTrueOf x.packages (fault.DuplicatePackage (span_from 0 10) (span_from 11 21))
 packages-there = (

@@ -1,31 +1,108 @@
--- What is wrong of the syntax tree of a source is true of the source, and so is that it is too large.
-use Rattle.std.proofs.Common.{inl, inr, ℕ, List, [], ◌∷◌, Result, Ok, Err, IfErr, refl, sym, subst}
-use Rattle.std.specs.Prelude.{length}
+-- What is said of the faults of a failure is said of the refusal for it; and of the generator's faults, and that the source is too large.
+use Rattle.std.proofs.Common.{◌≡◌, inl, inr, ℕ, List, [], ◌∷◌, ◌++◌, Option, Some, None, Result, Ok, Err, IfErr, refl, sym, ap, subst}
+use Rattle.std.specs.Prelude.{IfSome, length}
 use Rattle.protox_fault.specs.declared.error.ParseErrorKind.{ParseErrorKind}
-use Rattle.protox_ast.specs.Accepted.{Fits, IsAccepted}
+use Rattle.protox_fault.specs.declared.error.ParseErrorKind.TheVariants.{FileTooLarge}
+use Rattle.protox_fault.specs.declared.error.SyntaxFailure.{SyntaxFailure}
+use Rattle.protox_fault.specs.declared.error.SyntaxFailure.TheVariants as failure
+use Rattle.protox_lexeme.specs.Lexemes.{cut}
+use Rattle.protox_ast.specs.Accepted.{Fits, IsAccepted, IsFileOf}
 use Rattle.protox_ast.specs.Ast as ast
-use Rattle.protox_ast.specs.Keywords.{Each}
+use Rattle.protox_ast.specs.Basics.{Each, first_of}
+use Rattle.protox_ast.specs.FaultList.{AreFaultsOf, StandIn}
+use Rattle.protox_ast.specs.FirstFault.{IsTightOf}
 use Rattle.protox_ast.specs.Places.{Place}
 use Rattle.protox_ast.specs.Tree as t
-use Rattle.protox_descriptor.specs.declared.descriptor.FileDescriptorProto.{FileDescriptorProto}
+use Rattle.protox_ast.specs.Truth.{IsTrueOf}
+use Rattle.protox_ast.specs.declared.ast.File.{File}
 use Rattle.protox_checks.specs.Faults.{Wrong}
+use Rattle.protox_descriptor.specs.declared.descriptor.FileDescriptorProto.{FileDescriptorProto}
+use Rattle.protox_checks.proofs.PlainFaults.{IsPlain, all-plain, plain-stand}
 use Rattle.protox_parse.specs.Failures.{AreWrongOf, IsRefusalOf}
-use Rattle.protox_parse.specs.Truth.{IsTrueOfSource, AreTrue}
+use Rattle.protox_parse.specs.FaultLists.{AreLexicalAlone, AreStanding, HasFaultsOf}
+use Rattle.protox_parse.specs.Refusal.{Refusal}
+use Rattle.protox_parse.specs.Truth.{IsTightFirst, IsTightOfSource, IsTrueFirst, IsTrueOfSource}
 use Rattle.protox_parse.specs.declared.failure.ParseFailure.{ParseFailure}
 use Rattle.protox_parse.specs.declared.failure.ParseFailure.TheVariants.{Refused, OutOfMemory}
+use Rattle.protox_syntax.specs.FirstFaults as syntax
+use Rattle.protox_syntax.specs.LexicalFaults as lexical
+use Rattle.protox_syntax.specs.StandingFaults as standing
 
-each-true : (source : List ℕ) (f : t.File Place) → IsAccepted source f → (faults : List ParseErrorKind) → Each (Wrong (ast.file (length source) f)) faults → Each (IsTrueOfSource source) faults
-each-true source f a [] h = tt
-each-true source f a (x ∷ xs) h = (inr (inr (f, a.spells, h.0)), each-true source f a xs h.1)
+if-more : {A : Type 0} (P Q : A → Type 0) (o : Option A) → ((x : A) → P x → Q x) → IfSome o P → IfSome o Q
+if-more P Q None h k = tt
+if-more P Q (Some x) h k = h x k
 
-pub true-of-tree : (source : List ℕ) (f : t.File Place) → IsAccepted source f
-    → (r : Result FileDescriptorProto ParseFailure) → IfErr r (AreWrongOf (ast.file (length source) f)) → IfErr r (AreTrue source)
-true-of-tree source f a (Ok d) h = tt
-true-of-tree source f a (Err OutOfMemory) h = tt
-true-of-tree source f a (Err (Refused e)) h = each-true source f a e.errors h
+module _ (source : List ℕ) where
+  -- ---- the faults of reading
 
-pub true-of-size : (name source : List ℕ) (r : Result FileDescriptorProto ParseFailure) → (Fits source → ⊥) → IfErr r (IsRefusalOf name source) → IfErr r (AreTrue source)
-true-of-size name source (Ok d) large h = tt
-true-of-size name source (Err OutOfMemory) large h = tt
-true-of-size name source (Err (Refused e)) large h =
-    elim h.1 as (λ _. Each (IsTrueOfSource source) e.errors) [ inl fits ↦ absurd (large fits.0) | inr other ↦ subst (Each (IsTrueOfSource source)) (sym other.2) (inl (large, refl), tt) ]
+  pub read-true : (e : SyntaxFailure) (r : ParseFailure) → HasFaultsOf e r → syntax.IsTrueFirst source e → IsTrueFirst source r
+  read-true e OutOfMemory same h = tt
+  read-true failure.OutOfMemory (Refused x) same h = absurd same
+  read-true (failure.Faults v) (Refused x) same h =
+      subst (λ errors. IfSome (first_of errors) (IsTrueOfSource source)) (sym same) (if-more (IsTrueOf (cut 0 source)) (IsTrueOfSource source) (first_of v.items) (λ f k. inr (inl k)) h)
+
+  pub read-tight : (e : SyntaxFailure) (r : ParseFailure) → HasFaultsOf e r → syntax.IsTightFirst source e → IsTightFirst source r
+  read-tight e OutOfMemory same h = tt
+  read-tight failure.OutOfMemory (Refused x) same h = absurd same
+  read-tight (failure.Faults v) (Refused x) same h =
+      subst (λ errors. IfSome (first_of errors) (IsTightOfSource source)) (sym same) (if-more (IsTightOf (cut 0 source)) (IsTightOfSource source) (first_of v.items) (λ f k. inr (inl k)) h)
+
+  pub read-stand : (e : SyntaxFailure) (r : ParseFailure) → HasFaultsOf e r → standing.AreStanding source e → AreStanding source r
+  read-stand e OutOfMemory same h = tt
+  read-stand failure.OutOfMemory (Refused x) same h = absurd same
+  read-stand (failure.Faults v) (Refused x) same h = subst (StandIn (cut 0 source)) (sym same) h
+
+  pub read-lexical : (e : SyntaxFailure) (r : ParseFailure) → HasFaultsOf e r → lexical.AreLexicalAlone source e → AreLexicalAlone source r
+  read-lexical e OutOfMemory same h = tt
+  read-lexical failure.OutOfMemory (Refused x) same h = absurd same
+  read-lexical (failure.Faults v) (Refused x) same h = λ fits f spelled deep nothing valid unclean. subst (AreFaultsOf (cut 0 source)) (sym same) (h f spelled deep nothing valid)
+
+  -- ---- those of the generator
+
+  first-wrong : (file : File) (errors : List ParseErrorKind) → Each (Wrong file) errors → IfSome (first_of errors) (Wrong file)
+  first-wrong file [] h = tt
+  first-wrong file (x ∷ xs) h = h.0
+
+  its-tree : (file : File) → IsFileOf source file → (errors : List ParseErrorKind) → Each (Wrong file) errors → (Q : ParseErrorKind → Type 0)
+      → ((wrong : ParseErrorKind) → (f : t.File Place) × IsAccepted source f × Wrong (ast.file (length source) f) wrong → Q wrong) → IfSome (first_of errors) Q
+  its-tree file is errors h Q k = if-more (Wrong file) Q (first_of errors) (λ wrong w. k wrong (is.0, is.1, subst (λ u. Wrong u wrong) is.2 w)) (first-wrong file errors h)
+
+  pub made-true : (file : File) → IsFileOf source file → (r : Result FileDescriptorProto ParseFailure) → IfErr r (AreWrongOf file) → IfErr r (IsTrueFirst source)
+  made-true file is (Ok d) h = tt
+  made-true file is (Err OutOfMemory) h = tt
+  made-true file is (Err (Refused e)) h = its-tree file is e.errors h (IsTrueOfSource source) (λ wrong k. inr (inr k))
+
+  pub made-tight : (file : File) → IsFileOf source file → (r : Result FileDescriptorProto ParseFailure) → IfErr r (AreWrongOf file) → IfErr r (IsTightFirst source)
+  made-tight file is (Ok d) h = tt
+  made-tight file is (Err OutOfMemory) h = tt
+  made-tight file is (Err (Refused e)) h = its-tree file is e.errors h (IsTightOfSource source) (λ wrong k. inr (inr k))
+
+  pub made-stand : (file : File) (r : Result FileDescriptorProto ParseFailure) → IfErr r (AreWrongOf file) → IfErr r (AreStanding source)
+  made-stand file (Ok d) h = tt
+  made-stand file (Err OutOfMemory) h = tt
+  made-stand file (Err (Refused e)) h = plain-stand (cut 0 source) e.errors (all-plain file e.errors h)
+
+  pub made-lexical : (file : File) → IsFileOf source file → (r : Result FileDescriptorProto ParseFailure) → IfErr r (AreLexicalAlone source)
+  made-lexical file is (Ok d) = tt
+  made-lexical file is (Err OutOfMemory) = tt
+  made-lexical file is (Err (Refused e)) = λ fits f spelled deep nothing valid unclean. absurd (unclean is.1.clean)
+
+  -- ---- that the source is too large
+
+  module _ (name : List ℕ) (large : Fits source → ⊥) where
+    alone : (r : ParseFailure) → IsRefusalOf name source r → (P : List ParseErrorKind → Type 0) → P (FileTooLarge ∷ []) → (Q : ParseFailure → Type 0) → Q OutOfMemory → ((e : Refusal) → P e.errors → Q (Refused e)) → Q r
+    alone OutOfMemory h P p Q none k = none
+    alone (Refused e) h P p Q none k = k e (elim h.1 as (λ _. P e.errors) [ inl fits ↦ absurd (large fits.0) | inr other ↦ subst P (sym other.2) p ])
+
+    pub large-true : (r : ParseFailure) → IsRefusalOf name source r → IsTrueFirst source r
+    large-true r h = alone r h (λ errors. IfSome (first_of errors) (IsTrueOfSource source)) (inl (large, refl)) (IsTrueFirst source) tt (λ e p. p)
+
+    pub large-tight : (r : ParseFailure) → IsRefusalOf name source r → IsTightFirst source r
+    large-tight r h = alone r h (λ errors. IfSome (first_of errors) (IsTightOfSource source)) (inl (large, refl)) (IsTightFirst source) tt (λ e p. p)
+
+    pub large-stand : (r : ParseFailure) → IsRefusalOf name source r → AreStanding source r
+    large-stand r h = alone r h (StandIn (cut 0 source)) (plain-stand (cut 0 source) (FileTooLarge ∷ []) (refl, tt)) (AreStanding source) tt (λ e p. p)
+
+    pub large-lexical : (r : ParseFailure) → AreLexicalAlone source r
+    large-lexical OutOfMemory = tt
+    large-lexical (Refused e) = λ fits f spelled deep nothing valid unclean. absurd (large fits)

@@ -3,4 +3,5 @@ pub mod Refusals
 pub mod Failures
 pub mod Files
 pub mod Truth
+pub mod FaultLists
 pub mod Commented

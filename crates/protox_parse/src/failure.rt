@@ -7,6 +7,7 @@ ghost use Rattle.protox_ast.specs.Keywords.{Each};
 ghost use Rattle.protox_ast.specs.declared.ast.File.{File};
 ghost use Rattle.protox_checks.specs.Faults.{AreWrong, IsFaultless};
 ghost use Rattle.protox_fault.specs.Faults.{LiesIn, span_of};
+ghost use Rattle.protox_parse.specs.FaultLists.{HasFaultsOf};
 ghost use Rattle.protox_parse.specs.Failures.{AreWrongOf, IsOutOfMemory, IsRefusalOf, first_of};
 
 use protox_descriptor::values::Text;
@@ -177,6 +178,7 @@ pub(crate) fn refused(
 ) -> ParseFailure
     requires { FaultsLieIn source.now failure }
     ensures of_source { IsRefusalOf name.now source.now result }
+    ensures same { HasFaultsOf failure result }
     ensures memory { accepted.IsOutOfMemory failure → IsOutOfMemory result }
     // Where nothing is wrong with a file, only memory can have failed.
     ensures none { (file : File) → AreWrong file failure → IsFaultless file → IsOutOfMemory result }

@@ -14,7 +14,8 @@ ghost use Rattle.protox_lexeme.specs.Lexemes.{cut};
 ghost use Rattle.protox_ast.specs.Places.{Place};
 ghost use Rattle.protox_parse.specs.Commented.{AreCommentedOnce};
 ghost use Rattle.protox_parse.specs.Failures.{AreWrongOf, IsOutOfMemory, IsRefusalOf};
-ghost use Rattle.protox_parse.specs.Truth.{AreTrue};
+ghost use Rattle.protox_parse.specs.FaultLists.{AreLexicalAlone, AreStanding};
+ghost use Rattle.protox_parse.specs.Truth.{IsTightFirst, IsTrueFirst};
 
 mod failure;
 
@@ -83,9 +84,14 @@ pub fn parse(alloc: Global, name: &str, source: &str) -> Result<FileDescriptorPr
     ensures refused { IfErr result (IsRefusalOf name.now source.now) }
     // Where the source's tokens spell a tree that is accepted, each fault is one of its syntax tree.
     ensures wrong { (f : tree.File Place) → IsAccepted source.now f → IfErr result (AreWrongOf (ast_of.file (length source.now) f)) }
-    // So each is true of the source; and that it is too large is true where that is said.
-    ensures true_of_tree { (f : tree.File Place) → IsAccepted source.now f → IfErr result (AreTrue source.now) }
-    ensures true_of_size { (Fits source.now → ⊥) → IfErr result (AreTrue source.now) }
+    // The first fault is true of the source.
+    ensures is_true { IfErr result (IsTrueFirst source.now) }
+    // Nothing is passed over in front of it.
+    ensures tight { IfErr result (IsTightFirst source.now) }
+    // Each fault of a lexeme and each unexpected token stands in the source, and no fault of a lexeme twice in the list.
+    ensures stands { IfErr result (AreStanding source.now) }
+    // Of tokens of a file with which nothing is wrong the faults are those of the lexemes, and no others.
+    ensures lexical { IfErr result (AreLexicalAlone source.now) }
 {
     if !source_fits(source.len()) {
         return Err(too_large(alloc, name));

@@ -71,7 +71,7 @@ row-lies low high (y ∷ ys) (suc i) x h e = row-lies y.at.end high ys i x h.2 e
 abbrev bare_row : Row Place → Row Span
 bare_row r = record { shape = r.shape; at = r.at.span }
 
-bare-get : (xs : Rows Place) (i : ℕ) (r : Row Place) → slice_get xs i ≡ Some r → slice_get (bare xs) i ≡ Some (bare_row r)
+pub bare-get : (xs : Rows Place) (i : ℕ) (r : Row Place) → slice_get xs i ≡ Some r → slice_get (bare xs) i ≡ Some (bare_row r)
 bare-get [] i r e = absurd cc
 bare-get (x ∷ xs) zero r e = let same : x ≡ r = cc in ap (λ v. Some (bare_row v)) same
 bare-get (x ∷ xs) (suc i) r e = bare-get xs i r e

@@ -14,3 +14,7 @@ pub mod WeaveFirst
 pub mod Recovering
 pub mod Refusing
 pub mod LexicalAlone
+pub mod FirstOfWoven
+pub mod FirstFaults
+pub mod JudgedFirst
+pub mod FaultsStand

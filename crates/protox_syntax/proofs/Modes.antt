@@ -120,7 +120,7 @@ told-fall p w (Note (ACloseBrace m) ∷ l) xs f = (omega arith, told-fall p w l 
 abbrev pub AreValid : Rows Span → Type 0
 AreValid rows = k.Each (λ (r : Row Span). is_invalid r.shape ≡ false) rows
 
-not-invalid : (s : Shape) → (s ≡ Invalid → ⊥) → is_invalid s ≡ false
+pub not-invalid : (s : Shape) → (s ≡ Invalid → ⊥) → is_invalid s ≡ false
 not-invalid Invalid h = absurd (h refl)
 not-invalid (Ident t) h = refl
 not-invalid (Int n) h = refl

@@ -6,3 +6,5 @@ pub mod Judging
 pub mod ExpectedTokens
 pub mod Aggregates
 pub mod LexicalFaults
+pub mod FirstFaults
+pub mod StandingFaults

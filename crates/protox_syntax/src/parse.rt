@@ -7,7 +7,9 @@ ghost use Rattle.protox_ast.specs.Tree as tree;
 ghost use Rattle.protox_ast.specs.Places.{Place};
 ghost use Rattle.protox_grammar.specs.Grammar.{OneTree};
 ghost use Rattle.protox_syntax.specs.Aggregates.{AggregatesLexBack};
+ghost use Rattle.protox_syntax.specs.FirstFaults.{IsTightFirst, IsTrueFirst};
 ghost use Rattle.protox_syntax.specs.LexicalFaults.{AreLexicalAlone};
+ghost use Rattle.protox_syntax.specs.StandingFaults.{AreStanding};
 
 pub use crate::expected_token::ExpectedToken;
 use crate::judge::judge;
@@ -28,6 +30,12 @@ pub fn parse_file(alloc: Global, source: &str) -> Result<File, SyntaxFailure>
         → MatchResult result (λ file. file ≡ ast_of.file (length source.now) f) IsOutOfMemory }
     // There is a fault, and the faults lie in the source.
     ensures refused { IfErr result (FaultsLieIn source.now) }
+    // The first fault is true of the source.
+    ensures is_true { IfErr result (IsTrueFirst source.now) }
+    // Nothing is passed over in front of it.
+    ensures tight { IfErr result (IsTightFirst source.now) }
+    // Each fault of a lexeme and each unexpected token stands in the source, and no fault of a lexeme twice in the list.
+    ensures stands { IfErr result (AreStanding source.now) }
     // Of tokens of a file with which nothing is wrong the faults are those of the lexemes, and no others.
     ensures lexical { IfErr result (AreLexicalAlone source.now) }
     // No tokens are the spelling of two trees, with their places or without.

@@ -1,7 +1,7 @@
 use Rattle.std.specs.Prelude.{length, Err}
 use Rattle.protox_ast.specs.Ast as ast_of
 use Rattle.protox_parse.proofs.Translating.{commented, found, only, wrong-of, out-of-memory}
-use Rattle.protox_parse.proofs.Truths.{true-of-tree, true-of-size}
+use Rattle.protox_parse.proofs.Truths as truths
 use Rattle.protox_parse.proofs.parse.Goals as goal
 
 pub returns-in-Ok-clause-found : goal.returns-in-Ok-clause-found
@@ -22,16 +22,26 @@ returns-in-Ok-clause-wrong c f accepted = wrong-of c.in-Ok.file _ c.translated.r
 pub returns-in-Err-clause-wrong : goal.returns-in-Err-clause-wrong
 returns-in-Err-clause-wrong c f accepted = out-of-memory (ast_of.file (length c.args.source.now) f) _ (c.refused.ensures.memory (c.in-Err.ensures.only f accepted))
 
-pub returns-in-Ok-clause-true_of_tree : goal.returns-in-Ok-clause-true_of_tree
-returns-in-Ok-clause-true_of_tree c f accepted =
-    true-of-tree c.args.source.now f accepted c.translated.result (wrong-of c.in-Ok.file _ c.translated.result (c.in-Ok.ensures.only f accepted) c.translated.ensures.wrong)
+pub returns-in-Ok-clause-is_true : goal.returns-in-Ok-clause-is_true
+returns-in-Ok-clause-is_true c = truths.made-true c.args.source.now c.in-Ok.file c.in-Ok.ensures.found c.translated.result c.translated.ensures.wrong
 
-pub returns-in-Err-clause-true_of_tree : goal.returns-in-Err-clause-true_of_tree
-returns-in-Err-clause-true_of_tree c f accepted =
-    true-of-tree c.args.source.now f accepted (Err c.refused.result) (out-of-memory (ast_of.file (length c.args.source.now) f) _ (c.refused.ensures.memory (c.in-Err.ensures.only f accepted)))
+pub returns-in-Ok-clause-tight : goal.returns-in-Ok-clause-tight
+returns-in-Ok-clause-tight c = truths.made-tight c.args.source.now c.in-Ok.file c.in-Ok.ensures.found c.translated.result c.translated.ensures.wrong
 
-pub returns-in-Ok-clause-true_of_size : goal.returns-in-Ok-clause-true_of_size
-returns-in-Ok-clause-true_of_size c large = true-of-size c.args.name.now c.args.source.now c.translated.result large c.translated.ensures.refused
+pub returns-in-Ok-clause-stands : goal.returns-in-Ok-clause-stands
+returns-in-Ok-clause-stands c = truths.made-stand c.args.source.now c.in-Ok.file c.translated.result c.translated.ensures.wrong
 
-pub returns-in-Err-clause-true_of_size : goal.returns-in-Err-clause-true_of_size
-returns-in-Err-clause-true_of_size c large = true-of-size c.args.name.now c.args.source.now (Err c.refused.result) large c.refused.ensures.of_source
+pub returns-in-Ok-clause-lexical : goal.returns-in-Ok-clause-lexical
+returns-in-Ok-clause-lexical c = truths.made-lexical c.args.source.now c.in-Ok.file c.in-Ok.ensures.found c.translated.result
+
+pub returns-in-Err-clause-is_true : goal.returns-in-Err-clause-is_true
+returns-in-Err-clause-is_true c = truths.read-true c.args.source.now c.in-Err.failure c.refused.result c.refused.ensures.same c.in-Err.ensures.is_true
+
+pub returns-in-Err-clause-tight : goal.returns-in-Err-clause-tight
+returns-in-Err-clause-tight c = truths.read-tight c.args.source.now c.in-Err.failure c.refused.result c.refused.ensures.same c.in-Err.ensures.tight
+
+pub returns-in-Err-clause-stands : goal.returns-in-Err-clause-stands
+returns-in-Err-clause-stands c = truths.read-stand c.args.source.now c.in-Err.failure c.refused.result c.refused.ensures.same c.in-Err.ensures.stands
+
+pub returns-in-Err-clause-lexical : goal.returns-in-Err-clause-lexical
+returns-in-Err-clause-lexical c = truths.read-lexical c.args.source.now c.in-Err.failure c.refused.result c.refused.ensures.same c.in-Err.ensures.lexical

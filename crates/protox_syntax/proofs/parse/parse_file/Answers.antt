@@ -4,6 +4,8 @@ use Rattle.protox_options.specs.Options.{here}
 use Rattle.protox_syntax.specs.Judging.{Judges}
 use Rattle.protox_syntax.proofs.Accepts.{judged-found, judged-only}
 use Rattle.protox_syntax.proofs.Aggregates.{aggregates-lex-back}
+use Rattle.protox_syntax.proofs.FaultsStand.{judged-stands-result}
+use Rattle.protox_syntax.proofs.JudgedFirst.{judged-tight, judged-true}
 use Rattle.protox_syntax.proofs.LexicalAlone.{judged-result}
 use Rattle.protox_syntax.proofs.parse.parse_file.Goals as goal
 
@@ -21,6 +23,21 @@ pub returns-clause-lexical : goal.returns-clause-lexical
 returns-clause-lexical c =
     let judged = subst (λ t. Judges t (length c.args.source.now) c.judge.result) c.in_ok-table.ensures c.judge.ensures in
     judged-result c.args.source.now c.judge.result judged
+
+pub returns-clause-is_true : goal.returns-clause-is_true
+returns-clause-is_true c =
+    let judged = subst (λ t. Judges t (length c.args.source.now) c.judge.result) c.in_ok-table.ensures c.judge.ensures in
+    judged-true c.args.source.now c.judge.result judged
+
+pub returns-clause-tight : goal.returns-clause-tight
+returns-clause-tight c =
+    let judged = subst (λ t. Judges t (length c.args.source.now) c.judge.result) c.in_ok-table.ensures c.judge.ensures in
+    judged-tight c.args.source.now c.judge.result judged
+
+pub returns-clause-stands : goal.returns-clause-stands
+returns-clause-stands c =
+    let judged = subst (λ t. Judges t (length c.args.source.now) c.judge.result) c.in_ok-table.ensures c.judge.ensures in
+    judged-stands-result c.args.source.now c.judge.result judged
 
 pub returns-in_err-table-clause-one_tree : goal.returns-in_err-table-clause-one_tree
 returns-in_err-table-clause-one_tree c = main.one_tree tt

@@ -58,3 +58,41 @@ fn without_a_file_to_read(rt: HostRuntime) -> Result<(), Fail> {
     assert_eq!(rt; wordless.as_str(), "usage: protoscan FILE\n2");
     Ok(())
 }
+
+// A writer with room for some bytes refuses the write that doesn't fit.
+#[test]
+fn nothing_is_said_behind_a_failed_write(rt: HostRuntime) -> Result<(), Fail> {
+    let words = vec![in rt.alloc(); String::from_str(rt.alloc(), "a")?]?;
+    let mut out = Vec::new(rt.alloc());
+    let mut none = [0u8; 0];
+    let mut first = none.as_mut_slice();
+    let status = run(rt.alloc(), &words, None, &mut out, &mut first);
+    assert_eq!(rt; status, 2);
+    let mut room = [0u8; 23];
+    let mut second = room.as_mut_slice();
+    let status = run(rt.alloc(), &words, None, &mut out, &mut second);
+    assert_eq!(rt; status, 2);
+    assert_eq!(rt; room.as_slice(), b"protoscan: cannot read ".as_slice());
+    assert!(rt; out.is_empty());
+    Ok(())
+}
+
+#[test]
+fn nothing_is_written_behind_a_failed_write(rt: HostRuntime) -> Result<(), Fail> {
+    let words = vec![in rt.alloc(); String::from_str(rt.alloc(), "a")?]?;
+    let mut source = Vec::new(rt.alloc());
+    for _ in 0..700 {
+        source.extend_from_slice(b"message A{}")?;
+    }
+    let mut err = Vec::new(rt.alloc());
+    // the first lines are more than fit, or they fit and those behind them don't
+    for size in [3usize, 20000] {
+        let mut room = vec![in rt.alloc(); 0u8; size]?;
+        let mut out = room.as_mut_slice();
+        let status = run(rt.alloc(), &words, Some(source.as_slice()), &mut out, &mut err);
+        assert_eq!(rt; status, 2);
+        assert!(rt; err.is_empty());
+        assert_eq!(rt; room.first(), Some(&b'.'));
+    }
+    Ok(())
+}

@@ -1,5 +1,5 @@
 -- Rows that name their tokens by number, and gaps that are kept by number.
-use Rattle.std.proofs.Common.{◌≡◌, ℕ, zero, suc, ◌+◌, ◌-◌, ◌^◌, ◌<◌, ◌≤◌, inl, inr, List, [], ◌∷◌, ◌++◌, length, length-append, append_assoc, map, set, take, replicate, refl, sym, ap, subst, ◌∙◌, arith, Option, Some, None, Err, eqb, nat_lt, false}
+use Rattle.std.proofs.Common.{◌≡◌, ℕ, zero, suc, ◌+◌, ◌-◌, ◌^◌, ◌<◌, ◌≤◌, inl, inr, List, [], ◌∷◌, ◌++◌, length, length-append, append_assoc, map, set, take, replicate, refl, sym, ap, subst, ◌∙◌, arith, Option, Some, None, Err, eqb, nat_lt, true, false, Result, Ok}
 use Rattle.std.proofs.Math.ListN.{get_or-append}
 use Rattle.std.proofs.Math.Seq.{get_or-append_seam}
 use Rattle.std.proofs.lemmas.Bool.{cases_Bool, eqb-true, eqb-false, ltb-false, le-ltb, lt-ltb}
@@ -13,12 +13,13 @@ use Rattle.std.specs.Prelude.{slice_get, slice_index_or}
 use Rattle.protox_lex.specs.declared.shared_rows.KeptToken.{KeptToken}
 use Rattle.protox_lex.specs.declared.row_list.NumberedRow.{NumberedRow}
 use Rattle.protox_lexeme.specs.declared.token.Token.{Token}
+use Rattle.protox_lexeme.specs.declared.token.Token.TheVariants as variant
 use Rattle.protox_fault.specs.Faults.{Span, span_from}
 use Rattle.protox_lexeme.specs.Shapes.{Shape, Mark, Newline, Row}
-use Rattle.protox_lex.specs.Sharing.{kept_at, shape_at, kept_len, own_len, len_by, row_by, rows_by, IsKept, AreKept, AreMarks, AreClassed, AreShared, AreLines, AreThere, gap_at}
+use Rattle.protox_lex.specs.Sharing.{kept_at, shape_at, borrowed_at, borrowed_by, rows_seen, and_row, kept_len, own_len, len_by, row_by, rows_by, IsKept, AreKept, AreMarks, AreClassed, AreShared, AreLines, AreThere, gap_at}
 use Rattle.protox_lex.specs.TableView.{shapes_of_lent}
 use Rattle.protox_lexeme.specs.TokenClass.{class, no_token}
-use Rattle.protox_lexeme.specs.Tokens.{shape_of, shape_of_result}
+use Rattle.protox_lexeme.specs.Tokens.{shape_of, shape_of_result, borrowed_of, borrowed_of_result, holds_none}
 
 -- what is kept stays
 kept_stays : (tokens more : List KeptToken) (number : ℕ) → number < length tokens → kept_at (tokens ++ more) number ≡ kept_at tokens number
@@ -61,9 +62,32 @@ row_is_kept tokens rows index row h e =
     subst P (get_or_from_slice_get rows index row row e) (h index row (slice_get_within rows index row e))
 
 -- a row of a token that is kept
-pub known_push : (tokens : List KeptToken) (rows : List NumberedRow) (row : NumberedRow) (shape : Shape) (len : ℕ) → shape_at tokens row.token ≡ shape → len_by tokens row ≡ len
+rows_known : (tokens : List KeptToken) (rows : List NumberedRow) (row : NumberedRow) (shape : Shape) (len : ℕ) → shape_at tokens row.token ≡ shape → len_by tokens row ≡ len
     → rows_by tokens (rows ++ row ∷ []) ≡ rows_by tokens rows ++ record { shape = shape; at = span_from row.start (row.start + len) } ∷ []
-known_push tokens rows row shape len e size = map-append (row_by tokens) rows (row ∷ []) ∙ rw (e, size) refl
+rows_known tokens rows row shape len e size = map-append (row_by tokens) rows (row ∷ []) ∙ rw (e, size) refl
+
+-- a token of such a shape is borrowed
+borrowed_token : (t : Token) → holds_none (shape_of t) ≡ true → borrowed_of t ≡ true
+borrowed_token (variant.FloatLiteral f) h = absurd (cc)
+borrowed_token (variant.StringLiteral s) h = absurd (cc)
+borrowed_token (variant.LineComment s) h = absurd (cc)
+borrowed_token (variant.BlockComment s) h = absurd (cc)
+borrowed_token _ h = refl
+
+borrowed_result : (r : Result Token (Unit {0})) → holds_none (shape_of_result r) ≡ true → borrowed_of_result r ≡ true
+borrowed_result (Ok t) h = borrowed_token t h
+borrowed_result (Err e) h = refl
+
+pub known_push : (tokens : List KeptToken) (rows : List NumberedRow) (row : NumberedRow) (shape : Shape) (len : ℕ) → shape_at tokens row.token ≡ shape → holds_none shape ≡ true → len_by tokens row ≡ len
+    → rows_seen tokens (rows ++ row ∷ []) ≡ and_row (rows_seen tokens rows) record { shape = shape; at = span_from row.start (row.start + len) } true
+known_push tokens rows row shape len e holds size =
+    let borrowed : borrowed_at tokens row.token ≡ true = borrowed_result (kept_at tokens row.token).token (ap holds_none e ∙ holds) in
+    let flags : borrowed_by tokens (rows ++ row ∷ []) ≡ borrowed_by tokens rows ++ true ∷ [] = map-append (λ r. borrowed_at tokens r.token) rows (row ∷ []) ∙ rw borrowed refl in
+    rw (rows_known tokens rows row shape len e size, flags) refl
+
+pub mark_push : (tokens : List KeptToken) (rows : List NumberedRow) (row : NumberedRow) (byte len : ℕ) → shape_at tokens row.token ≡ Mark byte → len_by tokens row ≡ len
+    → rows_seen tokens (rows ++ row ∷ []) ≡ and_row (rows_seen tokens rows) record { shape = Mark byte; at = span_from row.start (row.start + len) } true
+mark_push tokens rows row byte len e size = known_push tokens rows row (Mark byte) len e refl size
 
 pub shared_known : (tokens : List KeptToken) (rows : List NumberedRow) (marks : List (Option ℕ)) (recent : List ℕ) (row : NumberedRow) → AreShared tokens rows marks recent → IsKept tokens row
     → AreShared tokens (rows ++ row ∷ []) marks recent
@@ -76,15 +100,34 @@ HasClass t = t.class ≡ class (shape_of_result t.token)
 pub class_found : (tokens : List KeptToken) (number : ℕ) → AreClassed tokens → number < length tokens → (kept_at tokens number).class ≡ class (shape_at tokens number)
 class_found tokens number h l = h number record { token = Err tt; len = 0; class = no_token } l
 
+-- what is borrowed stays so
+flags_stay : (tokens more : List KeptToken) (rows : List NumberedRow) → AreKept tokens rows → borrowed_by (tokens ++ more) rows ≡ borrowed_by tokens rows
+flags_stay tokens more [] h = refl
+flags_stay tokens more (row ∷ rows) h =
+    let here : borrowed_at (tokens ++ more) row.token ≡ borrowed_at tokens row.token = ap (λ k. borrowed_of_result k.token) (kept_stays tokens more row.token (h zero row (omega arith)).0) in
+    rw (here, flags_stay tokens more rows (λ k d l. h (suc k) d (omega arith))) refl
+
+flags_push : (tokens : List KeptToken) (token : KeptToken) (rows : List NumberedRow) (row : NumberedRow) → AreKept tokens rows → row.token ≡ length tokens
+    → borrowed_by (tokens ++ token ∷ []) (rows ++ row ∷ []) ≡ borrowed_by tokens rows ++ borrowed_of_result token.token ∷ []
+flags_push tokens token rows row h e =
+    let last : borrowed_at (tokens ++ token ∷ []) row.token ≡ borrowed_of_result token.token = ap (λ k. borrowed_of_result k.token) (ap (kept_at (tokens ++ token ∷ [])) e ∙ kept_last tokens token) in
+    map-append (λ r. borrowed_at (tokens ++ token ∷ []) r.token) rows (row ∷ []) ∙ rw (flags_stay tokens (token ∷ []) rows h, last) refl
+
 -- a row of one more token
-pub rows_push : (tokens : List KeptToken) (token : KeptToken) (rows : List NumberedRow) (start number len : ℕ) → AreKept tokens rows → number ≡ length tokens → token.len ≡ kept_len len
+places_push : (tokens : List KeptToken) (token : KeptToken) (rows : List NumberedRow) (start number len : ℕ) → AreKept tokens rows → number ≡ length tokens → token.len ≡ kept_len len
     → rows_by (tokens ++ token ∷ []) (rows ++ record { start = start; token = number; len = own_len len } ∷ []) ≡ rows_by tokens rows ++ record { shape = shape_of_result token.token; at = span_from start (start + len) } ∷ []
-rows_push tokens token rows start number len h e size =
+places_push tokens token rows start number len h e size =
     let row : NumberedRow = record { start = start; token = number; len = own_len len } in
     let last : row_by (tokens ++ token ∷ []) row ≡ row_with start (own_len len) token = ap (row_with start (own_len len)) (ap (kept_at (tokens ++ token ∷ [])) e ∙ kept_last tokens token) in
     let long : unwrap_or (own_len len) token.len ≡ len = ap (unwrap_or (own_len len)) size ∙ own_or_kept len in
     let whole : row_with start (own_len len) token ≡ record { shape = shape_of_result token.token; at = span_from start (start + len) } = ap (λ n. record { shape = shape_of_result token.token; at = span_from start (start + n) }) long in
     map-append (row_by (tokens ++ token ∷ [])) rows (row ∷ []) ∙ rw (rows_stay tokens (token ∷ []) rows h, last, whole) refl
+
+pub rows_push : (tokens : List KeptToken) (token : KeptToken) (rows : List NumberedRow) (start number len : ℕ) → AreKept tokens rows → number ≡ length tokens → token.len ≡ kept_len len
+    → rows_seen (tokens ++ token ∷ []) (rows ++ record { start = start; token = number; len = own_len len } ∷ [])
+    ≡ and_row (rows_seen tokens rows) record { shape = shape_of_result token.token; at = span_from start (start + len) } (borrowed_of_result token.token)
+rows_push tokens token rows start number len h e size =
+    rw (places_push tokens token rows start number len h e size, flags_push tokens token rows record { start = start; token = number; len = own_len len } h e) refl
 
 last_is_kept : (tokens : List KeptToken) (token : KeptToken) (start number len : ℕ) → number ≡ length tokens → token.len ≡ kept_len len → start + len < 2 ^ 64
     → IsKept (tokens ++ token ∷ []) record { start = start; token = number; len = own_len len }

@@ -20,7 +20,7 @@ in_front_nil [] = refl
 in_front_nil (xs ∷ xss) = refl
 
 -- a draft with nothing in it
-pub finished_start : (d : TableDraft) (xs : List Lexeme) → d.rows ≡ [] → d.gaps ≡ record { ended = []; begun = [] } → d.faults ≡ record { ended = []; begun = [] } → finished d xs ≡ table_of xs
+pub finished_start : (d : TableDraft) (xs : List Lexeme) → d.rows ≡ record { rows = []; borrowed = [] } → d.gaps ≡ record { ended = []; begun = [] } → d.faults ≡ record { ended = []; begun = [] } → finished d xs ≡ table_of xs
 finished_start d xs rows gaps faults = rw (rows, gaps, faults, in_front_nil (gaps_of xs), in_front_nil (faults_of xs)) refl
 
 -- ---- how many gaps

@@ -1,5 +1,5 @@
 -- Machinery: rows that name their tokens by number, and gaps that are kept by number.
-use Rattle.std.specs.Prelude.{◌≡◌, ◌<◌, ◌+◌, ◌-◌, ◌^◌, ◌++◌, ℕ, Bool, false, if◌then◌else◌, nat_lt, replicate, Option, Some, None, Err, List, [], map, length, slice_index_or}
+use Rattle.std.specs.Prelude.{◌≡◌, ◌<◌, ◌+◌, ◌-◌, ◌^◌, ◌++◌, ◌∷◌, ℕ, Bool, false, if◌then◌else◌, nat_lt, replicate, Option, Some, None, Err, List, [], map, length, slice_index_or}
 use Rattle.std.specs.List.{All}
 use Rattle.std.specs.Option.{unwrap_or}
 use Rattle.protox_lex.specs.declared.shared_rows.KeptToken.{KeptToken}
@@ -9,7 +9,7 @@ use Rattle.protox_fault.specs.Faults.{Span, span_from}
 use Rattle.protox_lex.specs.Grouping.{Grouped}
 use Rattle.protox_lexeme.specs.Shapes.{Shape, Mark, Newline, Row, Rows}
 use Rattle.protox_lexeme.specs.TokenClass.{class, no_token}
-use Rattle.protox_lexeme.specs.Tokens.{shape_of, shape_of_result}
+use Rattle.protox_lexeme.specs.Tokens.{shape_of, shape_of_result, borrowed_of_result}
 
 -- what is kept by that number
 abbrev pub kept_at : List KeptToken → ℕ → KeptToken
@@ -17,6 +17,9 @@ kept_at tokens number = slice_index_or tokens number record { token = Err tt; le
 
 abbrev pub shape_at : List KeptToken → ℕ → Shape
 shape_at tokens number = shape_of_result (kept_at tokens number).token
+
+abbrev pub borrowed_at : List KeptToken → ℕ → Bool
+borrowed_at tokens number = borrowed_of_result (kept_at tokens number).token
 
 abbrev pub len_at : List KeptToken → ℕ → ℕ
 len_at tokens number = (kept_at tokens number).len
@@ -38,6 +41,22 @@ row_by tokens row = record { shape = shape_at tokens row.token; at = span_from r
 
 abbrev pub rows_by : List KeptToken → List NumberedRow → Rows Span
 rows_by tokens rows = map (row_by tokens) rows
+
+-- whether the token of each row is borrowed
+abbrev pub borrowed_by : List KeptToken → List NumberedRow → List Bool
+borrowed_by tokens rows = map (λ row. borrowed_at tokens row.token) rows
+
+-- what a clause sees of them
+pub record RowsSeen : Type 0 where
+  pub rows : Rows Span
+  pub borrowed : List Bool
+
+abbrev pub rows_seen : List KeptToken → List NumberedRow → RowsSeen
+rows_seen tokens rows = record { rows = rows_by tokens rows; borrowed = borrowed_by tokens rows }
+
+-- one row more
+abbrev pub and_row : RowsSeen → Row Span → Bool → RowsSeen
+and_row seen row borrowed = record { rows = seen.rows ++ row ∷ []; borrowed = seen.borrowed ++ borrowed ∷ [] }
 
 -- The token of a row is kept, and the row ends where a number tells.
 abbrev pub IsKept : List KeptToken → NumberedRow → Type 0

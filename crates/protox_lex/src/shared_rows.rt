@@ -5,9 +5,9 @@ ghost use Rattle.protox_fault.specs.Faults.{span_from};
 ghost use Rattle.protox_lexeme.specs.Lexicon.{is_mark};
 ghost use Rattle.protox_lexeme.specs.Shapes.{Mark};
 ghost use Rattle.protox_lexeme.specs.TokenClass.{class};
-ghost use Rattle.protox_lex.specs.Sharing.{shape_at, len_at, kept_len, own_len, AreMarks};
-ghost use Rattle.protox_lex.specs.TableView.{shape_of_lent};
-ghost use Rattle.protox_lexeme.specs.Tokens.{shape_of, shape_of_result};
+ghost use Rattle.protox_lex.specs.Sharing.{shape_at, len_at, kept_len, own_len, and_row, AreMarks};
+ghost use Rattle.protox_lex.specs.TableView.{shape_of_lent, borrowed_of_lent};
+ghost use Rattle.protox_lexeme.specs.Tokens.{shape_of, shape_of_result, borrowed_of_result, holds_none};
 
 use crate::laws::tokens_are_equal_by_shape;
 use crate::row_list::{NumberedRow, RowList};
@@ -40,13 +40,11 @@ pub(crate) struct SharedRows<'a> {
 }
 
 impl<'a> Model for SharedRows<'a> {
-    ghost use Rattle.protox_fault.specs.Faults.{Span};
-    ghost use Rattle.protox_lexeme.specs.Shapes.{Rows};
-    ghost use Rattle.protox_lex.specs.Sharing.{rows_by, AreShared};
+    ghost use Rattle.protox_lex.specs.Sharing.{RowsSeen, rows_seen, AreShared};
 
-    ghost Value = { Rows Span };
+    ghost Value = { RowsSeen };
 
-    ghost view = { λ s. rows_by s.tokens.items s.rows };
+    ghost view = { λ s. rows_seen s.tokens.items s.rows };
 
     ghost invariant = { λ s. AreShared s.tokens.items s.rows s.marks.items s.recent.items };
 }
@@ -191,7 +189,7 @@ fn push_last(rows: &mut RowList, number: usize, start: usize, len: usize) -> Res
 impl<'a> SharedRows<'a> {
     /// No row.
     pub(crate) fn new(alloc: Global) -> Result<SharedRows<'a>, AllocError>
-        ensures { IfOk result (λ rows. rows ≡ []) }
+        ensures { IfOk result (λ rows. rows ≡ record { rows = []; borrowed = [] }) }
     {
         Ok(SharedRows {
             rows: RowList::new(alloc),
@@ -203,14 +201,15 @@ impl<'a> SharedRows<'a> {
 
     /// How many rows there are.
     pub(crate) fn len(&self) -> usize
-        ensures { result ≡ length self.now }
+        ensures { result ≡ length self.now.rows }
     {
         self.rows.len()
     }
 
     /// The token of a row, or `Err(())` for an invalid one. None past the last.
     pub(crate) fn token(&self, index: usize) -> Option<Result<&Token<'a>, ()>>
-        ensures { option_map shape_of_lent result ≡ option_map (λ row. row.shape) (slice_get self.now index) }
+        ensures value { option_map shape_of_lent result ≡ option_map (λ row. row.shape) (slice_get self.now.rows index) }
+        ensures borrowed { option_map borrowed_of_lent result ≡ slice_get self.now.borrowed index }
     {
         let row = self.rows.get(index)?;
         match &self.tokens[row.token].token {
@@ -222,7 +221,7 @@ impl<'a> SharedRows<'a> {
     /// The class of a row's token. None past the last.
     #[tactic(auto, using(crate::proofs::Sharing::class_found))]
     pub(crate) fn class(&self, index: usize) -> Option<u8>
-        ensures { result ≡ option_map (λ row. class row.shape) (slice_get self.now index) }
+        ensures { result ≡ option_map (λ row. class row.shape) (slice_get self.now.rows index) }
     {
         let row = self.rows.get(index)?;
         Some(self.tokens[row.token].class)
@@ -230,7 +229,7 @@ impl<'a> SharedRows<'a> {
 
     /// The span of a row, or None past the last.
     pub(crate) fn span(&self, index: usize) -> Option<Span>
-        ensures { result ≡ option_map (λ row. row.at) (slice_get self.now index) }
+        ensures { result ≡ option_map (λ row. row.at) (slice_get self.now.rows index) }
     {
         let row = self.rows.get(index)?;
         let len = match row.len {
@@ -249,7 +248,7 @@ impl<'a> SharedRows<'a> {
         len: usize,
     ) -> Result<(), AllocError>
         requires fits { start + len < 2 ^ 64 }
-        ensures { OnOk result (self.new ≡ self.old ++ record { shape = shape_of_result token.entry; at = span_from start (start + len) } ∷ []) }
+        ensures { OnOk result (self.new ≡ and_row self.old record { shape = shape_of_result token.entry; at = span_from start (start + len) } (borrowed_of_result token.entry)) }
     {
         let number = next_number(&self.tokens);
         self.tokens.push(kept_token(token, len))?;
@@ -263,7 +262,7 @@ impl<'a> SharedRows<'a> {
     fn push_first_mark(&mut self, byte: u8, start: usize, len: usize) -> Result<(), AllocError>
         requires mark { is_mark byte ≡ true }
         requires fits { start + len < 2 ^ 64 }
-        ensures { OnOk result (self.new ≡ self.old ++ record { shape = Mark byte; at = span_from start (start + len) } ∷ []) }
+        ensures { OnOk result (self.new ≡ and_row self.old record { shape = Mark byte; at = span_from start (start + len) } true) }
     {
         let number = next_number(&self.tokens);
         self.tokens.push(kept_mark(byte, len))?;
@@ -276,11 +275,11 @@ impl<'a> SharedRows<'a> {
 
     /// Appends a row of a mark.
     #[inline(always)]
-    #[tactic(auto, using(crate::proofs::Sharing::known_push, crate::proofs::Sharing::shared_known))]
+    #[tactic(auto, using(crate::proofs::Sharing::mark_push, crate::proofs::Sharing::shared_known))]
     pub(crate) fn push_mark(&mut self, byte: u8, start: usize, len: usize) -> Result<(), AllocError>
         requires mark { is_mark byte ≡ true }
         requires fits { start + len < 2 ^ 64 }
-        ensures { OnOk result (self.new ≡ self.old ++ record { shape = Mark byte; at = span_from start (start + len) } ∷ []) }
+        ensures { OnOk result (self.new ≡ and_row self.old record { shape = Mark byte; at = span_from start (start + len) } true) }
     {
         match known_mark(&self.tokens, &self.marks, byte, len) {
             Some(number) => push_known(&mut self.rows, number, start),
@@ -298,8 +297,9 @@ impl<'a> SharedRows<'a> {
         len: usize,
     ) -> Result<(), AllocError>
         requires slot { slot < 4096 }
+        requires holds { holds_none (shape_of token) ≡ true }
         requires fits { start + len < 2 ^ 64 }
-        ensures { OnOk result (self.new ≡ self.old ++ record { shape = shape_of token.entry; at = span_from start (start + len) } ∷ []) }
+        ensures { OnOk result (self.new ≡ and_row self.old record { shape = shape_of token.entry; at = span_from start (start + len) } true) }
     {
         if let Ok(number) = u32::try_from(self.tokens.len()) {
             self.recent[slot] = number;
@@ -318,8 +318,9 @@ impl<'a> SharedRows<'a> {
         len: usize,
     ) -> Result<(), AllocError>
         requires slot { slot < 4096 }
+        requires holds { holds_none (shape_of token) ≡ true }
         requires fits { start + len < 2 ^ 64 }
-        ensures { OnOk result (self.new ≡ self.old ++ record { shape = shape_of token.entry; at = span_from start (start + len) } ∷ []) }
+        ensures { OnOk result (self.new ≡ and_row self.old record { shape = shape_of token.entry; at = span_from start (start + len) } true) }
     {
         match known(&self.tokens, &self.recent, slot, &token, len) {
             Some(number) => push_known(&mut self.rows, number, start),

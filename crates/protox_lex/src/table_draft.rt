@@ -8,8 +8,9 @@ ghost use Rattle.protox_lexeme.specs.Lexicon.{is_mark, is_quote, IsLineOpener};
 ghost use Rattle.protox_lexeme.specs.Scanning as scanned;
 ghost use Rattle.protox_lexeme.specs.Shapes.{Mark, Newline};
 ghost use Rattle.protox_lexeme.specs.Table.{is_gap, table_of, invalid_faults};
+ghost use Rattle.protox_lex.specs.Sharing.{and_row};
 ghost use Rattle.protox_lex.specs.TableView.{finished, ended_table};
-ghost use Rattle.protox_lexeme.specs.Tokens.{shape_of, shape_of_result};
+ghost use Rattle.protox_lexeme.specs.Tokens.{shape_of, shape_of_result, borrowed_of_result, holds_none};
 
 use crate::late_groups::LateGroups;
 use crate::shared_gaps::SharedGaps;
@@ -84,7 +85,7 @@ impl<'a> TableDraft<'a> {
         faults: Vec<LexemeFault>,
     ) -> Result<(), AllocError>
         requires { start ≤ stop }
-        ensures rows { OnOk result (self.new.rows ≡ self.old.rows ++ record { shape = shape_of_result token.entry; at = span_from start stop } ∷ []) }
+        ensures rows { OnOk result (self.new.rows ≡ and_row self.old.rows record { shape = shape_of_result token.entry; at = span_from start stop } (borrowed_of_result token.entry)) }
         ensures gaps { OnOk result (self.new.gaps ≡ record { ended = self.old.gaps.ended ++ self.old.gaps.begun ∷ []; begun = [] }) }
         ensures faults { OnOk result (self.new.faults ≡ record { ended = self.old.faults.ended ++ ((self.old.faults.begun ++ faults.items) ++ invalid_faults (shape_of_result token.entry) (span_from start stop)) ∷ []; begun = [] }) }
     {
@@ -124,6 +125,7 @@ impl<'a> TableDraft<'a> {
     ) -> Result<usize, AllocError>
         requires fits { start + len < 2 ^ 64 }
         requires row { is_gap (shape_of token) ≡ false }
+        requires holds { holds_none (shape_of token) ≡ true }
         ensures value { OnOk result ((xs : List spec.Lexeme) → finished self.new xs ≡ finished self.old (spec.plain (shape_of token.entry) start len ∷ xs)) }
         ensures stop { IfOk result (λ n. n ≡ start + len) }
     {

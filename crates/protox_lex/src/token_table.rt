@@ -7,7 +7,7 @@ ghost use Rattle.protox_lexeme.specs.Gaps.{IsGap};
 ghost use Rattle.protox_lexeme.specs.Lexemes as spec;
 ghost use Rattle.protox_lexeme.specs.Table.{table_of};
 ghost use Rattle.protox_lexeme.specs.TokenClass.{class};
-ghost use Rattle.protox_lex.specs.TableView.{shape_of_lent, shapes_of_lent};
+ghost use Rattle.protox_lex.specs.TableView.{shape_of_lent, borrowed_of_lent, shapes_of_lent};
 ghost use Rattle.protox_lexeme.specs.Tokens.{shape_of};
 
 use crate::late_groups::LateGroups;
@@ -62,7 +62,8 @@ impl<'a> TokenTable<'a> {
 
     /// The token of row `k`, or `Err(())` for an invalid one. None from `rows()` on.
     pub fn row(&self, k: usize) -> Option<Result<&Token<'a>, ()>>
-        ensures { option_map shape_of_lent result ≡ option_map (λ row. row.shape) (slice_get self.now.rows k) }
+        ensures value { option_map shape_of_lent result ≡ option_map (λ row. row.shape) (slice_get self.now.rows k) }
+        ensures borrowed { option_map borrowed_of_lent result ≡ slice_get self.now.borrowed k }
     {
         self.rows.token(k)
     }

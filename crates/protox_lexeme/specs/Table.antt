@@ -18,6 +18,11 @@ abbrev pub rows_of : List Lexeme → Rows Span
 rows_of [] = []
 rows_of (x ∷ xs) = if is_gap x.shape then rows_of xs else record { shape = x.shape; at = span_from x.start x.stop } ∷ rows_of xs
 
+-- of each of these, whether its value is a piece of the source as it stands, or none is kept
+abbrev pub borrowed_rows : List Lexeme → List Bool
+borrowed_rows [] = []
+borrowed_rows (x ∷ xs) = if is_gap x.shape then borrowed_rows xs else x.borrowed ∷ borrowed_rows xs
+
 -- some more in front of the first list, if there is one
 abbrev pub in_front : {T : Type 0} → List T → List (List T) → List (List T)
 in_front ys [] = []
@@ -43,12 +48,13 @@ faults_of (x ∷ xs) = if is_gap x.shape then in_front x.faults (faults_of xs) e
 
 pub record Table : Type 0 where
   pub rows : Rows Span
+  pub borrowed : List Bool
   pub gaps : List (List Shape)
   pub faults : List (List ParseErrorKind)
 
 -- the table of the lexemes
 abbrev pub table_of : List Lexeme → Table
-table_of xs = record { rows = rows_of xs; gaps = gaps_of xs; faults = faults_of xs }
+table_of xs = record { rows = rows_of xs; borrowed = borrowed_rows xs; gaps = gaps_of xs; faults = faults_of xs }
 
 -- The rows stand between two places, one behind the other, and each has a byte.
 abbrev pub StandBetween : ℕ → ℕ → Rows Span → Type 0

@@ -57,6 +57,14 @@ borrowed_of (token.LineComment s) = is_borrowed_str s
 borrowed_of (token.BlockComment s) = is_borrowed_str s
 borrowed_of _ = true
 
+-- Every token of this shape is such a one.
+abbrev pub holds_none : Shape → Bool
+holds_none (Float t) = false
+holds_none (Str t) = false
+holds_none (LineComment t) = false
+holds_none (BlockComment t) = false
+holds_none _ = true
+
 abbrev pub borrowed_of_result : Result Token (Unit {0}) → Bool
 borrowed_of_result (Ok t) = borrowed_of t
 borrowed_of_result (Err e) = true

@@ -8,7 +8,7 @@ ghost use Rattle.protox_lexeme.specs.Scanning as scanned;
 ghost use Rattle.protox_lexeme.specs.Lexicon.{is_mark, is_quote, IsLineOpener};
 ghost use Rattle.protox_lexeme.specs.Found.{lexeme_of};
 ghost use Rattle.protox_lexeme.specs.Table.{is_gap};
-ghost use Rattle.protox_lexeme.specs.Tokens.{shape_of, borrowed_of};
+ghost use Rattle.protox_lexeme.specs.Tokens.{shape_of, borrowed_of, holds_none};
 
 use crate::block_comment::read_block_comment;
 use crate::comment::read_line_comment;
@@ -85,6 +85,7 @@ pub fn plain_token(text: &str, kind: Kind, len: usize) -> Option<Token<'_>>
     requires within { len ≤ length text.now }
     requires boundary { IsCharBoundary text.now len }
     ensures row { IfSome result (λ t. is_gap (shape_of t) ≡ false) }
+    ensures holds { IfSome result (λ t. holds_none (shape_of t) ≡ true) }
     ensures value { IfSome result (λ t. (start : ℕ) → spec.lexeme kind start text.now len ≡ spec.plain (shape_of t) start len) }
 {
     match kind {

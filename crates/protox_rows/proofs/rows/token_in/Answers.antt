@@ -8,5 +8,5 @@ use Rattle.protox_rows.proofs.rows.token_in.Goals as goal
 pub returns-in-None : goal.returns-in-None
 returns-in-None c =
     let rows = c.args.table.now.rows in
-    let none = none-mapped _ (slice_get rows c.args.index) (sym c.row.ensures ∙ ap (option_map shape_of_lent) c.in-None.is) in
+    let none = none-mapped _ (slice_get rows c.args.index) (sym c.row.ensures.value ∙ ap (option_map shape_of_lent) c.in-None.is) in
     ap (λ row. row.shape) (sym (none-there rows c.args.index bare_row none))

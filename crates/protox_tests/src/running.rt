@@ -89,7 +89,13 @@ fn nothing_is_written_behind_a_failed_write(rt: HostRuntime) -> Result<(), Fail>
     for size in [3usize, 20000] {
         let mut room = vec![in rt.alloc(); 0u8; size]?;
         let mut out = room.as_mut_slice();
-        let status = run(rt.alloc(), &words, Some(source.as_slice()), &mut out, &mut err);
+        let status = run(
+            rt.alloc(),
+            &words,
+            Some(source.as_slice()),
+            &mut out,
+            &mut err,
+        );
         assert_eq!(rt; status, 2);
         assert!(rt; err.is_empty());
         assert_eq!(rt; room.first(), Some(&b'.'));

@@ -1,0 +1,127 @@
+#!/usr/bin/env python3
+"""Tries the edits that the gate doesn't: the prover must refuse each.
+
+usage: edits.py [--dry] [--all] [CRATE..]        at the top of the repository
+
+The gate tries the edits of `crates/CRATE/must-fail/`. All others stand in `bench/edits/CRATE/`, in the
+same form. This program copies the tree with the proofs that are kept, lays those edits (with --all,
+those of both folders) into the copy's must-fail folders, and has `rt must-fail CRATE` try them, one
+crate after another. With --dry it tries nothing, and only says of each edit of both folders whether it
+can be applied: whether each of its `old:` texts stands once in its file. Without a CRATE all are tried.
+
+The last line is 'N passed, M failed'.
+"""
+import collections
+import os
+import shutil
+import subprocess
+import sys
+import tempfile
+
+FOLDERS = ('crates/{}/must-fail', 'bench/edits/{}')
+
+
+def edits_in(folder):
+    """The files of the edits in a folder, if there is one."""
+    names = sorted(os.listdir(folder)) if os.path.isdir(folder) else []
+    return [f'{folder}/{name}' for name in names if name.endswith('.edit')]
+
+
+def edits_of(crate):
+    """The edits of a crate in both folders."""
+    return [edit for folder in FOLDERS for edit in edits_in(folder.format(crate))]
+
+
+def why_not(crate, edit):
+    """Why an edit can't be applied, or None: each pair applies to what those before it made."""
+    texts, path, old, pairs = {}, None, None, 0
+    with open(edit, encoding='utf-8') as file:
+        lines = file.read().split('\n')
+    for line in lines:
+        word, _, text = line.partition(': ')
+        if word == 'file':
+            path = text.strip()
+            with open(f'crates/{crate}/{path}', encoding='utf-8') as file:
+                texts.setdefault(path, file.read())
+        elif word == 'old':
+            old = text
+        elif word in ('new', 'new:') and old is not None:
+            count = texts[path].count(old)
+            if count != 1:
+                return f'an old text stands {count} times in {path}'
+            texts[path], old, pairs = texts[path].replace(old, text), None, pairs + 1
+    return None if pairs else 'it has no pair of an old and a new text'
+
+
+def look(crates):
+    """Says of each edit that can't be applied why, and counts."""
+    passed, failed = 0, 0
+    for crate in crates:
+        for edit in edits_of(crate):
+            try:
+                why = why_not(crate, edit)
+            except (OSError, KeyError) as error:
+                why = str(error)
+            if why:
+                print(f'{edit}: {why}')
+            passed, failed = passed + (not why), failed + bool(why)
+    return passed, failed
+
+
+def lay(crate, room, both):
+    """Lays the edits of a crate into the copy's must-fail folder, and counts them."""
+    folder = f'{room}/{FOLDERS[0].format(crate)}'
+    shutil.rmtree(folder, ignore_errors=True)
+    os.makedirs(folder)
+    tried = edits_of(crate) if both else edits_in(FOLDERS[1].format(crate))
+    for edit in tried:
+        shutil.copy(edit, folder)
+    return len(tried)
+
+
+def copy_to(room):
+    """Copies what git knows of the tree, and the libraries that are built."""
+    files = subprocess.run(['git', 'ls-files', '-z'], stdout=subprocess.PIPE, check=True).stdout
+    for name in filter(None, files.decode().split('\0')):
+        if os.path.isfile(name):
+            os.makedirs(os.path.dirname(f'{room}/{name}') or room, exist_ok=True)
+            shutil.copy(name, f'{room}/{name}')
+    for crate in os.listdir('crates'):
+        if os.path.isdir(f'crates/{crate}/out'):
+            shutil.copytree(f'crates/{crate}/out', f'{room}/crates/{crate}/out')
+
+
+def try_all(crates, both):
+    """Has the prover try the edits in a copy of the tree, and counts those that it refused."""
+    counts = collections.Counter()
+    with tempfile.TemporaryDirectory(prefix='edits-') as room:
+        copy_to(room)
+        for crate in crates:
+            tried = lay(crate, room, both)
+            if not tried:
+                continue
+            command = ['rt', 'must-fail', crate]
+            ran = subprocess.run(command, cwd=room, stdout=subprocess.PIPE, text=True, check=False)
+            refused = sum(': refused, as it must be' in line for line in ran.stdout.splitlines())
+            print(ran.stdout, end='', flush=True)
+            counts['passed'] += refused
+            counts['failed'] += tried - refused
+    return counts['passed'], counts['failed']
+
+
+def main():
+    flags = [word for word in sys.argv[1:] if word.startswith('--')]
+    crates = [word for word in sys.argv[1:] if not word.startswith('--')]
+    known = sorted(os.listdir('crates'))
+    unknown = [word for word in crates if word not in known]
+    if unknown or any(flag not in ('--dry', '--all') for flag in flags):
+        print(__doc__)
+        return 2
+    chosen = crates or known
+    passed, failed = look(chosen) if '--dry' in flags else try_all(chosen, '--all' in flags)
+    print(f'{passed} passed, {failed} failed')
+    return 1 if failed else 0
+
+
+if __name__ == '__main__':
+    sys.exit(main())

@@ -1,5 +1,5 @@
 -- Where a word that is a keyword may stand as a name: the keyword rules, and the trees that keep them everywhere.
-use Rattle.std.specs.Prelude.{◌≡◌, ◌≤◌, ℕ, suc, List, [], ◌∷◌, map, Option, Some, None, Bool, true, false, if◌then◌else◌, ◌==◌, codes, take}
+use Rattle.std.specs.Prelude.{◌≡◌, ◌≤◌, ℕ, suc, List, [], ◌∷◌, Option, Some, None, Bool, true, false, if◌then◌else◌, ◌==◌, codes, take}
 use Rattle.protox_lexeme.specs.Shapes.{Shape, Mark, LineComment, BlockComment, Newline, Invalid, Rows}
 pub use Rattle.protox_ast.specs.Basics.{Each}
 use Rattle.protox_ast.specs.Nodes.{Node, AMessageField, AOneofField, AnExtendField, ANormal, AMap, AnEvalue, AnRpcType, AValue, nodes}

@@ -35,8 +35,9 @@ a_group = word "group" ∷ word "G" ∷ Mark s.equals ∷ number 1 ∷ Mark s.op
 record AreThere : Type 0 where
   -- extensions 5 to 6 [x = 1];
   to_listed : stop 31 (word "extensions" ∷ number 5 ∷ word "to" ∷ number 6 ∷ listed) ≡ None
-  -- extensions 5 [x = 1]; but reserved 5 [x = 1]; stops at the bracket
+  -- extensions 5 [x = 1];
   listed_alone : stop 31 (word "extensions" ∷ number 5 ∷ listed) ≡ None
+  -- reserved 5 [x = 1]; stops at the bracket
   reserved_listed : stop 31 (word "reserved" ∷ number 5 ∷ listed) ≡ Some (Unexpected 7)
   -- map<int32, map> f = 1;
   mapped : stop 31 (word "map" ∷ Mark s.open_angle ∷ word "int32" ∷ Mark s.comma ∷ word "map" ∷ Mark s.close_angle ∷ end) ≡ None

@@ -4,8 +4,10 @@
 usage: gate.py [LOG]        at the top of the repository; runs `rt ci`, whose output goes to LOG (out of the tree) or is shown
 
 The gate starts one prover for each proof, each crate's tests and each edit, and a prover starts others of its own. Their
-processor time is read from /proc twice a second, so what is said of one process is short by half a second at most. The first edit of a crate proves the
-crate once more; that part is told apart as `again`, the least edit of the crate standing for an edit's own cost.
+processor time is read from /proc twice a second, so what is said of one process is short by half a
+second at most. The first edit of a crate proves the crate once more; that part is told apart as
+`again`, the least edit of the crate standing for an edit's own cost. A last line says what the gate
+takes on two cores: half of the sum, or the longest chain of crates where that is more.
 """
 import collections
 import os
@@ -13,6 +15,8 @@ import subprocess
 import sys
 import time
 
+# A machine of two cores is to be done by then, in minutes.
+LIMIT = 100
 TICKS = os.sysconf('SC_CLK_TCK')
 
 
@@ -81,6 +85,37 @@ def names_of_edits(crate):
     return sorted(n for n in os.listdir(folder) if n.endswith('.edit')) if os.path.isdir(folder) else []
 
 
+def crates_below():
+    """The crates of the repository that each of its crates names, by crates.txt."""
+    with open('crates.txt', encoding='utf-8') as file:
+        lines = [line.partition('#')[0].partition(':') for line in file]
+    below = {name.split()[0]: rest.split() for name, _, rest in lines if name.strip()}
+    return {name: [it for it in rest if it in below] for name, rest in below.items()}
+
+
+def longest_chain(table):
+    """The minutes of the longest chain: proofs of crates below one another, then the rest of the last."""
+    below, proofs = crates_below(), {}
+
+    def proof_of(crate):
+        if crate not in proofs:
+            under = max(map(proof_of, below[crate]), default=0)
+            proofs[crate] = under + table[crate]['proof'] / 60
+        return proofs[crate]
+
+    rest = {crate: sum(table[crate][kind] for kind in ('tests', 'again', 'edits')) / 60 for crate in below}
+    return max(proof_of(crate) + rest[crate] for crate in below)
+
+
+def say_two_cores(table):
+    """Says what the gate takes on two cores, and warns where that is too long."""
+    half = sum(sum(row.values()) for row in table.values()) / 120
+    chain = longest_chain(table)
+    print(f'{max(half, chain):.1f} minutes on two cores (half of the sum: {half:.1f}, longest chain: {chain:.1f})')
+    if max(half, chain) > LIMIT:
+        print(f'WARNING: that is more than {LIMIT} minutes: make the dearest crates cheaper')
+
+
 def main():
     began = time.time()
     log = open(sys.argv[1], 'w') if len(sys.argv) > 1 else None
@@ -107,6 +142,7 @@ def main():
     for crate, times in edits.items():
         for name, seconds in zip(names_of_edits(crate), times):
             print(f'{seconds:6.0f} s  {crate}/{name}')
+    say_two_cores(table)
     return gate.returncode
 
 

@@ -1,10 +1,12 @@
 //! `parsecount FILE [TURNS]` parses a file as often as is asked for, and prints how many locations it
 //! has. It is here to measure the parser alone, with dropping what it answers: `protoscan` prints too.
+//! `parsecount FILE TURNS table` makes the file's token table alone, and prints how many rows that has.
 //! Of several turns all but the first find memory that was used before.
 #![tactic(auto)]
 
+use protox_parse::lex::TokenTable;
 use protox_parse::{ParseFailure, parse};
-use std::alloc::Global;
+use std::alloc::{AllocError, Global};
 use std::io::{self, Write};
 use std::process::ExitCode;
 use std::{env, fs};
@@ -22,11 +24,16 @@ fn locations(alloc: Global, name: &str, source: &str, turns: u32) -> Result<usiz
     Ok(count)
 }
 
-fn count(rt: &HostRuntime) -> io::Result<u8> {
-    let mut words = Vec::new(rt.alloc());
-    for word in env::args(rt)?.skip(1) {
-        words.push(word)?;
+// How many rows the table has, which is made as often as is asked for.
+fn rows(alloc: Global, source: &str, turns: u32) -> Result<usize, AllocError> {
+    let mut rows = 0;
+    for _ in 0..turns {
+        rows = TokenTable::new(alloc, source)?.rows();
     }
+    Ok(rows)
+}
+
+fn count(rt: &HostRuntime, words: &[String]) -> io::Result<u8> {
     let Some(name) = words.first() else {
         return Ok(2);
     };
@@ -38,15 +45,25 @@ fn count(rt: &HostRuntime) -> io::Result<u8> {
     let Ok(source) = str::from_utf8(&bytes) else {
         return Ok(2);
     };
-    match locations(rt.alloc(), name.as_str(), source, turns) {
-        Ok(count) => {
-            writeln!(rt.stdout(), "{count}")?;
-            Ok(0)
-        }
-        Err(_) => Ok(1),
+    let count = match words.get(2) {
+        Some(_) => rows(rt.alloc(), source, turns)?,
+        None => match locations(rt.alloc(), name.as_str(), source, turns) {
+            Ok(count) => count,
+            Err(_) => return Ok(1),
+        },
+    };
+    writeln!(rt.stdout(), "{count}")?;
+    Ok(0)
+}
+
+fn count_words(rt: &HostRuntime) -> io::Result<u8> {
+    let mut words = Vec::new(rt.alloc());
+    for word in env::args(rt)?.skip(1) {
+        words.push(word)?;
     }
+    count(rt, &words)
 }
 
 fn main(rt: HostRuntime) -> ExitCode {
-    ExitCode::from(count(&rt).unwrap_or(2))
+    ExitCode::from(count_words(&rt).unwrap_or(2))
 }

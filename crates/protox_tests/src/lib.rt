@@ -1,6 +1,6 @@
 //! One run of each public call of the crates below, with what a program's lines cannot show: equality, what
 //! is answered by value, and runs that other programs make with memory refused. Cases of the parser and the
-//! lexer are data of the programs `protocases` and `lexcases`.
+//! lexer are data of the program `protocases`.
 #![tactic(auto)]
 
 #[cfg(test)]

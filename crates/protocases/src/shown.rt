@@ -1,7 +1,7 @@
 //! Tokens and faults as lines.
 
-use protox_lex::error::ParseErrorKind;
-use protox_lex::lex::Token;
+use protox_parse::error::ParseErrorKind;
+use protox_parse::lex::Token;
 use std::alloc::Global;
 use std::io::{self, Write};
 

@@ -1,9 +1,9 @@
 //! What the table answers.
 
 use crate::shown::{show_faults, show_gap, show_lexeme};
-use protox_descriptor::values::{Items, Text};
-use protox_lex::comments::{GapComments, gap_comments};
-use protox_lex::lex::{Token, TokenTable};
+use protox_parse::comments::{GapComments, gap_comments};
+use protox_parse::lex::{Token, TokenTable};
+use protox_parse::values::{Items, Text};
 use std::alloc::Global;
 use std::io::{self, Write};
 

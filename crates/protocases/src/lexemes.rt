@@ -1,7 +1,8 @@
-//! What the lexer answers.
+//! What the lexer makes of a file.
 
 use crate::shown::{show_faults, show_lexeme};
-use protox_lex::lex::{Lexer, Token};
+use crate::table::show_table;
+use protox_parse::lex::{Lexer, Token};
 use std::alloc::{AllocError, Global};
 use std::io::{self, Write};
 
@@ -50,12 +51,29 @@ fn count_faults(alloc: Global, source: &str, text_format: bool) -> Result<usize,
     Ok(lexer.errors().len())
 }
 
-/// The lexemes and faults of a source, and once more in text format where that makes a difference.
-pub fn show_lexer<W: Write>(alloc: Global, source: &str, out: &mut W) -> io::Result<()> {
+// The lexemes and faults of a source, and once more in text format where that makes a difference.
+fn show_lexer<W: Write>(alloc: Global, source: &str, out: &mut W) -> io::Result<()> {
     show_all(alloc, source, false, out)?;
     if count_faults(alloc, source, true)? == count_faults(alloc, source, false)? {
         return Ok(());
     }
     writeln!(out, "-- in text format")?;
     show_all(alloc, source, true, out)
+}
+
+/// The name, and what the lexer and the table make of these bytes.
+pub fn write_lexemes<W: Write>(
+    alloc: Global,
+    out: &mut W,
+    name: &str,
+    bytes: &[u8],
+) -> io::Result<()> {
+    writeln!(out, "== {name}")?;
+    match str::from_utf8(bytes) {
+        Ok(source) => {
+            show_lexer(alloc, source, out)?;
+            show_table(alloc, source, out)
+        }
+        Err(_) => writeln!(out, "no text"),
+    }
 }

@@ -1,5 +1,5 @@
 -- Files that the parser's checks refuse, and neighbours that they don't.
-use Rattle.std.proofs.Common.{◌≡◌, true, List, ℕ, [], ◌∷◌, None, codes}
+use Rattle.std.proofs.Common.{◌≡◌, true, List, ℕ, [], ◌∷◌, None, codes, refl, sym, true≢false}
 use Rattle.protox_ast.specs.Places.{Place}
 use Rattle.protox_ast.specs.Tree as t
 use Rattle.protox_ast.specs.Ast.{text_of}
@@ -40,13 +40,13 @@ capital = (refl, tt)
 
 -- its name begins with a capital, wherever it stands
 small : AreFine (in_message (t.field (group (codes "g")))) → ⊥
-small h = absurd cc
+small h = true≢false (sym h.0)
 
 small-in-oneof : AreFine (in_message (t.oneof (t.oneof_of at (codes "o", at) at (t.oneof_elements (t.oneof_field (group (codes "g"))) t.no_oneof_elements) at))) → ⊥
-small-in-oneof h = absurd cc
+small-in-oneof h = true≢false (sym h.0)
 
 small-in-extend : AreFine (in_message (t.extend (t.extend_of at (record { leading_dot = None; name = record { first = (codes "A", at); others = [] } }) at (t.extend_elements (t.extend_field (group (codes "g"))) t.no_extend_elements) at))) → ⊥
-small-in-extend h = absurd cc
+small-in-extend h = true≢false (sym h.0)
 
 -- each reserved name is asked to be text and an identifier, in messages and in enums
 abbrev names : t.Reserved Place

@@ -7,7 +7,6 @@ pub mod LevelsStand
 pub mod Membership
 pub mod MessagesStand
 pub mod NamePlaces
-pub mod NameTests
 pub mod NodesBraced
 pub mod NodesChecked
 pub mod NodesDeep

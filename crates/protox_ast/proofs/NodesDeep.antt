@@ -115,7 +115,7 @@ module _ {M : Type 0} where
     element-deep level (t.extend (t.extend_of m n o es c)) = extend-deep level es
     element-deep level (t.option x) = deep-none level (AValue x.body.value ∷ []) (omega arith)
     element-deep level (t.reserved x) = deep-none level (reserved_nodes x.kind) (reserved-flat x.kind)
-    element-deep level (t.extensions x) = highest-past level 0 (deepest (list_nodes x.options)) (deep-none level (list_nodes x.options) (list-flat x.options))
+    element-deep level (t.extensions x) = deep-none level (list_nodes x.options) (list-flat x.options)
 
     field-deep : (level : ℕ) (l : Option (t.Label M)) (x : t.FieldKind M) → Deep level (field_nodes level (t.field_of l x)) (d.kind_depth x)
     field-deep level l (t.normal x) = highest-past level 0 (deepest (list_nodes x.options)) (deep-none level (list_nodes x.options) (list-flat x.options))

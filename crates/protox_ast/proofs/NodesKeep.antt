@@ -4,7 +4,7 @@ use Rattle.std.specs.List.{flat_map}
 use Rattle.protox_ast.specs.KeywordWalk as k
 use Rattle.protox_ast.specs.KeywordWalk.{Given}
 use Rattle.protox_ast.specs.Keywords.{Each, KeepsRule, KeepsKeywords}
-use Rattle.protox_ast.specs.Nodes.{Node, AReservedName, AChecked, ANormal, AMap, AnExtensions, AnEvalue, AValue, list_nodes, reserved_nodes, enum_element_nodes, rpc_element_nodes, rpc_end_nodes, service_element_nodes, body_nodes, elements_nodes, element_nodes, field_nodes, oneof_nodes, extend_nodes, statement_nodes, syntax_nodes}
+use Rattle.protox_ast.specs.Nodes.{Node, AReservedName, AChecked, ANormal, AMap, AnEvalue, AValue, list_nodes, reserved_nodes, enum_element_nodes, rpc_element_nodes, rpc_end_nodes, service_element_nodes, body_nodes, elements_nodes, element_nodes, field_nodes, oneof_nodes, extend_nodes, statement_nodes, syntax_nodes}
 use Rattle.protox_ast.specs.Tree as t
 
 -- these nodes keep their rules exactly where Q holds
@@ -98,7 +98,7 @@ module _ {M : Type 0} where
     element-keeps level (t.extend (t.extend_of m n o es c)) = extend-keeps level es
     element-keeps level (t.option x) = option-keeps x
     element-keeps level (t.reserved x) = reserved-keeps x.kind
-    element-keeps level (t.extensions x) = with-options (AnExtensions x) x.options
+    element-keeps level (t.extensions x) = list-keeps x.options
 
     field-keeps : (level : ℕ) (l : Option (t.Label M)) (x : t.FieldKind M) → Keep (field_nodes level (t.field_of l x)) (k.KeepsKind x)
     field-keeps level l (t.normal x) = with-options (ANormal x) x.options

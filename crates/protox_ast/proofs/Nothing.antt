@@ -5,13 +5,12 @@ use Rattle.protox_fault.specs.declared.error.ParseErrorKind.{ParseErrorKind}
 use Rattle.protox_fault.specs.declared.error.ParseErrorKind.TheVariants as fault
 use Rattle.protox_ast.specs.AstParts.{run_span, strings_value, text_of}
 use Rattle.protox_ast.specs.CheckedNodes.{CheckedNode, ASyntax, AnImport, AReservedName, AGroupName, APackageAgain, ATooDeep, checked_nodes}
-use Rattle.protox_ast.specs.Checks.{is_known_syntax, is_text, is_import_path, package_span, WrongCheckedNode, NothingWrong}
+use Rattle.protox_ast.specs.Checks.{is_group_name, is_ident, is_known_syntax, is_text, is_import_path, package_span, WrongCheckedNode, NothingWrong}
 use Rattle.protox_ast.specs.Fine.{IsFine}
 use Rattle.protox_ast.specs.Keywords.{Each}
 use Rattle.protox_ast.specs.Places.{Place}
 use Rattle.protox_ast.specs.Tree as t
 use Rattle.protox_ast.proofs.Membership.{Somewhere, somewhere-from, any-from}
-use Rattle.protox_ast.proofs.NameTests.{ident-if, group-name-if}
 
 true-or : (b : Bool) → (b ≡ false → ⊥) → b ≡ true
 true-or true h = refl
@@ -27,8 +26,8 @@ module _ {M : Type 0} (span : M → Span) where
   fine-faultless (AnImport x) h wrong (inl a) = never-both (is_text (strings_value x)) h.0 a.0
   fine-faultless (AnImport x) h wrong (inr b) = never-both (is_import_path (text_of (strings_value x))) h.1 b.0
   fine-faultless (AReservedName x) h wrong (inl a) = never-both (is_text (strings_value x)) h.0 a.0
-  fine-faultless (AReservedName x) h wrong (inr b) = b.0 h.1
-  fine-faultless (AGroupName x) h wrong w = w.0 h
+  fine-faultless (AReservedName x) h wrong (inr b) = never-both (is_ident (text_of (strings_value x))) h.1 b.0
+  fine-faultless (AGroupName x) h wrong w = never-both (is_group_name x.0) h w.0
   fine-faultless (APackageAgain first again) h wrong w = h
   fine-faultless (ATooDeep keyword open_at) h wrong w = h
 
@@ -41,9 +40,9 @@ module _ {M : Type 0} (span : M → Span) where
   )
   faultless-fine (AReservedName x) none = (
     true-or (is_text (strings_value x)) (λ e. none (fault.InvalidUtf8String (run_span span x)) (inl (e, refl))),
-    ident-if (text_of (strings_value x)) (λ e. none (fault.InvalidIdentifier (run_span span x)) (inr (e, refl))),
+    true-or (is_ident (text_of (strings_value x))) (λ e. none (fault.InvalidIdentifier (run_span span x)) (inr (e, refl))),
   )
-  faultless-fine (AGroupName x) none = group-name-if x.0 (λ e. none (fault.InvalidGroupName (span x.1)) (e, refl))
+  faultless-fine (AGroupName x) none = true-or (is_group_name x.0) (λ e. none (fault.InvalidGroupName (span x.1)) (e, refl))
   faultless-fine (APackageAgain first again) none = none (fault.DuplicatePackage (package_span span first) (package_span span again)) refl
   faultless-fine (ATooDeep keyword open_at) none = none (fault.MessageNestingTooDeep (span keyword)) refl
 

@@ -3,7 +3,7 @@ use Rattle.std.specs.Prelude.{◌≡◌, ◌⊎◌, ℕ, Bool, false, not, ◌&&
 use Rattle.std.specs.List.{list_all, list_any, slice_split}
 use Rattle.std.specs.Str.{bytes_eq}
 use Rattle.std.specs.Str.Lossy.{utf8_valid_len}
-pub use Rattle.protox_descriptor.specs.Case.{IsIdent, IsGroupName}
+pub use Rattle.protox_descriptor.specs.Case.{is_ident, is_group_name}
 use Rattle.protox_fault.specs.Faults.{Span}
 use Rattle.protox_fault.specs.declared.error.ParseErrorKind.{ParseErrorKind}
 use Rattle.protox_fault.specs.declared.error.ParseErrorKind.TheVariants as fault
@@ -49,7 +49,7 @@ WrongImport span value wrong = WrongText span value wrong ⊎ ((is_import_path (
 
 -- A reserved name is text, and an identifier.
 abbrev pub WrongReservedName : Span → List ℕ → ParseErrorKind → Type 0
-WrongReservedName span value wrong = WrongText span value wrong ⊎ ((IsIdent (text_of value) → ⊥) × (wrong ≡ fault.InvalidIdentifier span))
+WrongReservedName span value wrong = WrongText span value wrong ⊎ ((is_ident (text_of value) ≡ false) × (wrong ≡ fault.InvalidIdentifier span))
 
 -- from the word of a package statement to its `;`
 abbrev pub package_span : {M : Type 0} → (M → Span) → t.Package M → Span
@@ -60,7 +60,7 @@ abbrev pub WrongCheckedNode : {M : Type 0} → (M → Span) → CheckedNode M �
 WrongCheckedNode span (ASyntax x) wrong = WrongSyntax (run_span span x) (strings_value x) wrong
 WrongCheckedNode span (AnImport x) wrong = WrongImport (run_span span x) (strings_value x) wrong
 WrongCheckedNode span (AReservedName x) wrong = WrongReservedName (run_span span x) (strings_value x) wrong
-WrongCheckedNode span (AGroupName x) wrong = (IsGroupName x.0 → ⊥) × (wrong ≡ fault.InvalidGroupName (span x.1))
+WrongCheckedNode span (AGroupName x) wrong = (is_group_name x.0 ≡ false) × (wrong ≡ fault.InvalidGroupName (span x.1))
 WrongCheckedNode span (APackageAgain first again) wrong = wrong ≡ fault.DuplicatePackage (package_span span first) (package_span span again)
 WrongCheckedNode span (ATooDeep keyword open_at) wrong = wrong ≡ fault.MessageNestingTooDeep (span keyword)
 

@@ -2,7 +2,7 @@
 -- rules so is proved to be what Keywords says of its nodes.
 use Rattle.std.specs.Prelude.{◌≡◌, true, codes, [], ◌∷◌, Option, Some, None}
 use Rattle.protox_lexeme.specs.Shapes.{Row}
-pub use Rattle.protox_ast.specs.Keywords.{BracesMatch, Each, ListedAfterTo, NameBeginsWithNone, NoneOf, TypeBeginsWithNone, Undotted, UnlabelledBeginsWithNone, Unstreamed, how_many, in_message, is_close_brace, is_open_brace, is_significant, labels, scalars, KeepsKeywords}
+pub use Rattle.protox_ast.specs.Keywords.{BracesMatch, Each, NameBeginsWithNone, NoneOf, TypeBeginsWithNone, Undotted, UnlabelledBeginsWithNone, Unstreamed, how_many, in_message, is_close_brace, is_open_brace, is_significant, labels, scalars, KeepsKeywords}
 use Rattle.protox_ast.specs.Tree as t
 
 -- P holds of what is given
@@ -37,13 +37,6 @@ NameIsNoElement x = NoneOf (codes "option" ∷ codes "reserved" ∷ []) x.name.0
 abbrev pub BeginsWithNoStream : {M : Type 0} → t.RpcType M → Type 0
 BeginsWithNoStream x = Unstreamed x.stream x.name
 
-abbrev pub HasTo : {M : Type 0} → t.Range M → Type 0
-HasTo r = r.stop ≡ None → ⊥
-
--- A range without `to` is followed by `,` or `;`: where an extensions statement has an option list, its last range has `to`.
-abbrev pub ListFollowsTo : {M : Type 0} → t.Extensions M → Type 0
-ListFollowsTo x = ListedAfterTo x.options x.ranges
-
 abbrev pub IsSignificant : {M : Type 0} → Row M → Type 0
 IsSignificant r = is_significant r.shape ≡ true
 
@@ -67,7 +60,7 @@ abbrev pub KeepsMap : {M : Type 0} → t.Map M → Type 0
 KeepsMap x = KeyAndValueBeginWithNoScalar x × Given KeepsList x.options
 
 abbrev pub KeepsExtensions : {M : Type 0} → t.Extensions M → Type 0
-KeepsExtensions x = ListFollowsTo x × Given KeepsList x.options
+KeepsExtensions x = Given KeepsList x.options
 
 abbrev pub KeepsEvalue : {M : Type 0} → t.Evalue M → Type 0
 KeepsEvalue x = NameIsNoElement x × Given KeepsList x.options

@@ -1,9 +1,8 @@
 -- Where a word that is a keyword may stand as a name: the keyword rules, and the trees that keep them everywhere.
-use Rattle.std.specs.Prelude.{◌≡◌, ◌≤◌, ℕ, suc, List, [], ◌∷◌, map, Option, Some, None, Bool, true, false, if◌then◌else◌, ◌==◌, codes, take}
+use Rattle.std.specs.Prelude.{◌≡◌, ◌≤◌, ℕ, suc, List, [], ◌∷◌, Option, Some, None, Bool, true, false, if◌then◌else◌, ◌==◌, codes, take}
 use Rattle.protox_lexeme.specs.Shapes.{Shape, Mark, LineComment, BlockComment, Newline, Invalid, Rows}
 pub use Rattle.protox_ast.specs.Basics.{Each}
-use Rattle.protox_ast.specs.Basics.{last}
-use Rattle.protox_ast.specs.Nodes.{Node, AMessageField, AOneofField, AnExtendField, ANormal, AMap, AnExtensions, AnEvalue, AnRpcType, AValue, nodes}
+use Rattle.protox_ast.specs.Nodes.{Node, AMessageField, AOneofField, AnExtendField, ANormal, AMap, AnEvalue, AnRpcType, AValue, nodes}
 use Rattle.protox_ast.specs.Tree as t
 use Rattle.protox_ast.specs.Spelling.{open_brace, close_brace}
 
@@ -48,13 +47,6 @@ abbrev pub Unstreamed : {M : Type 0} → Option M → t.TypeName M → Type 0
 Unstreamed (Some m) x = Unit {0}
 Unstreamed None x = NameBeginsWithNone (codes "stream" ∷ []) x
 
--- ---- lists behind ranges
-
--- with an option list behind them, the last of the ranges has `to`
-abbrev pub ListedAfterTo : {M : Type 0} → Option (t.OptionList M) → t.Ranges M → Type 0
-ListedAfterTo None x = Unit {0}
-ListedAfterTo (Some l) x = (last x.first (map (λ y. y.1) x.others)).stop ≡ None → ⊥
-
 -- ---- tokens whose braces match
 
 abbrev pub is_open_brace : Shape → Bool
@@ -96,8 +88,6 @@ KeepsRule (AnExtendField x) = UnlabelledBeginsWithNone labels x
 KeepsRule (ANormal x) = TypeBeginsWithNone (codes "map" ∷ codes "group" ∷ scalars) x.type
 -- A map's key or value type doesn't begin with a scalar word, unless it is that scalar alone; it may begin with `map` or `group`.
 KeepsRule (AMap x) = TypeBeginsWithNone scalars x.key × TypeBeginsWithNone scalars x.value
--- A range without `to` is followed by `,` or `;`: where an extensions statement has an option list, its last range has `to`.
-KeepsRule (AnExtensions x) = ListedAfterTo x.options x.ranges
 -- An enum value's name isn't `option` or `reserved`.
 KeepsRule (AnEvalue x) = NoneOf (codes "option" ∷ codes "reserved" ∷ []) x.name.0
 -- A type in an rpc without `stream` before it doesn't begin with `stream`.

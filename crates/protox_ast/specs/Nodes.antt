@@ -28,7 +28,6 @@ pub data Node (M : Type 0) : Type 0 where
   -- a field by its kind, where it isn't a group
   ANormal : t.Normal M → Node M
   AMap : t.Map M → Node M
-  AnExtensions : t.Extensions M → Node M
   AnEvalue : t.Evalue M → Node M
   -- a type in the parentheses of an rpc
   AnRpcType : t.RpcType M → Node M
@@ -88,7 +87,7 @@ abbrev mutual
   element_nodes level (t.extend (t.extend_of keyword extendee open_at es close_at)) = extend_nodes level es
   element_nodes level (t.option x) = AValue x.body.value ∷ []
   element_nodes level (t.reserved x) = reserved_nodes x.kind
-  element_nodes level (t.extensions x) = AnExtensions x ∷ list_nodes x.options
+  element_nodes level (t.extensions x) = list_nodes x.options
 
   pub field_nodes : {M : Type 0} → ℕ → t.Field M → List (Node M)
   field_nodes level (t.field_of label (t.normal x)) = ANormal x ∷ list_nodes x.options

@@ -7,7 +7,6 @@ use Rattle.protox_ast.specs.Ast as ast
 use Rattle.protox_ast.specs.CheckedNodes.{AReservedName}
 use Rattle.protox_ast.specs.Places.{Place}
 use Rattle.protox_ast.specs.declared.ast.Ident.{Ident}
-use Rattle.protox_ast.specs.declared.ast.ReservedRange.{ReservedRange}
 use Rattle.protox_ast.specs.declared.ast.ReservedRangeEnd.{ReservedRangeEnd}
 use Rattle.protox_ast.specs.declared.ast.ReservedRangeEnd.TheVariants as range_ends
 use Rattle.protox_ast.specs.declared.ast.ReservedKind.TheVariants as reserved_kinds
@@ -17,7 +16,7 @@ use Rattle.protox_grammar.specs.Rule.{on_sum}
 use Rattle.protox_grammar.specs.Rules as r
 use Rattle.protox_grammar.specs.Told.{name_notes}
 use Rattle.protox_grammar.proofs.Shows.{two}
-use Rattle.protox_grammar.proofs.Shown.{Silent, Noting, both, seen, named, renamed, choice, peek, the, sign, list_of, list_view}
+use Rattle.protox_grammar.proofs.Shown.{Silent, Noting, both, seen, named, renamed, shown_by, choice, optional, the, sign, list_of, list_view}
 use Rattle.protox_rows.specs.Names.{int}
 use Rattle.protox_grammar.proofs.NotesLie.{name-lie}
 use Rattle.protox_rows.specs.Strings.{checked_strings}
@@ -37,20 +36,21 @@ unfolding r.range_end
 range_end = renamed r.to_range_end range_end-is
     (seen (λ x. x.1) (both (the (codes "to")) (choice (among (39 ∷ 43 ∷ [])) (seen range_ends.Int int) (seen (λ (p : Place). range_ends.Max p.span) (the (codes "max"))))))
 
-abbrev pub made_range : tree.Int Place × (tree.RangeEnd Place ⊎ Unit {0}) → ReservedRange
-made_range x = record { start = ast.int x.0; end = on_sum range_end_seen (λ u. range_ends.None) x.1 }
+-- "to" and what is behind it, if there is any
+abbrev pub end_of : Option ReservedRangeEnd → ReservedRangeEnd
+end_of None = range_ends.None
+end_of (Some e) = e
 
-pub range-is : (x : tree.Int Place × (tree.RangeEnd Place ⊎ Unit {0})) → made_range x ≡ ast.range (r.to_range x)
-range-is (i, inl e) = refl
-range-is (i, inr u) = refl
+pub stop-is : (x : Option (tree.RangeEnd Place)) → end_of (option_map range_end_seen x) ≡ ast.range_end x
+stop-is None = refl
+stop-is (Some e) = refl
 
--- "to" and what is behind it, or else a mark that ends the range
-unfoldable pub stop : Silent (rule.choice (only 36) r.range_end (rule.peek (among (53 ∷ 56 ∷ [])))) (on_sum range_end_seen (λ u. range_ends.None))
-stop = choice (only 36) range_end (seen (λ u. range_ends.None) (peek (among (53 ∷ 56 ∷ []))))
+unfoldable pub stop : Silent (rule.optional (only 36) r.range_end) ast.range_end
+stop = shown_by stop-is (seen end_of (optional (only 36) range_end))
 
 unfoldable pub range : Silent r.range ast.range
 unfolding r.range
-range = named r.to_range (λ x. record { start = x.0; end = x.1 }) range-is (both int stop)
+range = named _ (λ x. record { start = x.0; end = x.1 }) (λ x. refl) (both int stop)
 
 unfoldable pub more_range : Silent (rule.seq (r.sign s.comma) r.range) (λ y. ast.range y.1)
 more_range = seen (λ x. x.1) (both (sign s.comma) range)

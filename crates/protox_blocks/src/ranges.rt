@@ -1,9 +1,7 @@
 //! Ranges, reserved and extensions statements.
 
-ghost use Rattle.std.specs.Prelude.{◌≡◌, ◌∷◌, ◌++◌, [], IfOk, OnOk};
+ghost use Rattle.std.specs.Prelude.{◌≡◌, ◌++◌, IfOk, OnOk};
 ghost use Rattle.protox_ast.specs.Ast.{text_of};
-ghost use Rattle.protox_grammar.specs.Class.{among, in_set};
-ghost use Rattle.protox_grammar.specs.Reader.{peek};
 ghost use Rattle.protox_grammar.specs.Told.{name_notes};
 ghost use Rattle.protox_rows.specs.Outcome.{Gives};
 ghost use Rattle.protox_rows.specs.Notes.{Adds};
@@ -17,9 +15,9 @@ use protox_grammar::note::Note;
 use protox_lex::error::Span;
 use protox_options::options::list_if_any;
 use protox_rows::checks::{check_ident, check_text};
-use protox_rows::class::{COMMA, INTEGER, MINUS, SEMICOLON, TO, sees, sees_any};
+use protox_rows::class::{COMMA, INTEGER, MINUS, TO, sees, sees_any};
 use protox_rows::expected::Expected;
-use protox_rows::leaf::{expect_mark, expect_word, refused};
+use protox_rows::leaf::{expect_mark, expect_word};
 use protox_rows::names::int;
 use protox_rows::refused::Refused;
 use protox_rows::rows::{Unread, comments_between, span_between};
@@ -31,7 +29,7 @@ use std::alloc::{AllocError, Global};
 fn range_end(rows: &mut Unread<'_, '_>) -> Result<ReservedRangeEnd, Refused>
     ensures { Gives (λ x. x) result rows.new ((rule.range_end).code rows.old) }
 {
-    expect_word(rows, "to", Expected::AfterStart)?;
+    expect_word(rows, "to", Expected::To)?;
     if sees_any(rows, &[INTEGER, MINUS]) {
         let bound = int(rows)?;
         return Ok(ReservedRangeEnd::Int(bound));
@@ -40,16 +38,7 @@ fn range_end(rows: &mut Unread<'_, '_>) -> Result<ReservedRangeEnd, Refused>
     Ok(ReservedRangeEnd::Max(max.span()))
 }
 
-// A range without "to" ends here: a comma or a semicolon comes next.
-fn ended(rows: &mut Unread<'_, '_>) -> Result<(), Refused>
-    ensures { Gives (λ x. tt) result rows.new (peek (in_set (among (53 ∷ 56 ∷ []))) rows.old) }
-{
-    if rows.is_empty() || sees_any(rows, &[COMMA, SEMICOLON]) {
-        return Ok(());
-    }
-    Err(refused(rows, Expected::AfterStart))
-}
-
+// ("to" (int | "max"))?
 #[tactic(auto, unfolding(crate::specs::Ranges::stop))]
 fn stop(rows: &mut Unread<'_, '_>) -> Result<ReservedRangeEnd, Refused>
     ensures { Gives (λ x. x) result rows.new ((rule.stop).code rows.old) }
@@ -57,7 +46,6 @@ fn stop(rows: &mut Unread<'_, '_>) -> Result<ReservedRangeEnd, Refused>
     if sees(rows, TO) {
         return range_end(rows);
     }
-    ended(rows)?;
     Ok(ReservedRangeEnd::None)
 }
 
@@ -92,6 +80,18 @@ fn ranges(alloc: Global, rows: &mut Unread<'_, '_>) -> Result<Items<ReservedRang
         ranges.push(range)?;
     }
     Ok(ranges)
+}
+
+// What is expected behind ranges: behind the start of the last one, or behind its end.
+fn behind_ranges(
+    ranges: &[ReservedRange],
+    behind_start: Expected,
+    behind_end: Expected,
+) -> Expected {
+    match ranges.last() {
+        Some(range) if matches!(&range.end, ReservedRangeEnd::None) => behind_start,
+        _ => behind_end,
+    }
 }
 
 // The text of a name, which is checked.
@@ -177,6 +177,17 @@ fn reserved_kind(
     Ok(ReservedKind::Names(names))
 }
 
+fn behind_reserved(kind: &ReservedKind) -> Expected {
+    match kind {
+        ReservedKind::Ranges(ranges) => behind_ranges(
+            ranges.as_slice(),
+            Expected::AfterReservedStart,
+            Expected::CommaOrSemicolon,
+        ),
+        ReservedKind::Names(_) => Expected::CommaOrSemicolon,
+    }
+}
+
 /// reserved = "reserved" (range ("," range)* | string+ ("," string+)*) ";"
 #[tactic(auto, unfolding(crate::specs::Ranges::reserved))]
 pub fn reserved(
@@ -190,7 +201,7 @@ pub fn reserved(
 {
     let start = expect_word(rows, "reserved", expected)?;
     let kind = reserved_kind(alloc, notes, rows)?;
-    let end = expect_mark(rows, b';', Expected::CommaOrSemicolon)?;
+    let end = expect_mark(rows, b';', behind_reserved(&kind))?;
     let comments = comments_between(alloc, &start, &end)?;
     let span = span_between(&start, &end);
     Ok(Reserved {
@@ -200,11 +211,15 @@ pub fn reserved(
     })
 }
 
-// Behind the ranges a list may stand.
-fn after_ranges(options: &Option<Boxed<OptionList>>) -> Expected {
+// Behind ranges without a list, one may stand.
+fn behind_extensions(ranges: &[ReservedRange], options: &Option<Boxed<OptionList>>) -> Expected {
     match options {
         Some(_) => Expected::Semicolon,
-        None => Expected::AfterRange,
+        None => behind_ranges(
+            ranges,
+            Expected::AfterExtensionStart,
+            Expected::AfterExtensionEnd,
+        ),
     }
 }
 
@@ -222,7 +237,7 @@ pub fn extensions(
     let start = expect_word(rows, "extensions", expected)?;
     let ranges = ranges(alloc, rows)?;
     let options = list_if_any(alloc, notes, rows)?;
-    let end = expect_mark(rows, b';', after_ranges(&options))?;
+    let end = expect_mark(rows, b';', behind_extensions(ranges.as_slice(), &options))?;
     let comments = comments_between(alloc, &start, &end)?;
     let span = span_between(&start, &end);
     Ok(Extensions {

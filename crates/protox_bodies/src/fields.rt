@@ -1,7 +1,7 @@
 //! The kinds of fields that hold no body, and the names of groups.
 
 ghost use Rattle.std.specs.Prelude.{◌≡◌, ◌++◌, OnOk, suc, length};
-ghost use Rattle.protox_grammar.specs.Told.{group_notes, is_group_name};
+ghost use Rattle.protox_grammar.specs.Told.{group_notes};
 ghost use Rattle.protox_rows.specs.Outcome.{Gives};
 ghost use Rattle.protox_rows.specs.Notes.{Adds};
 ghost use Rattle.protox_bodies.specs.Fields as rule;
@@ -110,12 +110,6 @@ pub(crate) fn map_field<'t, 'a>(
     Ok((parts, (end, last)))
 }
 
-fn is_group_name(name: &str) -> bool
-    ensures { result ≡ is_group_name name.now }
-{
-    is_valid_group_name(name)
-}
-
 // Whether a group's name, before which so many rows are left, begins with a capital.
 fn check_group_name(
     notes: &mut Vec<Note>,
@@ -127,7 +121,7 @@ fn check_group_name(
     requires { left ≡ suc (length rows.now) }
     ensures { OnOk result (notes.new.items ≡ notes.old.items ++ group_notes (name.now, span.now) rows.now) }
 {
-    if is_group_name(name) {
+    if is_valid_group_name(name) {
         return Ok(());
     }
     let span = copied(span);

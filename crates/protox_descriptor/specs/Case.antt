@@ -1,20 +1,21 @@
 -- Names: which texts are identifiers, and their spelling in capitals. A text is the list of its bytes.
-use Rattle.std.specs.Prelude.{ℕ, ◌≡◌, ◌==◌, ◌⊎◌, List, [], ◌∷◌, Bool, true, false, All, if◌then◌else◌}
-use Rattle.std.specs.Char.{IsAsciiAlphabetic, IsAsciiUppercase, IsAsciiAlphanumeric, to_ascii_uppercase}
+use Rattle.std.specs.Prelude.{ℕ, ◌==◌, ◌&&◌, ◌||◌, List, [], ◌∷◌, Bool, true, false, if◌then◌else◌}
+use Rattle.std.specs.Char.{is_ascii_alphabetic, is_ascii_uppercase, is_ascii_alphanumeric, to_ascii_uppercase}
+use Rattle.std.specs.List.{list_all}
 
 -- a letter, a digit or `_`, all in ASCII
-abbrev pub IsIdentByte : ℕ → Type 0
-IsIdentByte byte = IsAsciiAlphanumeric byte ⊎ (byte ≡ 95)
+abbrev pub is_ident_byte : ℕ → Bool
+is_ident_byte byte = is_ascii_alphanumeric byte || byte == 95
 
--- a letter, and then letters, digits and `_`
-abbrev pub IsIdent : List ℕ → Type 0
-IsIdent [] = ⊥
-IsIdent (first ∷ rest) = IsAsciiAlphabetic first × All IsIdentByte rest
+-- a letter or `_`, and then letters, digits and `_`
+abbrev pub is_ident : List ℕ → Bool
+is_ident [] = false
+is_ident (first ∷ rest) = (is_ascii_alphabetic first || first == 95) && list_all is_ident_byte rest
 
 -- a capital, and then letters, digits and `_`
-abbrev pub IsGroupName : List ℕ → Type 0
-IsGroupName [] = ⊥
-IsGroupName (first ∷ rest) = IsAsciiUppercase first × All IsIdentByte rest
+abbrev pub is_group_name : List ℕ → Bool
+is_group_name [] = false
+is_group_name (first ∷ rest) = is_ascii_uppercase first && list_all is_ident_byte rest
 
 -- the text without its `_`, each byte after one as a capital, and the first byte too where `raised`
 abbrev pub pascal_case_from : Bool → List ℕ → List ℕ

@@ -1,24 +1,27 @@
 //! The rules for names, and the spelling of a map's entry message.
 
-ghost use Rattle.std.specs.Prelude.{◌≡◌, ◌↔◌, IsTrue, All, IfOk};
+ghost use Rattle.std.specs.Prelude.{◌≡◌, IfOk};
+ghost use Rattle.std.specs.List.{list_all};
 ghost use Rattle.std.specs.String.{string_bytes};
-ghost use Rattle.protox_descriptor.specs.Case.{IsIdentByte, IsIdent, IsGroupName, pascal_case};
+ghost use Rattle.protox_descriptor.specs.Case.{is_ident_byte, is_ident, is_group_name, pascal_case};
 
 use std::alloc::{AllocError, Global};
 
-/// Whether `name` is an ASCII letter and then ASCII letters, digits and `_`.
+/// Whether `name` is an ASCII letter or `_`, and then ASCII letters, digits and `_`.
 pub fn is_valid_ident(name: &str) -> bool
-    ensures { IsTrue result ↔ IsIdent name.now }
+    ensures { result ≡ is_ident name.now }
 {
     match name.as_bytes() {
-        [first, rest @ ..] => first.is_ascii_alphabetic() && are_ident_bytes(rest),
+        [first, rest @ ..] => {
+            (first.is_ascii_alphabetic() || *first == b'_') && are_ident_bytes(rest)
+        }
         [] => false,
     }
 }
 
 /// Whether `name` is an ASCII capital and then ASCII letters, digits and `_`.
 pub fn is_valid_group_name(name: &str) -> bool
-    ensures { IsTrue result ↔ IsGroupName name.now }
+    ensures { result ≡ is_group_name name.now }
 {
     match name.as_bytes() {
         [first, rest @ ..] => first.is_ascii_uppercase() && are_ident_bytes(rest),
@@ -27,7 +30,7 @@ pub fn is_valid_group_name(name: &str) -> bool
 }
 
 fn are_ident_bytes(bytes: &[u8]) -> bool
-    ensures { IsTrue result ↔ All IsIdentByte bytes.now }
+    ensures { result ≡ list_all is_ident_byte bytes.now }
 {
     bytes
         .iter()

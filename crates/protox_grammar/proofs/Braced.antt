@@ -1,5 +1,5 @@
 -- The steps of trees that hold no node that is checked, and no body: what is noted among them are the braces of their aggregates.
-use Rattle.std.proofs.Common.{codes, ◌≡◌, List, [], ◌∷◌, ◌++◌, Option, Some, None, refl, sym, ap, ◌∙◌}
+use Rattle.std.proofs.Common.{◌≡◌, List, [], ◌∷◌, ◌++◌, Option, Some, None, refl, sym, ap, ◌∙◌}
 use Rattle.std.proofs.lemmas.List.{append-nil}
 use Rattle.std.specs.List.{flat_map}
 use Rattle.protox_lexeme.specs.Shapes.{Mark, Rows}
@@ -7,8 +7,8 @@ use Rattle.protox_ast.specs.Tree as t
 use Rattle.protox_ast.specs.Spelling as s
 use Rattle.protox_ast.specs.AggregateWalk as a
 use Rattle.protox_ast.specs.AggregateWalk.{Braces}
-use Rattle.protox_grammar.specs.Class.{just_word, just_mark, among_marks}
-use Rattle.protox_grammar.specs.Rule.{row, seq, times, choice, peek}
+use Rattle.protox_grammar.specs.Class.{just_mark}
+use Rattle.protox_grammar.specs.Rule.{row, seq, times}
 use Rattle.protox_grammar.specs.Rules as r
 use Rattle.protox_grammar.specs.Steps.{AnOpenBrace, ACloseBrace, Note, Steps, plainly, steps_of_many, steps_of_option}
 use Rattle.protox_grammar.proofs.Notes.{notes, notes-append, brace_events, events-append}
@@ -134,13 +134,13 @@ module _ {M : Type 0} where
   range_end-braced (t.up_to m x) = int-braced x
   range_end-braced (t.up_to_max m x) = refl
 
-  pub stop-braced : (o : Option (t.RangeEnd M)) → Braced ((choice (just_word (codes "to")) r.range_end (peek (among_marks (s.comma ∷ s.semicolon ∷ [])))).steps (r.from_stop o)) []
+  pub stop-braced : (o : Option (t.RangeEnd M)) → Braced (steps_of_option r.range_end.steps o) []
   stop-braced None = refl
   stop-braced (Some x) = range_end-braced x
 
   pub range-braced : (x : t.Range M) → Braced (r.range.steps x) []
   unfolding r.range
-  range-braced x = both (r.int.steps x.start) ((choice (just_word (codes "to")) r.range_end (peek (among_marks (s.comma ∷ s.semicolon ∷ [])))).steps (r.from_stop x.stop)) [] [] (int-braced x.start) (stop-braced x.stop)
+  range-braced x = both (r.int.steps x.start) (steps_of_option r.range_end.steps x.stop) [] [] (int-braced x.start) (stop-braced x.stop)
 
   pub ranges-braced : (x : t.Ranges M) → Braced (r.ranges.steps x) []
   unfolding r.ranges

@@ -19,7 +19,7 @@ use Rattle.protox_grammar.specs.Bodies as rule
 use Rattle.protox_grammar.proofs.Laws.{IsSpelled, head-same}
 use Rattle.protox_grammar.proofs.ReadingTokens.{too_deep-read}
 use Rattle.protox_grammar.proofs.Forms.{Lawful, said-laws, stops-none}
-use Rattle.protox_grammar.proofs.Joining.{sealed-spelled, sealed-read, sealed-traced}
+use Rattle.protox_grammar.proofs.Sealed.{sealed-spelled, sealed-read, sealed-traced}
 use Rattle.protox_grammar.proofs.Messages.{mbody-laws}
 use Rattle.protox_grammar.proofs.Levels.{mbody-into, mbody-keeps, mbody-deep}
 use Rattle.protox_grammar.proofs.Placing.{event_end, is_run_event, IsPlaced, ArePlaced, placed-plainly}

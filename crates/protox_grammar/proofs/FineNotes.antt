@@ -1,12 +1,10 @@
 -- Nothing is noted as a fault exactly where each node that is noted is fine, and the rows behind are tokens.
-use Rattle.std.proofs.Common.{◌≡◌, ℕ, Bool, true, false, cond, List, [], ◌∷◌, ◌++◌, length, Option, Some, None, refl, sym, true≢false}
-use Rattle.std.specs.Bool.{Decides}
+use Rattle.std.proofs.Common.{◌≡◌, ℕ, Bool, true, false, cond, [], ◌∷◌, ◌++◌, length, Option, Some, None, refl, sym, true≢false}
 use Rattle.protox_fault.specs.declared.error.ParseErrorKind.{ParseErrorKind}
 use Rattle.protox_lexeme.specs.Shapes.{Rows}
-use Rattle.protox_ast.proofs.NameTests.{ident-decides, group-name-decides}
 use Rattle.protox_ast.specs.AstParts.{text_of, strings_value}
 use Rattle.protox_ast.specs.CheckedNodes.{CheckedNode, ASyntax, AnImport, AReservedName, AGroupName, APackageAgain, ATooDeep}
-use Rattle.protox_ast.specs.Checks.{IsIdent, IsGroupName, is_known_syntax, is_text, is_import_path}
+use Rattle.protox_ast.specs.Checks.{is_group_name, is_ident, is_known_syntax, is_text, is_import_path}
 use Rattle.protox_ast.specs.Fine.{IsFine}
 use Rattle.protox_ast.specs.Keywords.{Each}
 use Rattle.protox_ast.specs.Places.{Place}
@@ -15,7 +13,7 @@ use Rattle.protox_grammar.specs.Noted.{noted_nodes}
 use Rattle.protox_grammar.specs.Reader.{head_in}
 use Rattle.protox_grammar.specs.Steps.{ANode, APackage, AKeyword, ADeepBody, ADeeperBody, AnOpenBrace, ACloseBrace, Token, Note, Steps}
 use Rattle.protox_grammar.specs.Told as told
-use Rattle.protox_grammar.specs.Told.{Notes, behind, brace_notes, is_ident, is_ident_byte, is_group_name, is_invalid, node_notes, noted, at_once, told, unless_so}
+use Rattle.protox_grammar.specs.Told.{Notes, behind, brace_notes, is_invalid, node_notes, noted, at_once, told, unless_so}
 use Rattle.protox_grammar.specs.declared.note.Noted.{Noted}
 use Rattle.protox_grammar.specs.declared.note.Noted.TheVariants.{Fault, TextFormat}
 
@@ -63,21 +61,13 @@ some-at-once : (b : Bool) (f : ParseErrorKind) (xs : Rows Place) → IsFaultless
 some-at-once true f xs h = refl
 some-at-once false f xs h = absurd h.0
 
-pub ident-test : (name : List ℕ) → Decides (is_ident name) (IsIdent name)
-ident-test [] = ((λ e. absurd (true≢false (sym e))), (λ h. absurd h))
-ident-test (c ∷ cs) = ident-decides c cs
-
-pub group-name-test : (name : List ℕ) → Decides (is_group_name name) (IsGroupName name)
-group-name-test [] = ((λ e. absurd (true≢false (sym e))), (λ h. absurd h))
-group-name-test (c ∷ cs) = group-name-decides c cs
-
 -- ---- nodes
 
 pub fine-noted : (x : CheckedNode Place) (xs : Rows Place) → IsFine x → IsFaultless (node_notes x xs)
 fine-noted (ASyntax x) xs h = none-noted (is_known_syntax (strings_value x)) _ xs h
 fine-noted (AnImport x) xs h = faultless-both _ _ (none-noted (is_text (strings_value x)) _ xs h.0) (none-noted (is_import_path (text_of (strings_value x))) _ xs h.1)
-fine-noted (AReservedName x) xs h = faultless-both _ _ (none-noted (is_text (strings_value x)) _ xs h.0) (none-noted (is_ident (text_of (strings_value x))) _ xs ((ident-test (text_of (strings_value x))).1 h.1))
-fine-noted (AGroupName x) xs h = none-at-once (is_group_name x.0) _ xs ((group-name-test x.0).1 h)
+fine-noted (AReservedName x) xs h = faultless-both _ _ (none-noted (is_text (strings_value x)) _ xs h.0) (none-noted (is_ident (text_of (strings_value x))) _ xs h.1)
+fine-noted (AGroupName x) xs h = none-at-once (is_group_name x.0) _ xs h
 fine-noted (APackageAgain first again) xs h = absurd h
 fine-noted (ATooDeep keyword open_at) xs h = absurd h
 
@@ -88,8 +78,8 @@ pub noted-fine : (x : CheckedNode Place) (xs : Rows Place) → head_in is_invali
 noted-fine (ASyntax x) xs e h = some-noted (is_known_syntax (strings_value x)) _ xs e h
 noted-fine (AnImport x) xs e h = (some-noted (is_text (strings_value x)) _ xs e (faultless-first _ _ h), some-noted (is_import_path (text_of (strings_value x))) _ xs e (faultless-last (noted (unless_so (is_text (strings_value x)) _) xs) _ h))
 noted-fine (AReservedName x) xs e h =
-    (some-noted (is_text (strings_value x)) _ xs e (faultless-first _ _ h), (ident-test (text_of (strings_value x))).0 (some-noted (is_ident (text_of (strings_value x))) _ xs e (faultless-last (noted (unless_so (is_text (strings_value x)) _) xs) _ h)))
-noted-fine (AGroupName x) xs e h = (group-name-test x.0).0 (some-at-once (is_group_name x.0) _ xs h)
+    (some-noted (is_text (strings_value x)) _ xs e (faultless-first _ _ h), some-noted (is_ident (text_of (strings_value x))) _ xs e (faultless-last (noted (unless_so (is_text (strings_value x)) _) xs) _ h))
+noted-fine (AGroupName x) xs e h = some-at-once (is_group_name x.0) _ xs h
 noted-fine (APackageAgain first again) xs e h = one-noted _ xs e h
 noted-fine (ATooDeep keyword open_at) xs e h = one-noted _ xs e h
 

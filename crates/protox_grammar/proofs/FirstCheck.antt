@@ -5,16 +5,16 @@ use Rattle.protox_fault.specs.declared.error.ParseErrorKind.TheVariants as fault
 use Rattle.protox_lexeme.specs.Shapes.{Rows}
 use Rattle.protox_ast.specs.AstParts.{text_of, strings_span, strings_value}
 use Rattle.protox_ast.specs.CheckedNodes.{CheckedNode, ASyntax, AnImport, AReservedName, AGroupName, APackageAgain, ATooDeep}
-use Rattle.protox_ast.specs.Checks.{WrongCheckedNode, is_known_syntax, is_text, is_import_path, package_span}
+use Rattle.protox_ast.specs.Checks.{WrongCheckedNode, is_group_name, is_ident, is_known_syntax, is_text, is_import_path, package_span}
 use Rattle.protox_ast.specs.Places.{Place}
 use Rattle.protox_ast.specs.Tree as t
 use Rattle.protox_grammar.specs.Noted.{noted_nodes}
 use Rattle.protox_grammar.specs.Reader.{head_in}
 use Rattle.protox_grammar.specs.Steps.{Event, ANode, APackage, AKeyword, ADeepBody, ADeeperBody, AnOpenBrace, ACloseBrace, Token, Note, Steps}
-use Rattle.protox_grammar.specs.Told.{Notes, at_once, behind, first_with, is_ident, is_group_name, is_invalid, keyword_with, node_notes, noted, one_note, past, span_of, told, unless_so}
+use Rattle.protox_grammar.specs.Told.{Notes, at_once, behind, first_with, is_invalid, keyword_with, node_notes, noted, one_note, past, span_of, told, unless_so}
 use Rattle.protox_grammar.specs.declared.note.Note as note_type
 use Rattle.protox_grammar.specs.declared.note.Noted.TheVariants.{Fault}
-use Rattle.protox_grammar.proofs.FineNotes.{IsFaultless, faultless-both, ident-test, group-name-test}
+use Rattle.protox_grammar.proofs.FineNotes.{IsFaultless, faultless-both}
 use Rattle.protox_grammar.proofs.Holding.{Holds}
 use Rattle.protox_grammar.proofs.Telling.{told-append}
 
@@ -68,10 +68,6 @@ either-by a b f g xs h k = elim (test-by a f xs) [
   | inr e ↦ inr (f, length xs, noted (unless_so b g) xs, ap (λ u. u ++ noted (unless_so b g) xs) e.2, e.1, h e.0)
 ]
 
-not-so : (b : Bool) → b ≡ false → b ≡ true → ⊥
-not-so true e f = absurd cc
-not-so false e f = absurd cc
-
 pub node-by : (x : CheckedNode Place) (xs : Rows Place) → (node_notes x xs ≡ []) ⊎ IsNodeFault x xs
 node-by (ASyntax x) xs = elim (test-by (is_known_syntax (strings_value x)) (fault.UnknownSyntax (strings_span x) (text_of (strings_value x))) xs) [
   | inl e ↦ inl e
@@ -85,13 +81,13 @@ node-by (AnImport x) xs =
     ]
 node-by (AReservedName x) xs =
     elim (either-by {W = WrongCheckedNode (λ (p : Place). p.span) (AReservedName x)} (is_text (strings_value x)) (is_ident (text_of (strings_value x))) (fault.InvalidUtf8String (strings_span x)) (fault.InvalidIdentifier (strings_span x)) xs
-    (λ e. inl (e, refl)) (λ e. inr ((λ i. not-so (is_ident (text_of (strings_value x))) e ((ident-test (text_of (strings_value x))).1 i)), refl))) [
+    (λ e. inl (e, refl)) (λ e. inr (e, refl))) [
       | inl e ↦ inl e
       | inr e ↦ inr (record { fault = e.0; left = e.1; more = e.2; is = e.3; left_is = e.4; is_wrong = e.5 })
     ]
 node-by (AGroupName x) xs = elim (once-by (is_group_name x.0) (fault.InvalidGroupName x.1.span) xs) [
   | inl e ↦ inl e
-  | inr e ↦ inr (record { fault = fault.InvalidGroupName x.1.span; left = suc (length xs); more = []; is = e.2; left_is = e.1; is_wrong = ((λ i. not-so (is_group_name x.0) e.0 ((group-name-test x.0).1 i)), refl) })
+  | inr e ↦ inr (record { fault = fault.InvalidGroupName x.1.span; left = suc (length xs); more = []; is = e.2; left_is = e.1; is_wrong = (e.0, refl) })
 ]
 node-by (APackageAgain first again) xs =
     let wrong : ParseErrorKind = fault.DuplicatePackage (package_span span_of first) (package_span span_of again) in

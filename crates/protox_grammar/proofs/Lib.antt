@@ -17,7 +17,7 @@ pub mod TracingChoices
 pub mod TracingNotes
 pub mod TracingRepeat
 pub mod Forms
-pub mod Joining
+pub mod Sealed
 pub mod Begin
 pub mod Balance
 pub mod Closed

@@ -7,7 +7,7 @@ use Rattle.protox_fault.specs.declared.error.ParseErrorKind.{ParseErrorKind}
 use Rattle.protox_fault.specs.declared.error.ParseErrorKind.TheVariants as fault
 use Rattle.protox_ast.specs.AstParts.{join, last_place, run_span, strings_value, values}
 use Rattle.protox_ast.specs.CheckedNodes.{CheckedNode, ASyntax, AnImport, AReservedName, AGroupName, APackageAgain, ATooDeep}
-use Rattle.protox_ast.specs.Checks.{IsGroupName, WrongCheckedNode, WrongSyntax, WrongImport, WrongReservedName}
+use Rattle.protox_ast.specs.Checks.{is_group_name, WrongCheckedNode, WrongSyntax, WrongImport, WrongReservedName}
 use Rattle.protox_ast.specs.Tree as t
 use Rattle.protox_grammar.specs.Bodies as rule
 use Rattle.protox_grammar.specs.MarkLaws.{map_marks, map_text, map_strings, map_package, map_event, map_node, map_step, map_steps, SameOutcome, IsSameOutcome, SameSteps}
@@ -96,7 +96,7 @@ module _ {M N : Type 0} (f : M → N) where
     wrong-map (ASyntax x) wrong = λ i. WrongSyntax (run_span-map x i) (strings_value-map x i) wrong
     wrong-map (AnImport x) wrong = λ i. WrongImport (run_span-map x i) (strings_value-map x i) wrong
     wrong-map (AReservedName x) wrong = λ i. WrongReservedName (run_span-map x i) (strings_value-map x i) wrong
-    wrong-map (AGroupName x) wrong = λ i. (IsGroupName x.0 → ⊥) × (wrong ≡ fault.InvalidGroupName (same x.1 i))
+    wrong-map (AGroupName x) wrong = λ i. (is_group_name x.0 ≡ false) × (wrong ≡ fault.InvalidGroupName (same x.1 i))
     wrong-map (APackageAgain first again) wrong = λ i. wrong ≡ fault.DuplicatePackage (join (same first.keyword i) (same first.end i)) (join (same again.keyword i) (same again.end i))
     wrong-map (ATooDeep keyword open_at) wrong = λ i. wrong ≡ fault.MessageNestingTooDeep (same keyword i)
 

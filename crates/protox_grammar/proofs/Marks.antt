@@ -7,7 +7,7 @@ use Rattle.protox_grammar.specs.Class.{Set, in_set}
 use Rattle.protox_grammar.specs.MarkLaws.{map_marks, map_event, map_step, map_steps}
 use Rattle.protox_grammar.specs.Reader as reader
 use Rattle.protox_grammar.specs.Reader.{Reader, Refusal, Unexpected, Deep, ◌>>=◌, head_in, is_token, star_at}
-use Rattle.protox_grammar.specs.Rule.{Rule, fixed, leaf, seq, choice, unless, optional, times, named, named_fits, joined, peek, noting}
+use Rattle.protox_grammar.specs.Rule.{Rule, fixed, leaf, seq, choice, unless, optional, times, named, named_fits, noting}
 use Rattle.protox_grammar.specs.Steps.{Event, Token, Note, Steps, plainly, plain_trace, rows_before, then_steps, star_trace}
 
 -- of trees of which nothing is noted
@@ -157,9 +157,6 @@ module _ {M N : Type 0} (f : M → N) where
     pub seq-alike : IsAlike (seq a c) (seq b d) (Both R S)
     seq-alike = record { reads = seq-reads; traces = seq-traces }
 
-    pub joined-alike : (P : A → C → Type 0) (Q : B → D → Type 0) → IsAlike (joined P a c) (joined Q b d) (Both R S)
-    joined-alike P Q = record { reads = seq-reads; traces = seq-traces }
-
     -- ---- the first or the second
 
     either-reads : (p : Shape → Bool) (xs : Rows M) → Goes Unnoted (reader.either p (reader.mapped inl a.read) (reader.mapped inr c.read) xs) (reader.either p (reader.mapped inl b.read) (reader.mapped inr d.read) (map_marks f xs))
@@ -232,15 +229,6 @@ module _ {M N : Type 0} (f : M → N) where
           (λ i. g.traces xs i ++ then-alike R (a.read xs) (b.read (map_marks f xs)) (λ x. Note (note x.0) ∷ []) (λ y. Note (note' y.0) ∷ []) (g.reads xs) (λ x y r e. ap (λ u. Note u ∷ []) (s x.0 y.0 r)) i)
           ∙ sym (map-append (map_step f) (a.trace xs) (then_steps (a.read xs) (λ x. Note (note x.0) ∷ [])));
     }
-
-  -- ---- a test of the next row
-
-  pub peek-alike : (G : Set) → IsAlike (peek G) (peek G) Unnoted
-  peek-alike G = record { reads = peek-reads; traces = λ xs. refl }
-    where
-      peek-reads : (xs : Rows M) → Goes Unnoted (reader.peek (in_set G) xs) (reader.peek (in_set G) (map_marks f xs))
-      peek-reads [] = (tt, refl)
-      peek-reads (r ∷ rs) = goes-if Unnoted (in_set G r.shape) (in_set G r.shape) (Ok (tt, r ∷ rs)) _ (Ok (tt, map_marks f (r ∷ rs))) _ refl (tt, refl) (refused (r ∷ rs))
 
 pub head-same-shapes : {M N : Type 0} (p : Shape → Bool) (xs : Rows M) (ys : Rows N) → shapes xs ≡ shapes ys → head_in p xs ≡ head_in p ys
 head-same-shapes p xs ys e = sym (same-head no_mark p xs) ∙ ap (head_in p) (same-unmarked xs ys e) ∙ same-head no_mark p ys

@@ -6,14 +6,14 @@ use Rattle.protox_ast.specs.KeywordWalk as k
 use Rattle.protox_ast.specs.Spelling as s
 use Rattle.protox_ast.specs.Tree as t
 use Rattle.protox_grammar.specs.Bodies as b
-use Rattle.protox_grammar.specs.Class.{all, among, only, union, words, just_word, just_mark, but_mark, among_words, among_marks, an_integer, a_float, a_string, mark}
+use Rattle.protox_grammar.specs.Class.{all, among, only, union, words, just_word, just_mark, but_mark, among_words, an_integer, a_float, a_string, mark}
 use Rattle.protox_grammar.specs.MarkLaws.{map_fullident, map_marks, map_node, map_package, map_strings, map_text, map_event, map_steps}
 use Rattle.protox_grammar.specs.Reader as reader
 use Rattle.protox_grammar.specs.Reader.{Refusal, Deep, ◌>>=◌, see_word, see_integer, see_float, see_text}
 use Rattle.protox_grammar.specs.Rule.{Rule}
 use Rattle.protox_grammar.specs.Rules as r
 use Rattle.protox_grammar.specs.Steps.{Event, Note, Token, AKeyword, ADeepBody, ANode, APackage, AnOpenBrace, ACloseBrace}
-use Rattle.protox_grammar.proofs.Marks.{same-length, Goes, IsAlike, Unnoted, pairwise-map, goes-if, goes-on, refused, plain-alike, fixed-reads, steps-if, fixed-alike, leaf-alike, seq-alike, joined-alike, unless-alike, choice-alike, optional-alike, times-alike, named_as-alike, named-alike, named_fits-alike, noting-alike, peek-alike}
+use Rattle.protox_grammar.proofs.Marks.{same-length, Goes, IsAlike, Unnoted, pairwise-map, goes-if, goes-on, refused, plain-alike, fixed-reads, steps-if, fixed-alike, leaf-alike, seq-alike, unless-alike, choice-alike, optional-alike, times-alike, named_as-alike, named-alike, named_fits-alike, noting-alike}
 
 module _ {M N : Type 0} (f : M → N) where
   -- ---- up to the brace that closes
@@ -145,7 +145,7 @@ module _ {M N : Type 0} (f : M → N) where
 
   range-alike : IsAlike f r.range r.range Unnoted
   unfolding r.range
-  range-alike = named-alike f (seq-alike f int-alike (choice-alike f range_end-alike (peek-alike f (among_marks (s.comma ∷ s.semicolon ∷ []))) (just_word (codes "to")))) _ _
+  range-alike = named-alike f (seq-alike f int-alike (optional-alike f range_end-alike (just_word (codes "to")))) _ _
 
   ranges-alike : IsAlike f r.ranges r.ranges Unnoted
   unfolding r.ranges
@@ -165,7 +165,7 @@ module _ {M N : Type 0} (f : M → N) where
 
   extensions-alike : IsAlike f r.extensions r.extensions Unnoted
   unfolding r.extensions
-  extensions-alike = named-alike f (seq-alike f (fixed-alike f _) (joined-alike f ranges-alike (seq-alike f (optional-alike f list-alike (just_mark s.open_bracket)) (fixed-alike f _)) r.ListFits r.ListFits)) _ _
+  extensions-alike = named-alike f (seq-alike f (fixed-alike f _) (seq-alike f ranges-alike (seq-alike f (optional-alike f list-alike (just_mark s.open_bracket)) (fixed-alike f _)))) _ _
 
   evalue-alike : IsAlike f r.evalue r.evalue Unnoted
   unfolding r.evalue

@@ -6,14 +6,14 @@ use Rattle.protox_fault.specs.declared.error.ParseErrorKind.TheVariants as fault
 use Rattle.protox_lexeme.specs.Shapes.{Rows}
 use Rattle.protox_ast.proofs.Standing.{Stand, in-order, stand-after, stand-front}
 use Rattle.protox_ast.specs.AstParts.{join, last_place, strings_span, text_of}
-use Rattle.protox_ast.specs.Checks.{is_known_syntax, is_text, is_import_path}
+use Rattle.protox_ast.specs.Checks.{is_group_name, is_ident, is_known_syntax, is_text, is_import_path}
 use Rattle.protox_ast.specs.Keywords.{Each}
 use Rattle.protox_ast.specs.Places.{Place}
 use Rattle.protox_ast.specs.Spelling as s
 use Rattle.protox_ast.specs.Tree as t
 use Rattle.protox_grammar.specs.Reader.{head_in}
 use Rattle.protox_grammar.specs.Rules as r
-use Rattle.protox_grammar.specs.Told.{at_once, group_faults, group_notes, ident_faults, import_notes, is_group_name, is_ident, is_invalid, name_notes, noted, one_note, path_faults, syntax_faults, syntax_notes, text_faults}
+use Rattle.protox_grammar.specs.Told.{at_once, group_faults, group_notes, ident_faults, import_notes, is_invalid, name_notes, noted, one_note, path_faults, syntax_faults, syntax_notes, text_faults}
 use Rattle.protox_grammar.specs.declared.note.Noted.TheVariants.{Fault}
 use Rattle.protox_grammar.proofs.Parts as parts
 use Rattle.protox_grammar.proofs.Telling.{AllLie, both-lie, cond-lie}

@@ -1,16 +1,13 @@
 -- The laws of ranges, reserved names and extensions.
-use Rattle.std.proofs.Common.{◌≡◌, false, not, List, [], ◌∷◌, ◌++◌, map, Option, Some, None, codes, refl, inl, inr, ◌⊎◌}
-use Rattle.protox_lexeme.specs.Shapes.{Mark, Rows}
+use Rattle.std.proofs.Common.{◌≡◌, false, not, [], ◌∷◌, codes, refl, inl, inr, ◌⊎◌}
 use Rattle.protox_grammar.specs.Class.{Set, none, only, among, just_word, just_mark, but_mark, among_marks, an_integer, a_string, mark}
-use Rattle.protox_grammar.specs.Rule.{Rule, Stops, Ends, row, seq, choice, optional, peek}
+use Rattle.protox_grammar.specs.Rule.{seq, choice}
 use Rattle.protox_ast.specs.Tree as t
 use Rattle.protox_ast.specs.Spelling as s
-use Rattle.protox_ast.specs.Basics.{last}
 use Rattle.protox_ast.specs.KeywordWalk as k
 use Rattle.protox_grammar.specs.Rules as r
 use Rattle.protox_ast.specs.CheckedNodes.{AReservedName}
-use Rattle.protox_grammar.proofs.Joining.{peek-laws, joined-laws}
-use Rattle.protox_grammar.proofs.Forms.{Lawful, word-laws, mark-laws, seq-laws, choice-laws, optional-laws, times-laws, named-laws, wide, stops-none}
+use Rattle.protox_grammar.proofs.Forms.{Lawful, word-laws, mark-laws, seq-laws, choice-laws, optional-laws, times-laws, named-laws, wide}
 use Rattle.protox_grammar.proofs.Parts as parts
 use Rattle.protox_grammar.proofs.Options as options
 
@@ -44,35 +41,17 @@ module _ {M : Type 0} (m : M) where
       range_end-obeys range_end-allows (λ x h. h)
       (seq-laws (word-laws m (codes "to")) (choice-laws (among (an_integer ∷ mark s.minus ∷ [])) (parts.int-laws m) refl (word-laws m (codes "max")) refl) refl)) refl refl
 
-  -- what may follow a range without `to`
-  abbrev marked : Set
-  marked n = not (among_marks (s.comma ∷ s.semicolon ∷ []) n)
-
-  stop-back : (i : t.Int M) (o : Option (t.RangeEnd M)) → r.to_range (i, r.from_stop o) ≡ record { start = i; stop = o }
-  stop-back i None = refl
-  stop-back i (Some e) = refl
-
-  range-there : (x : t.Int M × (t.RangeEnd M ⊎ Unit {0})) → r.from_range (r.to_range x) ≡ x
-  range-there (i, inl e) = refl
-  range-there (i, inr u) = refl
-
-  stop-is : (i : t.Int M) (o : Option (t.RangeEnd M)) → s.int i ++ s.maybe s.range_end o ≡ (seq r.int (choice (just_word (codes "to")) r.range_end (peek (among_marks (s.comma ∷ s.semicolon ∷ []))))).spell (i, r.from_stop o)
-  unfolding r.int r.range_end
-  stop-is i None = refl
-  stop-is i (Some e) = refl
-
-  stop-obeys : (i : t.Int M) (o : Option (t.RangeEnd M)) → (seq r.int (choice (just_word (codes "to")) r.range_end (peek (among_marks (s.comma ∷ s.semicolon ∷ []))))).may (i, r.from_stop o)
-  unfolding r.int r.range_end
-  stop-obeys i None = (tt, tt)
-  stop-obeys i (Some e) = (tt, tt)
-
-  pub range-laws : Lawful {M = M} r.range false (among (an_integer ∷ mark s.minus ∷ [])) marked
+  pub range-laws : Lawful {M = M} r.range false (among (an_integer ∷ mark s.minus ∷ [])) (just_word (codes "to"))
   unfolding r.range r.int r.range_end
-  range-laws = wide _ _ (named-laws s.range r.free r.to_range r.from_range (λ x. stop-back x.start x.stop) range-there
-      (λ x. stop-is x.start x.stop) (λ x h. stop-obeys x.start x.stop) (λ x h. tt) (λ x h. h)
-      (seq-laws (parts.int-laws m) (choice-laws (just_word (codes "to")) range_end-laws refl (peek-laws (among_marks (s.comma ∷ s.semicolon ∷ []))) refl) refl)) refl refl
+  range-laws = wide _ _ (named-laws s.range r.free _ _ (λ x. refl) (λ x. refl) (λ x. refl)
+      (λ x h. (tt, parts.given-all _ (λ y. tt) x.stop)) (λ x h. tt) (λ x h. h)
+      (seq-laws (parts.int-laws m) (optional-laws (just_word (codes "to")) range_end-laws refl) refl)) refl refl
 
-  pub ranges-laws : Lawful {M = M} r.ranges false (among (an_integer ∷ mark s.minus ∷ [])) (but_mark s.semicolon)
+  -- what may not stand behind ranges
+  abbrev unclosed : Set
+  unclosed n = not (among_marks (s.open_bracket ∷ s.semicolon ∷ []) n)
+
+  pub ranges-laws : Lawful {M = M} r.ranges false (among (an_integer ∷ mark s.minus ∷ [])) unclosed
   unfolding r.ranges r.range
   ranges-laws = wide _ _ (named-laws s.ranges r.free _ _ (λ x. refl) (λ x. refl) (λ x. refl)
       (λ x h. (tt, parts.each-all _ (λ y. (tt, tt)) x.others)) (λ x h. tt) (λ x h. h)
@@ -122,46 +101,8 @@ module _ {M : Type 0} (m : M) where
       (λ x h. (tt, (tt, tt))) (λ x h. tt) (λ x h. h)
       (seq-laws (word-laws m (codes "reserved")) (seq-laws reserved_kind-laws (mark-laws m s.semicolon) refl) refl)) refl refl
 
-  -- after a range with `to` anything may come
-  to-ends : (i : t.Int M) (o : Option (t.RangeEnd M)) → (o ≡ None → ⊥) → (z : Rows M) → (seq r.int (choice (just_word (codes "to")) r.range_end (peek (among_marks (s.comma ∷ s.semicolon ∷ []))))).ends (i, r.from_stop o) z
-  unfolding r.int r.range_end
-  to-ends i None h z = absurd (h refl)
-  to-ends i (Some e) h z = ((parts.int-laws m).spelled.follow i _ tt (stops-none _), range_end-laws.spelled.follow e z tt (stops-none z))
-
-  -- and after one without it no option list
-  not-listed : (i : t.Int M) (o : Option (t.RangeEnd M)) (c : M) (z : Rows M) → (seq r.int (choice (just_word (codes "to")) r.range_end (peek (among_marks (s.comma ∷ s.semicolon ∷ []))))).ends (i, r.from_stop o) (row (Mark s.open_bracket) c ∷ z) → o ≡ None → ⊥
-  not-listed i None c z h e = absurd cc
-  not-listed i (Some x) c z h e = absurd cc
-
-  chain : (x : t.Range M) (xs : List (M × t.Range M)) (z : Rows M) → r.range.ends (last x (map (λ y. y.1) xs)) z → Stops (just_mark s.comma) z
-      → r.range.ends x (s.many (s.behind s.comma s.range) xs ++ z) × Ends (s.behind s.comma s.range) (λ y u. Unit {0} × r.range.ends y.1 u) (just_mark s.comma) xs z
-  unfolding r.range r.int r.range_end
-  chain x [] z e h = (e, h)
-  chain x (y ∷ ys) z e h =
-      let i = chain y.1 ys z e h in
-      (range-laws.spelled.follow x _ tt refl, ((tt, i.0), i.1))
-
-  unchain : (x : t.Range M) (xs : List (M × t.Range M)) (z : Rows M)
-      → r.range.ends x (s.many (s.behind s.comma s.range) xs ++ z) → Ends (s.behind s.comma s.range) (λ y u. Unit {0} × r.range.ends y.1 u) (just_mark s.comma) xs z → r.range.ends (last x (map (λ y. y.1) xs)) z
-  unchain x [] z e h = e
-  unchain x (y ∷ ys) z e h = unchain y.1 ys z h.0.1 h.1
-
-  abbrev list_end : Rule M (Option (t.OptionList M) × M)
-  list_end = seq (optional (just_mark s.open_bracket) r.list) (r.sign s.semicolon)
-
-  meets : (x : t.Ranges M) (o : Option (t.OptionList M)) (c : M) (z : Rows M) → k.ListedAfterTo o x → r.ranges.ends x (list_end.spell (o, c) ++ z)
-  unfolding r.ranges r.range r.int r.range_end r.list
-  meets x None c z h = chain x.first x.others _ (range-laws.spelled.follow (last x.first (map (λ y. y.1) x.others)) _ tt refl) refl
-  meets x (Some l) c z h = chain x.first x.others _ (to-ends (last x.first (map (λ y. y.1) x.others)).start (last x.first (map (λ y. y.1) x.others)).stop h _) refl
-
-  met : (x : t.Ranges M) (o : Option (t.OptionList M)) (c : M) (z : Rows M) → r.ranges.ends x (list_end.spell (o, c) ++ z) → k.ListedAfterTo o x
-  unfolding r.ranges r.range r.int r.range_end r.list
-  met x None c z h = tt
-  met x (Some l) c z h = not-listed (last x.first (map (λ y. y.1) x.others)).start (last x.first (map (λ y. y.1) x.others)).stop l.open_at _ (unchain x.first x.others _ h.0 h.1)
-
   pub extensions-laws : Lawful {M = M} r.extensions false (just_word (codes "extensions")) none
   unfolding r.extensions r.ranges r.list
   extensions-laws = wide _ _ (named-laws s.extensions k.KeepsExtensions _ _ (λ x. refl) (λ x. refl)
-      (λ x. refl) (λ x h. (tt, (h.0, tt, (h.1, tt)))) (λ x h. (h.1.0, h.1.2.0)) (λ x h. h)
-      (seq-laws (word-laws m (codes "extensions")) (joined-laws r.ListFits r.ranges list_end _ _ _ _ _ _ ranges-laws (seq-laws (optional-laws (just_mark s.open_bracket) (options.list-laws m) refl) (mark-laws m s.semicolon) refl)
-      (λ x u z h a b e. meets x u.0 u.1 z h) (λ x u z h e. met x u.0 u.1 z h) (None, m) (tt, tt) (λ x. tt)) refl)) refl refl
+      (λ x. refl) (λ x h. (tt, (tt, (h, tt)))) (λ x h. h.1.1.0) (λ x h. h)
+      (seq-laws (word-laws m (codes "extensions")) (seq-laws ranges-laws (seq-laws (optional-laws (just_mark s.open_bracket) (options.list-laws m) refl) (mark-laws m s.semicolon) refl) refl) refl)) refl refl

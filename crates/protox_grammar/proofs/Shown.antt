@@ -1,5 +1,5 @@
 -- What the code reads and notes beside what a rule of the grammar reads and notes, from one term a rule.
-use Rattle.std.proofs.Common.{◌≡◌, ℕ, suc, Bool, List, [], ◌∷◌, ◌++◌, map, length, Option, option_map, Result, Ok, Err, inl, inr, refl, sym, ap, subst, ◌∙◌, append-nil, append_assoc}
+use Rattle.std.proofs.Common.{◌≡◌, ℕ, suc, List, [], ◌∷◌, ◌++◌, map, length, Option, option_map, Result, Ok, Err, inl, inr, refl, sym, ap, subst, ◌∙◌, append-nil, append_assoc}
 use Rattle.protox_lexeme.specs.Shapes.{Shape, Ident, Mark, Rows}
 use Rattle.protox_ast.proofs.Standing.{Stand}
 use Rattle.protox_ast.specs.Places.{Place}
@@ -10,8 +10,7 @@ use Rattle.protox_grammar.specs.Reader as reader
 use Rattle.protox_grammar.specs.Reader.{Reader, Refusal, fixed, leaf, seq, mapped, gathered, folded, nothing, ◌>>=◌}
 use Rattle.protox_grammar.specs.Steps.{Event, Note, Steps, plain_trace, star_trace, then_steps}
 use Rattle.protox_grammar.specs.Told.{Notes, told, past, checked}
-use Rattle.protox_grammar.proofs.Takes.{ok_is}
-use Rattle.protox_grammar.proofs.Reading.{IsRead, chosen, err-ok}
+use Rattle.protox_grammar.proofs.Reading.{IsRead}
 use Rattle.protox_grammar.proofs.Shows as by_shows
 use Rattle.protox_grammar.proofs.Shows.{Shows, as_is, seq-shows, mapped-shows, either-shows, star-shows, optional-shows, shows-by, left-shows, right-shows}
 use Rattle.protox_grammar.proofs.Telling.{AllLie, Voice, silent, noting, NotesOf, either_of, Tells, Leaves, plain-tells, fixed-leaves, leaf-leaves, seq_trace, both_notes, seq-tells, mapped-tells, choice_trace, choice_notes, choice-tells, nothing-tells, note_trace, note-tells, times_notes, star-tells}
@@ -138,17 +137,6 @@ module _ {A C : Type 0} {v : Voice} {a : Reader Place A} {s : Rows Place → Ste
     shows = shows-by e (right-shows (folded add none) (star-shows (in_set P) (in_set P) (λ i. refl) x.shows));
     tells = star-tells (in_set P) v a s x.notes f x.code x.shows x.tells;
   }
-
--- no row, but the next one is in the set
-pub peek-left : (p : Shape → Bool) (xs : Rows Place) (x : Unit {0} × Rows Place) → reader.peek p xs ≡ Ok x → xs ≡ x.1
-peek-left p [] x e = ap (λ v. v.1) (ok_is (tt, []) x e)
-peek-left p (r ∷ rs) x e = elim (chosen (p r.shape) (Ok (tt, r ∷ rs)) (reader.refuse (r ∷ rs)) (Ok x) e) [
-  | inl h ↦ ap (λ v. v.1) (ok_is (tt, r ∷ rs) x h.1)
-  | inr h ↦ absurd (err-ok x _ h.1)
-]
-
-abbrev pub peek : (G : Set) → Shown silent (reader.peek (in_set G)) (λ xs. []) (λ u. u)
-peek G = record { code = reader.peek (in_set G); notes = tt; shows = as_is (reader.peek (in_set G)); tells = record { says = λ first w xs. refl; left = peek-left (in_set G); lies = λ low high xs h. tt } }
 
 -- ---- notes
 

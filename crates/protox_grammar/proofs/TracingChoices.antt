@@ -4,15 +4,15 @@ use Rattle.protox_lexeme.specs.Shapes.{Shape, Rows}
 use Rattle.protox_grammar.specs.Class.{Set, class, within, in_set}
 use Rattle.protox_grammar.specs.Reader as reader
 use Rattle.protox_grammar.specs.Reader.{Refusal, Unexpected, Deep, head_in}
-use Rattle.protox_grammar.specs.Rule.{Rule, Stops, either, peek, unstarted}
+use Rattle.protox_grammar.specs.Rule.{Rule, Stops, either, unstarted}
 use Rattle.protox_grammar.specs.Steps.{Token, Note, Steps, tokens, until, has_deep}
 use Rattle.protox_grammar.proofs.Takes.{bind_ok, ok_is}
 use Rattle.protox_grammar.proofs.Sets.{starts-within}
 use Rattle.protox_grammar.proofs.Laws.{IsSpelled}
-use Rattle.protox_grammar.proofs.Reading.{IsRead, err-ok, failed, chosen, map_err, head-starts, head-stops, ok-err}
+use Rattle.protox_grammar.proofs.Reading.{IsRead, err-ok, failed, chosen, map_err, head-starts, head-stops}
 use Rattle.protox_grammar.proofs.StepLists.{Quiet, until-quiet}
 use Rattle.protox_grammar.proofs.Tracing.{Alike, IsLeft, Halts, IsTraced, silent}
-use Rattle.protox_grammar.proofs.EndsDeep.{StopsDeep, stops-if, stops-mapped, stops-shallow}
+use Rattle.protox_grammar.proofs.EndsDeep.{StopsDeep, stops-if, stops-mapped}
 use Rattle.protox_grammar.proofs.Placing.{ArePlaced}
 
 same-refusal : (A : Type 0) (d e : Refusal) → failed A d ≡ failed A e → d ≡ e
@@ -121,30 +121,6 @@ module _ {M A B : Type 0} (p : Shape → Bool) (P : Set) (a : Rule M A) (b : Rul
 
   pub either-traced : IsTraced (either p P a b)
   either-traced = record { rows = either-rows; quiet = either-quiet; placed = either-placed; ok = either-ok; halts = either-halts; agrees = either-agrees; stops = either-stops }
-
--- ---- a test of the next row
-
-module _ {M : Type 0} (G : Set) where
-  -- it fails at the first of the rows alone
-  pub peek-fails : (xs : Rows M) (e : Refusal) → reader.peek (in_set G) xs ≡ Err e → Unexpected (length xs) ≡ e
-  peek-fails [] e h = absurd (ok-err _ e h)
-  peek-fails (r ∷ rs) e h = elim (chosen (in_set G r.shape) (Ok (tt, r ∷ rs)) (failed (Unit {0} × Rows M) (Unexpected (length (r ∷ rs)))) (Err e) h) [
-    | inl k ↦ absurd (ok-err _ e k.1)
-    | inr k ↦ same-refusal (Unit {0} × Rows M) (Unexpected (length (r ∷ rs))) e k.1
-  ]
-
-  pub peek-traced : IsTraced {M = M} (peek G)
-  peek-traced = record {
-    rows = λ t. refl;
-    quiet = λ t. tt;
-    placed = λ t z h. tt;
-    ok = λ xs x h. refl;
-    halts = λ xs e h.
-        let same = peek-fails xs e h in
-        record { rest = xs; parts = refl; left_is = subst (λ u. IsLeft u (length xs)) same refl; placed = tt; tree = tt; tree_may = tt; later = []; goes_on = refl; deep = λ n k. absurd (never-both (length xs) n (same ∙ k)) };
-    agrees = λ front rest t z more h q alike. refl;
-    stops = λ xs. stops-shallow (reader.peek (in_set G) xs) [] refl;
-  }
 
 -- ---- what doesn't begin with a token of a set
 

@@ -1,16 +1,16 @@
 -- The laws of steps for one rule after another, for a rule under another name and for nothing.
-use Rattle.std.proofs.Common.{◌≡◌, Bool, [], ◌∷◌, ◌++◌, length, None, Ok, Err, refl, sym, ap, subst, ◌∙◌, append_assoc, inl, inr}
+use Rattle.std.proofs.Common.{◌≡◌, Bool, ◌∷◌, ◌++◌, length, None, Ok, Err, refl, sym, ap, subst, ◌∙◌, append_assoc, inl, inr}
 use Rattle.std.proofs.lemmas.List.{append-nil}
 use Rattle.protox_lexeme.specs.Shapes.{Rows}
 use Rattle.protox_grammar.specs.Class.{Set}
 use Rattle.protox_grammar.specs.Reader as reader
 use Rattle.protox_grammar.specs.Reader.{Refusal, ◌>>=◌}
-use Rattle.protox_grammar.specs.Rule.{Rule, seq, mapped, nothing, joined}
-use Rattle.protox_grammar.specs.Steps.{Token, Note, Steps, tokens, until, has_deep}
+use Rattle.protox_grammar.specs.Rule.{Rule, seq, mapped, nothing}
+use Rattle.protox_grammar.specs.Steps.{Steps, tokens, until, has_deep}
 use Rattle.protox_grammar.proofs.Takes.{bind_ok, ok_is}
 use Rattle.protox_grammar.proofs.Laws.{IsSpelled}
 use Rattle.protox_grammar.proofs.Reading.{IsRead, bind_err, ok-err, map_err}
-use Rattle.protox_grammar.proofs.StepLists.{Quiet, quiet-append, tokens-append, has_deep-first}
+use Rattle.protox_grammar.proofs.StepLists.{quiet-append, tokens-append, has_deep-first}
 use Rattle.protox_grammar.proofs.Tracing.{Alike, Halts, IsTraced, then-of, then-none, silent, sequel}
 use Rattle.protox_grammar.proofs.EndsDeep.{StopsDeep, stops-mapped, stops-then}
 use Rattle.protox_grammar.proofs.Placing.{ArePlaced, placed-append}
@@ -41,9 +41,8 @@ module _ {M A B : Type 0} (a : Rule M A) (b : Rule M B) (ea : Bool) (fa ga : Set
       let made : (A × B) × Rows M = ((p.0.0, q.0.0), q.0.1) in
       both-trace xs p.0 p.1 ∙ ap (λ u. a.steps p.0.0 ++ u) (tb.ok p.0.1 q.0 q.1) ∙ ap (λ (u : (A × B) × Rows M). a.steps u.0.0 ++ b.steps u.0.1) (ok_is made x q.2)
 
-  halts-first : (xs : Rows M) (e : Refusal) → a.read xs ≡ Err e → (some : B) → b.may some → (D F : (A × B) → Type 0) → ((t : A) → a.may t → D (t, some))
-      → Halts (record { spell = (seq a b).spell; may = D; fits = F; ends = (seq a b).ends; read = (seq a b).read; steps = (seq a b).steps; trace = (seq a b).trace }) xs e
-  halts-first xs e h some m D F d =
+  halts-first : (xs : Rows M) (e : Refusal) → a.read xs ≡ Err e → Halts (seq a b) xs e
+  halts-first xs e h =
       let v = ta.halts xs e h in
       let same = first-trace xs e h in
       record {
@@ -51,16 +50,15 @@ module _ {M A B : Type 0} (a : Rule M A) (b : Rule M B) (ea : Bool) (fa ga : Set
         parts = v.parts ∙ ap (λ u. tokens u ++ v.rest) (sym same);
         left_is = v.left_is;
         placed = subst (λ u. ArePlaced None u v.rest) (sym same) v.placed;
-        tree = (v.tree, some);
-        tree_may = d v.tree v.tree_may;
-        later = v.later ++ b.steps some;
-        goes_on = ap (λ u. u ++ b.steps some) v.goes_on ∙ append_assoc (a.trace xs) v.later (b.steps some) ∙ ap (λ u. u ++ (v.later ++ b.steps some)) (sym same);
+        tree = (v.tree, rb.some);
+        tree_may = (v.tree_may, rb.some_may);
+        later = v.later ++ b.steps rb.some;
+        goes_on = ap (λ u. u ++ b.steps rb.some) v.goes_on ∙ append_assoc (a.trace xs) v.later (b.steps rb.some) ∙ ap (λ u. u ++ (v.later ++ b.steps rb.some)) (sym same);
         deep = λ n k. ap has_deep same ∙ v.deep n k;
       }
 
-  halts-second : (xs : Rows M) (x : A × Rows M) (e : Refusal) → a.read xs ≡ Ok x → (v : Halts b x.1 e) → (D F : (A × B) → Type 0) (tree : B) → D (x.0, tree) → (later : Steps M) → b.steps tree ≡ b.trace x.1 ++ later
-      → Halts (record { spell = (seq a b).spell; may = D; fits = F; ends = (seq a b).ends; read = (seq a b).read; steps = (seq a b).steps; trace = (seq a b).trace }) xs e
-  halts-second xs x e h v D F tree d later on =
+  halts-second : (xs : Rows M) (x : A × Rows M) (e : Refusal) → a.read xs ≡ Ok x → Halts b x.1 e → Halts (seq a b) xs e
+  halts-second xs x e h v =
       let same = both-trace xs x h in
       let took = ra.takes xs x h in
       let toks : tokens (a.steps x.0 ++ b.trace x.1) ≡ a.spell x.0 ++ tokens (b.trace x.1) = tokens-append (a.steps x.0) (b.trace x.1) ∙ ap (λ u. u ++ tokens (b.trace x.1)) (ta.rows x.0) in
@@ -69,16 +67,16 @@ module _ {M A B : Type 0} (a : Rule M A) (b : Rule M B) (ea : Bool) (fa ga : Set
         parts = took.parts ∙ ap (λ u. a.spell x.0 ++ u) v.parts ∙ sym (append_assoc (a.spell x.0) (tokens (b.trace x.1)) v.rest) ∙ ap (λ u. u ++ v.rest) (sym toks) ∙ ap (λ u. tokens u ++ v.rest) (sym same);
         left_is = v.left_is;
         placed = subst (λ u. ArePlaced None u v.rest) (sym same) (placed-append None (a.steps x.0) (b.trace x.1) v.rest (ta.placed x.0 (tokens (b.trace x.1) ++ v.rest) (subst (a.ends x.0) v.parts took.ends)) (silent b eb fb gb lb rb tb x.1) v.placed);
-        tree = (x.0, tree);
-        tree_may = d;
-        later = later;
-        goes_on = ap (λ u. a.steps x.0 ++ u) on ∙ sym (append_assoc (a.steps x.0) (b.trace x.1) later) ∙ ap (λ u. u ++ later) (sym same);
+        tree = (x.0, v.tree);
+        tree_may = (ra.within x.0 took.fits, v.tree_may);
+        later = v.later;
+        goes_on = ap (λ u. a.steps x.0 ++ u) v.goes_on ∙ sym (append_assoc (a.steps x.0) (b.trace x.1) v.later) ∙ ap (λ u. u ++ v.later) (sym same);
         deep = λ n k. ap has_deep same ∙ has_deep-first (a.steps x.0) (b.trace x.1) (v.deep n k);
       }
 
-  plain-agrees : (front rest : Rows M) (t : A × B) (z more : Rows M) → a.ends t.0 (b.spell t.1 ++ z) × b.ends t.1 z → (a.spell t.0 ++ b.spell t.1) ++ z ≡ front ++ more → Alike front rest more
+  both-agrees : (front rest : Rows M) (t : A × B) (z more : Rows M) → a.ends t.0 (b.spell t.1 ++ z) × b.ends t.1 z → (a.spell t.0 ++ b.spell t.1) ++ z ≡ front ++ more → Alike front rest more
       → until (length front) ((seq a b).trace (front ++ rest)) ≡ until (length front) (a.steps t.0 ++ b.steps t.1)
-  plain-agrees front rest t z more h q alike =
+  both-agrees front rest t z more h q alike =
       sequel a ea fa ga la ra ta front rest t.0 (b.spell t.1 ++ z) more h.0 (sym (append_assoc (a.spell t.0) (b.spell t.1) z) ∙ q) alike next (b.steps t.1) (λ x. silent b eb fb gb lb rb tb x.1) (tb.quiet t.1)
       (λ s gs p zs al. tb.agrees (s ∷ gs) rest t.1 z more h.1 zs al)
 
@@ -92,51 +90,15 @@ module _ {M A B : Type 0} (a : Rule M A) (b : Rule M B) (ea : Bool) (fa ga : Set
     placed = both-placed;
     ok = seq-ok;
     halts = λ xs e h. elim (bind_err (a.read xs) (λ v. b.read v.1 >>= λ y. Ok ((v.0, y.0), y.1)) e h) [
-      | inl k ↦ halts-first xs e k rb.some rb.some_may (seq a b).may (seq a b).fits (λ t m. (m, rb.some_may))
+      | inl k ↦ halts-first xs e k
       | inr p ↦ elim (bind_err (b.read p.0.1) (λ y. Ok ((p.0.0, y.0), y.1)) e p.2) [
-        | inl k ↦ let v = tb.halts p.0.1 e k in halts-second xs p.0 e p.1 v (seq a b).may (seq a b).fits v.tree (ra.within p.0.0 (ra.takes xs p.0 p.1).fits, v.tree_may) v.later v.goes_on
+        | inl k ↦ halts-second xs p.0 e p.1 (tb.halts p.0.1 e k)
         | inr q ↦ absurd (ok-err _ e q.2)
       ]
     ];
-    agrees = plain-agrees;
+    agrees = both-agrees;
     stops = both-stop;
   }
-
-  -- ---- on a condition
-
-  module _ (C : A → B → Type 0) (met : (t : A) (u : B) (z : Rows M) → a.ends t (b.spell u ++ z) → b.ends u z → C t u) (some : B) (some_may : b.may some) (free : (t : A) → C t some) where
-    -- a tree that goes on with the next row, or another where no row was taken
-    chosen-tree : (x : A × Rows M) (rest : Rows M) → a.ends x.0 x.1 → (l : Steps M) → Quiet l → x.1 ≡ tokens l ++ rest → (tree : B) → b.may tree → (later : Steps M) → b.steps tree ≡ l ++ later
-        → (u : B) × (C x.0 u × b.may u) × (on : Steps M) × (b.steps u ≡ l ++ on)
-    chosen-tree x rest near [] quiet parts tree m later on = (some, (free x.0, some_may), b.steps some, refl)
-    chosen-tree x rest near (Token r ∷ l) quiet parts tree m later on =
-        let spelled : b.spell tree ≡ r ∷ tokens (l ++ later) = sym (tb.rows tree) ∙ ap tokens on in
-        let ends : a.ends x.0 (b.spell tree ++ []) = subst (a.ends x.0) (sym (ap (λ u. u ++ []) spelled)) (la.ahead x.0 r (tokens l ++ rest) (tokens (l ++ later) ++ []) (subst (a.ends x.0) parts near)) in
-        (tree, (met x.0 tree [] ends (lb.follow tree [] m tt), m), later, on)
-    chosen-tree x rest near (Note d ∷ l) quiet parts tree m later on = absurd quiet
-
-    joined-second : (xs : Rows M) (x : A × Rows M) (e : Refusal) → a.read xs ≡ Ok x → Halts b x.1 e → Halts (joined C a b) xs e
-    joined-second xs x e h v =
-        let took = ra.takes xs x h in
-        let u = chosen-tree x v.rest took.ends (b.trace x.1) (silent b eb fb gb lb rb tb x.1) v.parts v.tree v.tree_may v.later v.goes_on in
-        halts-second xs x e h v (joined C a b).may (joined C a b).fits u.0 (u.1.0, ra.within x.0 took.fits, u.1.1) u.2 u.3
-
-    pub joined-traced : IsTraced (joined C a b)
-    joined-traced = record {
-      rows = both-rows;
-      quiet = λ t. quiet-append (a.steps t.0) (b.steps t.1) (ta.quiet t.0) (tb.quiet t.1);
-      placed = both-placed;
-      ok = seq-ok;
-      halts = λ xs e h. elim (bind_err (a.read xs) (λ v. b.read v.1 >>= λ y. Ok ((v.0, y.0), y.1)) e h) [
-        | inl k ↦ halts-first xs e k some some_may (joined C a b).may (joined C a b).fits (λ t m. (free t, m, some_may))
-        | inr p ↦ elim (bind_err (b.read p.0.1) (λ y. Ok ((p.0.0, y.0), y.1)) e p.2) [
-          | inl k ↦ joined-second xs p.0 e p.1 (tb.halts p.0.1 e k)
-          | inr q ↦ absurd (ok-err _ e q.2)
-        ]
-      ];
-      agrees = plain-agrees;
-      stops = both-stop;
-    }
 
 -- ---- under another name
 
@@ -164,7 +126,7 @@ module _ {M A B : Type 0} (to : B → A) (from : A → B) (b : Rule M B) (there 
     stops = λ xs. stops-mapped to (b.read xs) (b.trace xs) (tb.stops xs);
   }
 
--- ---- nothing, and a test of the next row
+-- ---- nothing
 
 pub nothing-traced : {M : Type 0} → IsTraced {M = M} nothing
 nothing-traced {M = M} = record {

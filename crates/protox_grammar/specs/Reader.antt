@@ -82,11 +82,6 @@ optional p a xs = either p (mapped Some a) (λ ys. Ok (None, ys)) xs
 abbrev pub nothing : {M : Type 0} → Reader M (Unit {0})
 nothing xs = Ok (tt, xs)
 
--- no row, but the next one passes the test
-abbrev pub peek : {M : Type 0} → (Shape → Bool) → Reader M (Unit {0})
-peek p [] = Ok (tt, [])
-peek p (r ∷ rs) = if p r.shape then Ok (tt, r ∷ rs) else refuse (r ∷ rs)
-
 -- while the next token passes the test. The number bounds the turns, and each takes a row.
 unfoldable pub star_at : {M A : Type 0} → (Shape → Bool) → Reader M A → ℕ → Reader M (List A)
 star_at p a zero xs = refuse xs

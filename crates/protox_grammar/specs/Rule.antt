@@ -1,5 +1,5 @@
 -- MACHINERY. Rules of a grammar: what spells a tree, which trees there may be, what may follow one, how it is read, and what is noted.
-use Rattle.std.specs.Prelude.{◌≡◌, suc, List, [], ◌∷◌, ◌++◌, length, Bool, true, false, not, if◌then◌else◌, Option, Some, None, ◌⊎◌}
+use Rattle.std.specs.Prelude.{◌≡◌, suc, List, [], ◌∷◌, ◌++◌, length, Bool, true, false, if◌then◌else◌, Option, Some, None, ◌⊎◌}
 use Rattle.std.proofs.Common.{inl, inr}
 use Rattle.protox_lexeme.specs.Shapes.{Shape, Row, Rows}
 use Rattle.protox_grammar.specs.Class.{class, Set, in_set}
@@ -201,30 +201,6 @@ named_fits spell keeps fits to from b = record {
   read = reader.mapped to b.read;
   steps = λ t. b.steps (from t);
   trace = b.trace;
-}
-
--- a part on a condition, under which the second part may come after the first
-abbrev pub joined : {M A B : Type 0} → (A → B → Type 0) → Rule M A → Rule M B → Rule M (A × B)
-joined C a b = record {
-  spell = λ t. a.spell t.0 ++ b.spell t.1;
-  may = λ t. C t.0 t.1 × a.may t.0 × b.may t.1;
-  fits = λ t. C t.0 t.1 × a.fits t.0 × b.fits t.1;
-  ends = λ t z. a.ends t.0 (b.spell t.1 ++ z) × b.ends t.1 z;
-  read = reader.seq a.read b.read;
-  steps = λ t. a.steps t.0 ++ b.steps t.1;
-  trace = λ xs. a.trace xs ++ then_steps (a.read xs) (λ x. b.trace x.1);
-}
-
--- no row: the next one is in the set
-abbrev pub peek : {M : Type 0} → Set → Rule M (Unit {0})
-peek G = record {
-  spell = λ t. [];
-  may = λ t. Unit {0};
-  fits = λ t. Unit {0};
-  ends = λ t z. Stops (λ k. not (G k)) z;
-  read = reader.peek (in_set G);
-  steps = λ t. [];
-  trace = λ xs. [];
 }
 
 -- one that doesn't begin with a token of the set: a keyword rule

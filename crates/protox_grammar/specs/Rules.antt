@@ -4,7 +4,7 @@ use Rattle.std.proofs.Common.{inl, inr}
 use Rattle.std.specs.Str.{bytes_eq}
 use Rattle.protox_lexeme.specs.Shapes as shape
 use Rattle.protox_lexeme.specs.Shapes.{Shape, Ident, Str, Mark, Rows}
-use Rattle.protox_grammar.specs.Class.{Set, mark, an_integer, a_float, a_string, only, among, just_word, just_mark, but_mark, among_words, among_marks, union, words}
+use Rattle.protox_grammar.specs.Class.{Set, mark, an_integer, a_float, a_string, only, among, just_word, just_mark, but_mark, among_words, union, words}
 use Rattle.protox_ast.specs.Tree as t
 use Rattle.protox_ast.specs.Spelling as s
 use Rattle.protox_ast.specs.KeywordWalk as k
@@ -12,7 +12,7 @@ use Rattle.protox_grammar.specs.Reader as reader
 use Rattle.protox_grammar.specs.Reader.{Reader, Unexpected, ◌>>=◌, see_word, see_integer, see_float, see_text}
 use Rattle.protox_grammar.specs.Steps.{plainly, plain_trace, ANode, AnOpenBrace, ACloseBrace}
 use Rattle.protox_ast.specs.CheckedNodes.{CheckedNode, ASyntax, AnImport, AReservedName}
-use Rattle.protox_grammar.specs.Rule.{Rule, row, fixed, leaf, seq, named, unless, choice, optional, times, joined, peek, noting}
+use Rattle.protox_grammar.specs.Rule.{Rule, row, fixed, leaf, seq, named, unless, choice, optional, times, noting}
 
 -- up to the brace that closes: the rows before it, which are tokens
 unfoldable pub balanced_at : {M : Type 0} → ℕ → Reader M (Rows M)
@@ -222,20 +222,8 @@ from_range_end (t.up_to_max m x) = (m, inr x)
 unfoldable pub range_end : {M : Type 0} → Rule M (t.RangeEnd M)
 range_end = named s.range_end free to_range_end from_range_end (seq (the (codes "to")) (choice (among (an_integer ∷ mark s.minus ∷ [])) int (the (codes "max"))))
 
-abbrev pub to_range : {M : Type 0} → t.Int M × (t.RangeEnd M ⊎ Unit {0}) → t.Range M
-to_range (i, inl e) = record { start = i; stop = Some e }
-to_range (i, inr u) = record { start = i; stop = None }
-
-abbrev pub from_stop : {M : Type 0} → Option (t.RangeEnd M) → t.RangeEnd M ⊎ Unit {0}
-from_stop (Some e) = inl e
-from_stop None = inr tt
-
-abbrev pub from_range : {M : Type 0} → t.Range M → t.Int M × (t.RangeEnd M ⊎ Unit {0})
-from_range x = (x.start, from_stop x.stop)
-
--- without `to` the next token is `,` or `;`
 unfoldable pub range : {M : Type 0} → Rule M (t.Range M)
-range = named s.range free to_range from_range (seq int (choice (just_word (codes "to")) range_end (peek (among_marks (s.comma ∷ s.semicolon ∷ [])))))
+range = named s.range free (λ x. record { start = x.0; stop = x.1 }) (λ x. (x.start, x.stop)) (seq int (optional (just_word (codes "to")) range_end))
 
 unfoldable pub ranges : {M : Type 0} → Rule M (t.Ranges M)
 ranges = named s.ranges free (λ x. record { first = x.0; others = x.1 }) (λ x. (x.first, x.others))
@@ -261,13 +249,9 @@ unfoldable pub reserved : {M : Type 0} → Rule M (t.Reserved M)
 reserved = named s.reserved free (λ x. record { keyword = x.0; kind = x.1.0; end = x.1.1 }) (λ x. (x.keyword, (x.kind, x.end)))
     (seq (the (codes "reserved")) (seq reserved_kind (sign s.semicolon)))
 
--- an option list comes only after `to`
-abbrev pub ListFits : {M : Type 0} → t.Ranges M → Option (t.OptionList M) × M → Type 0
-ListFits x y = k.ListedAfterTo y.0 x
-
 unfoldable pub extensions : {M : Type 0} → Rule M (t.Extensions M)
 extensions = named s.extensions k.KeepsExtensions (λ x. record { keyword = x.0; ranges = x.1.0; options = x.1.1.0; end = x.1.1.1 }) (λ x. (x.keyword, (x.ranges, (x.options, x.end))))
-    (seq (the (codes "extensions")) (joined ListFits ranges (seq (optional (just_mark s.open_bracket) list) (sign s.semicolon))))
+    (seq (the (codes "extensions")) (seq ranges (seq (optional (just_mark s.open_bracket) list) (sign s.semicolon))))
 
 abbrev pub EvalueAlone : {M : Type 0} → t.Evalue M → Type 0
 EvalueAlone x = k.Given k.KeepsList x.options

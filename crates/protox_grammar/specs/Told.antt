@@ -1,15 +1,13 @@
 -- MACHINERY. What the parser notes of the steps of reading: the faults of the nodes that are checked, and where an aggregate begins and
 -- ends, each with how many rows are left.
-use Rattle.std.specs.Prelude.{ℕ, suc, List, [], ◌∷◌, ◌++◌, length, Bool, true, false, ◌&&◌, ◌||◌, ◌==◌, if◌then◌else◌, Option, Some, None, Result, Ok, Err}
-use Rattle.std.specs.Char.{is_ascii_uppercase, is_ascii_alphabetic, is_ascii_alphanumeric}
-use Rattle.std.specs.List.{list_all}
+use Rattle.std.specs.Prelude.{ℕ, suc, List, [], ◌∷◌, ◌++◌, length, Bool, true, false, if◌then◌else◌, Option, Some, None, Result, Ok, Err}
 use Rattle.protox_fault.specs.Faults.{Span}
 use Rattle.protox_fault.specs.declared.error.ParseErrorKind.{ParseErrorKind}
 use Rattle.protox_fault.specs.declared.error.ParseErrorKind.TheVariants as fault
 use Rattle.protox_lexeme.specs.Shapes.{Shape, Invalid, Rows}
 use Rattle.protox_ast.specs.AstParts.{text_of, strings_value, strings_span}
 use Rattle.protox_ast.specs.CheckedNodes.{CheckedNode, ASyntax, AnImport, AReservedName, AGroupName, APackageAgain, ATooDeep}
-use Rattle.protox_ast.specs.Checks.{is_known_syntax, is_text, is_import_path, package_span}
+use Rattle.protox_ast.specs.Checks.{is_group_name, is_ident, is_known_syntax, is_text, is_import_path, package_span}
 use Rattle.protox_ast.specs.Places.{Place}
 use Rattle.protox_ast.specs.Tree as t
 use Rattle.protox_grammar.specs.Reader.{Refusal, head_in}
@@ -35,19 +33,8 @@ text_faults value span = unless_so (is_text value) (fault.InvalidUtf8String span
 abbrev pub path_faults : List ℕ → Span → List ParseErrorKind
 path_faults path span = unless_so (is_import_path path) (fault.InvalidImport span)
 
-abbrev pub is_ident_byte : ℕ → Bool
-is_ident_byte b = is_ascii_alphanumeric b || b == 95
-
-abbrev pub is_ident : List ℕ → Bool
-is_ident [] = false
-is_ident (b ∷ bs) = is_ascii_alphabetic b && list_all is_ident_byte bs
-
 abbrev pub ident_faults : List ℕ → Span → List ParseErrorKind
 ident_faults name span = unless_so (is_ident name) (fault.InvalidIdentifier span)
-
-abbrev pub is_group_name : List ℕ → Bool
-is_group_name [] = false
-is_group_name (b ∷ bs) = is_ascii_uppercase b && list_all is_ident_byte bs
 
 abbrev pub group_faults : List ℕ → Span → List ParseErrorKind
 group_faults name span = unless_so (is_group_name name) (fault.InvalidGroupName span)

@@ -1,5 +1,4 @@
 pub mod Turns
 pub mod PlacedRows
 pub mod Same
-pub mod Naming
 pub mod Texts

@@ -3,7 +3,7 @@
 ghost use Rattle.std.specs.Prelude.{◌≡◌, ◌++◌, OnOk};
 ghost use Rattle.protox_ast.specs.Checks.{is_text};
 ghost use Rattle.protox_grammar.specs.Reader.{head_in};
-ghost use Rattle.protox_grammar.specs.Told.{ident_faults, is_ident, is_invalid, noted, one_note, text_faults};
+ghost use Rattle.protox_grammar.specs.Told.{ident_faults, is_invalid, noted, one_note, text_faults};
 
 use crate::leaf::copied;
 use crate::rows::Unread;
@@ -64,12 +64,6 @@ pub fn check_text(
     add_fault(notes, rows, ParseErrorKind::InvalidUtf8String { span })
 }
 
-fn is_ident(name: &str) -> bool
-    ensures { result ≡ is_ident name.now }
-{
-    is_valid_ident(name)
-}
-
 /// Whether a text is an identifier.
 pub fn check_ident(
     notes: &mut Vec<Note>,
@@ -79,7 +73,7 @@ pub fn check_ident(
 ) -> Result<(), AllocError>
     ensures { OnOk result (notes.new.items ≡ notes.old.items ++ noted (ident_faults name.now span.now) rows.now) }
 {
-    if is_ident(name) {
+    if is_valid_ident(name) {
         return Ok(());
     }
     let span = copied(span);

@@ -12,14 +12,14 @@ use Rattle.protox_lexeme.specs.TokenClass.{class}
 use Rattle.protox_ast.proofs.Standing.{Stand, as-many, stand-after}
 use Rattle.protox_ast.specs.AstParts.{strings_span, strings_value, text_of}
 use Rattle.protox_ast.specs.CheckedNodes.{CheckedNode, ASyntax, AnImport, AReservedName, AGroupName, APackageAgain, ATooDeep}
-use Rattle.protox_ast.specs.Checks.{is_import_path, is_known_syntax, is_text, package_span}
+use Rattle.protox_ast.specs.Checks.{is_group_name, is_ident, is_import_path, is_known_syntax, is_text, package_span}
 use Rattle.protox_ast.specs.KeywordWalk.{Given}
 use Rattle.protox_ast.specs.Places.{Place, placed}
 use Rattle.protox_ast.specs.Tree as tree
 use Rattle.protox_grammar.specs.Class.{among, in_set, only}
 use Rattle.protox_grammar.specs.Reader.{head_in}
 use Rattle.protox_grammar.specs.Steps.{ANode, APackage, AKeyword, ADeepBody, ADeeperBody, AnOpenBrace, ACloseBrace, Token, Note, Steps}
-use Rattle.protox_grammar.specs.Told.{Notes, at_once, behind, is_group_name, is_ident, is_invalid, node_notes, noted, one_note, past, span_of, told, unless_so}
+use Rattle.protox_grammar.specs.Told.{Notes, at_once, behind, is_invalid, node_notes, noted, one_note, past, span_of, told, unless_so}
 use Rattle.protox_grammar.specs.declared.note.Note as note_type
 use Rattle.protox_grammar.specs.declared.note.Noted.TheVariants.{Fault, TextFormat}
 use Rattle.protox_grammar.proofs.Stated.{place_of}

@@ -12,7 +12,8 @@ fn names_are_told_apart(rt: HostRuntime) {
     for (name, ident, group) in [
         ("", false, false),
         ("0a", false, false),
-        ("_a", false, false),
+        ("_a", true, false),
+        ("_", true, false),
         ("a", true, false),
         ("a0_", true, false),
         ("ab", true, false),

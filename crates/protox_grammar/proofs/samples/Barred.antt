@@ -50,14 +50,6 @@ value-reserved h = h.0.1.0 refl
 stream-first : Breaks (b.file (b.service (t.service_rpc (b.rpc (b.plain_type (b.name "stream" ("A" ∷ []))) (b.plain_type (b.name "A" [])) (t.rpc_semicolon tt)) ∷ []) ∷ []))
 stream-first h = h.0.0 refl
 
--- message M { extensions 5 [yes = yes]; }
-list-first : Breaks (b.of_message (b.extensions (b.ranges (b.one 5) []) (b.list "yes" b.yes_value) ∷ []))
-list-first h = h.1.0 refl
-
--- message M { extensions 4 to 5, 6 [yes = yes]; }
-list-last : Breaks (b.of_message (b.extensions (b.ranges (b.up_to 4 5) (b.one 6 ∷ [])) (b.list "yes" b.yes_value) ∷ []))
-list-last h = h.1.0 refl
-
 -- option yes = { } { };
 braces-closed : Breaks (b.file (t.an_option (b.option "yes" (t.aggregate tt (rows (Mark s.close_brace ∷ Mark s.open_brace ∷ [])) tt)) ∷ []))
 braces-closed h = omega (arith, h.0.0.0 1)

@@ -1,11 +1,10 @@
 -- Files that the parser's checks refuse, and neighbours that they don't.
-use Rattle.std.proofs.Common.{◌≡◌, true, List, ℕ, [], ◌∷◌, None, codes, arith}
-use Rattle.std.proofs.lemmas.List.Elements.{All-nil}
+use Rattle.std.proofs.Common.{◌≡◌, true, List, ℕ, [], ◌∷◌, None, codes, refl, sym, true≢false}
 use Rattle.protox_ast.specs.Places.{Place}
 use Rattle.protox_ast.specs.Tree as t
 use Rattle.protox_ast.specs.Ast.{text_of}
 use Rattle.protox_ast.specs.CheckedNodes.{checked_nodes}
-use Rattle.protox_ast.specs.Checks.{is_text, IsIdent}
+use Rattle.protox_ast.specs.Checks.{is_text, is_ident}
 use Rattle.protox_ast.specs.Fine.{IsFine}
 use Rattle.protox_ast.specs.Keywords.{Each}
 
@@ -37,24 +36,24 @@ abbrev in_message : t.Element Place → t.File Place
 in_message x = file (t.a_message (t.message_of at (codes "M", at) (t.mbody_of at (t.elements x t.no_elements) at)) ∷ [])
 
 capital : AreFine (in_message (t.field (group (codes "G"))))
-capital = (((omega arith, omega arith), All-nil _), tt)
+capital = (refl, tt)
 
 -- its name begins with a capital, wherever it stands
 small : AreFine (in_message (t.field (group (codes "g")))) → ⊥
-small h = omega (arith, h.0.0)
+small h = true≢false (sym h.0)
 
 small-in-oneof : AreFine (in_message (t.oneof (t.oneof_of at (codes "o", at) at (t.oneof_elements (t.oneof_field (group (codes "g"))) t.no_oneof_elements) at))) → ⊥
-small-in-oneof h = omega (arith, h.0.0)
+small-in-oneof h = true≢false (sym h.0)
 
 small-in-extend : AreFine (in_message (t.extend (t.extend_of at (record { leading_dot = None; name = record { first = (codes "A", at); others = [] } }) at (t.extend_elements (t.extend_field (group (codes "g"))) t.no_extend_elements) at))) → ⊥
-small-in-extend h = omega (arith, h.0.0)
+small-in-extend h = true≢false (sym h.0)
 
 -- each reserved name is asked to be text and an identifier, in messages and in enums
 abbrev names : t.Reserved Place
 names = record { keyword = at; kind = t.names (record { first = record { first = (codes "a", at); others = [] }; others = (at, record { first = (codes "b", at); others = (codes "c", at) ∷ [] }) ∷ [] }); end = at }
 
 abbrev Asked : Type 0
-Asked = ((is_text (codes "a") ≡ true) × IsIdent (text_of (codes "a"))) × ((is_text (codes "bc") ≡ true) × IsIdent (text_of (codes "bc")))
+Asked = ((is_text (codes "a") ≡ true) × (is_ident (text_of (codes "a")) ≡ true)) × ((is_text (codes "bc") ≡ true) × (is_ident (text_of (codes "bc")) ≡ true))
 
 reserved-asked : AreFine (in_message (t.reserved names)) → Asked
 reserved-asked h = (h.0, h.1.0)

@@ -35,8 +35,10 @@ a_group = word "group" ∷ word "G" ∷ Mark s.equals ∷ number 1 ∷ Mark s.op
 record AreThere : Type 0 where
   -- extensions 5 to 6 [x = 1];
   to_listed : stop 31 (word "extensions" ∷ number 5 ∷ word "to" ∷ number 6 ∷ listed) ≡ None
-  -- extensions 5 [x = 1]; stops at the bracket
-  unlisted : stop 31 (word "extensions" ∷ number 5 ∷ listed) ≡ Some (Unexpected 7)
+  -- extensions 5 [x = 1];
+  listed_alone : stop 31 (word "extensions" ∷ number 5 ∷ listed) ≡ None
+  -- reserved 5 [x = 1]; stops at the bracket
+  reserved_listed : stop 31 (word "reserved" ∷ number 5 ∷ listed) ≡ Some (Unexpected 7)
   -- map<int32, map> f = 1;
   mapped : stop 31 (word "map" ∷ Mark s.open_angle ∷ word "int32" ∷ Mark s.comma ∷ word "map" ∷ Mark s.close_angle ∷ end) ≡ None
   -- optional message f = 1; and message f = 1; at the equals sign
@@ -84,7 +86,8 @@ are_there : AreThere
 unfolding read r.strings r.syntax r.import_kind r.«import» r.fullident r.«package» r.typename r.part r.constant r.value r.body r.option r.list r.int r.type r.label r.normal r.map r.range_end r.range r.ranges r.names r.reserved_kind r.reserved r.extensions r.evalue r.enum_element r.enum r.rpc_type r.rpc_element r.rpc_end r.rpc r.service_element r.service rule.group rule.field_kind rule.field rule.oneof_element rule.oneof_elements rule.oneof rule.extend_element rule.extend_elements rule.extend rule.message rule.element rule.elements rule.mbody rule.unsealed rule.deep_read rule.statement rule.file reader.fixed reader.too_deep reader.leaf reader.star_at reader.star r.balanced_at
 are_there = record {
   to_listed = refl;
-  unlisted = refl;
+  listed_alone = refl;
+  reserved_listed = refl;
   mapped = refl;
   labelled = refl;
   unlabelled = refl;

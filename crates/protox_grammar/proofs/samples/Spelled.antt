@@ -181,20 +181,22 @@ enum-spelled = (
   ),
 )
 
--- message M { extensions 5, 6 to max [yes = yes]; reserved 7; extensions 8; }
+-- message M { extensions 5, 6 to max [yes = yes]; reserved 7; extensions 8; extensions 9 to 10, 11 [yes = yes]; }
 abbrev ranges : t.File b.NoMark
 ranges = b.of_message (
     b.extensions (b.ranges (b.one 5) (b.up_to_max 6 ∷ [])) (b.list "yes" b.yes_value)
     ∷ t.reserved (record { keyword = tt; kind = t.ranges (b.ranges (b.one 7) []); end = tt })
-    ∷ b.extensions (b.ranges (b.one 8) []) None ∷ [])
+    ∷ b.extensions (b.ranges (b.one 8) []) None
+    ∷ b.extensions (b.ranges (b.up_to 9 10) (b.one 11 ∷ [])) (b.list "yes" b.yes_value) ∷ [])
 
 ranges-spelled : Spells (rows (
     word "message" ∷ word "M" ∷ Mark s.open_brace
     ∷ word "extensions" ∷ number 5 ∷ Mark s.comma ∷ number 6 ∷ word "to" ∷ word "max" ∷ Mark s.open_bracket ∷ word "yes" ∷ Mark s.equals ∷ word "yes" ∷ Mark s.close_bracket ∷ Mark s.semicolon
     ∷ word "reserved" ∷ number 7 ∷ Mark s.semicolon
     ∷ word "extensions" ∷ number 8 ∷ Mark s.semicolon
+    ∷ word "extensions" ∷ number 9 ∷ word "to" ∷ number 10 ∷ Mark s.comma ∷ number 11 ∷ Mark s.open_bracket ∷ word "yes" ∷ Mark s.equals ∷ word "yes" ∷ Mark s.close_bracket ∷ Mark s.semicolon
     ∷ Mark s.close_brace ∷ [])) ranges
-ranges-spelled = (refl, kept ranges ((((λ e. absurd cc), (tt, tt)), (tt, ((tt, tt), tt))), tt))
+ranges-spelled = (refl, kept ranges (((tt, tt), (tt, (tt, ((tt, tt), tt)))), tt))
 
 -- service S { option yes = yes; ; rpc R(stream stream) returns(.stream); rpc R(A) returns(A) { option yes = yes; ; } }
 abbrev a_service : t.File b.NoMark

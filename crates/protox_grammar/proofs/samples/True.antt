@@ -14,7 +14,7 @@ use Rattle.protox_ast.specs.AstParts.{first_of}
 use Rattle.protox_ast.specs.CheckedNodes as node
 use Rattle.protox_ast.specs.CheckedNodes.{CheckedNode, checked_nodes}
 use Rattle.protox_ast.specs.Fronts.{Inside, IsCleanBehind, AreCleanBehind}
-use Rattle.protox_ast.specs.Checks.{IsIdent, is_import_path, is_text}
+use Rattle.protox_ast.specs.Checks.{is_ident, is_import_path, is_text}
 use Rattle.protox_ast.specs.Keywords.{Each, is_significant}
 use Rattle.protox_ast.specs.Spelling as s
 use Rattle.protox_ast.specs.Spells.{BeginsFile, IsUnexpected, shapes}
@@ -293,18 +293,15 @@ group-there : IsTrueOf x.small_group (fault.InvalidGroupName (span_from 27 29))
 group-there = (
   6,
   by-node x.small_group 6 (x.group_end) (fault.InvalidGroupName (span_from 27 29)) (node.AGroupName (codes "ab", 5)) (omega arith) are_made.group_made
-      (refl, (λ e. absurd (true≢false (sym e))), ((λ named. omega (arith, named.0)), refl)),
+      (refl, (λ e. absurd (true≢false (sym e))), (refl, refl)),
 )
 
 name-there : IsTrueOf x.digit_first (fault.InvalidIdentifier (span_from 21 27))
 name-there = (
   5,
   by-node x.digit_first 5 (Mark s.semicolon ∷ Mark s.close_brace ∷ []) (fault.InvalidIdentifier (span_from 21 27)) (node.AReservedName (run (codes "0foo") 4)) (omega arith) are_made.name_made
-      (refl, (λ _. refl), inr ((λ named. no-letter (subst IsIdent (text-same (codes "0foo") refl) named)), refl)),
+      (refl, (λ _. refl), inr (ap is_ident (text-same (codes "0foo") refl), refl)),
 )
-  where
-    no-letter : IsIdent (codes "0foo") → ⊥
-    no-letter h = elim h.0 as (λ _. ⊥) [ inl a ↦ omega (arith, a) | inr b ↦ omega (arith, b) ]
 
 -- the 32nd `message` of 32 that stand in one another
 deep-there : IsTrueOf (x.nested 32 0) (fault.MessageNestingTooDeep (span_from 372 379))

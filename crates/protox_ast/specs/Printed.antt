@@ -1,5 +1,5 @@
 -- How the nodes of a tree are printed.
-use Rattle.std.specs.Prelude.{ℕ, ◌/◌, ◌%◌, ◌==◌, if◌then◌else◌, List, [], ◌∷◌, flat_map, codes}
+use Rattle.std.specs.Prelude.{ℕ, ◌/◌, ◌%◌, ◌==◌, if◌then◌else◌, List, [], ◌∷◌, ◌++◌, flat_map, codes}
 use Rattle.std.specs.Char.{digit_char}
 use Rattle.std.specs.Fmt.{decimal}
 use Rattle.std.specs.Int.{is_in_range}
@@ -7,6 +7,7 @@ use Rattle.protox_ast.specs.declared.ast.Int.{Int}
 use Rattle.protox_ast.specs.declared.ast.Syntax.{Syntax}
 use Rattle.protox_ast.specs.declared.ast.Syntax.TheVariants.{Proto2, Proto3}
 use Rattle.protox_ast.specs.declared.ast.OptionValue.{OptionValue}
+use Rattle.protox_ast.specs.declared.ast.String.{String}
 use Rattle.protox_ast.specs.declared.ast.OptionValue.TheVariants as value
 
 abbrev pub syntax_text : Syntax → List ℕ
@@ -43,3 +44,7 @@ value_text (value.Int int) = int_text int
 value_text (value.Float float) = float.value
 value_text (value.String string) = flat_map printed_byte string.value
 value_text (value.Aggregate text span) = text
+
+-- how a string shows with its place
+abbrev pub debug_text : String → List ℕ
+debug_text string = codes "String { value: \"" ++ flat_map quoted_byte (flat_map printed_byte string.value) ++ codes "\", span: " ++ decimal string.span.start ++ codes ".." ++ decimal string.span.end ++ codes " }"

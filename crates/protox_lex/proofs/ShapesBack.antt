@@ -10,7 +10,7 @@ use Rattle.protox_lexeme.proofs.Cut.{cut_none, cut_some, first_moves, first_star
 use Rattle.protox_lexeme.proofs.Fitting.{no_run}
 use Rattle.protox_lex.proofs.LexesBack.{AtEnd, LexesAs, ident_lexes, mark_lexes, rest_is}
 use Rattle.protox_lex.proofs.NumbersBack.{int_lexes, float_lexes}
-use Rattle.protox_lex.proofs.StringsBack.{printed_spells, spelled_lexes}
+use Rattle.protox_lex.proofs.StringsBack.{Spells, printed_spells, spelled_lexes}
 
 shape_lexes : (at : ℕ) (x : Shape) (rest : List ℕ) → IsPrintable x → AtEnd rest → LexesAs at (printed x ++ rest) (length (printed x)) x
 shape_lexes at (Ident s) rest h end = ident_lexes at s rest h end
@@ -85,11 +85,14 @@ gives_from at (x ∷ (y ∷ xs)) h =
 pub gives : (xs : List Shape) → ArePrintable xs → Gives xs (cut 0 (spaced xs))
 gives xs h = gives_from 0 xs h
 
-pub string_alone : (s : List ℕ) → AreBytes s
-    → (borrowed : Bool) × (cut 0 (printed (Str s)) ≡ record { start = 0; stop = length (printed (Str s)); shape = Str s; borrowed = borrowed; faults = [] } ∷ [])
-string_alone s h =
-    let text = printed (Str s) in
-    let l = shape_lexes 0 (Str s) [] h (inl refl) in
+-- a string in double quotes, however its bytes are spelled, is one lexeme
+pub spelled_alone : (spelled : ℕ → List ℕ) → Spells spelled → (s : List ℕ) → AreBytes s
+    → (borrowed : Bool)
+    × (cut 0 (34 ∷ flat_map spelled s ++ 34 ∷ [])
+        ≡ record { start = 0; stop = length (34 ∷ flat_map spelled s ++ 34 ∷ []); shape = Str s; borrowed = borrowed; faults = [] } ∷ [])
+spelled_alone spelled spells s h =
+    let text = 34 ∷ flat_map spelled s ++ 34 ∷ [] in
+    let l = spelled_lexes spelled spells 0 s [] h in
     let whole = append-nil text in
     let y = first_lexeme 0 (text ++ []) in
     let turn = ap (cut 0) (sym whole) ∙ cut_front 0 text [] (Str s) l ∙ ap (λ ls. y ∷ ls) (cut_none (0 + length text) [] (omega arith)) in
@@ -98,3 +101,7 @@ string_alone s h =
       same : (y : Lexeme) (n : ℕ) (x : Shape) → y.start ≡ 0 → y.stop ≡ 0 + n → y.shape ≡ x → y.faults ≡ []
           → y ≡ record { start = 0; stop = n; shape = x; borrowed = y.borrowed; faults = [] }
       same y n x start stop shape faults = rw (← start, ← shape, ← faults) (let size : y.stop ≡ n = omega arith in rw (← size) refl)
+
+pub string_alone : (s : List ℕ) → AreBytes s
+    → (borrowed : Bool) × (cut 0 (printed (Str s)) ≡ record { start = 0; stop = length (printed (Str s)); shape = Str s; borrowed = borrowed; faults = [] } ∷ [])
+string_alone s h = spelled_alone printed_byte printed_spells s h

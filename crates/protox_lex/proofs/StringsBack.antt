@@ -141,7 +141,7 @@ byte_hex b small rest =
     let value : (0 * 16 + digit_value (digit_char (b / 16))) * 16 + digit_value (digit_char (b % 16)) ≡ b = omega arith in
     hex_piece b (digit_char (b / 16)) (digit_char (b % 16)) rest (hex_digit (b / 16) high) (hex_digit (b % 16) low) value small
 
-plain_byte : (b : ℕ) → is_in_range 32 126 b ≡ true → eqb b 39 ≡ false → eqb b 34 ≡ false → eqb b 92 ≡ false → spec.is_plain b ≡ true
+pub plain_byte : (b : ℕ) → is_in_range 32 126 b ≡ true → eqb b 39 ≡ false → eqb b 34 ≡ false → eqb b 92 ≡ false → spec.is_plain b ≡ true
 plain_byte b h q d s = grind (arith, nat_tests)
 
 -- a backslash and a letter
@@ -149,32 +149,32 @@ simple_byte : (c b : ℕ) (rest : List ℕ) → spec.piece 34 (92 ∷ (c ∷ res
 simple_byte c b rest h = h
 
 module _ (rest : List ℕ) where
-  tab_piece : spec.piece 34 (92 ∷ (116 ∷ rest)) ≡ spec.adds (9 ∷ []) 2
+  pub tab_piece : spec.piece 34 (92 ∷ (116 ∷ rest)) ≡ spec.adds (9 ∷ []) 2
   unfolding spec.piece spec.escape
   tab_piece = refl
 
-  return_piece : spec.piece 34 (92 ∷ (114 ∷ rest)) ≡ spec.adds (13 ∷ []) 2
+  pub return_piece : spec.piece 34 (92 ∷ (114 ∷ rest)) ≡ spec.adds (13 ∷ []) 2
   unfolding spec.piece spec.escape
   return_piece = refl
 
-  newline_piece : spec.piece 34 (92 ∷ (110 ∷ rest)) ≡ spec.adds (10 ∷ []) 2
+  pub newline_piece : spec.piece 34 (92 ∷ (110 ∷ rest)) ≡ spec.adds (10 ∷ []) 2
   unfolding spec.piece spec.escape
   newline_piece = refl
 
-  single_piece : spec.piece 34 (92 ∷ (39 ∷ rest)) ≡ spec.adds (39 ∷ []) 2
+  pub single_piece : spec.piece 34 (92 ∷ (39 ∷ rest)) ≡ spec.adds (39 ∷ []) 2
   unfolding spec.piece spec.escape
   single_piece = refl
 
-  double_piece : spec.piece 34 (92 ∷ (34 ∷ rest)) ≡ spec.adds (34 ∷ []) 2
+  pub double_piece : spec.piece 34 (92 ∷ (34 ∷ rest)) ≡ spec.adds (34 ∷ []) 2
   unfolding spec.piece spec.escape
   double_piece = refl
 
-  slash_piece : spec.piece 34 (92 ∷ (92 ∷ rest)) ≡ spec.adds (92 ∷ []) 2
+  pub slash_piece : spec.piece 34 (92 ∷ (92 ∷ rest)) ≡ spec.adds (92 ∷ []) 2
   unfolding spec.piece spec.escape
   slash_piece = refl
 
 -- the spelling of one byte
-abbrev SpellsByte : List ℕ → ℕ → Type 0
+abbrev pub SpellsByte : List ℕ → ℕ → Type 0
 SpellsByte e b = ((e ≡ b ∷ []) × (spec.is_plain b ≡ true)) ⊎ ((0 < length e) × ((rest : List ℕ) → spec.piece 34 (e ++ rest) ≡ spec.adds (b ∷ []) (length e)))
 
 pub printed_spells : Spells printed_byte

@@ -18,3 +18,4 @@ pub mod FirstOfWoven
 pub mod FirstFaults
 pub mod JudgedFirst
 pub mod FaultsStand
+pub mod ValuesBack

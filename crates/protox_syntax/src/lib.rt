@@ -4,6 +4,7 @@
 mod checks;
 mod expected_token;
 mod judge;
+pub mod laws;
 pub mod parse;
 mod progress;
 mod recovery;

@@ -184,10 +184,17 @@ fn write_value<W: fmt::Write>(bytes: &[u8], f: &mut fmt::Formatter<W>) -> fmt::R
 
 /// `String { value: "V", span: a..b }`, V being the printed string.
 impl fmt::Debug for String {
+    ghost use Rattle.std.specs.Prelude.{Some};
+    ghost use Rattle.protox_ast.specs.Printed.{debug_text};
+
+    ghost debug_output = { λ string. Some (debug_text string) };
+
     fn fmt<W: fmt::Write>(&self, f: &mut fmt::Formatter<W>) -> fmt::Result {
         f.write_str("String { value: \"")?;
         write_value(self.value.as_slice(), f)?;
-        write!(f, "\", span: {:?} }}", self.span)
+        f.write_str("\", span: ")?;
+        write!(f, "{}..{}", self.span.start, self.span.end)?;
+        f.write_str(" }")
     }
 }
 

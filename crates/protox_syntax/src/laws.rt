@@ -1,0 +1,16 @@
+//! Laws of what is printed of a tree.
+
+ghost use Rattle.std.specs.Prelude.{◌≡◌, Bool, [], ◌∷◌, length};
+ghost use Rattle.protox_ast.specs.Values.{token_string};
+ghost use Rattle.protox_ast.specs.declared.ast.OptionValue.TheVariants as value;
+ghost use Rattle.protox_ast.specs.declared.ast.String.{String};
+ghost use Rattle.protox_lex.specs.LexesBack.{AreBytes};
+ghost use Rattle.protox_lexeme.specs.Lexemes as spec;
+ghost use Rattle.protox_lexeme.specs.Shapes.{Str};
+
+/// What `OptionValue::to_token_string` answers for a string is one lexeme of the same bytes, without a
+/// fault.
+#[tactic(auto, using(crate::proofs::ValuesBack::value_alone))]
+pub fn values_lex_back()
+    ensures { (string : String) → AreBytes string.value → (borrowed : Bool) × (spec.cut 0 (token_string (value.String string)) ≡ record { start = 0; stop = length (token_string (value.String string)); shape = Str string.value; borrowed = borrowed; faults = [] } ∷ []) }
+{}

@@ -8,7 +8,7 @@ use Rattle.protox_fault.specs.declared.error.SyntaxFailure.TheVariants.{Faults, 
 use Rattle.protox_checks.specs.Checks.{AreListed}
 use Rattle.protox_locate.specs.Lines.{span_numbers}
 use Rattle.protox_locate.specs.Locations.{file_locations}
-use Rattle.protox_locate.specs.Order.{StartsBefore, InOrder}
+use Rattle.protox_locate.specs.Order.{AreByPath, StartsBefore, InOrder}
 
 -- what a file of that name and that source gives
 unfoldable pub file_descriptor : List ℕ → List ℕ → File → FileDescriptorProto
@@ -17,6 +17,10 @@ file_descriptor name source file = record (file_proto name file) { source_code_i
 -- The locations are sorted by path, and those of equal paths by where they start.
 abbrev pub AreLocated : FileDescriptorProto → Type 0
 AreLocated file = elim file.source_code_info as (λ _. Type 0) [ None ↦ ⊥ | Some info ↦ InOrder StartsBefore info.location ]
+
+-- The locations are sorted by path: what `locate` asks of them.
+abbrev pub AreSorted : FileDescriptorProto → Type 0
+AreSorted file = elim file.source_code_info as (λ _. Type 0) [ None ↦ ⊥ | Some info ↦ AreByPath info.location ]
 
 -- The faults are listed in the order in which they are found; or memory ran out.
 abbrev pub AreListedAll : File → SyntaxFailure → Type 0

@@ -6,7 +6,7 @@ ghost use Rattle.protox_ast.specs.Siblings.{FileStands};
 ghost use Rattle.protox_checks.specs.Faults.{AreWrong, HaveAll, IsFaultless};
 ghost use Rattle.protox_describe.specs.Oneofs.{HasRealFirst};
 ghost use Rattle.protox_describe.specs.Widths.{file_width};
-ghost use Rattle.protox_generate.specs.File.{file_descriptor, AreLocated, AreListedAll};
+ghost use Rattle.protox_generate.specs.File.{file_descriptor, AreLocated, AreListedAll, AreSorted};
 ghost use Rattle.protox_generate.specs.Names.{HasNames};
 ghost use Rattle.protox_locate.specs.Bounds.{file_weight, file_reach};
 
@@ -33,6 +33,7 @@ fn described(
     requires stands { FileStands (length source.now) ast }
     ensures found { IfOk result (λ file. file ≡ file_descriptor name.now source.now ast) }
     ensures located { IfOk result AreLocated }
+    ensures sorted { IfOk result AreSorted }
 {
     let info = locate_file(alloc, source, &ast)?;
     let mut file = describe_file(alloc, name, ast)?;
@@ -55,6 +56,8 @@ pub fn generate_file(
     ensures fine { IfOk result (λ file. IsFaultless ast) }
     // Its locations are sorted by path, and those of equal paths by where they start.
     ensures located { IfOk result AreLocated }
+    // So `locate` finds those of a path.
+    ensures sorted { IfOk result AreSorted }
     // In each of its messages the oneofs that are written come first.
     ensures oneofs { IfOk result HasRealFirst }
     // Where the path of a location leads to a name, the source has that name there.

@@ -1,19 +1,19 @@
 -- The locations of a file that stands in its source are in order: by their paths, and at one path by where they start.
-use Rattle.std.proofs.Common.{◌≡◌, ℕ, zero, suc, ◌+◌, ◌-◌, ◌<◌, ◌≤◌, Bool, true, false, List, [], ◌∷◌, ◌++◌, take, length, refl, ap, sym, ◌∙◌, arith, subst, Less}
-use Rattle.std.specs.Prelude.{ℤ, pos, if◌then◌else◌, ◌==◌}
+use Rattle.std.proofs.Common.{◌≡◌, ℕ, zero, suc, ◌+◌, ◌-◌, ◌<◌, ◌≤◌, true, false, List, [], ◌∷◌, ◌++◌, take, refl, ap, sym, ◌∙◌, arith, subst}
+use Rattle.std.specs.Prelude.{pos, if◌then◌else◌, ◌==◌}
 use Rattle.std.specs.Ordering.{int_cmp, is_lt, ordering_then}
 use Rattle.std.specs.Cmp.Lexicographic.{slice_cmp}
 use Rattle.std.proofs.lemmas.Cmp.{tied_itself, int_cmp_total}
 use Rattle.protox_fault.specs.Faults.{Span}
 use Rattle.protox_ast.specs.Basics.{Each}
-use Rattle.protox_ast.specs.Siblings.{FileStands, Siblings, SiblingsStand}
+use Rattle.protox_ast.specs.Siblings.{FileStands, SiblingsStand}
 use Rattle.protox_ast.proofs.Siblings.{StartsRise, starts-rise}
 use Rattle.protox_ast.specs.declared.ast.File.{File}
 use Rattle.protox_descriptor.specs.declared.descriptor.source_code_info.Location.{Location}
 use Rattle.protox_locate.specs.Lines.{newlines, behind_last, line, column, span_numbers}
 use Rattle.protox_locate.specs.Locations.{file_locations}
 use Rattle.protox_locate.specs.Order.{ComesBefore, StartsBefore, InOrder}
-use Rattle.protox_locate.proofs.Order.{pos_below, each_so}
+use Rattle.protox_locate.proofs.Order.{pos_below}
 use Rattle.protox_locate.proofs.OrderLaw.{file-fine}
 use Rattle.protox_locate.proofs.Rows.{RiseBy, Standing}
 

@@ -1,5 +1,5 @@
 -- Locations in the order of their paths: what stands under ascending tags of a path is in order.
-use Rattle.std.proofs.Common.{◌≡◌, ℕ, ◌+◌, ◌<◌, ◌≤◌, List, [], ◌∷◌, ◌++◌, length, map, flat_map, refl, ap, sym, ◌∙◌, arith, append_assoc, append-nil, subst, Ordering, Less, Equal, Greater}
+use Rattle.std.proofs.Common.{◌≡◌, ℕ, ◌+◌, ◌<◌, ◌≤◌, List, [], ◌∷◌, ◌++◌, length, refl, ap, sym, ◌∙◌, arith, append_assoc, append-nil, subst, Ordering, Less}
 use Rattle.std.specs.Prelude.{ℤ, pos}
 use Rattle.std.specs.Ordering.{int_cmp, is_lt, ordering_then}
 use Rattle.std.specs.Cmp.Lexicographic.{slice_cmp}
@@ -7,7 +7,7 @@ use Rattle.std.proofs.lemmas.Cmp.{int_ranked, tied_itself, int_cmp_total, by_ran
 use Rattle.std.proofs.lemmas.Int.{ints}
 use Rattle.protox_ast.specs.Basics.{Each}
 use Rattle.protox_descriptor.specs.declared.descriptor.source_code_info.Location.{Location}
-use Rattle.protox_locate.specs.LocationWords.{Path, Part, part, nth, numbered, each_at}
+use Rattle.protox_locate.specs.LocationWords.{Path, Part, nth, numbered}
 use Rattle.protox_locate.specs.Order.{ComesBefore, Ahead, by_path, by_start, InOrder}
 
 pub each_both : {A : Type 0} (P : A → Type 0) (xs ys : List A) → Each P xs → Each P ys → Each P (xs ++ ys)

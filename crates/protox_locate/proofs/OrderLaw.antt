@@ -1,5 +1,5 @@
 -- The locations of a file are in order.
-use Rattle.std.proofs.Common.{◌≡◌, ℕ, ◌+◌, ◌<◌, ◌≤◌, List, [], ◌∷◌, ◌++◌, length, map, flat_map, Option, Some, None, refl, ap, sym, ◌∙◌, arith, append_assoc, append-nil, subst}
+use Rattle.std.proofs.Common.{◌≡◌, ℕ, ◌<◌, ◌≤◌, List, [], ◌∷◌, ◌++◌, map, flat_map, Option, Some, None, refl, sym, arith, append_assoc, append-nil, subst}
 use Rattle.std.specs.Prelude.{ℤ, pos}
 use Rattle.protox_fault.specs.Faults.{Span}
 use Rattle.protox_ast.specs.Basics.{Each}
@@ -30,12 +30,11 @@ use Rattle.protox_ast.specs.declared.ast.Ty.{Ty}
 use Rattle.protox_ast.specs.declared.ast.Ty.TheVariants as ty
 use Rattle.protox_ast.specs.declared.ast.TypeName.{TypeName}
 use Rattle.protox_descriptor.specs.declared.descriptor.source_code_info.Location.{Location}
-use Rattle.protox_locate.specs.EnumLocations.{enum_locations}
 use Rattle.protox_locate.specs.FieldLocations.{OfField, OfKind, Normal, Group, Map, defaulted, extended, from_number, group_locations, itself, json_named, label_locations, labelled, type_tag_of, typed, brought}
 use Rattle.protox_locate.specs.LocationWords.{Path, Part, part, each_at, numbered, siblings_at, commented, bare, option_list, option_statements, range_statements, name_statements, extensions_statements}
-use Rattle.protox_locate.specs.Locations.{OfExtend, OfItem, OfOneof, file_at, file_from_blocks, from_blocks, import_locations, item_blocks, item_enums, item_extensions, item_messages, item_services, location_steps, messages_of, package_locations, public_words, weak_words, syntax_locations}
+use Rattle.protox_locate.specs.Locations.{OfExtend, OfItem, OfOneof, file_at, file_from_blocks, from_blocks, import_locations, item_blocks, item_enums, item_extensions, item_messages, item_services, location_steps, package_locations, public_words, weak_words, syntax_locations}
 use Rattle.protox_locate.proofs.Keeps.{Keeps, Pairs, message_has, extend_has}
-use Rattle.protox_locate.proofs.Order.{Run, Good, AtOne, each_both, none, widen, joined, leaf, statements, and_siblings, all_at, node}
+use Rattle.protox_locate.proofs.Order.{Run, Good, each_both, none, joined, leaf, statements, and_siblings, all_at, node}
 use Rattle.protox_locate.proofs.Rows.{RiseBy, Standing, AllStood, stood_both, commented_stood, at_one, one, commented_good, bare_good, list_row, options_row, ranges_row, names_row, extensions_row, each_flat, each_map, skip, rises, each_stands, enum_good, service_good, json_at}
 
 module _ (numbers : Span → List ℤ) (Same : Location → Location → Type 0) (Later : ℕ → ℕ → Type 0)

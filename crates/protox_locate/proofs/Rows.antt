@@ -1,5 +1,5 @@
 -- The parts of a tree, each in order from its path on, where the places of statements of one kind rise.
-use Rattle.std.proofs.Common.{◌≡◌, ℕ, ◌+◌, ◌<◌, ◌≤◌, Bool, true, false, List, [], ◌∷◌, ◌++◌, length, map, flat_map, Option, Some, None, refl, ap, sym, ◌∙◌, arith, append-nil, subst}
+use Rattle.std.proofs.Common.{◌≡◌, ℕ, ◌<◌, ◌≤◌, Bool, true, false, List, [], ◌∷◌, ◌++◌, map, flat_map, Option, Some, None, refl, ap, sym, arith, subst}
 use Rattle.std.specs.Prelude.{ℤ, pos, if◌then◌else◌, codes, find}
 use Rattle.protox_fault.specs.Faults.{Span}
 use Rattle.protox_ast.specs.Basics.{Each}
@@ -29,7 +29,7 @@ use Rattle.protox_locate.specs.EnumLocations.{enum_locations, enum_value_locatio
 use Rattle.protox_locate.specs.FieldLocations.{json_named}
 use Rattle.protox_locate.specs.LocationWords.{Path, Part, part, each_at, commented, bare, option_place, option_statement, option_statements, option_body, option_list, numbered, range_locations, reserved_name, range_statement, name_statement, range_statements, name_statements, extension_range, extensions_statement, extensions_statements}
 use Rattle.protox_locate.specs.ServiceLocations.{method_locations, service_locations, stream_locations}
-use Rattle.protox_locate.proofs.Order.{Run, Good, AtOne, each_both, none, widen, joined, leaf, statements, and_siblings, all_at, node}
+use Rattle.protox_locate.proofs.Order.{Run, Good, AtOne, each_both, none, joined, leaf, statements, and_siblings, all_at, node}
 
 -- each starts before those behind it, by a relation of starts
 abbrev pub RiseBy : (ℕ → ℕ → Type 0) → List Span → Type 0

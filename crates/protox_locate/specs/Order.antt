@@ -1,5 +1,5 @@
 -- The order of locations: by their paths, and at one path by where they start.
-use Rattle.std.specs.Prelude.{◌≡◌, true, List, [], ◌∷◌, take, ℤ, ⊤}
+use Rattle.std.specs.Prelude.{◌≡◌, ◌≤◌, ◌<◌, ◌↔◌, true, ℕ, ℤ, List, [], ◌∷◌, length, slice_index_or, take, ⊤}
 use Rattle.std.specs.Ordering.{is_lt, int_cmp}
 use Rattle.std.specs.Cmp.Lexicographic.{slice_cmp}
 use Rattle.protox_ast.specs.Basics.{Each}
@@ -23,3 +23,13 @@ pub data Ahead (Same : Location → Location → Type 0) (a b : Location) : Type
 abbrev pub InOrder : (Location → Location → Type 0) → List Location → Type 0
 InOrder Same [] = ⊤
 InOrder Same (l ∷ more) = Each (Ahead Same l) more × InOrder Same more
+
+-- They are sorted by path, and of those at one path nothing is asked.
+abbrev pub AreByPath : List Location → Type 0
+AreByPath = InOrder (λ a b. ⊤)
+
+-- The locations with a path are those from one index up to another: an index lies there exactly if
+-- the location at it has the path.
+abbrev pub AreThoseAt : List Location → List ℤ → ℕ → ℕ → Type 0
+AreThoseAt locations path start end = (index : ℕ) (other : Location) → index < length locations
+    → ((slice_index_or locations index other).path ≡ path) ↔ ((start ≤ index) × (index < end))

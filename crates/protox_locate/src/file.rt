@@ -5,7 +5,7 @@ ghost use Rattle.protox_ast.specs.Siblings.{FileStands};
 ghost use Rattle.protox_locate.specs.Bounds.{file_reach, file_weight, package_reach, syntax_reach};
 ghost use Rattle.protox_locate.specs.Lines.{numbers_at, span_numbers};
 ghost use Rattle.protox_locate.specs.Locations.{file_at, file_from_blocks, file_locations, package_locations, syntax_locations};
-ghost use Rattle.protox_locate.specs.Order.{InOrder, StartsBefore};
+ghost use Rattle.protox_locate.specs.Order.{AreByPath, InOrder, StartsBefore};
 ghost use Rattle.protox_locate.specs.Walk.{Emits};
 
 use crate::context::Context;
@@ -32,6 +32,7 @@ pub fn locate_file(alloc: Global, source: &str, ast: &File) -> Result<SourceCode
     ensures located { IfOk result (λ info. info.location ≡ file_locations (span_numbers source.now) ast.now) }
     // They are in order where the nodes of the tree stand in the source, as those of each accepted source do.
     ensures in_order { IfOk result (λ info. FileStands (length source.now) ast.now → InOrder StartsBefore info.location) }
+    ensures by_path { IfOk result (λ info. FileStands (length source.now) ast.now → AreByPath info.location) }
 {
     let lines = LineResolver::new(alloc, source)?;
     let mut context = Context::new(alloc);

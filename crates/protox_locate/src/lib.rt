@@ -1,4 +1,4 @@
-//! Where in the source each part of a file stands.
+//! Where in the source each part of a file stands, and which of these locations have a path.
 #![tactic(auto)]
 
 mod context;
@@ -7,6 +7,7 @@ mod defaults;
 mod enums;
 mod fields;
 pub mod file;
+pub mod find;
 mod imports;
 mod items;
 pub mod lines;

@@ -8,7 +8,7 @@ ghost use Rattle.protox_ast.specs.Ast as ast_of;
 ghost use Rattle.protox_ast.specs.Tree as tree;
 ghost use Rattle.protox_checks.specs.Faults.{IsFaultless};
 ghost use Rattle.protox_describe.specs.Oneofs.{HasRealFirst};
-ghost use Rattle.protox_generate.specs.File.{file_descriptor, AreLocated};
+ghost use Rattle.protox_generate.specs.File.{file_descriptor, AreLocated, AreSorted};
 ghost use Rattle.protox_generate.specs.Names.{HasNames};
 ghost use Rattle.protox_lexeme.specs.Lexemes.{cut};
 ghost use Rattle.protox_ast.specs.Places.{Place};
@@ -28,6 +28,7 @@ pub use protox_generate::generate;
 use protox_generate::generate::generate_file;
 pub use protox_lex::error::ParseErrorKind;
 pub use protox_lex::{comments, error, lex};
+pub use protox_locate::find::locate;
 pub use protox_syntax::parse as syntax;
 use protox_syntax::parse::parse_file;
 use std::alloc::Global;
@@ -51,6 +52,7 @@ fn translated(
     ensures found { IfOk result (λ d. IsFaultless file × (d ≡ file_descriptor name.now source.now file)) }
     ensures only { IsFaultless file → MatchResult result (λ d. d ≡ file_descriptor name.now source.now file) IsOutOfMemory }
     ensures located { IfOk result AreLocated }
+    ensures sorted { IfOk result AreSorted }
     ensures oneofs { IfOk result HasRealFirst }
     ensures named { IfOk result (HasNames source.now) }
     ensures refused { IfErr result (IsRefusalOf name.now source.now) }
@@ -74,6 +76,8 @@ pub fn parse(alloc: Global, name: &str, source: &str) -> Result<FileDescriptorPr
         → MatchResult result (λ d. d ≡ file_descriptor name.now source.now (ast_of.file (length source.now) f)) IsOutOfMemory }
     // Its locations are sorted by path, and those of equal paths by where they start.
     ensures located { IfOk result AreLocated }
+    // So `locate` finds those of a path.
+    ensures sorted { IfOk result AreSorted }
     // In each of its messages the oneofs that are written come first, and each field's index is that of a oneof.
     ensures oneofs { IfOk result HasRealFirst }
     // Where the path of a location leads to a name, the source has that name there.

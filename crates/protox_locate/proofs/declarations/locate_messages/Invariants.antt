@@ -1,4 +1,4 @@
-use Rattle.std.proofs.Common.{◌≤◌, ◌+◌, length, map, flat_map, drop}
+use Rattle.std.proofs.Common.{◌≤◌, ◌+◌, map, flat_map, drop}
 use Rattle.protox_descriptor.specs.declared.tag.file.TheConstants.{MESSAGE_TYPE}
 use Rattle.protox_locate.specs.Bounds.{file_item_reach, file_item_weight, greatest, total}
 use Rattle.protox_locate.specs.Lines.{numbers_at}

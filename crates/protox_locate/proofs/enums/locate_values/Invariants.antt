@@ -1,4 +1,4 @@
-use Rattle.std.proofs.Common.{◌≤◌, ◌+◌, length, map, flat_map, drop}
+use Rattle.std.proofs.Common.{◌≤◌, ◌+◌, map, drop}
 use Rattle.protox_descriptor.specs.declared.tag.enum_.TheConstants.{VALUE}
 use Rattle.protox_locate.specs.Bounds.{greatest, total, value_reach, value_weight}
 use Rattle.protox_locate.specs.Lines.{numbers_at}

@@ -1,4 +1,4 @@
-use Rattle.std.proofs.Common.{◌≡◌, List, map, subst, sym, rules, to_z, of_z}
+use Rattle.std.proofs.Common.{◌≡◌, List, map, subst, rules, to_z, of_z}
 use Rattle.std.specs.Prelude.{IfOk, Some, ℤ}
 use Rattle.std.specs.Int.{w32}
 use Rattle.protox_ast.proofs.Levels.{extend-gives}

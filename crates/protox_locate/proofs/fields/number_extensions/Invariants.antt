@@ -1,4 +1,4 @@
-use Rattle.std.proofs.Common.{◌≤◌, ◌+◌, length, map, flat_map, drop}
+use Rattle.std.proofs.Common.{◌≤◌, ◌+◌, map, drop}
 use Rattle.std.specs.Prelude.{Some}
 use Rattle.protox_ast.specs.Steps.{of_field}
 use Rattle.protox_locate.specs.Bounds.{greatest, reaches, total, weights}

@@ -1,10 +1,10 @@
-use Rattle.std.proofs.Common.{◌≡◌, List, [], ◌++◌, ap, sym, subst, ◌∙◌}
-use Rattle.protox_descriptor.specs.declared.descriptor.source_code_info.Location.{Location}
+use Rattle.std.proofs.Common.{◌++◌, ap, sym, subst, ◌∙◌}
 use Rattle.protox_locate.specs.Lines.{numbers_at}
 use Rattle.protox_locate.specs.Locations.{file_at, file_locations}
 use Rattle.protox_locate.specs.Order.{InOrder, StartsBefore}
 use Rattle.protox_locate.proofs.InOrder.{in-order}
 use Rattle.protox_locate.proofs.LineFacts.{numbers-are}
+use Rattle.protox_locate.proofs.SortedPaths.{sorted-by-path}
 use Rattle.protox_locate.proofs.file.locate_file.Goals as goal
 
 pub returns-clause-located : goal.returns-clause-located
@@ -16,3 +16,6 @@ returns-clause-located c =
 
 pub returns-clause-in_order : goal.returns-clause-in_order
 returns-clause-in_order c stands = subst (InOrder StartsBefore) (sym (returns-clause-located c)) (in-order c.args.source.now _ c.args.ast.now stands)
+
+pub returns-clause-by_path : goal.returns-clause-by_path
+returns-clause-by_path c stands = sorted-by-path StartsBefore _ (returns-clause-in_order c stands)

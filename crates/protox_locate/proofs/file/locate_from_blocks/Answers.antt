@@ -1,13 +1,13 @@
-use Rattle.std.proofs.Common.{◌≡◌, List, [], ◌∷◌, ◌++◌, map, flat_map, subst, sym, ap, ◌∙◌}
+use Rattle.std.proofs.Common.{List, ◌++◌, flat_map, subst}
 use Rattle.protox_ast.specs.Options.{OptionStatement}
 use Rattle.protox_ast.specs.declared.ast.FileItem.{FileItem}
 use Rattle.protox_ast.specs.declared.ast.Import.{Import}
 use Rattle.protox_descriptor.specs.declared.tag.file.TheConstants as tag
 use Rattle.protox_locate.specs.Lines.{numbers_at}
-use Rattle.protox_locate.specs.LocationWords.{Path, part, each_at, siblings_at, bare, option_statements}
-use Rattle.protox_locate.specs.Locations.{item_messages, item_enums, item_services, item_blocks, item_extensions, import_locations, public_words, weak_words, package_locations, syntax_locations, file_from_blocks}
+use Rattle.protox_locate.specs.LocationWords.{Path, part, each_at, siblings_at, option_statements}
+use Rattle.protox_locate.specs.Locations.{item_blocks, item_extensions, public_words, weak_words, syntax_locations}
 use Rattle.protox_locate.specs.Walk.{Emits}
-use Rattle.protox_locate.proofs.Numbered.{first_then, first_then_ok}
+use Rattle.protox_locate.proofs.Numbered.{first_then_ok}
 use Rattle.protox_locate.proofs.file.locate_from_blocks.Goals as goal
 
 pub returns : goal.returns

@@ -1,13 +1,12 @@
-use Rattle.std.proofs.Common.{◌≡◌, List, [], ◌∷◌, ◌++◌, map, flat_map, subst, sym, ap, ◌∙◌, append-nil}
-use Rattle.protox_ast.specs.Options.{OptionStatement}
+use Rattle.std.proofs.Common.{List, [], ◌∷◌, ◌++◌, map, flat_map, subst, append-nil}
 use Rattle.protox_ast.specs.declared.ast.FileItem.{FileItem}
 use Rattle.protox_ast.specs.declared.ast.Import.{Import}
 use Rattle.protox_descriptor.specs.declared.tag.file.TheConstants as tag
 use Rattle.protox_locate.specs.Lines.{numbers_at}
-use Rattle.protox_locate.specs.LocationWords.{Path, part, each_at, siblings_at, bare, option_statements}
-use Rattle.protox_locate.specs.Locations.{item_messages, item_enums, item_services, item_blocks, item_extensions, import_locations, public_words, weak_words, package_locations, syntax_locations, file_from_blocks}
+use Rattle.protox_locate.specs.LocationWords.{Path, siblings_at, bare}
+use Rattle.protox_locate.specs.Locations.{item_messages, item_enums, item_services, import_locations, package_locations, file_from_blocks}
 use Rattle.protox_locate.specs.Walk.{Emits}
-use Rattle.protox_locate.proofs.Numbered.{first_then, first_then_ok}
+use Rattle.protox_locate.proofs.Numbered.{first_then_ok}
 use Rattle.protox_locate.proofs.file.locate_parts.Goals as goal
 
 pub returns : goal.returns

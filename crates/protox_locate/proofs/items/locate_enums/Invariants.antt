@@ -1,4 +1,4 @@
-use Rattle.std.proofs.Common.{◌≤◌, ◌+◌, length, map, flat_map, drop}
+use Rattle.std.proofs.Common.{◌≤◌, ◌+◌, map, flat_map, drop}
 use Rattle.protox_ast.specs.Steps.{of_item}
 use Rattle.protox_descriptor.specs.declared.tag.message.TheConstants.{ENUM_TYPE}
 use Rattle.protox_locate.specs.Bounds.{greatest, reaches, total, weights}

@@ -1,4 +1,4 @@
-use Rattle.std.proofs.Common.{◌≤◌, ◌+◌, length, map, flat_map, drop}
+use Rattle.std.proofs.Common.{◌≤◌, map, drop}
 use Rattle.protox_locate.specs.Bounds.{options_reach}
 use Rattle.protox_locate.specs.Lines.{numbers_at}
 use Rattle.protox_locate.specs.LocationWords.{option_place}

@@ -1,4 +1,4 @@
-use Rattle.std.proofs.Common.{◌≤◌, ◌+◌, length, map, flat_map, drop}
+use Rattle.std.proofs.Common.{◌≤◌, ◌+◌, length, map, drop}
 use Rattle.protox_descriptor.specs.declared.tag.TheConstants.{UNINTERPRETED_OPTION}
 use Rattle.protox_locate.specs.Bounds.{options_reach}
 use Rattle.protox_locate.specs.Lines.{numbers_at}

@@ -1,4 +1,4 @@
-use Rattle.std.proofs.Common.{◌≤◌, ◌+◌, length, map, flat_map, drop}
+use Rattle.std.proofs.Common.{◌≤◌, map, drop}
 use Rattle.protox_descriptor.specs.declared.tag.message.TheConstants.{EXTENSION_RANGE}
 use Rattle.protox_locate.specs.Bounds.{extensions_reach, greatest}
 use Rattle.protox_locate.specs.Lines.{numbers_at}

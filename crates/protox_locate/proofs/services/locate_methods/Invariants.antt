@@ -1,4 +1,4 @@
-use Rattle.std.proofs.Common.{◌≤◌, ◌+◌, length, map, flat_map, drop}
+use Rattle.std.proofs.Common.{◌≤◌, ◌+◌, map, drop}
 use Rattle.protox_descriptor.specs.declared.tag.service.TheConstants.{METHOD}
 use Rattle.protox_locate.specs.Bounds.{greatest, method_reach, method_weight, total}
 use Rattle.protox_locate.specs.Lines.{numbers_at}

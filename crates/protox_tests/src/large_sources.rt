@@ -1,6 +1,6 @@
 //! Sources that are deep or long: the parser answers what it answers of small ones.
-use crate::parsing::refusal;
-use protox_parse::{ParseError, parse};
+use protox_parse::descriptor::FileDescriptorProto;
+use protox_parse::{ParseFailure, parse};
 use std::alloc::{AllocError, Global};
 use std::test::Fail;
 
@@ -16,22 +16,35 @@ fn nested(alloc: Global, open: &str, close: &str, times: usize) -> Result<String
     Ok(text)
 }
 
-// How the faults of a refusal print.
-fn faults(alloc: Global, error: ParseError) -> Result<String, AllocError> {
-    let found = error.into_inner();
-    format!(in alloc; "{found:?}")
+// How long the name of the first message is, and the text of the first option's aggregate.
+fn lengths(file: &FileDescriptorProto) -> (Option<usize>, Option<usize>) {
+    let message = file.message_type.get(0);
+    let name = message.and_then(|message| message.name.as_ref());
+    let options = file.options.as_ref();
+    let option = options.and_then(|options| options.uninterpreted_option.get(0));
+    let text = option.and_then(|option| option.aggregate_value.as_ref());
+    (name.map(|name| name.len()), text.map(|text| text.len()))
 }
 
-// The faults of messages so deep.
-fn faults_of_messages(alloc: Global, levels: usize) -> Result<String, Fail> {
-    let source = nested(alloc, "message M { ", "} ", levels)?;
-    let error = refusal(alloc, "a.proto", source.as_str())?;
-    Ok(faults(alloc, error)?)
+// The lengths of what is accepted, or the faults of what is refused.
+fn answer(alloc: Global, source: &str) -> Result<String, AllocError> {
+    match parse(alloc, "a.proto", source) {
+        Ok(file) => {
+            let found = lengths(&file);
+            format!(in alloc; "{found:?}")
+        }
+        Err(ParseFailure::Refused(error)) => {
+            let found = error.into_inner();
+            format!(in alloc; "{found:?}")
+        }
+        Err(ParseFailure::OutOfMemory) => Ok(String::new(alloc)),
+    }
 }
 
 #[test]
 fn messages_100000_deep(rt: HostRuntime) -> Result<(), Fail> {
-    let found = faults_of_messages(rt.alloc(), 100_000)?;
+    let source = nested(rt.alloc(), "message M { ", "} ", 100_000)?;
+    let found = answer(rt.alloc(), source.as_str())?;
     assert_eq!(rt;
         found.as_str(),
         "[MessageNestingTooDeep { span: 372..379 }]"
@@ -39,42 +52,21 @@ fn messages_100000_deep(rt: HostRuntime) -> Result<(), Fail> {
     Ok(())
 }
 
-// How long the text of an aggregate of braces so deep is.
-fn aggregate_len(alloc: Global, levels: usize) -> Result<usize, Fail> {
-    let braces = nested(alloc, "{ ", "} ", levels)?;
-    let source = format!(in alloc; "option o = {braces};")?;
-    let file = parse(alloc, "a.proto", source.as_str())?;
-    let options = file.options.as_ref();
-    let first = options.and_then(|options| options.uninterpreted_option.get(0));
-    let text = first.and_then(|option| option.aggregate_value.as_ref());
-    text.map(|text| text.len())
-        .ok_or_else(|| Fail::new("no aggregate"))
-}
-
 #[test]
 fn braces_100000_deep(rt: HostRuntime) -> Result<(), Fail> {
+    let braces = nested(rt.alloc(), "{ ", "} ", 100_000)?;
+    let source = format!(in rt.alloc(); "option o = {braces};")?;
+    let found = answer(rt.alloc(), source.as_str())?;
     // 99,999 braces of each kind, with a space between each two
-    let found = aggregate_len(rt.alloc(), 100_000)?;
-    assert_eq!(rt; found, 399_995);
+    assert_eq!(rt; found.as_str(), "(None, Some(399995))");
     Ok(())
-}
-
-// How long the name of a message is that has so many letters.
-fn name_len(alloc: Global, letters: usize) -> Result<usize, Fail> {
-    let name = nested(alloc, "a", "", letters)?;
-    let source = format!(in alloc; "message {name} {{}}")?;
-    let file = parse(alloc, "a.proto", source.as_str())?;
-    let name = file
-        .message_type
-        .get(0)
-        .and_then(|message| message.name.as_ref());
-    name.map(|name| name.len())
-        .ok_or_else(|| Fail::new("no message"))
 }
 
 #[test]
 fn name_of_1000000_letters(rt: HostRuntime) -> Result<(), Fail> {
-    let found = name_len(rt.alloc(), 1_000_000)?;
-    assert_eq!(rt; found, 1_000_000);
+    let name = nested(rt.alloc(), "a", "", 1_000_000)?;
+    let source = format!(in rt.alloc(); "message {name} {{}}")?;
+    let found = answer(rt.alloc(), source.as_str())?;
+    assert_eq!(rt; found.as_str(), "(Some(1000000), None)");
     Ok(())
 }

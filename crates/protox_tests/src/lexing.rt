@@ -1,5 +1,4 @@
-//! Equality of tokens, notes of faults that no lexeme has, states of comments, and lexers that run out of
-//! memory.
+//! Equality of tokens, states of comments, and lexers that run out of memory.
 use protox_descriptor::values::{Items, Text};
 use protox_lex::comments::Comments;
 use protox_lex::error::ParseErrorKind;
@@ -21,66 +20,6 @@ fn keyword_is_the_row(rt: HostRuntime) -> Result<(), Fail> {
     assert!(rt; is);
     let is = row_is(rt.alloc(), "@ max", 2, MAX)?;
     assert!(rt; !is);
-    Ok(())
-}
-
-// The labels and the help of a fault.
-fn push_notes(out: &mut String, alloc: Global, fault: &ParseErrorKind) -> Result<(), AllocError> {
-    if let Some(label) = fault.label() {
-        out.push_str(label)?;
-    }
-    if let Some((span, label)) = fault.second_label() {
-        let second = format!(in alloc; "; {}..{} {label}", span.start, span.end)?;
-        out.push_str(second.as_str())?;
-    }
-    if let Some(help) = fault.help(alloc)? {
-        out.push_str("; ")?;
-        out.push_str(help.as_str())?;
-    }
-    Ok(())
-}
-
-fn notes(alloc: Global, fault: &ParseErrorKind) -> Result<String, AllocError> {
-    let mut out = String::new(alloc);
-    push_notes(&mut out, alloc, fault)?;
-    Ok(out)
-}
-
-fn notes_of_range(alloc: Global) -> Result<String, AllocError> {
-    let min = Text::copy(alloc, "0")?;
-    let max = Text::copy(alloc, "4294967295")?;
-    let fault = ParseErrorKind::IntegerValueOutOfRange {
-        span: 45..47,
-        expected: Text::new(alloc),
-        actual: Text::new(alloc),
-        min,
-        max,
-    };
-    notes(alloc, &fault)
-}
-
-#[test]
-fn help_of_range(rt: HostRuntime) -> Result<(), Fail> {
-    let found = notes_of_range(rt.alloc())?;
-    assert_eq!(rt;
-        found.as_str(),
-        "defined here; the value must be between 0 and 4294967295 inclusive"
-    );
-    Ok(())
-}
-
-fn notes_of_packages(alloc: Global) -> Result<String, AllocError> {
-    let fault = ParseErrorKind::DuplicatePackage {
-        first: 0..10,
-        second: 11..21,
-    };
-    notes(alloc, &fault)
-}
-
-#[test]
-fn labels_of_packages(rt: HostRuntime) -> Result<(), Fail> {
-    let found = notes_of_packages(rt.alloc())?;
-    assert_eq!(rt; found.as_str(), "defined here…; 11..21 …and again here");
     Ok(())
 }
 

@@ -34,23 +34,8 @@ fn file_and_descriptor(rt: HostRuntime) -> Result<(), Fail> {
     Ok(())
 }
 
-// Where the file lies in its source, by the tree.
-fn file_span(alloc: Global) -> Result<Span, Fail> {
-    if !source_fits(EXAMPLE.len()) {
-        return Err(Fail::new("too long"));
-    }
-    Ok(parse_file(alloc, EXAMPLE)?.span)
-}
-
-#[test]
-fn span_of_file(rt: HostRuntime) -> Result<(), Fail> {
-    let found = file_span(rt.alloc())?;
-    assert_eq!(rt; found, 5..93);
-    Ok(())
-}
-
-/// The answer of `parse` on a file that is refused.
-pub(crate) fn refusal(alloc: Global, name: &str, source: &str) -> Result<ParseError, Fail> {
+// The answer of `parse` on a file that is refused.
+fn refusal(alloc: Global, name: &str, source: &str) -> Result<ParseError, Fail> {
     match parse(alloc, name, source) {
         Err(ParseFailure::Refused(error)) => Ok(error),
         _ => Err(Fail::new("not refused")),

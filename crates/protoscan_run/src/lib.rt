@@ -2,12 +2,13 @@
 //! tests.
 #![tactic(auto)]
 
-ghost use Rattle.std.specs.Prelude.{◌≡◌, ◌≢◌, ◌≤◌, length, None, IfOk, IfSome};
+ghost use Rattle.std.specs.Prelude.{◌≡◌, ◌<◌, ◌≤◌, length, None, IfOk, IfSome, IsSome};
+ghost use Rattle.protox_generate.specs.File.{AreSorted};
 ghost use Rattle.protox_parse.specs.Files.{IsFile};
 
 use protox_parse::descriptor::FileDescriptorProto;
 use protox_parse::descriptor::source_code_info::Location;
-use protox_parse::{ParseFailure, parse};
+use protox_parse::{ParseFailure, locate, parse};
 use std::alloc::{AllocError, Global};
 use std::io::{self, Write};
 
@@ -15,7 +16,7 @@ use std::io::{self, Write};
 const PRINTED: u8 = 0;
 /// The status where a file is refused.
 const REFUSED: u8 = 1;
-/// The status where there is no file, no text, no memory, or a write failed.
+/// The status where the words don't fit, there is no file, no text or no memory, or a write failed.
 pub const FAILED: u8 = 2;
 
 /// The line that says that memory ran out.
@@ -162,18 +163,25 @@ pub fn push_location(
     Ok(())
 }
 
-// Formatting straight into the writer would cost more than the parse: so it gets many lines at a time.
-fn write_locations<W: Write>(
-    alloc: Global,
-    out: &mut W,
-    file: &FileDescriptorProto,
-) -> io::Result<()> {
+// The locations of a file, or those with the path where there is one.
+fn chosen<'a>(file: &'a FileDescriptorProto, path: Option<&[i32]>) -> &'a [Location]
+    requires { AreSorted file.now }
+{
     let Some(info) = &file.source_code_info else {
-        return Ok(());
+        return &[];
     };
+    let locations = info.location.as_slice();
+    match path {
+        None => locations,
+        Some(path) => &locations[locate(info, path)],
+    }
+}
+
+// Formatting straight into the writer would cost more than the parse: so it gets many lines at a time.
+fn write_locations<W: Write>(alloc: Global, out: &mut W, locations: &[Location]) -> io::Result<()> {
     let mut last = LastPrinted::new(alloc);
     let mut lines = Vec::new(alloc);
-    for location in info.location.iter() {
+    for location in locations {
         push_location(&mut last, &mut lines, location)?;
         if AT_ONCE <= lines.len() {
             out.write_all(lines.as_slice())?;
@@ -183,10 +191,12 @@ fn write_locations<W: Write>(
     out.write_all(lines.as_slice())
 }
 
-// Parses the file, and writes its locations or what is wrong with it.
+// Parses the file, and writes what is wrong with it, or its locations: those with the path where
+// there is one.
 fn scan<W: Write, E: Write>(
     alloc: Global,
     name: &str,
+    path: Option<&[i32]>,
     source: &str,
     out: &mut W,
     err: &mut E,
@@ -197,7 +207,7 @@ fn scan<W: Write, E: Write>(
 {
     match parse(alloc, name, source) {
         Ok(file) => {
-            write_locations(alloc, out, &file)?;
+            write_locations(alloc, out, chosen(&file, path))?;
             Ok(PRINTED)
         }
         Err(ParseFailure::Refused(error)) => {
@@ -235,11 +245,99 @@ pub fn broken<E: Write>(err: &mut E, error: &io::Error) -> u8
     FAILED
 }
 
-/// Parses `file` under the name that is the only one of `words`, and writes its locations to `out`
-/// or what is wrong with it to `err`. The answer is the status: 0 where the file was accepted, 1
-/// where it was refused, 2 where there is not one word, no file (`None`: it could not be read), no
-/// UTF-8 text, or where memory ran out; each of these in a line of its own to `err`. It is 2 too where
-/// a write failed, and then nothing more is written.
+// A number in decimal digits, up to 2147483647.
+fn number_of(digits: &[u8]) -> Option<i32> {
+    if digits.is_empty() {
+        return None;
+    }
+    let mut number: i32 = 0;
+    for digit in digits {
+        if !digit.is_ascii_digit() {
+            return None;
+        }
+        number = number.checked_mul(10)?.checked_add((*digit - b'0') as i32)?;
+    }
+    Some(number)
+}
+
+// The path that a word spells: one dot for that of the file, or numbers with a dot between each
+// two. None where it spells no path.
+fn path_of(alloc: Global, word: &str) -> Result<Option<Vec<i32>>, AllocError> {
+    let mut path = Vec::new(alloc);
+    if word == "." {
+        return Ok(Some(path));
+    }
+    for digits in word.as_bytes().split(|byte| *byte == b'.') {
+        match number_of(digits) {
+            Some(number) => path.push(number)?,
+            None => return Ok(None),
+        }
+    }
+    Ok(Some(path))
+}
+
+// Whether a word spells a path. It takes no memory.
+fn is_path(word: &str) -> bool {
+    if word == "." {
+        return true;
+    }
+    for digits in word.as_bytes().split(|byte| *byte == b'.') {
+        if number_of(digits).is_none() {
+            return false;
+        }
+    }
+    true
+}
+
+/// The name of the file that is to be read: the first of `words`, where it is the only one or there
+/// is one more, which spells a path. None where nothing is to be read.
+pub fn file_name(words: &[String]) -> Option<&str>
+    ensures no_word { length words.now ≡ 0 → result ≡ None }
+    ensures one_word { length words.now ≡ 1 → IsSome result }
+    ensures more_words { 2 < length words.now → result ≡ None }
+{
+    match words {
+        [name] => Some(name.as_str()),
+        [name, path] if is_path(path.as_str()) => Some(name.as_str()),
+        _ => None,
+    }
+}
+
+// What `run` does where the words fit: there is a file's name, and maybe a path.
+fn scan_file<W: Write, E: Write>(
+    alloc: Global,
+    name: &str,
+    path: Option<&[i32]>,
+    file: Option<&[u8]>,
+    out: &mut W,
+    err: &mut E,
+) -> u8
+    ensures status { result ≤ 2 }
+    ensures file { file.entry ≡ None → result ≡ 2 }
+    ensures printed { result ≡ 0 → IfSome file.entry (λ bytes. IsFile bytes.now) }
+    ensures refused { result ≡ 1 → IfSome file.entry (λ bytes. IsFile bytes.now → ⊥) }
+{
+    let Some(bytes) = file else {
+        return failed(err, "protoscan: cannot read ", name, "\n");
+    };
+    let Ok(source) = str::from_utf8(bytes) else {
+        return failed(err, "protoscan: ", name, " is not UTF-8\n");
+    };
+    match scan(alloc, name, path, source, out, err) {
+        Ok(status) => status,
+        Err(error) => broken(err, &error),
+    }
+}
+
+/// Parses `file` under the name that is the first of `words`, and writes its locations to `out`, or
+/// what is wrong with it to `err`. Where there is a second word, it is a path, and only the
+/// locations with that path are written: one dot is the path of the whole file, and any other is
+/// spelled by decimal numbers up to 2147483647 with a dot between each two.
+///
+/// The answer is the status: 0 where the file was accepted, 1 where it was refused, and 2 where
+/// there is nothing to parse. Then a line to `err` says why: there is no word or more than two, the
+/// second spells no path, there is no file (`None`: it could not be read), its text is no UTF-8, or
+/// memory ran out. The status is 2 too where a write failed, and then nothing more is written.
 pub fn run<W: Write, E: Write>(
     alloc: Global,
     words: &[String],
@@ -248,22 +346,21 @@ pub fn run<W: Write, E: Write>(
     err: &mut E,
 ) -> u8
     ensures status { result ≤ 2 }
-    ensures words { length words.now ≢ 1 → result ≡ 2 }
+    ensures no_word { length words.now ≡ 0 → result ≡ 2 }
+    ensures more_words { 2 < length words.now → result ≡ 2 }
     ensures file { file.entry ≡ None → result ≡ 2 }
     ensures printed { result ≡ 0 → IfSome file.entry (λ bytes. IsFile bytes.now) }
     ensures refused { result ≡ 1 → IfSome file.entry (λ bytes. IsFile bytes.now → ⊥) }
 {
-    let [name] = words else {
-        return failed(err, "usage: protoscan FILE\n", "", "");
-    };
-    let Some(bytes) = file else {
-        return failed(err, "protoscan: cannot read ", name.as_str(), "\n");
-    };
-    let Ok(source) = str::from_utf8(bytes) else {
-        return failed(err, "protoscan: ", name.as_str(), " is not UTF-8\n");
-    };
-    match scan(alloc, name.as_str(), source, out, err) {
-        Ok(status) => status,
-        Err(error) => broken(err, &error),
+    match words {
+        [name] => scan_file(alloc, name.as_str(), None, file, out, err),
+        [name, word] => match path_of(alloc, word.as_str()) {
+            Ok(Some(path)) => {
+                scan_file(alloc, name.as_str(), Some(path.as_slice()), file, out, err)
+            }
+            Ok(None) => failed(err, "protoscan: bad path ", word.as_str(), "\n"),
+            Err(_) => failed(err, OUT_OF_MEMORY, "", ""),
+        },
+        _ => failed(err, "usage: protoscan FILE [PATH]\n", "", ""),
     }
 }

@@ -1,8 +1,10 @@
 //! The parser, its two halves, and its refusals.
+use protox_parse::descriptor::SourceCodeInfo;
+use protox_parse::error::Span;
 use protox_parse::generate::{LineResolver, generate_file};
 use protox_parse::lex::{STREAM, Token};
 use protox_parse::syntax::{ExpectedToken, MAX_MESSAGE_NESTING_DEPTH, parse_file};
-use protox_parse::{ParseError, ParseFailure, parse, source_fits};
+use protox_parse::{ParseError, ParseFailure, locate, parse, source_fits};
 use std::alloc::{AllocError, Global};
 use std::test::Fail;
 
@@ -114,6 +116,38 @@ fn expected_tokens_print(rt: HostRuntime) -> Result<(), Fail> {
     assert_eq!(rt; found.as_str(), "';', an identifier");
     assert_eq!(rt; MAX_MESSAGE_NESTING_DEPTH, 31);
     Ok(())
+}
+
+// The indices of the locations of a source that have the path.
+fn indices(alloc: Global, source: &str, path: &[i32]) -> Option<Span> {
+    match parse(alloc, "a.proto", source) {
+        Ok(file) => match &file.source_code_info {
+            Some(info) => Some(locate(info, path)),
+            None => None,
+        },
+        Err(_) => None,
+    }
+}
+
+#[test]
+fn locations_by_path(rt: HostRuntime) {
+    let options = "option a = 1; /* x */\noption b = 2;";
+    let named = "message A { optional int32 a = 1 [json_name='x']; }";
+    for (source, path, start, end) in [
+        (options, [].as_slice(), 0, 1),
+        (options, &[8], 1, 3),
+        (options, &[8, 999], 3, 3),
+        (options, &[9], 5, 5),
+        (named, &[4, 0, 2, 0, 10], 9, 11),
+    ] {
+        assert_eq!(rt;
+            indices(rt.alloc(), source, path),
+            Some(start..end),
+            "{path:?}"
+        );
+    }
+    let none = SourceCodeInfo::new(rt.alloc());
+    assert_eq!(rt; locate(&none, &[4]), 0..0);
 }
 
 fn places(alloc: Global) -> Result<String, Fail> {

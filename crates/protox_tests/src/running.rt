@@ -1,5 +1,5 @@
 //! The work of the program `protoscan`.
-use protoscan_run::run;
+use protoscan_run::{file_name, run};
 use std::alloc::Global;
 use std::test::Fail;
 
@@ -55,7 +55,76 @@ fn without_a_file_to_read(rt: HostRuntime) -> Result<(), Fail> {
     let bytes = scanned_as(rt.alloc(), "a", Some([255, 254].as_slice()))?;
     assert_eq!(rt; bytes.as_str(), "protoscan: a is not UTF-8\n2");
     let wordless = scanned(rt.alloc(), &[], Some(b"".as_slice()))?;
-    assert_eq!(rt; wordless.as_str(), "usage: protoscan FILE\n2");
+    assert_eq!(rt; wordless.as_str(), "usage: protoscan FILE [PATH]\n2");
+    let three = [0, 1, 2].map(|_: usize| String::new(rt.alloc()));
+    let crowded = scanned(rt.alloc(), &three, Some(b"".as_slice()))?;
+    assert_eq!(rt; crowded.as_str(), "usage: protoscan FILE [PATH]\n2");
+    Ok(())
+}
+
+// What is written where the second word is a path.
+fn scanned_at(alloc: Global, path: &str, file: Option<&[u8]>) -> Result<String, Fail> {
+    let words = vec![in alloc;
+        String::from_str(alloc, "a.proto")?,
+        String::from_str(alloc, path)?,
+    ]?;
+    // whether the file is to be read
+    let reads = file_name(&words).is_some();
+    let written = scanned(alloc, &words, file)?;
+    Ok(format!(in alloc; "{reads} {written}")?)
+}
+
+#[test]
+fn locations_with_a_path(rt: HostRuntime) -> Result<(), Fail> {
+    let options = "option a = 1; /* x */\noption b = 2;";
+    let cases = [
+        (options, ".", "true . 0,0,1,13\n0"),
+        (options, "8", "true 8 0,0,13\n8 1,0,13\n0"),
+        (options, "8.999", "true 0"),
+        (options, "2147483647", "true 0"),
+        (options, "08.00999.1", "true 8.999.1 1,0,13\n0"),
+        (options, "000000000008.000", "true 0"),
+        (
+            options,
+            "00000000000000000000000000000008",
+            "true 8 0,0,13\n8 1,0,13\n0",
+        ),
+        (
+            "message {}",
+            "8",
+            "true a.proto:1:9: expected an identifier, but found '{'\n1",
+        ),
+    ];
+    for (source, path, expected) in cases {
+        let written = scanned_at(rt.alloc(), path, Some(source.as_bytes()))?;
+        assert_eq!(rt; written.as_str(), expected, "{source:?} {path}");
+    }
+    Ok(())
+}
+
+#[test]
+fn words_that_are_no_path(rt: HostRuntime) -> Result<(), Fail> {
+    for path in [
+        "",
+        "..",
+        "1.",
+        ".1",
+        "1..2",
+        "-1",
+        "+5",
+        " 1",
+        "1,2",
+        "a",
+        "\u{664}",
+        "2147483648",
+        "1.4294967296",
+        "99999999999999999999",
+    ] {
+        // of a file that can't be read nothing is said then
+        let written = scanned_at(rt.alloc(), path, None)?;
+        let expected = format!(in rt.alloc(); "false protoscan: bad path {path}\n2")?;
+        assert_eq!(rt; written.as_str(), expected.as_str());
+    }
     Ok(())
 }
 

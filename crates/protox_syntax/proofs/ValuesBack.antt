@@ -45,7 +45,7 @@ octal_piece b h m l rest first second third value small =
     let x = not_x h first in
     let small_u = not_letter h 117 first (omega arith) in
     let large_u = not_letter h 85 first (omega arith) in
-    rw (x, small_u, large_u, first, most) (rw (value, fits) refl)
+    rw (x, small_u, large_u, most, first) (rw (value, fits) refl)
 
 byte_octal : (b : ℕ) → b < 256 → (rest : List ℕ) → spec.piece 34 ((92 ∷ octal b) ++ rest) ≡ spec.adds (b ∷ []) 4
 byte_octal b small rest =

@@ -16,21 +16,26 @@ fn nested(alloc: Global, open: &str, close: &str, times: usize) -> Result<String
     Ok(text)
 }
 
-// How long the name of the first message is, and the text of the first option's aggregate.
-fn lengths(file: &FileDescriptorProto) -> (Option<usize>, Option<usize>) {
-    let message = file.message_type.get(0);
-    let name = message.and_then(|message| message.name.as_ref());
-    let options = file.options.as_ref();
-    let option = options.and_then(|options| options.uninterpreted_option.get(0));
-    let text = option.and_then(|option| option.aggregate_value.as_ref());
-    (name.map(|name| name.len()), text.map(|text| text.len()))
+// How long the name of the first message is.
+fn name_len(file: &FileDescriptorProto) -> Option<usize> {
+    let message = file.message_type.get(0)?;
+    let name = message.name.as_ref()?;
+    Some(name.len())
+}
+
+// How long the text of the first option's aggregate is.
+fn aggregate_len(file: &FileDescriptorProto) -> Option<usize> {
+    let options = file.options.as_ref()?;
+    let option = options.uninterpreted_option.get(0)?;
+    let text = option.aggregate_value.as_ref()?;
+    Some(text.len())
 }
 
 // The lengths of what is accepted, or the faults of what is refused.
 fn answer(alloc: Global, source: &str) -> Result<String, AllocError> {
     match parse(alloc, "a.proto", source) {
         Ok(file) => {
-            let found = lengths(&file);
+            let found = (name_len(&file), aggregate_len(&file));
             format!(in alloc; "{found:?}")
         }
         Err(ParseFailure::Refused(error)) => {

@@ -26,7 +26,7 @@ Inside lexemes n = (f : t.File ℕ) × GoesOn (shapes (rows_of lexemes)) n f × 
 
 -- ---- clean lexemes
 
--- A lexeme behind so many tokens isn't invalid and has no fault. A `#` comment and a float suffix are none inside an aggregate.
+-- A lexeme behind so many tokens isn't invalid and has no fault. A `#` comment and a float suffix are no faults inside an aggregate.
 abbrev pub IsCleanBehind : List Lexeme → ℕ → Lexeme → Type 0
 IsCleanBehind lexemes tokens x = (x.shape ≡ Invalid → ⊥) × (faults_in true x.faults ≡ []) × (x.faults ≢ [] → Inside lexemes tokens)
 

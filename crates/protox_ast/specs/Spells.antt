@@ -45,6 +45,6 @@ BeginsFile tokens n = (f : File ℕ) × GoesOn tokens n f
 abbrev pub IsUnexpected : List Shape → ℕ → Type 0
 IsUnexpected tokens n = (n < length tokens) × BeginsFile tokens n × (BeginsFile tokens (suc n) → ⊥)
 
--- The tokens begin a file and are none.
+-- The tokens are a proper beginning of a file: some file continues them, and they are not yet one.
 abbrev pub IsEnded : List Shape → Type 0
 IsEnded tokens = BeginsFile tokens (length tokens) × ((f : File ℕ) → Spells (numbered 0 tokens) f → ⊥)

@@ -1,4 +1,5 @@
-//! What stands around bodies, and holds none.
+//! Helpers of bodies that never recurse into one: the first span, options, reserved and extensions
+//! statements, and the refusal of a body that is too deep.
 
 ghost use Rattle.std.specs.Prelude.{◌≡◌};
 ghost use Rattle.protox_grammar.proofs.Opened.{sunk_notes};

@@ -132,7 +132,7 @@ fn check_kind(
     }
 }
 
-// A default stands where one may.
+// Checks that a `default` is allowed here.
 fn check_default_place(
     syntax: Syntax,
     ast: &Field,
@@ -157,7 +157,7 @@ fn check_default_place(
     }
 }
 
-// A default is none of a group, and a value that the type takes.
+// Checks that a `default` is not on a group and fits the type.
 fn check_default_value(ast: &Field, body: &OptionBody, errors: &mut Found) -> Result<(), AllocError>
     ensures { OnOk result (errors.new ≡ errors.old ++ (group_faults (field_node ast.now) (body_span body.now) ++ default_value_faults (field_node ast.now).kind body.now)) }
 {

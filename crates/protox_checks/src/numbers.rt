@@ -35,7 +35,7 @@ fn is_enum_number(number: &Int) -> bool
     number.as_i32().is_some()
 }
 
-/// A field's number lies in the range of such numbers.
+/// Checks that a field number is 1 to 536870911.
 pub(crate) fn check_message_number(number: &Int, errors: &mut Found) -> Result<(), AllocError>
     ensures { OnOk result (errors.new ≡ errors.old ++ message_number_faults number.now) }
 {
@@ -119,7 +119,7 @@ fn check_kind_ranges(
     }
 }
 
-/// The bounds of what is reserved are such numbers.
+/// Checks the bounds of a reserved statement.
 pub(crate) fn check_reserved(
     numbering: Numbering,
     statements: &[Reserved],

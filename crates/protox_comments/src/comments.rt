@@ -186,7 +186,7 @@ impl Comments {
 /// The comments of a gap, by the declarations that they belong to.
 #[derive(Drop)]
 pub struct GapComments {
-    /// It trails the declaration before the gap, or in whose body the gap stands first.
+    /// The comment that trails the declaration before the gap, or the one whose `{` is before it.
     pub trailing: Option<Text>,
     /// They stand apart before the declaration behind the gap, and belong to it too.
     pub detached: Items<Text>,

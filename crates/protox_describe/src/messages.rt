@@ -63,7 +63,7 @@ fn all_but_nested(alloc: Global, syntax: Syntax, ast: &MessageBody) -> Result<Un
     })
 }
 
-// A message of that name with those parts.
+// Builds the descriptor from its name and parts.
 fn joined(
     alloc: Global,
     name: &str,

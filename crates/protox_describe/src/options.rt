@@ -125,7 +125,7 @@ fn uninterpreted(alloc: Global, ast: &OptionBody) -> Result<UninterpretedOption,
     })
 }
 
-// Those of statements, if there are any.
+// The options of option statements, or None.
 fn of_statements(
     alloc: Global,
     ast: &[ast::Option],
@@ -158,7 +158,7 @@ fn some_if_any(options: Items<UninterpretedOption>) -> Option<Items<Uninterprete
     }
 }
 
-// Those between brackets, if there are any.
+// The options of a list in brackets, or None.
 fn of_list(
     alloc: Global,
     list: &Option<Boxed<OptionList>>,
@@ -181,7 +181,7 @@ fn all(alloc: Global, bodies: &[OptionBody]) -> Result<Items<UninterpretedOption
     Ok(Items::from_vec(options))
 }
 
-// Those of a field but the first `default` and the first `json_name`, if there are any.
+// A field's options without the first `default` and the first `json_name`, or None.
 fn left_of_list(
     alloc: Global,
     list: &Option<Boxed<OptionList>>,

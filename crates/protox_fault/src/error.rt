@@ -92,11 +92,11 @@ pub enum ParseErrorKind {
     NegativeIdentOutsideDefault {
         span: Span,
     },
-    /// A number is none that a message's field can have: the integer, with its sign.
+    /// A field number outside 1 to 536870911. The span covers the sign.
     InvalidMessageNumber {
         span: Span,
     },
-    /// A number is none that an enum's value can have: the integer, with its sign.
+    /// An enum number that 32 bits cannot hold. The span covers the sign.
     InvalidEnumNumber {
         span: Span,
     },
@@ -143,7 +143,7 @@ pub enum ParseErrorKind {
         span: Span,
         kind: &'static str,
     },
-    /// A map's keys are of a type that none may have: the type.
+    /// A map key type that is not allowed. The span is the type's.
     InvalidMapFieldKeyType {
         span: Span,
     },

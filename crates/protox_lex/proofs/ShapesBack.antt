@@ -89,7 +89,7 @@ gives xs h = gives_from 0 xs h
 pub spelled_alone : (spelled : ℕ → List ℕ) → Spells spelled → (s : List ℕ) → AreBytes s
     → (borrowed : Bool)
     × (cut 0 (34 ∷ flat_map spelled s ++ 34 ∷ [])
-        ≡ record { start = 0; stop = length (34 ∷ flat_map spelled s ++ 34 ∷ []); shape = Str s; borrowed = borrowed; faults = [] } ∷ [])
+    ≡ record { start = 0; stop = length (34 ∷ flat_map spelled s ++ 34 ∷ []); shape = Str s; borrowed = borrowed; faults = [] } ∷ [])
 spelled_alone spelled spells s h =
     let text = 34 ∷ flat_map spelled s ++ 34 ∷ [] in
     let l = spelled_lexes spelled spells 0 s [] h in

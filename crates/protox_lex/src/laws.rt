@@ -79,7 +79,7 @@ pub fn printed_forms_lex_back()
     ensures { (xs : List Shape) → ArePrintable xs → (map (λ x. x.shape) (spec.cut 0 (spaced xs)) ≡ xs) × (flat_map (λ x. x.faults) (spec.cut 0 (spaced xs)) ≡ []) }
 {}
 
-/// The rows of a source's cut are such shapes, but for invalid characters.
+/// Every valid row of a source prints to text that lexes back.
 #[tactic(auto, using(crate::proofs::Printable::printable_rows))]
 pub fn rows_are_printable()
     ensures { (source : List ℕ) → AreBytes source → All (λ row. (row.shape ≡ Invalid) ⊎ IsPrintable row.shape) (rows_of (spec.cut 0 source)) }
@@ -121,7 +121,7 @@ fn next_of_free<'a>(lexer: &mut Lexer<'a>) -> Option<Result<Token<'a>, ()>>
     }
 }
 
-/// Whatever memory there is, even none, these are lexed.
+/// `foo 'bar' 12 .5 // c` is lexed without asking for memory.
 pub fn five_lexemes(alloc: Global) -> [Option<Result<Token<'static>, ()>>; 5]
     ensures { map (option_map shape_of_result) result
         ≡ map Some (Ident (codes "foo") ∷ Str (codes "bar") ∷ Int 12 ∷ Float (codes ".5") ∷ LineComment (codes " c\n") ∷ []) }

@@ -127,8 +127,8 @@ pub const FORWARD_SLASH: u8 = 57;
 
 pub const INVALID: u8 = 59;
 
-// At the place of each keyword its class, and elsewhere that of other words: no two keywords have one place, so that one of them is left
-// to be compared.
+// A perfect hash: at each slot the class of the one keyword that can stand there, else that of other
+// words. So one keyword at most is compared.
 static KEYWORD_AT: [u8; 128] = [
     38, 38, 38, 38, 38, 38, 38, 38, 38, 38, 37, 38, 38, 20, 33, 38, 38, 2, 38, 38, 35, 38, 38, 38,
     38, 38, 38, 38, 38, 38, 38, 38, 38, 38, 10, 38, 38, 38, 38, 19, 38, 11, 38, 38, 38, 38, 38, 38,

@@ -24,8 +24,8 @@ pub(crate) enum FaultKind {
     EndInComment,
 }
 
-/// A fault of a lexeme. It holds no memory, since what is told is made when it is told. Contracts see
-/// the fault as it is told.
+/// A fault of a lexeme: kind and span only. The `ParseErrorKind` is made when it is reported, and
+/// contracts see that one.
 #[derive(Drop)]
 pub struct LexemeFault {
     pub(crate) kind: FaultKind,

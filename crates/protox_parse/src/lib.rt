@@ -71,7 +71,7 @@ pub fn parse(alloc: Global, name: &str, source: &str) -> Result<FileDescriptorPr
     ensures found { IfOk result (λ d. (f : tree.File Place) × IsAccepted source.now f
         × IsFaultless (ast_of.file (length source.now) f)
         × (d ≡ file_descriptor name.now source.now (ast_of.file (length source.now) f))) }
-    // Such a source is answered so, unless memory ran out.
+    // Every accepted source gets this answer, unless memory runs out.
     ensures only { (f : tree.File Place) → IsAccepted source.now f → IsFaultless (ast_of.file (length source.now) f)
         → MatchResult result (λ d. d ≡ file_descriptor name.now source.now (ast_of.file (length source.now) f)) IsOutOfMemory }
     // Its locations are sorted by path, and those of equal paths by where they start.
@@ -90,11 +90,11 @@ pub fn parse(alloc: Global, name: &str, source: &str) -> Result<FileDescriptorPr
     ensures wrong { (f : tree.File Place) → IsAccepted source.now f → IfErr result (AreWrongOf (ast_of.file (length source.now) f)) }
     // The first fault is true of the source.
     ensures is_true { IfErr result (IsTrueFirst source.now) }
-    // Nothing is passed over in front of it.
+    // No fault comes before it.
     ensures tight { IfErr result (IsTightFirst source.now) }
     // Each fault of a lexeme and each unexpected token stands in the source, and no fault of a lexeme twice in the list.
     ensures stands { IfErr result (AreStanding source.now) }
-    // Of tokens of a file with which nothing is wrong the faults are those of the lexemes, and no others.
+    // If only lexemes are at fault, and no character is invalid, exactly their faults are reported.
     ensures lexical { IfErr result (AreLexicalAlone source.now) }
 {
     if !source_fits(source.len()) {

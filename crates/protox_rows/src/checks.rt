@@ -21,7 +21,8 @@ fn sees_invalid(rows: &Unread<'_, '_>) -> bool
     }
 }
 
-/// A fault of the node before these rows. An invalid token behind the node is the only fault there.
+/// Notes a fault of the node just read. It is dropped where the next token is invalid, which is
+/// reported alone.
 pub fn add_fault(
     notes: &mut Vec<Note>,
     rows: &Unread<'_, '_>,

@@ -62,7 +62,8 @@ pub enum Expected {
 }
 
 impl Expected {
-    /// The text that stands behind `expected` in a fault. It is none of those of a string or a comment without an end.
+    /// The text that stands behind `expected` in a fault. It is never
+    /// `string terminator` or `comment terminator`.
     pub fn text(self) -> &'static str
         ensures { is_terminator result.now ≡ false }
     {

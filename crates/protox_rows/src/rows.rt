@@ -122,7 +122,7 @@ pub fn span_in(table: &TokenTable<'_>, index: usize) -> Span
 }
 
 impl<'t, 'a> RowAt<'t, 'a> {
-    /// The same row.
+    /// A copy of this position.
     pub fn again(&self) -> RowAt<'t, 'a>
         ensures { result ≡ self.now }
     {
@@ -155,7 +155,7 @@ impl<'t, 'a> RowAt<'t, 'a> {
         comments_at(alloc, self.table, index, index == 0)
     }
 
-    /// Those of the gap behind it.
+    /// The comments after this row.
     fn after(&self, alloc: Global) -> Result<GapComments, AllocError>
         ensures { IfOk result (λ c. c.trailing ≡ self.now.at.trailing) }
     {
@@ -188,7 +188,7 @@ impl<'t, 'a> Unread<'t, 'a> {
         }
     }
 
-    /// The same rows.
+    /// A copy of this position.
     pub fn again(&self) -> Unread<'t, 'a>
         ensures { result ≡ self.now }
     {

@@ -93,5 +93,5 @@ value_spells b small =
 pub value_alone : (string : String) → AreBytes string.value
     → (borrowed : Bool)
     × (cut 0 (token_string (value.String string))
-        ≡ record { start = 0; stop = length (token_string (value.String string)); shape = Str string.value; borrowed = borrowed; faults = [] } ∷ [])
+    ≡ record { start = 0; stop = length (token_string (value.String string)); shape = Str string.value; borrowed = borrowed; faults = [] } ∷ [])
 value_alone string h = spelled_alone printed_byte value_spells string.value h

@@ -14,7 +14,7 @@ use protox_rows::rows::Unread;
 use protox_rows::strings::text_of;
 use std::alloc::{AllocError, Global};
 
-// The syntaxes that there are.
+// `proto2` or `proto3`.
 fn is_known_syntax(value: &[u8]) -> bool
     ensures { result ≡ is_known_syntax value.now }
 {

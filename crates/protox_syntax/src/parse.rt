@@ -25,18 +25,18 @@ pub fn parse_file(alloc: Global, source: &str) -> Result<File, SyntaxFailure>
     requires { Fits source.now }
     // What is answered is the syntax tree of a tree that the source's tokens spell.
     ensures found { IfOk result (IsFileOf source.now) }
-    // Such a source is answered so, unless memory ran out.
+    // Every accepted source gets this answer, unless memory runs out.
     ensures only { (f : tree.File Place) → IsAccepted source.now f
         → MatchResult result (λ file. file ≡ ast_of.file (length source.now) f) IsOutOfMemory }
     // There is a fault, and the faults lie in the source.
     ensures refused { IfErr result (FaultsLieIn source.now) }
     // The first fault is true of the source.
     ensures is_true { IfErr result (IsTrueFirst source.now) }
-    // Nothing is passed over in front of it.
+    // No fault comes before it.
     ensures tight { IfErr result (IsTightFirst source.now) }
     // Each fault of a lexeme and each unexpected token stands in the source, and no fault of a lexeme twice in the list.
     ensures stands { IfErr result (AreStanding source.now) }
-    // Of tokens of a file with which nothing is wrong the faults are those of the lexemes, and no others.
+    // If only lexemes are at fault, and no character is invalid, exactly their faults are reported.
     ensures lexical { IfErr result (AreLexicalAlone source.now) }
     // No tokens are the spelling of two trees, with their places or without.
     ensures one_tree { OneTree (Unit {0}) }

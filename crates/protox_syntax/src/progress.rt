@@ -32,7 +32,8 @@ fn release(
     Ok(())
 }
 
-// The faults up to where `left` of `total` rows are left. Those before `next` are there already.
+// The faults up to where `left` of `total` rows are left. Rows before `next` have been
+// added already.
 fn read_to(
     alloc: Global,
     table: &TokenTable<'_>,
@@ -49,7 +50,7 @@ fn read_to(
     Ok(next + count)
 }
 
-// A fault is added; or rows are seen as in text format from there on, or no longer.
+// Adds the fault, or switches text format on or off. Answers whether it is on.
 fn add_noted(
     noted: Noted,
     text_format: bool,

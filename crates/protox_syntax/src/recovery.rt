@@ -61,7 +61,7 @@ fn at_most(most: usize, left: usize) -> usize
     if left < most { left } else { most }
 }
 
-// Of so many last rows, those from the next statement on.
+// The last `count` rows, less all before the next word that begins a statement.
 fn from_last<'t, 'a>(table: &'t TokenTable<'a>, count: usize) -> Unread<'t, 'a>
     ensures { result ≡ from_statement (last_rows table.now count) }
 {
@@ -70,7 +70,7 @@ fn from_last<'t, 'a>(table: &'t TokenTable<'a>, count: usize) -> Unread<'t, 'a>
     rows
 }
 
-// Of so many last rows, those from the next statement on behind the block that is open.
+// The same, after skipping to the end of the block that is open.
 fn behind_last<'t, 'a>(table: &'t TokenTable<'a>, count: usize) -> Unread<'t, 'a>
     ensures { result ≡ from_statement (behind_block 0 (last_rows table.now count)) }
 {
@@ -91,7 +91,7 @@ fn next_rows<'t, 'a>(table: &'t TokenTable<'a>, refused: &Refused, most: usize) 
     }
 }
 
-// Nothing that is skipped is in text format.
+// Notes that skipped text is in no aggregate.
 fn add_plain(notes: &mut Vec<Note>, left: usize) -> Result<(), AllocError>
     ensures { OnOk result (notes.new.items ≡ notes.old.items ++ plain_note left) }
 {
@@ -140,7 +140,7 @@ fn add_refused(
     }
 }
 
-// The place of the first package statement stays, or is that of this one.
+// Remembers where the first package statement stands.
 fn keep_first(first: &mut Option<Span>, statement: &Statement)
     ensures { first.new ≡ next_first first.old statement.now }
 {

@@ -33,7 +33,7 @@ use std::alloc::{AllocError, Global};
 /// How many levels of messages and groups are read.
 pub const MAX_MESSAGE_NESTING_DEPTH: u32 = 31;
 
-// The same, as what is left of it is counted.
+// The same limit as a usize: the parser counts levels down to 0.
 const LEVELS: usize = MAX_MESSAGE_NESTING_DEPTH as usize;
 
 fn syntax_of(value: &[u8]) -> Syntax

@@ -25,7 +25,9 @@ pub use options::{
 /// The message `FileDescriptorProto`: one source file.
 #[derive(PartialEq, Debug, Drop)]
 pub struct FileDescriptorProto {
+    /// The name that the file was parsed under.
     pub name: Option<Text>,
+    /// The name in the package statement.
     pub package: Option<Text>,
     /// The imported files, in order.
     pub dependency: Items<Text>,
@@ -33,11 +35,17 @@ pub struct FileDescriptorProto {
     pub public_dependency: Items<i32>,
     /// The places of weak imports in `dependency`, from 0.
     pub weak_dependency: Items<i32>,
+    /// The messages of the file, in order, with those of groups in its `extend` blocks.
     pub message_type: Items<DescriptorProto>,
+    /// The enums of the file, in order.
     pub enum_type: Items<EnumDescriptorProto>,
+    /// The services of the file, in order.
     pub service: Items<ServiceDescriptorProto>,
+    /// The fields of the file's `extend` blocks, in order.
     pub extension: Items<FieldDescriptorProto>,
+    /// The options of the file, if it has any.
     pub options: Option<FileOptions>,
+    /// Where each part of the file stands. `parse` always sets it.
     pub source_code_info: Option<SourceCodeInfo>,
     /// None for proto2, else `proto3`.
     pub syntax: Option<Text>,
@@ -68,15 +76,25 @@ impl FileDescriptorProto {
 /// The message `DescriptorProto`: a message type.
 #[derive(PartialEq, Debug, Drop)]
 pub struct DescriptorProto {
+    /// Its name, without the package and the messages around it.
     pub name: Option<Text>,
+    /// Its fields with those of its oneofs, in order.
     pub field: Items<FieldDescriptorProto>,
+    /// The fields of the `extend` blocks in it, in order.
     pub extension: Items<FieldDescriptorProto>,
+    /// The messages in it: nested ones, those of groups and the entries of maps, in order.
     pub nested_type: Items<DescriptorProto>,
+    /// The enums in it, in order.
     pub enum_type: Items<EnumDescriptorProto>,
+    /// The numbers that are free for extensions.
     pub extension_range: Items<descriptor_proto::ExtensionRange>,
+    /// Its oneofs: first those that are written, then one for each `proto3_optional` field.
     pub oneof_decl: Items<OneofDescriptorProto>,
+    /// Its options, if it has any.
     pub options: Option<MessageOptions>,
+    /// The numbers that no field may have.
     pub reserved_range: Items<descriptor_proto::ReservedRange>,
+    /// The names that no field may have.
     pub reserved_name: Items<Text>,
 }
 
@@ -103,7 +121,9 @@ impl DescriptorProto {
 /// The message `OneofDescriptorProto`: a oneof of a message.
 #[derive(PartialEq, Debug, Drop)]
 pub struct OneofDescriptorProto {
+    /// Its name.
     pub name: Option<Text>,
+    /// Its options, if it has any.
     pub options: Option<OneofOptions>,
 }
 
@@ -122,10 +142,15 @@ impl OneofDescriptorProto {
 /// The message `EnumDescriptorProto`: an enum type.
 #[derive(PartialEq, Debug, Drop)]
 pub struct EnumDescriptorProto {
+    /// Its name.
     pub name: Option<Text>,
+    /// Its values, in order.
     pub value: Items<EnumValueDescriptorProto>,
+    /// Its options, if it has any.
     pub options: Option<EnumOptions>,
+    /// The numbers that no value may have.
     pub reserved_range: Items<enum_descriptor_proto::EnumReservedRange>,
+    /// The names that no value may have.
     pub reserved_name: Items<Text>,
 }
 
@@ -147,8 +172,11 @@ impl EnumDescriptorProto {
 /// The message `EnumValueDescriptorProto`: a value of an enum.
 #[derive(PartialEq, Debug, Drop)]
 pub struct EnumValueDescriptorProto {
+    /// Its name.
     pub name: Option<Text>,
+    /// Its number.
     pub number: Option<i32>,
+    /// Its options, if it has any.
     pub options: Option<EnumValueOptions>,
 }
 
@@ -168,8 +196,11 @@ impl EnumValueDescriptorProto {
 /// The message `ServiceDescriptorProto`: a service.
 #[derive(PartialEq, Debug, Drop)]
 pub struct ServiceDescriptorProto {
+    /// Its name.
     pub name: Option<Text>,
+    /// Its methods, in order.
     pub method: Items<MethodDescriptorProto>,
+    /// Its options, if it has any.
     pub options: Option<ServiceOptions>,
 }
 
@@ -189,11 +220,17 @@ impl ServiceDescriptorProto {
 /// The message `MethodDescriptorProto`: a method of a service.
 #[derive(PartialEq, Debug, Drop)]
 pub struct MethodDescriptorProto {
+    /// Its name.
     pub name: Option<Text>,
+    /// The type of what is sent, as it is written.
     pub input_type: Option<Text>,
+    /// The type of what is answered, as it is written.
     pub output_type: Option<Text>,
+    /// Its options, if it has any.
     pub options: Option<MethodOptions>,
+    /// True where `stream` stands before the first type, else None.
     pub client_streaming: Option<bool>,
+    /// True where `stream` stands before the second type, else None.
     pub server_streaming: Option<bool>,
 }
 
@@ -216,6 +253,7 @@ impl MethodDescriptorProto {
 /// The message `SourceCodeInfo`: where in the source each part of a descriptor stands.
 #[derive(PartialEq, Debug, Drop)]
 pub struct SourceCodeInfo {
+    /// The locations, sorted by path.
     pub location: Items<source_code_info::Location>,
 }
 

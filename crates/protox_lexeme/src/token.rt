@@ -25,27 +25,44 @@ pub enum Token<'a> {
     FloatLiteral(EqFloat<'a>),
     /// A string: the bytes that it stands for, without those of invalid parts.
     StringLiteral(CowSlice<'a, u8>),
+    /// The mark `.`.
     Dot,
+    /// The mark `-`.
     Minus,
+    /// The mark `+`.
     Plus,
+    /// The mark `(`.
     LeftParen,
+    /// The mark `)`.
     RightParen,
+    /// The mark `{`.
     LeftBrace,
+    /// The mark `}`.
     RightBrace,
+    /// The mark `[`.
     LeftBracket,
+    /// The mark `]`.
     RightBracket,
+    /// The mark `<`.
     LeftAngleBracket,
+    /// The mark `>`.
     RightAngleBracket,
+    /// The mark `,`.
     Comma,
+    /// The mark `=`.
     Equals,
+    /// The mark `:`.
     Colon,
+    /// The mark `;`.
     Semicolon,
+    /// The mark `/`.
     ForwardSlash,
     /// A comment from `//` or `#` to the end of its line: what stands behind these, the newline with it.
     LineComment(CowStr<'a>),
     /// A comment between `/*` and `*/`: what stands between, without the margin of its lines; nothing where it has a
     /// fault.
     BlockComment(CowStr<'a>),
+    /// The end of a line.
     Newline,
 }
 

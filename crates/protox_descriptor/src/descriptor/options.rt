@@ -10,6 +10,7 @@ use std::alloc::Global;
 /// The message `FileOptions`: the options of a file.
 #[derive(PartialEq, Debug, Drop)]
 pub struct FileOptions {
+    /// The options, as they are written.
     pub uninterpreted_option: Items<UninterpretedOption>,
 }
 
@@ -29,6 +30,7 @@ impl FileOptions {
 pub struct MessageOptions {
     /// True on the entry message of a map field.
     pub map_entry: Option<bool>,
+    /// The options, as they are written.
     pub uninterpreted_option: Items<UninterpretedOption>,
 }
 
@@ -47,6 +49,7 @@ impl MessageOptions {
 /// The message `FieldOptions`: the options of a field.
 #[derive(PartialEq, Debug, Drop)]
 pub struct FieldOptions {
+    /// The options, as they are written.
     pub uninterpreted_option: Items<UninterpretedOption>,
 }
 
@@ -64,6 +67,7 @@ impl FieldOptions {
 /// The message `OneofOptions`: the options of a oneof.
 #[derive(PartialEq, Debug, Drop)]
 pub struct OneofOptions {
+    /// The options, as they are written.
     pub uninterpreted_option: Items<UninterpretedOption>,
 }
 
@@ -81,6 +85,7 @@ impl OneofOptions {
 /// The message `EnumOptions`: the options of an enum.
 #[derive(PartialEq, Debug, Drop)]
 pub struct EnumOptions {
+    /// The options, as they are written.
     pub uninterpreted_option: Items<UninterpretedOption>,
 }
 
@@ -98,6 +103,7 @@ impl EnumOptions {
 /// The message `EnumValueOptions`: the options of a value of an enum.
 #[derive(PartialEq, Debug, Drop)]
 pub struct EnumValueOptions {
+    /// The options, as they are written.
     pub uninterpreted_option: Items<UninterpretedOption>,
 }
 
@@ -115,6 +121,7 @@ impl EnumValueOptions {
 /// The message `ServiceOptions`: the options of a service.
 #[derive(PartialEq, Debug, Drop)]
 pub struct ServiceOptions {
+    /// The options, as they are written.
     pub uninterpreted_option: Items<UninterpretedOption>,
 }
 
@@ -132,6 +139,7 @@ impl ServiceOptions {
 /// The message `MethodOptions`: the options of a method.
 #[derive(PartialEq, Debug, Drop)]
 pub struct MethodOptions {
+    /// The options, as they are written.
     pub uninterpreted_option: Items<UninterpretedOption>,
 }
 
@@ -149,6 +157,7 @@ impl MethodOptions {
 /// The message `ExtensionRangeOptions`: the options of a range of extension numbers.
 #[derive(PartialEq, Debug, Drop)]
 pub struct ExtensionRangeOptions {
+    /// The options, as they are written.
     pub uninterpreted_option: Items<UninterpretedOption>,
 }
 
@@ -168,12 +177,17 @@ impl ExtensionRangeOptions {
 pub struct UninterpretedOption {
     /// The parts of the name, between its dots.
     pub name: Items<uninterpreted_option::NamePart>,
+    /// A word.
     pub identifier_value: Option<Text>,
+    /// An integer without a sign.
     pub positive_int_value: Option<u64>,
+    /// An integer with a minus sign, `-0` too.
     pub negative_int_value: Option<i64>,
     /// The text of a float literal, with its sign.
     pub double_value: Option<Text>,
+    /// The bytes of a string.
     pub string_value: Option<Items<u8>>,
+    /// The tokens between braces, with a space between each two.
     pub aggregate_value: Option<Text>,
 }
 

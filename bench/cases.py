@@ -1,0 +1,62 @@
+#!/usr/bin/env python3
+"""Runs the cases of crates/protocases by a build without proofs, and shows the lines that differ.
+
+usage: cases.py [NAME..]        at the top of the repository; a NAME is a line of args, as foo.proto
+
+It takes about a minute, most of it for the build. Of each case whose lines differ from those in
+`stdout` it shows the first that does. The last line is 'N passed, M failed'.
+"""
+import itertools
+import subprocess
+import sys
+
+FOLDER = 'crates/protocases'
+
+
+def cases_in(text):
+    """The lines of each case, by its name."""
+    cases, name = {}, None
+    for line in text.split('\n'):
+        if line.startswith('== '):
+            name = line[3:]
+            cases[name] = []
+        elif name is not None:
+            cases[name].append(line)
+    return cases
+
+
+def words_of(names):
+    """The words of the program for these cases, or for all."""
+    with open(f'{FOLDER}/args', encoding='utf-8') as file:
+        words = file.read().split()
+    return [word for word in words if word.startswith('--') or not names or word in names]
+
+
+def run(words):
+    """What the program prints, built without proofs."""
+    files = [f'--data={word}=data/{word}' for word in words if not word.startswith('--')]
+    flags = list(itertools.chain.from_iterable(flag.split('=', 1) for flag in files))
+    ran = subprocess.run(['rt', 'try', *flags, '--', *words], cwd=FOLDER, capture_output=True, text=True, check=False)
+    if ran.returncode:
+        sys.exit(f'{ran.stdout[-2000:]}{ran.stderr[-2000:]}\nthe program ended with status {ran.returncode}')
+    return ran.stdout
+
+
+def main():
+    words = words_of(sys.argv[1:])
+    with open(f'{FOLDER}/stdout', encoding='utf-8') as file:
+        wanted = cases_in(file.read())
+    found = cases_in(run(words))
+    passed = failed = 0
+    for name in (word for word in words if not word.startswith('--')):
+        pairs = itertools.zip_longest(found.get(name, []), wanted.get(name, []), fillvalue='(no line)')
+        differing = [pair for pair in pairs if pair[0] != pair[1] and pair != ('', '(no line)')]
+        passed, failed = passed + (not differing), failed + bool(differing)
+        if differing:
+            print(f'{name}: found  {differing[0][0]}\n{" " * len(name)}  wanted {differing[0][1]}')
+    print(f'{passed} passed, {failed} failed')
+    return 1 if failed else 0
+
+
+if __name__ == '__main__':
+    sys.exit(main())

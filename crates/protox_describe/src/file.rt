@@ -1,13 +1,13 @@
 //! The descriptor of a file.
 
-ghost use Rattle.std.specs.Prelude.{◌≡◌, ◌≤◌, ◌++◌, map, IfOk, OnOk};
+ghost use Rattle.std.specs.Prelude.{◌≡◌, ◌≤◌, ◌++◌, [], map, IfOk, OnOk};
 ghost use Rattle.std.specs.List.{flat_map};
 ghost use Rattle.protox_describe.specs.File.{item_messages, item_enums, item_services, item_extensions, file_proto};
 ghost use Rattle.protox_describe.specs.Siblings.{greatest};
 ghost use Rattle.protox_describe.specs.Widths.{file_item_width, file_width};
 
 use crate::enums::enum_proto;
-use crate::head::{dependencies, package_name, public_places, syntax_name, weak_places};
+use crate::head::{ImportLists, imports, package_name, syntax_name};
 use crate::items::push_extensions;
 use crate::messages::{push_extend_messages, push_message};
 use crate::options::file_options;
@@ -133,9 +133,78 @@ fn extensions(
     Ok(found)
 }
 
+// What the items of a file give, apart from messages.
+#[derive(Drop)]
+struct ItemLists {
+    enum_type: Items<EnumDescriptorProto>,
+    service: Items<ServiceDescriptorProto>,
+    extension: Items<FieldDescriptorProto>,
+}
+
+fn definitions(alloc: Global, syntax: Syntax, items: &[FileItem]) -> Result<ItemLists, AllocError>
+    ensures enums { IfOk result (λ made. made.enum_type ≡ flat_map item_enums items.now) }
+    ensures services { IfOk result (λ made. made.service ≡ flat_map item_services items.now) }
+    ensures extensions { IfOk result (λ made. made.extension ≡ flat_map (item_extensions syntax) items.now) }
+{
+    let enum_type = enums(alloc, items)?;
+    let service = services(alloc, items)?;
+    let extension = extensions(alloc, syntax, items)?;
+    Ok(ItemLists {
+        enum_type,
+        service,
+        extension,
+    })
+}
+
+// The tree is only lent here: an exit then lets go of a few parts, and not of the tree as well.
+fn all_but_messages(
+    alloc: Global,
+    name: &str,
+    ast: &File,
+) -> Result<FileDescriptorProto, AllocError>
+    requires { file_width ast.now ≤ 2147483647 }
+    ensures { IfOk result (λ file. file ≡ record (file_proto name.now ast.now) { message_type = [] }) }
+{
+    let name = Text::copy(alloc, name)?;
+    let package = package_name(alloc, &ast.package)?;
+    let syntax = syntax_name(alloc, ast.syntax)?;
+    let ImportLists {
+        dependency,
+        public_dependency,
+        weak_dependency,
+    } = imports(alloc, ast.imports.as_slice())?;
+    let options = file_options(alloc, ast.options.as_slice())?;
+    let ItemLists {
+        enum_type,
+        service,
+        extension,
+    } = definitions(alloc, ast.syntax, ast.items.as_slice())?;
+    Ok(FileDescriptorProto {
+        name: Some(name),
+        package,
+        dependency,
+        public_dependency,
+        weak_dependency,
+        message_type: Items::new(alloc),
+        enum_type,
+        service,
+        extension,
+        options,
+        source_code_info: None,
+        syntax,
+    })
+}
+
+fn messages_of(alloc: Global, ast: File) -> Result<Items<DescriptorProto>, AllocError>
+    requires { file_width ast ≤ 2147483647 }
+    ensures { IfOk result (λ found. found ≡ flat_map (item_messages ast.syntax) ast.items) }
+{
+    messages(alloc, ast.syntax, ast.items)
+}
+
 /// The descriptor of a file of that name, apart from where its parts stand in the source. Or
-/// `AllocError`. It uses the tree up. A message of the file has no more items, and the file no more imports, than an `i32`
-/// counts.
+/// `AllocError`. It uses the tree up. A message of the file has no more items, and the file no more
+/// imports, than an `i32` counts.
 pub fn describe_file(
     alloc: Global,
     name: &str,
@@ -144,29 +213,7 @@ pub fn describe_file(
     requires { file_width ast ≤ 2147483647 }
     ensures { IfOk result (λ file. file ≡ file_proto name.now ast) }
 {
-    let enum_type = enums(alloc, ast.items.as_slice())?;
-    let service = services(alloc, ast.items.as_slice())?;
-    let extension = extensions(alloc, ast.syntax, ast.items.as_slice())?;
-    let dependency = dependencies(alloc, ast.imports.as_slice())?;
-    let public_dependency = public_places(alloc, ast.imports.as_slice())?;
-    let weak_dependency = weak_places(alloc, ast.imports.as_slice())?;
-    let options = file_options(alloc, ast.options.as_slice())?;
-    let name = Text::copy(alloc, name)?;
-    let package = package_name(alloc, &ast.package)?;
-    let syntax = syntax_name(alloc, ast.syntax)?;
-    let message_type = messages(alloc, ast.syntax, ast.items)?;
-    Ok(FileDescriptorProto {
-        name: Some(name),
-        package,
-        dependency,
-        public_dependency,
-        weak_dependency,
-        message_type,
-        enum_type,
-        service,
-        extension,
-        options,
-        source_code_info: None,
-        syntax,
-    })
+    let mut file = all_but_messages(alloc, name, &ast)?;
+    file.message_type = messages_of(alloc, ast)?;
+    Ok(file)
 }

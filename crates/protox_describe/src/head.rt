@@ -30,8 +30,8 @@ pub(crate) fn package_name(alloc: Global, ast: &Option<Package>) -> Result<Optio
     }
 }
 
-/// The imported files.
-pub(crate) fn dependencies(alloc: Global, imports: &[Import]) -> Result<Items<Text>, AllocError>
+// The imported files.
+fn dependencies(alloc: Global, imports: &[Import]) -> Result<Items<Text>, AllocError>
     ensures { IfOk result (λ names. names ≡ map (λ (statement : import_type.Import). statement.value) imports.now) }
 {
     let mut names = Vec::with_capacity(alloc, imports.len())?;
@@ -72,8 +72,8 @@ fn push_place(found: &mut Items<i32>, is_wanted: bool, place: usize) -> Result<(
     }
 }
 
-/// The places of the public ones among the imports.
-pub(crate) fn public_places(alloc: Global, imports: &[Import]) -> Result<Items<i32>, AllocError>
+// The places of the public ones among the imports.
+fn public_places(alloc: Global, imports: &[Import]) -> Result<Items<i32>, AllocError>
     requires { length imports.now ≤ 2147483647 }
     ensures { IfOk result (λ found. found ≡ places is_public 0 imports.now) }
 {
@@ -84,8 +84,8 @@ pub(crate) fn public_places(alloc: Global, imports: &[Import]) -> Result<Items<i
     Ok(found)
 }
 
-/// The places of the weak ones among the imports.
-pub(crate) fn weak_places(alloc: Global, imports: &[Import]) -> Result<Items<i32>, AllocError>
+// The places of the weak ones among the imports.
+fn weak_places(alloc: Global, imports: &[Import]) -> Result<Items<i32>, AllocError>
     requires { length imports.now ≤ 2147483647 }
     ensures { IfOk result (λ found. found ≡ places is_weak 0 imports.now) }
 {
@@ -94,4 +94,29 @@ pub(crate) fn weak_places(alloc: Global, imports: &[Import]) -> Result<Items<i32
         push_place(&mut found, is_weak(&statement.kind), place)?;
     }
     Ok(found)
+}
+
+/// What the imports of a file give.
+#[derive(Drop)]
+pub(crate) struct ImportLists {
+    pub dependency: Items<Text>,
+    pub public_dependency: Items<i32>,
+    pub weak_dependency: Items<i32>,
+}
+
+/// The imported files, and the places of the public ones and of the weak ones among them.
+pub(crate) fn imports(alloc: Global, imports: &[Import]) -> Result<ImportLists, AllocError>
+    requires { length imports.now ≤ 2147483647 }
+    ensures files { IfOk result (λ made. made.dependency ≡ map (λ (statement : import_type.Import). statement.value) imports.now) }
+    ensures public { IfOk result (λ made. made.public_dependency ≡ places is_public 0 imports.now) }
+    ensures weak { IfOk result (λ made. made.weak_dependency ≡ places is_weak 0 imports.now) }
+{
+    let dependency = dependencies(alloc, imports)?;
+    let public_dependency = public_places(alloc, imports)?;
+    let weak_dependency = weak_places(alloc, imports)?;
+    Ok(ImportLists {
+        dependency,
+        public_dependency,
+        weak_dependency,
+    })
 }

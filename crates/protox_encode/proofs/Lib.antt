@@ -1,0 +1,4 @@
+pub mod Apart
+pub mod Levels
+pub mod Readings
+pub mod Varint

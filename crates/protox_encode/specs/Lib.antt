@@ -1,0 +1,4 @@
+pub mod Messages
+pub mod Payloads
+pub mod Reading
+pub mod Wire

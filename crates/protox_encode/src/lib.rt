@@ -1,0 +1,14 @@
+//! The bytes of descriptors, as Protocol Buffers writes messages.
+#![tactic(auto)]
+
+pub mod backward;
+mod fault;
+mod file;
+pub mod laws;
+mod locations;
+mod messages;
+mod options;
+pub mod wire;
+
+pub use fault::EncodeError;
+pub use file::encode;

@@ -1,7 +1,10 @@
 -- What a message holds, by what the messages in it hold.
-use Rattle.std.proofs.Common.{◌≡◌, ℕ, List, [], ◌∷◌, ◌++◌, refl, sym, ap, ◌∙◌, map, append_assoc}
+use Rattle.std.proofs.Common.{◌≡◌, ℕ, Bool, ◌&&◌, List, [], ◌∷◌, ◌++◌, refl, sym, ap, ◌∙◌, map, append_assoc}
+use Rattle.std.specs.List.{list_all}
+use Rattle.std.proofs.lemmas.List.Folds.{list_all-map}
 use Rattle.protox_descriptor.specs.declared.descriptor.DescriptorProto.{DescriptorProto, out-DescriptorProto}
 use Rattle.protox_descriptor.specs.declared.descriptor.DescriptorProto.TheFolds.{fold_out-DescriptorProto}
+use Rattle.protox_encode.specs.Floats as floats
 use Rattle.protox_encode.specs.Messages.{field_descriptor, message_step, message_middle, message_end, message_descriptor}
 use Rattle.protox_encode.specs.Payloads.{each, text}
 use Rattle.protox_encode.specs.Wire.{Payload, Bytes, Parts, message, part}
@@ -23,3 +26,11 @@ pub message-onto : (m : DescriptorProto) (middle nested old : List ℕ) → midd
     → nested ≡ part 3 (each message_descriptor (out-DescriptorProto m).nested_type) ++ middle
     → part 1 (text (out-DescriptorProto m).name) ++ (part 2 (each field_descriptor (out-DescriptorProto m).field) ++ nested) ≡ message (message_descriptor m) ++ old
 message-onto m middle nested old h k = rw (k, h, message-holds m) (simp append_assoc)
+
+-- the floats of a message, by those of the messages in it
+pub message_floats : (m : DescriptorProto) → floats.message_descriptor m ≡ (list_all floats.message_descriptor (out-DescriptorProto m).nested_type && floats.message_own (out-DescriptorProto m))
+unfolding floats.message_descriptor floats.message_step floats.message_own
+message_floats m =
+    fold_out-DescriptorProto Bool floats.message_step m
+    ∙ ap (λ (inner : Bool). inner && floats.message_own (out-DescriptorProto m))
+    (list_all-map (λ (inner : Bool). inner) floats.message_descriptor (out-DescriptorProto m).nested_type)

@@ -1,3 +1,4 @@
+pub mod Floats
 pub mod Messages
 pub mod Payloads
 pub mod Reading

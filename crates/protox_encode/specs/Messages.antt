@@ -135,3 +135,7 @@ file_definitions f = (4, each message_descriptor f.message_type) ∷ (5, each en
 
 unfoldable pub file_descriptor : FileDescriptorProto → Parts
 file_descriptor f = (1, text f.name) ∷ (2, text f.«package») ∷ (3, texts f.dependency) ∷ file_definitions f
+
+-- a `FileDescriptorSet`: each file in a field of its own
+unfoldable pub file_set : List FileDescriptorProto → Parts
+file_set files = (1, each file_descriptor files) ∷ []

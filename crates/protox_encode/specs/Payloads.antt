@@ -26,15 +26,18 @@ abbrev pub unsigned : Option ℕ → List Payload
 unsigned None = []
 unsigned (Some n) = Number n ∷ []
 
--- the bits of a float, none where it is not a number
-abbrev pub float_bits : Option Float → List Payload
-float_bits None = []
-float_bits (Some x) = if is_nan x then [] else Eight (to_bits binary64 x) ∷ []
+-- The bits of a float. That it is no number is written as the quiet NaN without a sign, 7ff8000000000000 in hex.
+abbrev pub float_bits : Float → ℕ
+float_bits x = if is_nan x then 9221120237041090560 else to_bits binary64 x
 
--- a text of a float as the nearest float
+abbrev pub nearest : Option Float → List Payload
+nearest None = []
+nearest (Some x) = Eight (float_bits x) ∷ []
+
+-- The text of a float stands for the nearest float. Another text has no place on the wire.
 abbrev pub double : Option (List ℕ) → List Payload
 double None = []
-double (Some text) = float_bits (parse_float binary64 text)
+double (Some text) = nearest (parse_float binary64 text)
 
 abbrev pub flag : Option Bool → List Payload
 flag None = []

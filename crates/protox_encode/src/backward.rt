@@ -57,6 +57,25 @@ impl Backward {
         self.buffer.len() - self.start
     }
 
+    /// Drops all bytes, and keeps the memory.
+    pub fn clear(&mut self)
+        ensures { self.new ≡ [] }
+    {
+        self.start = self.buffer.len();
+    }
+
+    /// The bytes in the memory that they were written to, moved to its front.
+    pub fn into_vec(self) -> Vec<u8>
+        ensures { result.items ≡ self }
+    {
+        let len = self.len();
+        let start = self.start;
+        let mut bytes = self.buffer;
+        bytes.copy_within(start.., 0);
+        bytes.truncate(len);
+        bytes
+    }
+
     /// Puts `bytes` in front. On `AllocError` nothing changes.
     pub fn prepend(&mut self, alloc: Global, bytes: &[u8]) -> Result<(), AllocError>
         ensures ok { OnOk result (self.new ≡ bytes.now ++ self.old) }

@@ -6,8 +6,11 @@ use std::alloc::AllocError;
 /// Why a descriptor has no bytes.
 #[derive(Clone, Copy, PartialEq, Eq, Debug)]
 pub enum EncodeError {
-    /// Messages of Protocol Buffers are smaller than 2 GiB.
+    /// It would take 2 GiB or more, and messages of Protocol Buffers are smaller.
     TooLarge,
+    /// The text of some `double_value` is no float. No file that is parsed has such a text.
+    NotAFloat,
+    /// Memory ran out.
     OutOfMemory,
 }
 

@@ -4,6 +4,7 @@
 pub mod backward;
 mod fault;
 mod file;
+mod floats;
 pub mod laws;
 mod locations;
 mod messages;
@@ -11,4 +12,4 @@ mod options;
 pub mod wire;
 
 pub use fault::EncodeError;
-pub use file::encode;
+pub use file::{encode, encode_entry, encode_over, encode_set};

@@ -5,9 +5,11 @@ ghost use Rattle.std.specs.Int.{w64, to_le_bytes, cast_unsigned};
 ghost use Rattle.std.specs.List.{flat_map};
 ghost use Rattle.std.specs.Option.{option_copied};
 ghost use Rattle.protox_encode.specs.Wire.{Payload, Number, Eight, Bytes, Parts, varint, header, field, part, message};
+ghost use Rattle.protox_encode.specs.Messages.{file_set};
 ghost use Rattle.protox_encode.specs.Payloads.{text, texts, signed, signeds, unsigned, double, flag, packed, nested, each};
 
 use crate::backward::Backward;
+use protox_descriptor::descriptor::FileDescriptorProto;
 use protox_descriptor::values::{Items, Text};
 use std::alloc::{AllocError, Global};
 
@@ -186,7 +188,8 @@ fn prepend_eight(alloc: Global, out: &mut Backward, number: u32, n: u64) -> Resu
     prepend_header(alloc, out, number, 1)
 }
 
-/// Puts in front the float that a text spells, if there is one.
+/// Puts in front the float that a text spells, if there is one. A text that spells none is left
+/// out: callers find it before.
 pub fn prepend_double(
     alloc: Global,
     out: &mut Backward,
@@ -200,10 +203,12 @@ pub fn prepend_double(
     };
     match fast_float::parse::<f64, _>(value.as_str()) {
         Ok(x) => {
-            if x.is_nan() {
-                return Ok(());
-            }
-            prepend_eight(alloc, out, number, x.to_bits())
+            let bits = if x.is_nan() {
+                0x7ff8_0000_0000_0000
+            } else {
+                x.to_bits()
+            };
+            prepend_eight(alloc, out, number, bits)
         }
         Err(_) => Ok(()),
     }
@@ -295,6 +300,23 @@ pub fn prepend_each<M: Message>(
     while i > 0 {
         i -= 1;
         prepend_nested(alloc, out, number, Some(&items[i]))?;
+    }
+    Ok(())
+}
+
+/// Puts files in front, each as a field of a set.
+#[tactic(auto, unfolding(crate::specs::Messages::file_set))]
+pub fn prepend_files(
+    alloc: Global,
+    out: &mut Backward,
+    files: &[FileDescriptorProto],
+) -> Result<(), AllocError>
+    ensures { OnOk result (out.new ≡ message (file_set files.now) ++ out.old) }
+{
+    let mut i = files.len();
+    while i > 0 {
+        i -= 1;
+        prepend_nested(alloc, out, 1, Some(&files[i]))?;
     }
     Ok(())
 }

@@ -1,6 +1,6 @@
 -- No number begins another.
-use Rattle.std.proofs.Common.{◌≡◌, ℕ, zero, suc, ◌+◌, ◌*◌, ◌/◌, ◌%◌, ◌^◌, ◌<◌, ◌≤◌, List, [], ◌∷◌, ◌++◌, refl, sym, ap, ◌∙◌, arith}
-use Rattle.protox_encode.proofs.Varint.{within_one, within_split, less, either}
+use Rattle.std.proofs.Common.{◌≡◌, ℕ, zero, suc, ◌+◌, ◌*◌, ◌/◌, ◌%◌, ◌<◌, ◌≤◌, List, [], ◌∷◌, ◌++◌, refl, sym, ap, ◌∙◌, arith}
+use Rattle.protox_encode.proofs.Varint.{within_one, within_split, either}
 use Rattle.protox_encode.specs.Reading.{NumbersAreApart}
 use Rattle.protox_encode.specs.Wire.{varint, varint_within}
 
@@ -17,18 +17,19 @@ more k n x h = rw (within_split k n h) refl
 grown : (m n : ℕ) {P : Type 0} → 128 + m % 128 ≡ 128 + n % 128 → (m / 128 ≡ n / 128) × P → (m ≡ n) × P
 grown m n e h = (omega (arith, h.0), h.1)
 
-apart_within : (k m n : ℕ) (x y : List ℕ) → m < 128 ^ suc k → n < 128 ^ suc k → varint_within (suc k) m ++ x ≡ varint_within (suc k) n ++ y → (m ≡ n) × (x ≡ y)
-apart_within zero m n x y h k e = heads m n x y (sym (one 0 m x (omega arith)) ∙ e ∙ one 0 n y (omega arith))
-apart_within (suc l) m n x y h k e = either m
+apart_within : (k m n : ℕ) (x y : List ℕ) → varint_within k m ++ x ≡ varint_within k n ++ y → (m ≡ n) × (x ≡ y)
+unfolding varint_within
+apart_within zero m n x y e = heads m n x y e
+apart_within (suc l) m n x y e = either m
     (λ (low : m < 128). either n
-    (λ (low' : n < 128). heads m n x y (sym (one (suc l) m x low) ∙ e ∙ one (suc l) n y low'))
-    (λ (high' : 128 ≤ n). let s : (m ≡ 128 + n % 128) × (x ≡ varint_within (suc l) (n / 128) ++ y) = heads m (128 + n % 128) x _ (sym (one (suc l) m x low) ∙ e ∙ more (suc l) n y high') in absurd (omega (arith, s.0))))
+    (λ (low' : n < 128). heads m n x y (sym (one l m x low) ∙ e ∙ one l n y low'))
+    (λ (high' : 128 ≤ n). let s : (m ≡ 128 + n % 128) × (x ≡ varint_within l (n / 128) ++ y) = heads m (128 + n % 128) x _ (sym (one l m x low) ∙ e ∙ more l n y high') in absurd (omega (arith, s.0))))
     (λ (high : 128 ≤ m). either n
-    (λ (low' : n < 128). let s : (128 + m % 128 ≡ n) × (varint_within (suc l) (m / 128) ++ x ≡ y) = heads (128 + m % 128) n _ y (sym (more (suc l) m x high) ∙ e ∙ one (suc l) n y low') in absurd (omega (arith, s.0)))
+    (λ (low' : n < 128). let s : (128 + m % 128 ≡ n) × (varint_within l (m / 128) ++ x ≡ y) = heads (128 + m % 128) n _ y (sym (more l m x high) ∙ e ∙ one l n y low') in absurd (omega (arith, s.0)))
     (λ (high' : 128 ≤ n).
-    let s : (128 + m % 128 ≡ 128 + n % 128) × (varint_within (suc l) (m / 128) ++ x ≡ varint_within (suc l) (n / 128) ++ y) = heads (128 + m % 128) (128 + n % 128) _ _ (sym (more (suc l) m x high) ∙ e ∙ more (suc l) n y high') in
-    grown m n s.0 (apart_within l (m / 128) (n / 128) x y (less (suc l) m h) (less (suc l) n k) s.1)))
+    let s : (128 + m % 128 ≡ 128 + n % 128) × (varint_within l (m / 128) ++ x ≡ varint_within l (n / 128) ++ y) = heads (128 + m % 128) (128 + n % 128) _ _ (sym (more l m x high) ∙ e ∙ more l n y high') in
+    grown m n s.0 (apart_within l (m / 128) (n / 128) x y s.1)))
 
 pub numbers_are_apart_law : NumbersAreApart
 unfolding varint
-numbers_are_apart_law m n x y h k e = apart_within 9 m n x y (omega arith) (omega arith) e
+numbers_are_apart_law m n x y e = apart_within 10 m n x y e

@@ -1,4 +1,5 @@
 pub mod Apart
 pub mod Levels
+pub mod OneKind
 pub mod Readings
 pub mod Varint

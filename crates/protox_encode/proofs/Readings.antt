@@ -5,7 +5,7 @@ use Rattle.std.proofs.lemmas.Nat.{from_le_bytes-to_le_bytes_8}
 use Rattle.std.specs.List.{flat_map}
 use Rattle.protox_encode.proofs.Apart.{numbers_are_apart_law, one, more}
 use Rattle.protox_encode.proofs.Varint.{either}
-use Rattle.protox_encode.specs.Reading.{IsPayload, IsField, AreFields, fields, OneReading, numbered, fields_of, AreItsFields}
+use Rattle.protox_encode.specs.Reading.{HasRoom, HaveRoom, fields, OneReading, numbered, fields_of, AreItsFields, SetsJoin}
 use Rattle.protox_encode.specs.Wire.{Payload, Number, Eight, Bytes, Parts, field, header, message, part, varint, varint_within}
 
 cut_at : (a b x y : List ℕ) → length a ≡ length b → a ++ x ≡ b ++ y → (a ≡ b) × (x ≡ y)
@@ -18,9 +18,9 @@ cut_at (a ∷ more) (b ∷ bs) x y l e =
     let r : (more ≡ bs) × (x ≡ y) = cut_at more bs x y (omega arith) t in
     (ap (λ (z : ℕ). z ∷ more) h ∙ ap (λ (zs : List ℕ). b ∷ zs) r.0, r.1)
 
-header_apart : (k l i j : ℕ) (x y : List ℕ) → k < 2 ^ 29 → l < 2 ^ 29 → i < 8 → j < 8 → header k i ++ x ≡ header l j ++ y → (k ≡ l) × (i ≡ j) × (x ≡ y)
-header_apart k l i j x y a b c d e =
-    let r = numbers_are_apart_law (8 * k + i) (8 * l + j) x y (omega arith) (omega arith) e in
+header_apart : (k l i j : ℕ) (x y : List ℕ) → i < 8 → j < 8 → header k i ++ x ≡ header l j ++ y → (k ≡ l) × (i ≡ j) × (x ≡ y)
+header_apart k l i j x y c d e =
+    let r = numbers_are_apart_law (8 * k + i) (8 * l + j) x y e in
     (omega (arith, r.0), omega (arith, r.0), r.1)
 
 kind : Payload → ℕ
@@ -48,14 +48,14 @@ kind_low (Bytes bytes) = omega arith
 eight_apart : (m n : ℕ) → m < 2 ^ 64 → n < 2 ^ 64 → to_le_bytes w64 m ≡ to_le_bytes w64 n → m ≡ n
 eight_apart m n a b e = sym (from_le_bytes-to_le_bytes_8 m a) ∙ ap (from_le_bytes w64) e ∙ from_le_bytes-to_le_bytes_8 n b
 
-held_apart : (p q : Payload) (x y : List ℕ) → IsPayload p → IsPayload q → kind p ≡ kind q → held p ++ x ≡ held q ++ y → (p ≡ q) × (x ≡ y)
+held_apart : (p q : Payload) (x y : List ℕ) → HasRoom p → HasRoom q → kind p ≡ kind q → held p ++ x ≡ held q ++ y → (p ≡ q) × (x ≡ y)
 unfolding kind held
-held_apart (Number m) (Number n) x y a b k e = let r = numbers_are_apart_law m n x y a b e in (ap Number r.0, r.1)
+held_apart (Number m) (Number n) x y a b k e = let r = numbers_are_apart_law m n x y e in (ap Number r.0, r.1)
 held_apart (Eight m) (Eight n) x y a b k e =
     let r = cut_at (to_le_bytes w64 m) (to_le_bytes w64 n) x y refl e in
     (ap Eight (eight_apart m n a b r.0), r.1)
 held_apart (Bytes m) (Bytes n) x y a b k e =
-    let s = numbers_are_apart_law (length m) (length n) (m ++ x) (n ++ y) a b (sym (append_assoc (varint (length m)) m x) ∙ e ∙ append_assoc (varint (length n)) n y) in
+    let s = numbers_are_apart_law (length m) (length n) (m ++ x) (n ++ y) (sym (append_assoc (varint (length m)) m x) ∙ e ∙ append_assoc (varint (length n)) n y) in
     let r = cut_at m n x y s.0 s.1 in
     (ap Bytes r.0, r.1)
 held_apart (Number m) (Eight n) x y a b k e = absurd (omega arith)
@@ -65,10 +65,10 @@ held_apart (Eight m) (Bytes n) x y a b k e = absurd (omega arith)
 held_apart (Bytes m) (Number n) x y a b k e = absurd (omega arith)
 held_apart (Bytes m) (Eight n) x y a b k e = absurd (omega arith)
 
-field_apart : (k l : ℕ) (p q : Payload) (x y : List ℕ) → IsField k p → IsField l q → field k p ++ x ≡ field l q ++ y → (k ≡ l) × (p ≡ q) × (x ≡ y)
+field_apart : (k l : ℕ) (p q : Payload) (x y : List ℕ) → HasRoom p → HasRoom q → field k p ++ x ≡ field l q ++ y → (k ≡ l) × (p ≡ q) × (x ≡ y)
 field_apart k l p q x y a b e =
-    let h = header_apart k l (kind p) (kind q) (held p ++ x) (held q ++ y) a.numbered b.numbered (kind_low p) (kind_low q) (sym (parted k p x) ∙ e ∙ parted l q y) in
-    let r = held_apart p q x y a.held b.held h.1 h.2 in
+    let h = header_apart k l (kind p) (kind q) (held p ++ x) (held q ++ y) (kind_low p) (kind_low q) (sym (parted k p x) ∙ e ∙ parted l q y) in
+    let r = held_apart p q x y a b h.1 h.2 in
     (h.0, r.0, r.1)
 
 -- a number has at least one group

@@ -1,24 +1,22 @@
 -- What bytes say of a message, by the wire format alone: which fields they are, whatever message it is.
-use Rattle.std.specs.Prelude.{◌≡◌, ℕ, ◌+◌, ◌*◌, ◌<◌, ◌≤◌, ◌^◌, List, [], ◌∷◌, ◌++◌, length, IsSome}
+use Rattle.std.specs.Prelude.{◌≡◌, ℕ, ◌<◌, ◌^◌, Bool, true, ◌&&◌, nat_lt, List, [], ◌∷◌, ◌++◌, map}
+use Rattle.protox_descriptor.specs.declared.descriptor.FileDescriptorProto.{FileDescriptorProto}
+use Rattle.protox_encode.specs.Messages.{file_set}
 use Rattle.protox_encode.specs.Wire.{Payload, Number, Eight, Bytes, Parts, field, message, varint}
 
 -- No number begins another: where a number stands in front, only that one stands there.
 abbrev pub NumbersAreApart : Type 0
-NumbersAreApart = (m n : ℕ) (x y : List ℕ) → m < 2 ^ 64 → n < 2 ^ 64 → varint m ++ x ≡ varint n ++ y → (m ≡ n) × (x ≡ y)
+NumbersAreApart = (m n : ℕ) (x y : List ℕ) → varint m ++ x ≡ varint n ++ y → (m ≡ n) × (x ≡ y)
 
--- a field that a writer may write: its number fits in a header, and what it holds in its places
-abbrev pub IsPayload : Payload → Type 0
-IsPayload (Number n) = n < 2 ^ 64
-IsPayload (Eight n) = n < 2 ^ 64
-IsPayload (Bytes bytes) = length bytes < 2 ^ 64
+-- Eight bytes hold a number below 2 ^ 64. Other payloads have room for all that they may hold.
+abbrev pub HasRoom : Payload → Type 0
+HasRoom (Number n) = Unit {0}
+HasRoom (Eight n) = n < 2 ^ 64
+HasRoom (Bytes bytes) = Unit {0}
 
-pub record IsField (number : ℕ) (payload : Payload) : Type 0 where
-  pub numbered : number < 2 ^ 29
-  pub held : IsPayload payload
-
-abbrev pub AreFields : List (ℕ × Payload) → Type 0
-AreFields [] = Unit {0}
-AreFields (f ∷ fs) = IsField f.0 f.1 × AreFields fs
+abbrev pub HaveRoom : List (ℕ × Payload) → Type 0
+HaveRoom [] = Unit {0}
+HaveRoom (f ∷ fs) = HasRoom f.1 × HaveRoom fs
 
 abbrev pub fields : List (ℕ × Payload) → List ℕ
 fields [] = []
@@ -26,7 +24,7 @@ fields (f ∷ fs) = field f.0 f.1 ++ fields fs
 
 -- Bytes are those of one list of fields at most, whatever message it is.
 abbrev pub OneReading : Type 0
-OneReading = (fs gs : List (ℕ × Payload)) → AreFields fs → AreFields gs → fields fs ≡ fields gs → fs ≡ gs
+OneReading = (fs gs : List (ℕ × Payload)) → HaveRoom fs → HaveRoom gs → fields fs ≡ fields gs → fs ≡ gs
 
 -- the fields of a message, one behind the other
 abbrev pub numbered : ℕ → List Payload → List (ℕ × Payload)
@@ -40,3 +38,22 @@ fields_of ((number, payloads) ∷ parts) = numbered number payloads ++ fields_of
 -- The bytes of a message are those of its fields.
 abbrev pub AreItsFields : Type 0
 AreItsFields = (parts : Parts) → message parts ≡ fields (fields_of parts)
+
+-- the numbers of a message's fields
+abbrev pub numbers : Parts → List ℕ
+numbers [] = []
+numbers ((number, payloads) ∷ parts) = number ∷ numbers parts
+
+-- Each number is greater than the one before, and the first than k.
+abbrev pub rise_from : ℕ → List ℕ → Bool
+rise_from k [] = true
+rise_from k (number ∷ more) = nat_lt k number && rise_from number more
+
+-- Two messages of one kind with the same bytes hold the same.
+abbrev pub OneMessage : Type 0
+OneMessage = (p q : Parts) → numbers p ≡ numbers q → rise_from 0 (numbers p) ≡ true → HaveRoom (fields_of p) → HaveRoom (fields_of q)
+    → message p ≡ message q → p ≡ q
+
+-- The bytes of two sets, one behind the other, are those of the set of all their files.
+abbrev pub SetsJoin : Type 0
+SetsJoin = (these those : List FileDescriptorProto) → message (file_set (these ++ those)) ≡ message (file_set these) ++ message (file_set those)

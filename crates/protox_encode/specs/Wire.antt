@@ -3,12 +3,13 @@ use Rattle.std.specs.Prelude.{ℕ, zero, suc, ◌+◌, ◌*◌, ◌/◌, ◌%◌
 use Rattle.std.specs.List.{flat_map}
 use Rattle.std.specs.Int.{w64, to_le_bytes}
 
--- A number by groups of seven bits, the lowest first; each group but the last has 128 added to it. At most as many groups as are given.
+-- A number by groups of seven bits, the lowest first; each group but the last has 128 added to it. Behind so many groups what is left stands
+-- as it is.
 unfoldable pub varint_within : ℕ → ℕ → List ℕ
-varint_within zero n = []
+varint_within zero n = n ∷ []
 varint_within (suc groups) n = if nat_lt n 128 then n ∷ [] else (128 + n % 128) ∷ varint_within groups (n / 128)
 
--- A number below 2 ^ 64 has at most ten groups.
+-- Ten groups are enough for a number below 2 ^ 64: nothing of it is left behind them.
 unfoldable pub varint : ℕ → List ℕ
 varint n = varint_within 10 n
 

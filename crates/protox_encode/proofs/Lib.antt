@@ -1,4 +1,6 @@
+pub mod Again
 pub mod Apart
+pub mod Exactness
 pub mod Levels
 pub mod OneKind
 pub mod Readings

@@ -75,7 +75,7 @@ field_apart k l p q x y a b e =
 some : (a : ℕ) (x : List ℕ) → [] ≡ a ∷ x → ⊥
 some a x e = cc
 
-number_some : (n : ℕ) (x : List ℕ) → [] ≡ varint n ++ x → ⊥
+pub number_some : (n : ℕ) (x : List ℕ) → [] ≡ varint n ++ x → ⊥
 unfolding varint
 number_some n x e = either n (λ low. some _ _ (e ∙ one 9 n x low)) (λ high. some _ _ (e ∙ more 9 n x high))
 

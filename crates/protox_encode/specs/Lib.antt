@@ -1,3 +1,4 @@
+pub mod Exact
 pub mod Floats
 pub mod Messages
 pub mod Payloads

@@ -1,5 +1,6 @@
 //! Laws of the wire format. Each is a function that does nothing: its contract is the law.
 
+ghost use Rattle.protox_encode.specs.Exact.{NothingIsLost};
 ghost use Rattle.protox_encode.specs.Reading.{NumbersAreApart, OneReading, AreItsFields, OneMessage, SetsJoin};
 
 /// No number begins another, so a reader knows where each ends.
@@ -31,4 +32,10 @@ pub fn one_message()
 #[tactic(auto, using(crate::proofs::OneKind::sets_join))]
 pub fn sets_join()
     ensures { SetsJoin }
+{}
+
+/// Files that have the same bytes are the same, if no option in them has a double.
+#[tactic(auto, using(crate::proofs::Exactness::nothing_is_lost))]
+pub fn nothing_is_lost()
+    ensures { NothingIsLost }
 {}

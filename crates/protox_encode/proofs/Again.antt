@@ -49,7 +49,7 @@ have-room-onto : (n : ℕ) (ps : List Payload) (fs : List (ℕ × Payload)) → 
 have-room-onto n [] fs r h = h
 have-room-onto n (p ∷ ps) fs r h = (r.0, have-room-onto n ps fs r.1 h)
 
-have-room : (parts : Parts) → RoomyParts parts → HaveRoom (fields_of parts)
+pub have-room : (parts : Parts) → RoomyParts parts → HaveRoom (fields_of parts)
 have-room [] r = tt
 have-room ((n, ps) ∷ parts) r = have-room-onto n ps (fields_of parts) r.0 (have-room parts r.1)
 

@@ -27,9 +27,10 @@ use Rattle.protox_descriptor.specs.declared.descriptor.options.UninterpretedOpti
 use Rattle.protox_descriptor.specs.declared.descriptor.DescriptorProto.{DescriptorProto, DescriptorProto-F, roll-DescriptorProto, out-DescriptorProto, roll-out-DescriptorProto, out-roll-DescriptorProto, ind-DescriptorProto}
 use Rattle.protox_descriptor.specs.declared.descriptor.DescriptorProto.TheFolds.{fold_out-DescriptorProto}
 use Rattle.protox_descriptor.specs.declared.descriptor.FileDescriptorProto.{FileDescriptorProto}
-use Rattle.protox_encode.proofs.Again.{RoomyParts, Told, all_at, each-again, flag-again, names-again, nested-again, no-double, packed-again, payloads, room-each, room-flag, room-nested, room-none, room-packed, room-signed, room-signeds, room-text, room-texts, room-unsigned, same-parts, signed-again, signeds-again, text-again, texts-again, unsigned-again}
+use Rattle.protox_encode.proofs.Again.{RoomyParts, Told, all_at, each-again, flag-again, have-room, names-again, nested-again, no-double, packed-again, payloads, room-each, room-flag, room-nested, room-none, room-packed, room-signed, room-signeds, room-text, room-texts, room-unsigned, same-parts, signed-again, signeds-again, text-again, texts-again, unsigned-again}
 use Rattle.protox_encode.proofs.Levels.{message-holds}
 use Rattle.protox_encode.specs.Exact as exact
+use Rattle.protox_encode.specs.Reading.{FilesHaveRoom}
 use Rattle.protox_encode.specs.Exact.{NothingIsLost, all}
 use Rattle.protox_encode.specs.Messages as words
 use Rattle.protox_encode.specs.Payloads as payload
@@ -415,3 +416,8 @@ told-file_descriptor = record {
 
 pub nothing_is_lost : NothingIsLost
 nothing_is_lost these those p q e = told-file_descriptor.told these those p q e
+
+pub files_have_room : FilesHaveRoom
+unfolding words.file_descriptor words.file_definitions words.file_end
+files_have_room file = have-room (words.file_descriptor file)
+    (room-text file.name, (room-text file.«package», (room-texts file.dependency, (room-each words.message_descriptor file.message_type, (room-each words.enum_descriptor file.enum_type, (room-each words.service_descriptor file.service, (room-each words.field_descriptor file.extension, (room-nested words.file_options file.options, (room-nested words.source_code_info file.source_code_info, (room-signeds file.public_dependency, (room-signeds file.weak_dependency, (room-text file.syntax, tt))))))))))))

@@ -1,7 +1,7 @@
 -- What bytes say of a message, by the wire format alone: which fields they are, whatever message it is.
 use Rattle.std.specs.Prelude.{◌≡◌, ℕ, ◌<◌, ◌^◌, Bool, true, ◌&&◌, nat_lt, List, [], ◌∷◌, ◌++◌, map}
 use Rattle.protox_descriptor.specs.declared.descriptor.FileDescriptorProto.{FileDescriptorProto}
-use Rattle.protox_encode.specs.Messages.{file_set}
+use Rattle.protox_encode.specs.Messages.{file_descriptor, file_set}
 use Rattle.protox_encode.specs.Wire.{Payload, Number, Eight, Bytes, Parts, field, message, varint}
 
 -- No number begins another: where a number stands in front, only that one stands there.
@@ -38,6 +38,10 @@ fields_of ((number, payloads) ∷ parts) = numbered number payloads ++ fields_of
 -- The bytes of a message are those of its fields.
 abbrev pub AreItsFields : Type 0
 AreItsFields = (parts : Parts) → message parts ≡ fields (fields_of parts)
+
+-- The fields of a file have room, so its bytes are those of these fields and of no others.
+abbrev pub FilesHaveRoom : Type 0
+FilesHaveRoom = (file : FileDescriptorProto) → HaveRoom (fields_of (file_descriptor file))
 
 -- the numbers of a message's fields
 abbrev pub numbers : Parts → List ℕ

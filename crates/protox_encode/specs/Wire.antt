@@ -40,7 +40,3 @@ abbrev pub message : Parts → List ℕ
 message [] = []
 message ((number, payloads) ∷ parts) = part number payloads ++ message parts
 
--- a message in front of other bytes
-abbrev pub onto : Parts → List ℕ → List ℕ
-onto [] rest = rest
-onto ((number, payloads) ∷ parts) rest = part number payloads ++ onto parts rest

@@ -1,6 +1,6 @@
 //! Bytes that grow at the front.
 
-ghost use Rattle.std.specs.Prelude.{◌≡◌, ◌+◌, [], ◌++◌, length, drop, IfOk, OnOk, OnErr};
+ghost use Rattle.std.specs.Prelude.{◌≡◌, ◌+◌, [], ◌∷◌, ◌++◌, length, drop, IfOk, OnOk, OnErr};
 
 use std::alloc::{AllocError, Global};
 use std::marker::Model;
@@ -89,6 +89,20 @@ impl Backward {
         }
         let start = self.start - bytes.len();
         self.buffer[start..self.start].copy_from_slice(bytes);
+        self.start = start;
+        Ok(())
+    }
+
+    /// Puts one byte in front. On `AllocError` nothing changes.
+    pub fn prepend_byte(&mut self, alloc: Global, byte: u8) -> Result<(), AllocError>
+        ensures ok { OnOk result (self.new ≡ byte ∷ self.old) }
+        ensures err { OnErr result (self.new ≡ self.old) }
+    {
+        if self.start == 0 {
+            return self.prepend(alloc, &[byte]);
+        }
+        let start = self.start - 1;
+        self.buffer[start] = byte;
         self.start = start;
         Ok(())
     }

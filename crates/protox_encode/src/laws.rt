@@ -1,7 +1,7 @@
 //! Laws of the wire format. Each is a function that does nothing: its contract is the law.
 
 ghost use Rattle.protox_encode.specs.Exact.{NothingIsLost};
-ghost use Rattle.protox_encode.specs.Reading.{NumbersAreApart, OneReading, AreItsFields, OneMessage, SetsJoin};
+ghost use Rattle.protox_encode.specs.Reading.{NumbersAreApart, OneReading, AreItsFields, FilesHaveRoom, OneMessage, SetsJoin};
 
 /// No number begins another, so a reader knows where each ends.
 #[tactic(auto, using(crate::proofs::Apart::numbers_are_apart_law))]
@@ -14,6 +14,12 @@ pub fn numbers_are_apart()
 #[tactic(auto, using(crate::proofs::Readings::one_reading))]
 pub fn one_reading()
     ensures { OneReading }
+{}
+
+/// The fields of a file are such, whatever it holds.
+#[tactic(auto, using(crate::proofs::Exactness::files_have_room))]
+pub fn files_have_room()
+    ensures { FilesHaveRoom }
 {}
 
 /// The bytes of a message are those of its fields, in their order.

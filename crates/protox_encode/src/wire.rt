@@ -29,10 +29,10 @@ pub fn prepend_varint(alloc: Global, out: &mut Backward, n: u64) -> Result<(), A
     ensures { OnOk result (out.new ≡ varint n ++ out.old) }
 {
     if n < 128 {
-        return out.prepend(alloc, &[n as u8]);
+        return out.prepend_byte(alloc, n as u8);
     }
     prepend_varint(alloc, out, n / 128)?;
-    out.prepend(alloc, &[(128 + n % 128) as u8])
+    out.prepend_byte(alloc, (128 + n % 128) as u8)
 }
 
 fn prepend_header(

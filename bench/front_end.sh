@@ -3,8 +3,8 @@
 # that protoparse writes and from the sources, and compared.
 # usage: front_end.sh PROTOPARSE [ROOT [FILE..]]
 # Without files it takes those of google/protobuf below ROOT, which is /usr/include if not given.
-# It needs protoc (Debian: protobuf-compiler, libprotobuf-dev). Files that differ are listed; one with
-# a map field does, as its entry messages have json_name here and not in protoc's own descriptor.
+# It needs protoc (Debian: protobuf-compiler, libprotobuf-dev). Files that differ are listed; one
+# with a map field does, as its entry messages have json_name here and not in protoc's descriptor.
 set -euo pipefail
 program=$(realpath "$1")
 root=$(realpath "${2:-/usr/include}")

@@ -1,4 +1,4 @@
-// Writes the descriptor that protobuf's parser makes of a file, as bytes, without source information.
+// Writes what protobuf's parser makes of a file as bytes, without source information.
 // build: g++ -O2 -o /tmp/parsed bench/parsed.cc -lprotobuf   (Debian: libprotobuf-dev, libprotoc-dev)
 // usage: /tmp/parsed FILE; status 1 where the file is refused
 #include <google/protobuf/compiler/parser.h>

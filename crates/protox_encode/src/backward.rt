@@ -5,8 +5,8 @@ ghost use Rattle.std.specs.Prelude.{◌≡◌, ◌+◌, [], ◌∷◌, ◌++◌,
 use std::alloc::{AllocError, Global};
 use std::marker::Model;
 
-/// Bytes that grow at the front: what stands inside a message is written before its length. Contracts see the
-/// list of them.
+/// Bytes that grow at the front: what stands inside a message is written before its length. Contracts
+/// see the list of them.
 #[derive(Drop)]
 pub struct Backward {
     buffer: Vec<u8>,

@@ -1,5 +1,5 @@
 -- What a part of a message was, from what it is on the wire.
-use Rattle.std.proofs.Common.{◌≡◌, ℕ, zero, suc, ◌+◌, ◌-◌, ◌*◌, ◌^◌, ◌<◌, ◌≤◌, ℤ, pos, negsuc, Bool, true, false, List, [], ◌∷◌, ◌++◌, map, Option, Some, None, refl, sym, ap, ◌∙◌, arith}
+use Rattle.std.proofs.Common.{◌≡◌, ℕ, zero, suc, ◌^◌, ◌<◌, ℤ, pos, negsuc, Bool, true, false, List, [], ◌∷◌, ◌++◌, Option, Some, None, refl, sym, ap, arith}
 use Rattle.std.specs.Prelude.{nat_lt}
 use Rattle.std.specs.Cmp.{first_so, second_so}
 use Rattle.std.specs.Int.{w64, cast_unsigned}
@@ -16,7 +16,7 @@ use Rattle.protox_encode.specs.Floats.{if_there}
 use Rattle.protox_encode.specs.Messages.{name_part}
 use Rattle.protox_encode.specs.Payloads.{text, texts, signed, signeds, unsigned, double, flag, packed, nested, each}
 use Rattle.protox_encode.specs.Reading.{HasRoom, HaveRoom, fields_of, numbered, numbers, rise_from}
-use Rattle.protox_encode.specs.Wire.{Payload, Number, Eight, Bytes, Parts, message, varint}
+use Rattle.protox_encode.specs.Wire.{Payload, Parts, message, varint}
 
 -- ---- tests and parts by their places
 

@@ -1,5 +1,5 @@
 -- No number begins another.
-use Rattle.std.proofs.Common.{◌≡◌, ℕ, zero, suc, ◌+◌, ◌*◌, ◌/◌, ◌%◌, ◌<◌, ◌≤◌, List, [], ◌∷◌, ◌++◌, refl, sym, ap, ◌∙◌, arith}
+use Rattle.std.proofs.Common.{◌≡◌, ℕ, zero, suc, ◌+◌, ◌/◌, ◌%◌, ◌<◌, ◌≤◌, List, ◌∷◌, ◌++◌, refl, sym, ◌∙◌, arith}
 use Rattle.protox_encode.proofs.Varint.{within_one, within_split, either}
 use Rattle.protox_encode.specs.Reading.{NumbersAreApart}
 use Rattle.protox_encode.specs.Wire.{varint, varint_within}

@@ -1,40 +1,17 @@
 -- Messages with the same bytes are the same, kind by kind, where nothing of them is lost.
-use Rattle.std.proofs.Common.{◌≡◌, ℕ, Bool, true, List, [], ◌∷◌, map, Option, refl, sym, ap, subst, ◌∙◌}
+use Rattle.std.proofs.Common.{◌≡◌, Bool, true, List, [], ◌∷◌, map, refl, sym, ap, subst, ◌∙◌}
 use Rattle.std.specs.Cmp.{first_so, second_so}
-use Rattle.std.specs.List.{list_all}
 use Rattle.std.proofs.lemmas.List.Folds.{list_all-map}
-use Rattle.protox_descriptor.specs.FieldDescriptorProto.{FieldDescriptorProto}
-use Rattle.protox_descriptor.specs.Location.{Location}
-use Rattle.protox_descriptor.specs.declared.descriptor.EnumDescriptorProto.{EnumDescriptorProto}
-use Rattle.protox_descriptor.specs.declared.descriptor.EnumValueDescriptorProto.{EnumValueDescriptorProto}
-use Rattle.protox_descriptor.specs.declared.descriptor.MethodDescriptorProto.{MethodDescriptorProto}
-use Rattle.protox_descriptor.specs.declared.descriptor.OneofDescriptorProto.{OneofDescriptorProto}
-use Rattle.protox_descriptor.specs.declared.descriptor.ServiceDescriptorProto.{ServiceDescriptorProto}
-use Rattle.protox_descriptor.specs.declared.descriptor.SourceCodeInfo.{SourceCodeInfo}
-use Rattle.protox_descriptor.specs.declared.descriptor.descriptor_proto.ExtensionRange.{ExtensionRange}
-use Rattle.protox_descriptor.specs.declared.descriptor.descriptor_proto.ReservedRange.{ReservedRange}
-use Rattle.protox_descriptor.specs.declared.descriptor.enum_descriptor_proto.EnumReservedRange.{EnumReservedRange}
-use Rattle.protox_descriptor.specs.declared.descriptor.options.EnumOptions.{EnumOptions}
-use Rattle.protox_descriptor.specs.declared.descriptor.options.EnumValueOptions.{EnumValueOptions}
-use Rattle.protox_descriptor.specs.declared.descriptor.options.ExtensionRangeOptions.{ExtensionRangeOptions}
-use Rattle.protox_descriptor.specs.declared.descriptor.options.FieldOptions.{FieldOptions}
-use Rattle.protox_descriptor.specs.declared.descriptor.options.FileOptions.{FileOptions}
-use Rattle.protox_descriptor.specs.declared.descriptor.options.MessageOptions.{MessageOptions}
-use Rattle.protox_descriptor.specs.declared.descriptor.options.MethodOptions.{MethodOptions}
-use Rattle.protox_descriptor.specs.declared.descriptor.options.OneofOptions.{OneofOptions}
-use Rattle.protox_descriptor.specs.declared.descriptor.options.ServiceOptions.{ServiceOptions}
-use Rattle.protox_descriptor.specs.declared.descriptor.options.UninterpretedOption.{UninterpretedOption}
 use Rattle.protox_descriptor.specs.declared.descriptor.DescriptorProto.{DescriptorProto, DescriptorProto-F, roll-DescriptorProto, out-DescriptorProto, roll-out-DescriptorProto, out-roll-DescriptorProto, ind-DescriptorProto}
 use Rattle.protox_descriptor.specs.declared.descriptor.DescriptorProto.TheFolds.{fold_out-DescriptorProto}
-use Rattle.protox_descriptor.specs.declared.descriptor.FileDescriptorProto.{FileDescriptorProto}
-use Rattle.protox_encode.proofs.Again.{RoomyParts, Told, all_at, each-again, flag-again, have-room, names-again, nested-again, no-double, packed-again, payloads, room-each, room-flag, room-nested, room-none, room-packed, room-signed, room-signeds, room-text, room-texts, room-unsigned, same-parts, signed-again, signeds-again, text-again, texts-again, unsigned-again}
+use Rattle.protox_encode.proofs.Again.{Told, all_at, each-again, flag-again, have-room, names-again, nested-again, no-double, packed-again, payloads, room-each, room-flag, room-nested, room-none, room-packed, room-signed, room-signeds, room-text, room-texts, room-unsigned, same-parts, signed-again, signeds-again, text-again, texts-again, unsigned-again}
 use Rattle.protox_encode.proofs.Levels.{message-holds}
 use Rattle.protox_encode.specs.Exact as exact
 use Rattle.protox_encode.specs.Reading.{FilesHaveRoom}
 use Rattle.protox_encode.specs.Exact.{NothingIsLost, all}
 use Rattle.protox_encode.specs.Messages as words
 use Rattle.protox_encode.specs.Payloads as payload
-use Rattle.protox_encode.specs.Wire.{Payload, Parts, message}
+use Rattle.protox_encode.specs.Wire.{Parts, message}
 
 pub told-uninterpreted_option : Told words.uninterpreted_option exact.uninterpreted_option
 unfolding words.uninterpreted_option exact.uninterpreted_option

@@ -1,14 +1,12 @@
 -- Two messages of one kind with the same bytes hold the same.
-use Rattle.std.proofs.Common.{◌≡◌, ℕ, ◌+◌, ◌<◌, ◌≤◌, Bool, true, ◌&&◌, List, [], ◌∷◌, ◌++◌, refl, sym, ap, ◌∙◌, arith, append_assoc, map}
+use Rattle.std.proofs.Common.{◌≡◌, ℕ, ◌<◌, ◌≤◌, true, List, [], ◌∷◌, ◌++◌, refl, sym, ap, ◌∙◌, arith, append_assoc}
 use Rattle.std.specs.Prelude.{nat_lt}
 use Rattle.std.specs.Cmp.{first_so, second_so}
-use Rattle.std.specs.List.{flat_map}
 use Rattle.std.proofs.lemmas.Bool.Decides.{nat_tests}
-use Rattle.protox_descriptor.specs.declared.descriptor.FileDescriptorProto.{FileDescriptorProto}
 use Rattle.protox_encode.proofs.Readings.{one_reading, are_its_fields}
 use Rattle.protox_encode.specs.Messages.{file_descriptor, file_set}
 use Rattle.protox_encode.specs.Payloads.{each}
-use Rattle.protox_encode.specs.Reading.{HaveRoom, OneMessage, SetsJoin, fields, fields_of, numbered, numbers, rise_from}
+use Rattle.protox_encode.specs.Reading.{OneMessage, SetsJoin, fields_of, numbered, numbers, rise_from}
 use Rattle.protox_encode.specs.Wire.{Payload, Bytes, Parts, field, message, part}
 
 -- The numbers of all fields are greater.

@@ -1,12 +1,11 @@
 -- Bytes are those of one list of fields at most.
-use Rattle.std.proofs.Common.{◌≡◌, ℕ, zero, suc, ◌+◌, ◌*◌, ◌<◌, ◌≤◌, ◌^◌, List, [], ◌∷◌, ◌++◌, length, refl, sym, ap, ◌∙◌, subst, arith, append_assoc}
+use Rattle.std.proofs.Common.{◌≡◌, ℕ, ◌+◌, ◌*◌, ◌<◌, ◌^◌, List, [], ◌∷◌, ◌++◌, length, refl, sym, ap, ◌∙◌, arith, append_assoc}
 use Rattle.std.specs.Int.{w64, to_le_bytes, from_le_bytes}
 use Rattle.std.proofs.lemmas.Nat.{from_le_bytes-to_le_bytes_8}
-use Rattle.std.specs.List.{flat_map}
 use Rattle.protox_encode.proofs.Apart.{numbers_are_apart_law, one, more}
 use Rattle.protox_encode.proofs.Varint.{either}
-use Rattle.protox_encode.specs.Reading.{HasRoom, HaveRoom, fields, OneReading, numbered, fields_of, AreItsFields, SetsJoin}
-use Rattle.protox_encode.specs.Wire.{Payload, Number, Eight, Bytes, Parts, field, header, message, part, varint, varint_within}
+use Rattle.protox_encode.specs.Reading.{HasRoom, fields, OneReading, numbered, fields_of, AreItsFields}
+use Rattle.protox_encode.specs.Wire.{Payload, Number, Eight, Bytes, field, header, part, varint}
 
 cut_at : (a b x y : List ℕ) → length a ≡ length b → a ++ x ≡ b ++ y → (a ≡ b) × (x ≡ y)
 cut_at [] [] x y l e = (refl, e)

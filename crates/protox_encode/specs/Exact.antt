@@ -1,6 +1,6 @@
 -- When nothing of a descriptor is lost on the wire: each of its signed numbers is one of 64 bits, as they all are by their types, and no option
 -- has a double. The text of a double is lost, as the wire has the nearest float alone: `1.0` and `1.00` have the same bytes.
-use Rattle.std.specs.Prelude.{◌≡◌, ℕ, ◌^◌, ◌&&◌, ℤ, pos, negsuc, Bool, true, false, nat_lt, List, [], ◌∷◌, Option, Some, None}
+use Rattle.std.specs.Prelude.{◌≡◌, ℕ, ◌^◌, ℤ, pos, negsuc, Bool, true, false, nat_lt, List, [], ◌∷◌, Option, Some, None}
 use Rattle.std.specs.List.{list_all}
 use Rattle.protox_descriptor.specs.FieldDescriptorProto.{FieldDescriptorProto}
 use Rattle.protox_descriptor.specs.Location.{Location}

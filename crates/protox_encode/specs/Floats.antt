@@ -1,5 +1,5 @@
 -- Whether each `double_value` of a descriptor is the text of a float. The wire has no place for another text.
-use Rattle.std.specs.Prelude.{ℕ, Bool, true, ◌&&◌, List, Option, Some, None}
+use Rattle.std.specs.Prelude.{Bool, true, ◌&&◌, List, Option, Some, None}
 use Rattle.std.specs.List.{list_all}
 use Rattle.std.specs.Float.Parse.{is_float_text}
 use Rattle.protox_descriptor.specs.FieldDescriptorProto.{FieldDescriptorProto}

@@ -1,5 +1,5 @@
 -- What each message of descriptor.proto holds on the wire: the numbers of its fields in order, each with what a descriptor has there.
-use Rattle.std.specs.Prelude.{ℕ, ℤ, List, [], ◌∷◌, map, Option, Some, None, Bool, if◌then◌else◌}
+use Rattle.std.specs.Prelude.{List, [], ◌∷◌, Some}
 use Rattle.protox_descriptor.specs.FieldDescriptorProto.{FieldDescriptorProto}
 use Rattle.protox_descriptor.specs.Location.{Location}
 use Rattle.protox_descriptor.specs.declared.descriptor.DescriptorProto.{DescriptorProto}
@@ -27,7 +27,7 @@ use Rattle.protox_descriptor.specs.declared.descriptor.options.ServiceOptions.{S
 use Rattle.protox_descriptor.specs.declared.descriptor.options.UninterpretedOption.{UninterpretedOption}
 use Rattle.protox_descriptor.specs.declared.descriptor.uninterpreted_option.NamePart.{NamePart}
 use Rattle.protox_encode.specs.Payloads.{text, texts, signed, signeds, unsigned, double, flag, packed, nested, each}
-use Rattle.protox_encode.specs.Wire.{Payload, Number, Bytes, Parts, message}
+use Rattle.protox_encode.specs.Wire.{Parts}
 
 unfoldable pub name_part : NamePart → Parts
 name_part p = (1, text (Some p.name_part)) ∷ (2, flag (Some p.is_extension)) ∷ []

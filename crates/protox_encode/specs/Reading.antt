@@ -1,5 +1,5 @@
 -- What bytes say of a message, by the wire format alone: which fields they are, whatever message it is.
-use Rattle.std.specs.Prelude.{◌≡◌, ℕ, ◌<◌, ◌^◌, Bool, true, ◌&&◌, nat_lt, List, [], ◌∷◌, ◌++◌, map}
+use Rattle.std.specs.Prelude.{◌≡◌, ℕ, ◌<◌, ◌^◌, Bool, true, ◌&&◌, nat_lt, List, [], ◌∷◌, ◌++◌}
 use Rattle.protox_descriptor.specs.declared.descriptor.FileDescriptorProto.{FileDescriptorProto}
 use Rattle.protox_encode.specs.Messages.{file_descriptor, file_set}
 use Rattle.protox_encode.specs.Wire.{Payload, Number, Eight, Bytes, Parts, field, message, varint}

@@ -39,4 +39,3 @@ Parts = List (ℕ × List Payload)
 abbrev pub message : Parts → List ℕ
 message [] = []
 message ((number, payloads) ∷ parts) = part number payloads ++ message parts
-

@@ -1,0 +1,6 @@
+pub mod Exact
+pub mod Floats
+pub mod Messages
+pub mod Payloads
+pub mod Reading
+pub mod Wire

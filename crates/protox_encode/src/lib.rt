@@ -1,0 +1,15 @@
+//! The bytes of descriptors, as Protocol Buffers writes messages.
+#![tactic(auto)]
+
+pub mod backward;
+mod fault;
+mod file;
+mod floats;
+pub mod laws;
+mod locations;
+mod messages;
+mod options;
+pub mod wire;
+
+pub use fault::EncodeError;
+pub use file::{encode, encode_entry, encode_over, encode_set};

@@ -1,0 +1,237 @@
+//! Descriptors on the wire.
+
+ghost use Rattle.std.specs.Prelude.{◌≡◌, ◌++◌, OnOk};
+ghost use Rattle.protox_encode.specs.Wire.{message, part};
+ghost use Rattle.protox_encode.specs.Payloads.{text, each};
+ghost use Rattle.protox_encode.specs.Messages as words;
+ghost use Rattle.protox_descriptor.specs.declared.descriptor.DescriptorProto.{out-DescriptorProto};
+
+use crate::backward::Backward;
+use crate::wire::{
+    Message, prepend_each, prepend_flag, prepend_nested, prepend_signed, prepend_signeds,
+    prepend_text, prepend_texts,
+};
+use protox_descriptor::descriptor::descriptor_proto::{ExtensionRange, ReservedRange};
+use protox_descriptor::descriptor::enum_descriptor_proto::EnumReservedRange;
+use protox_descriptor::descriptor::{
+    DescriptorProto, EnumDescriptorProto, EnumValueDescriptorProto, FieldDescriptorProto,
+    FileDescriptorProto, MethodDescriptorProto, OneofDescriptorProto, ServiceDescriptorProto,
+};
+use std::alloc::{AllocError, Global};
+
+// Puts in front what few fields have.
+#[tactic(auto, unfolding(crate::specs::Messages::rare_parts))]
+fn prepend_rare_parts(
+    alloc: Global,
+    out: &mut Backward,
+    field: &FieldDescriptorProto,
+) -> Result<(), AllocError>
+    ensures { OnOk result (out.new ≡ message (words.rare_parts field.now) ++ out.old) }
+{
+    prepend_flag(alloc, out, 17, field.proto3_optional())?;
+    prepend_text(alloc, out, 10, field.json_name())?;
+    prepend_signed(alloc, out, 9, field.oneof_index())?;
+    prepend_nested(alloc, out, 8, field.options())?;
+    prepend_text(alloc, out, 7, field.default_value())
+}
+
+impl Message for FieldDescriptorProto {
+    ghost parts = { words.field_descriptor };
+
+    #[tactic(auto, unfolding(crate::specs::Messages::field_descriptor))]
+    fn prepend_to(&self, alloc: Global, out: &mut Backward) -> Result<(), AllocError> {
+        prepend_rare_parts(alloc, out, self)?;
+        prepend_text(alloc, out, 6, self.type_name.as_ref())?;
+        prepend_signed(alloc, out, 5, self.field_type)?;
+        prepend_signed(alloc, out, 4, self.label)?;
+        prepend_signed(alloc, out, 3, self.number)?;
+        prepend_text(alloc, out, 2, self.extendee())?;
+        prepend_text(alloc, out, 1, self.name.as_ref())
+    }
+}
+
+impl Message for OneofDescriptorProto {
+    ghost parts = { words.oneof_descriptor };
+
+    #[tactic(auto, unfolding(crate::specs::Messages::oneof_descriptor))]
+    fn prepend_to(&self, alloc: Global, out: &mut Backward) -> Result<(), AllocError> {
+        prepend_nested(alloc, out, 2, self.options.as_ref())?;
+        prepend_text(alloc, out, 1, self.name.as_ref())
+    }
+}
+
+impl Message for EnumValueDescriptorProto {
+    ghost parts = { words.enum_value_descriptor };
+
+    #[tactic(auto, unfolding(crate::specs::Messages::enum_value_descriptor))]
+    fn prepend_to(&self, alloc: Global, out: &mut Backward) -> Result<(), AllocError> {
+        prepend_nested(alloc, out, 3, self.options.as_ref())?;
+        prepend_signed(alloc, out, 2, self.number)?;
+        prepend_text(alloc, out, 1, self.name.as_ref())
+    }
+}
+
+impl Message for EnumReservedRange {
+    ghost parts = { words.enum_reserved_range };
+
+    #[tactic(auto, unfolding(crate::specs::Messages::enum_reserved_range))]
+    fn prepend_to(&self, alloc: Global, out: &mut Backward) -> Result<(), AllocError> {
+        prepend_signed(alloc, out, 2, self.end)?;
+        prepend_signed(alloc, out, 1, self.start)
+    }
+}
+
+impl Message for EnumDescriptorProto {
+    ghost parts = { words.enum_descriptor };
+
+    #[tactic(auto, unfolding(crate::specs::Messages::enum_descriptor))]
+    fn prepend_to(&self, alloc: Global, out: &mut Backward) -> Result<(), AllocError> {
+        prepend_texts(alloc, out, 5, self.reserved_name.as_slice())?;
+        prepend_each(alloc, out, 4, &self.reserved_range)?;
+        prepend_nested(alloc, out, 3, self.options.as_ref())?;
+        prepend_each(alloc, out, 2, &self.value)?;
+        prepend_text(alloc, out, 1, self.name.as_ref())
+    }
+}
+
+impl Message for MethodDescriptorProto {
+    ghost parts = { words.method_descriptor };
+
+    #[tactic(auto, unfolding(crate::specs::Messages::method_descriptor))]
+    fn prepend_to(&self, alloc: Global, out: &mut Backward) -> Result<(), AllocError> {
+        prepend_flag(alloc, out, 6, self.server_streaming)?;
+        prepend_flag(alloc, out, 5, self.client_streaming)?;
+        prepend_nested(alloc, out, 4, self.options.as_ref())?;
+        prepend_text(alloc, out, 3, self.output_type.as_ref())?;
+        prepend_text(alloc, out, 2, self.input_type.as_ref())?;
+        prepend_text(alloc, out, 1, self.name.as_ref())
+    }
+}
+
+impl Message for ServiceDescriptorProto {
+    ghost parts = { words.service_descriptor };
+
+    #[tactic(auto, unfolding(crate::specs::Messages::service_descriptor))]
+    fn prepend_to(&self, alloc: Global, out: &mut Backward) -> Result<(), AllocError> {
+        prepend_nested(alloc, out, 3, self.options.as_ref())?;
+        prepend_each(alloc, out, 2, &self.method)?;
+        prepend_text(alloc, out, 1, self.name.as_ref())
+    }
+}
+
+impl Message for ExtensionRange {
+    ghost parts = { words.extension_range };
+
+    #[tactic(auto, unfolding(crate::specs::Messages::extension_range))]
+    fn prepend_to(&self, alloc: Global, out: &mut Backward) -> Result<(), AllocError> {
+        prepend_nested(alloc, out, 3, self.options.as_ref())?;
+        prepend_signed(alloc, out, 2, self.end)?;
+        prepend_signed(alloc, out, 1, self.start)
+    }
+}
+
+impl Message for ReservedRange {
+    ghost parts = { words.reserved_range };
+
+    #[tactic(auto, unfolding(crate::specs::Messages::reserved_range))]
+    fn prepend_to(&self, alloc: Global, out: &mut Backward) -> Result<(), AllocError> {
+        prepend_signed(alloc, out, 2, self.end)?;
+        prepend_signed(alloc, out, 1, self.start)
+    }
+}
+
+// Puts in front what stands behind the definitions in a message.
+#[tactic(auto, unfolding(crate::specs::Messages::message_end))]
+fn prepend_message_end(
+    alloc: Global,
+    out: &mut Backward,
+    m: &DescriptorProto,
+) -> Result<(), AllocError>
+    ensures { OnOk result (out.new ≡ message (words.message_end (out-DescriptorProto m.now)) ++ out.old) }
+{
+    prepend_texts(alloc, out, 10, m.reserved_name.as_slice())?;
+    prepend_each(alloc, out, 9, &m.reserved_range)?;
+    prepend_each(alloc, out, 8, &m.oneof_decl)?;
+    prepend_nested(alloc, out, 7, m.options.as_ref())
+}
+
+// Puts in front what stands behind the messages in a message.
+#[tactic(auto, unfolding(crate::specs::Messages::message_middle))]
+fn prepend_message_middle(
+    alloc: Global,
+    out: &mut Backward,
+    m: &DescriptorProto,
+) -> Result<(), AllocError>
+    ensures { OnOk result (out.new ≡ message (words.message_middle (out-DescriptorProto m.now)) ++ out.old) }
+{
+    prepend_message_end(alloc, out, m)?;
+    prepend_each(alloc, out, 6, &m.extension)?;
+    prepend_each(alloc, out, 5, &m.extension_range)?;
+    prepend_each(alloc, out, 4, &m.enum_type)
+}
+
+// Puts in front what stands before the messages in a message.
+fn prepend_message_front(
+    alloc: Global,
+    out: &mut Backward,
+    m: &DescriptorProto,
+) -> Result<(), AllocError>
+    ensures { OnOk result (out.new ≡ part 1 (text (out-DescriptorProto m.now).name) ++ (part 2 (each words.field_descriptor (out-DescriptorProto m.now).field) ++ out.old)) }
+{
+    prepend_each(alloc, out, 2, &m.field)?;
+    prepend_text(alloc, out, 1, m.name.as_ref())
+}
+
+impl Message for DescriptorProto {
+    ghost parts = { words.message_descriptor };
+
+    fn prepend_to(&self, alloc: Global, out: &mut Backward) -> Result<(), AllocError> {
+        prepend_message_middle(alloc, out, self)?;
+        prepend_each(alloc, out, 3, &self.nested_type)?;
+        prepend_message_front(alloc, out, self)
+    }
+}
+
+// Puts in front what stands behind a file's definitions.
+#[tactic(auto, unfolding(crate::specs::Messages::file_end))]
+fn prepend_file_end(
+    alloc: Global,
+    out: &mut Backward,
+    f: &FileDescriptorProto,
+) -> Result<(), AllocError>
+    ensures { OnOk result (out.new ≡ message (words.file_end f.now) ++ out.old) }
+{
+    prepend_text(alloc, out, 12, f.syntax.as_ref())?;
+    prepend_signeds(alloc, out, 11, f.weak_dependency.as_slice())?;
+    prepend_signeds(alloc, out, 10, f.public_dependency.as_slice())?;
+    prepend_nested(alloc, out, 9, f.source_code_info.as_ref())?;
+    prepend_nested(alloc, out, 8, f.options.as_ref())
+}
+
+// Puts a file's definitions in front, and what stands behind them.
+#[tactic(auto, unfolding(crate::specs::Messages::file_definitions))]
+fn prepend_file_definitions(
+    alloc: Global,
+    out: &mut Backward,
+    f: &FileDescriptorProto,
+) -> Result<(), AllocError>
+    ensures { OnOk result (out.new ≡ message (words.file_definitions f.now) ++ out.old) }
+{
+    prepend_file_end(alloc, out, f)?;
+    prepend_each(alloc, out, 7, &f.extension)?;
+    prepend_each(alloc, out, 6, &f.service)?;
+    prepend_each(alloc, out, 5, &f.enum_type)?;
+    prepend_each(alloc, out, 4, &f.message_type)
+}
+
+impl Message for FileDescriptorProto {
+    ghost parts = { words.file_descriptor };
+
+    #[tactic(auto, unfolding(crate::specs::Messages::file_descriptor))]
+    fn prepend_to(&self, alloc: Global, out: &mut Backward) -> Result<(), AllocError> {
+        prepend_file_definitions(alloc, out, self)?;
+        prepend_texts(alloc, out, 3, self.dependency.as_slice())?;
+        prepend_text(alloc, out, 2, self.package.as_ref())?;
+        prepend_text(alloc, out, 1, self.name.as_ref())
+    }
+}

@@ -1,9 +1,9 @@
 //! One case: a file's name, and what the parser answers.
 
-use crate::descriptors::write_file;
 use crate::locations::write_locations;
 use protox_parse::error::ParseErrorKind;
 use protox_parse::{ParseError, ParseFailure, parse};
+use protox_text::descriptors::write_file;
 use std::alloc::Global;
 use std::io::{self, Write};
 
@@ -45,7 +45,7 @@ pub fn write_case<W: Write>(
     };
     match parse(alloc, name, source) {
         Ok(file) => {
-            write_file(alloc, out, &file)?;
+            write_file(alloc, out, &file, false)?;
             write_locations(alloc, out, &file)
         }
         Err(ParseFailure::Refused(error)) => write_refusal(alloc, out, &error),

@@ -1,10 +1,10 @@
 //! The lines of locations.
 
-use crate::lines::{Level, write_bytes};
 use protoscan_run::{LastPrinted, push_location};
 use protox_parse::descriptor::FileDescriptorProto;
 use protox_parse::descriptor::source_code_info::Location;
 use protox_parse::values::Text;
+use protox_text::lines::{Level, write_bytes};
 use std::alloc::Global;
 use std::io::{self, Write};
 

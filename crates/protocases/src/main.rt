@@ -6,15 +6,8 @@
 #![tactic(auto)]
 
 mod cases;
-mod descriptors;
-mod enums;
-mod fields;
 mod lexemes;
-mod lines;
 mod locations;
-mod messages;
-mod options;
-mod services;
 mod shown;
 mod table;
 

@@ -3,8 +3,8 @@
 use crate::lines::{
     Level, write_bytes, write_close, write_flag, write_indent, write_open, write_text, write_word,
 };
-use protox_parse::descriptor::UninterpretedOption;
-use protox_parse::descriptor::uninterpreted_option::NamePart;
+use protox_descriptor::descriptor::UninterpretedOption;
+use protox_descriptor::descriptor::uninterpreted_option::NamePart;
 use std::io::{self, Write};
 
 fn write_name_part<W: Write>(out: &mut W, level: Level, part: &NamePart) -> io::Result<()> {

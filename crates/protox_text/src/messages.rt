@@ -6,8 +6,8 @@ use crate::lines::{
     Level, write_close, write_flag, write_number, write_open, write_text, write_texts,
 };
 use crate::options::{write_options, write_options_field};
-use protox_parse::descriptor::descriptor_proto::{ExtensionRange, ReservedRange};
-use protox_parse::descriptor::{DescriptorProto, MessageOptions};
+use protox_descriptor::descriptor::descriptor_proto::{ExtensionRange, ReservedRange};
+use protox_descriptor::descriptor::{DescriptorProto, MessageOptions};
 use std::io::{self, Write};
 
 fn write_extensions<W: Write>(out: &mut W, level: Level, range: &ExtensionRange) -> io::Result<()> {

@@ -2,7 +2,7 @@
 
 use crate::lines::{Level, write_close, write_flag, write_open, write_text};
 use crate::options::write_options_field;
-use protox_parse::descriptor::{MethodDescriptorProto, ServiceDescriptorProto};
+use protox_descriptor::descriptor::{MethodDescriptorProto, ServiceDescriptorProto};
 use std::io::{self, Write};
 
 fn write_method<W: Write>(

@@ -2,8 +2,8 @@
 
 use crate::lines::{Level, write_close, write_number, write_open, write_text, write_texts};
 use crate::options::write_options_field;
-use protox_parse::descriptor::enum_descriptor_proto::EnumReservedRange;
-use protox_parse::descriptor::{EnumDescriptorProto, EnumValueDescriptorProto};
+use protox_descriptor::descriptor::enum_descriptor_proto::EnumReservedRange;
+use protox_descriptor::descriptor::{EnumDescriptorProto, EnumValueDescriptorProto};
 use std::io::{self, Write};
 
 fn write_value<W: Write>(

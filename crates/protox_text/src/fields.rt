@@ -4,7 +4,7 @@ use crate::lines::{
     Level, write_close, write_flag, write_number, write_open, write_text, write_word,
 };
 use crate::options::write_options_field;
-use protox_parse::descriptor::{FieldDescriptorProto, OneofDescriptorProto};
+use protox_descriptor::descriptor::{FieldDescriptorProto, OneofDescriptorProto};
 use std::io::{self, Write};
 
 // The names that descriptor.proto gives to labels.

@@ -1,4 +1,4 @@
-//! The text format of a file's descriptor, but for its locations, which have lines of their own.
+//! The text format of a file's descriptor.
 
 use crate::enums::write_enum;
 use crate::fields::write_field;
@@ -6,7 +6,8 @@ use crate::lines::{Level, write_numbers, write_text, write_texts};
 use crate::messages::write_message;
 use crate::options::write_options_field;
 use crate::services::write_service;
-use protox_parse::descriptor::FileDescriptorProto;
+use crate::source_info::write_source_info;
+use protox_descriptor::descriptor::FileDescriptorProto;
 use std::alloc::Global;
 use std::io::{self, Write};
 
@@ -29,11 +30,13 @@ fn write_types<W: Write>(out: &mut W, level: Level, file: &FileDescriptorProto) 
     Ok(())
 }
 
-/// The fields of the file's descriptor, in the order of their numbers.
+/// The fields of the file's descriptor, in the order of their numbers; `source_code_info` only where
+/// `source_info` says so.
 pub fn write_file<W: Write>(
     alloc: Global,
     out: &mut W,
     file: &FileDescriptorProto,
+    source_info: bool,
 ) -> io::Result<()> {
     let level = Level { alloc, depth: 0 };
     write_text(out, level, "name", file.name.as_ref())?;
@@ -43,7 +46,21 @@ pub fn write_file<W: Write>(
     if let Some(options) = &file.options {
         write_options_field(out, level, options.uninterpreted_option.as_slice())?;
     }
-    write_numbers(out, level, "public_dependency", &file.public_dependency)?;
-    write_numbers(out, level, "weak_dependency", &file.weak_dependency)?;
+    match &file.source_code_info {
+        Some(info) if source_info => write_source_info(out, level, info)?,
+        _ => (),
+    }
+    write_numbers(
+        out,
+        level,
+        "public_dependency",
+        file.public_dependency.as_slice(),
+    )?;
+    write_numbers(
+        out,
+        level,
+        "weak_dependency",
+        file.weak_dependency.as_slice(),
+    )?;
     write_text(out, level, "syntax", file.syntax.as_ref())
 }

@@ -1,8 +1,8 @@
 //! Lines of the text format of Protocol Buffers: a field and its value, or a message in braces. What is
 //! not there has no line.
 
-use protox_parse::ast;
-use protox_parse::values::{Items, Text};
+use protox_ast::ast;
+use protox_descriptor::values::{Items, Text};
 use std::alloc::Global;
 use std::io::{self, Write};
 
@@ -106,9 +106,9 @@ pub fn write_numbers<W: Write>(
     out: &mut W,
     level: Level,
     name: &str,
-    numbers: &Items<i32>,
+    numbers: &[i32],
 ) -> io::Result<()> {
-    for number in numbers.iter() {
+    for number in numbers {
         write_number(out, level, name, Some(*number))?;
     }
     Ok(())

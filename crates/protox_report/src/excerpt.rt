@@ -1,0 +1,141 @@
+//! Which part of a source's line is shown with a fault.
+
+ghost use Rattle.std.specs.Prelude.{◌≡◌, ◌≢◌, ◌-◌, ◌<◌, ◌≤◌, ◌&&◌, not, nat_lt, if◌then◌else◌, ℕ, true, false, length, slice_index};
+ghost use Rattle.std.specs.Str.{IsCharBoundary};
+ghost use Rattle.protox_report.specs.Excerpts.{begins_line, ends_line, IsExcerpt, IsFirst, IsLast};
+
+use protox_fault::error::Span;
+
+/// At most so many bytes of a line are shown before a span, within it and behind it.
+pub const SHOWN: usize = 120;
+
+// Whether a line ends at a byte: with a newline, or with a carriage return before one.
+fn ends_line_at(bytes: &[u8], at: usize) -> bool
+    requires { at ≤ length bytes.now }
+    ensures { result ≡ ends_line bytes.now at }
+{
+    match &bytes[at..] {
+        [b'\n', ..] => true,
+        [b'\r', b'\n', ..] => true,
+        _ => false,
+    }
+}
+
+// Whether a line begins at a byte: the first of the source, or one behind a newline.
+fn begins_line_at(bytes: &[u8], at: usize) -> bool
+    requires { at ≤ length bytes.now }
+    ensures { result ≡ begins_line bytes.now at }
+{
+    at == 0 || bytes[at - 1] == b'\n'
+}
+
+// Behind the last newline before `start`, or `least` where none stands between.
+fn line_start(bytes: &[u8], least: usize, start: usize) -> usize
+    requires least { least ≤ start }
+    requires start { start ≤ length bytes.now }
+    ensures bound { least ≤ result }
+    ensures before { result ≤ start }
+    ensures clean { (k : ℕ) → result ≤ k → k < start → slice_index bytes.now k ≢ 10 }
+    ensures behind { least < result → slice_index bytes.now (result - 1) ≡ 10 }
+{
+    let mut at = start;
+    while least < at {
+        if bytes[at - 1] == b'\n' {
+            return at;
+        }
+        at -= 1;
+    }
+    at
+}
+
+// Where the line ends behind `start`, or `most` where that comes first.
+fn line_end(bytes: &[u8], start: usize, most: usize) -> usize
+    requires start { start ≤ most }
+    requires most { most ≤ length bytes.now }
+    ensures bound { result ≤ most }
+    ensures behind { start ≤ result }
+    ensures clean { (k : ℕ) → start ≤ k → k < result → ends_line bytes.now k ≡ false }
+    ensures ends { result < most → ends_line bytes.now result ≡ true }
+{
+    for at in start..most {
+        if ends_line_at(bytes, at) {
+            return at;
+        }
+    }
+    most
+}
+
+// From where a line is shown up to `start`.
+#[tactic(auto, using(crate::proofs::Floors::first_is))]
+fn shown_from(source: &str, start: usize) -> usize
+    requires { IsCharBoundary source.now start }
+    ensures { IsFirst source.now start result }
+{
+    let least = start.saturating_sub(SHOWN);
+    source.ceil_char_boundary(line_start(source.as_bytes(), least, start))
+}
+
+// How far a line is shown from `start` on, at most to `end`.
+#[tactic(auto, using(crate::proofs::Floors::last_is))]
+fn shown_to(source: &str, start: usize, end: usize) -> usize
+    requires start { IsCharBoundary source.now start }
+    requires order { start ≤ end }
+    requires end { end ≤ length source.now }
+    ensures { IsLast source.now start end result }
+{
+    let most = end.min(start.saturating_add(SHOWN));
+    source.floor_char_boundary(line_end(source.as_bytes(), start, most))
+}
+
+/// What is shown of the line in which a span starts.
+#[derive(Clone, Copy)]
+pub struct Excerpt<'a> {
+    /// What stands before the span.
+    pub before: &'a str,
+    /// What the span covers.
+    pub marked: &'a str,
+    /// What stands behind the span.
+    pub behind: &'a str,
+    /// Whether more of the line stands before what is shown.
+    pub cut_before: bool,
+    /// Whether more of the line stands behind what is shown.
+    pub cut_behind: bool,
+}
+
+// How far the rest of a line may be shown: not at all where the span goes on past `end`.
+fn limit_behind(end: usize, reach: usize, len: usize) -> usize
+    ensures { result ≡ (if nat_lt end reach then end else len) }
+{
+    if end < reach { end } else { len }
+}
+
+// Whether more of a line stands from `to` on.
+fn is_cut_at(bytes: &[u8], to: usize) -> bool
+    requires { to ≤ length bytes.now }
+    ensures { result ≡ (nat_lt to (length bytes.now) && not (ends_line bytes.now to)) }
+{
+    to < bytes.len() && !ends_line_at(bytes, to)
+}
+
+/// What is shown of the line in which the span starts.
+pub fn excerpt_of<'a>(source: &'a str, span: &Span) -> Excerpt<'a>
+    ensures { IsExcerpt source.now span.now result }
+{
+    let bytes = source.as_bytes();
+    let start = source.floor_char_boundary(span.start);
+    let last = source.floor_char_boundary(span.end);
+    let reach = last.max(start);
+    let from = shown_from(source, start);
+    let end = shown_to(source, start, reach);
+    let limit = limit_behind(end, reach, source.len());
+    let to = shown_to(source, end, limit);
+    let begins = begins_line_at(bytes, from);
+    let cut_behind = is_cut_at(bytes, to);
+    Excerpt {
+        before: &source[from..start],
+        marked: &source[start..end],
+        behind: &source[end..to],
+        cut_before: !begins,
+        cut_behind,
+    }
+}

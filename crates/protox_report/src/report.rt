@@ -1,0 +1,366 @@
+//! The report of a fault.
+
+ghost use Rattle.std.specs.Prelude.{◌≡◌, ◌≤◌, ◌+◌, ◌++◌, min, ℕ, List, IfOk, OnOk, codes, length, replicate};
+ghost use Rattle.std.specs.String.{string_bytes};
+ghost use Rattle.protox_fault.specs.FaultTexts.{text_of};
+ghost use Rattle.protox_report.specs.Shown.{shown};
+ghost use Rattle.protox_locate.specs.Lines.{line, column, starts};
+ghost use Rattle.protox_report.specs.Excerpts.{IsExcerpt};
+ghost use Rattle.protox_report.specs.Reports.{behind_blank, below, below_dots, carets, dots, end_of, excerpt_line, excerpt_lines, excerpt_marks, help_if, help_line, help_text, number_of, numbered, position_text, first_place, has_place, label_text, place_in, place_text, title, AreTold, IsReported, Tells};
+
+use crate::excerpt::{Excerpt, excerpt_of};
+use crate::paint::Paint;
+use crate::shown::{push_shown, push_times, push_under};
+use protox_fault::error::{ParseErrorKind, Span};
+use protox_locate::lines::LineResolver;
+use std::alloc::{AllocError, Global};
+
+/// The least width of the column of line numbers.
+const WIDTH: usize = 5;
+
+/// A source whose faults are reported.
+#[derive(Drop)]
+pub struct Source<'a> {
+    name: &'a str,
+    text: &'a str,
+    lines: LineResolver,
+    paint: Paint,
+    ghost fits: { length text.now ≤ 2147483647 },
+    ghost resolves: { lines ≡ starts 0 text.now },
+}
+
+// Where the source ends: at its last newline, where it ends with one.
+fn end_at(source: &str) -> usize
+    ensures { result ≡ end_of source.now }
+{
+    match source.as_bytes() {
+        [front @ .., b'\n'] => front.len(),
+        whole => whole.len(),
+    }
+}
+
+/// The offset at which a fault is reported: its place, the second where it has two. For the end of
+/// the source that of its last newline, or of its end; for the whole source 0.
+pub fn place_of(source: &str, fault: &ParseErrorKind) -> usize
+    ensures { result ≡ place_in source.now fault.now }
+{
+    match fault {
+        ParseErrorKind::DuplicatePackage { second, .. } => second.start,
+        ParseErrorKind::UnexpectedEof { .. } => end_at(source),
+        fault => match fault.span() {
+            Some(span) => span.start,
+            None => 0,
+        },
+    }
+}
+
+// Whether a fault has a place in the source: not where it is of the whole source.
+fn is_placed(fault: &ParseErrorKind) -> bool
+    ensures { result ≡ has_place fault.now }
+{
+    match fault {
+        ParseErrorKind::FileTooLarge => false,
+        _ => true,
+    }
+}
+
+// The place of a fault, the first where it has two.
+fn first_span(source: &str, fault: &ParseErrorKind) -> Span
+    ensures { result ≡ first_place source.now fault.now }
+{
+    if let ParseErrorKind::DuplicatePackage { first, .. } = fault {
+        return first.start..first.end;
+    }
+    let place = place_of(source, fault);
+    match fault.span() {
+        Some(span) => span,
+        None => place..place,
+    }
+}
+
+// The label at that place, or the empty text.
+fn label_at(fault: &ParseErrorKind) -> &'static str
+    ensures { result.now ≡ label_text fault.now }
+{
+    match fault.label() {
+        Some(label) => label,
+        None => "",
+    }
+}
+
+// `:LINE:COLUMN:`
+fn push_place(out: &mut String, line: u32, column: u32) -> Result<(), AllocError>
+    ensures { OnOk result (string_bytes out.new ≡ string_bytes out.old ++ place_text line column) }
+{
+    write!(out, ":{line}:{column}:")
+}
+
+// A number, at the right of five columns.
+fn push_number(out: &mut String, number: &str) -> Result<(), AllocError>
+    ensures { OnOk result (string_bytes out.new ≡ string_bytes out.old ++ numbered number.now) }
+{
+    push_times(out, b' ', WIDTH.saturating_sub(number.len()))?;
+    out.push_str(number)
+}
+
+// Blanks below a number.
+fn push_below(out: &mut String, number: &str) -> Result<(), AllocError>
+    ensures { OnOk result (string_bytes out.new ≡ string_bytes out.old ++ below number.now) }
+{
+    push_times(out, b' ', WIDTH.max(number.len()))
+}
+
+// What stands for a part that is left out, if one is.
+fn push_dots(out: &mut String, cut: bool) -> Result<(), AllocError>
+    ensures { OnOk result (string_bytes out.new ≡ string_bytes out.old ++ dots cut) }
+{
+    if cut { out.push_str("...") } else { Ok(()) }
+}
+
+// Blanks below that.
+fn push_below_dots(out: &mut String, cut: bool) -> Result<(), AllocError>
+    ensures { OnOk result (string_bytes out.new ≡ string_bytes out.old ++ below_dots cut) }
+{
+    if cut { out.push_str("   ") } else { Ok(()) }
+}
+
+// The line in which a span starts, or what is shown of it, behind its number.
+fn push_line(
+    alloc: Global,
+    out: &mut String,
+    number: &str,
+    shown: &Excerpt<'_>,
+) -> Result<(), AllocError>
+    ensures { OnOk result (string_bytes out.new ≡ string_bytes out.old ++ excerpt_line number.now shown.now) }
+{
+    push_number(out, number)?;
+    out.push_str(" | ")?;
+    push_dots(out, shown.cut_before)?;
+    push_shown(alloc, out, shown.before)?;
+    push_shown(alloc, out, shown.marked)?;
+    push_shown(alloc, out, shown.behind)?;
+    push_dots(out, shown.cut_behind)?;
+    out.push_str("\n")?;
+    Ok(())
+}
+
+// `^` under each column of a text, one where it is empty.
+fn push_carets(alloc: Global, out: &mut String, text: &str) -> Result<(), AllocError>
+    ensures { OnOk result (string_bytes out.new ≡ string_bytes out.old ++ carets text.now) }
+{
+    if text.is_empty() {
+        return out.push_str("^");
+    }
+    push_under(alloc, out, text, b'^')
+}
+
+// A label behind a blank, if there is one.
+fn push_label(out: &mut String, label: &str) -> Result<(), AllocError>
+    ensures { OnOk result (string_bytes out.new ≡ string_bytes out.old ++ behind_blank label.now) }
+{
+    if label.is_empty() {
+        return Ok(());
+    }
+    out.push_str(" ")?;
+    out.push_str(label)
+}
+
+// The text of a fault, as it is shown.
+fn push_text(alloc: Global, out: &mut String, fault: &ParseErrorKind) -> Result<(), AllocError>
+    ensures { OnOk result (string_bytes out.new ≡ string_bytes out.old ++ shown (text_of fault.now)) }
+{
+    let text = format!(in alloc; "{fault}")?;
+    push_shown(alloc, out, text.as_str())
+}
+
+// The help of a fault, or the empty text.
+fn help_at(alloc: Global, fault: &ParseErrorKind) -> Result<String, AllocError>
+    ensures { IfOk result (λ text. string_bytes text ≡ help_text fault.now) }
+{
+    match fault.help(alloc)? {
+        Some(help) => Ok(help),
+        None => Ok(String::new(alloc)),
+    }
+}
+
+// The line of a help.
+fn push_help_line(alloc: Global, out: &mut String, help: &str) -> Result<(), AllocError>
+    ensures { OnOk result (string_bytes out.new ≡ string_bytes out.old ++ help_line help.now) }
+{
+    push_times(out, b' ', WIDTH)?;
+    out.push_str(" = help: ")?;
+    push_shown(alloc, out, help)?;
+    out.push_str("\n")?;
+    Ok(())
+}
+
+// The same, if there is any help.
+fn push_help(alloc: Global, out: &mut String, help: &str) -> Result<(), AllocError>
+    ensures { OnOk result (string_bytes out.new ≡ string_bytes out.old ++ help_if help.now) }
+{
+    if help.is_empty() {
+        return Ok(());
+    }
+    push_help_line(alloc, out, help)
+}
+
+// The line of the help of a fault, if there is any.
+fn push_help_of(alloc: Global, out: &mut String, fault: &ParseErrorKind) -> Result<(), AllocError>
+    ensures { OnOk result (string_bytes out.new ≡ string_bytes out.old ++ help_if (help_text fault.now)) }
+{
+    let help = help_at(alloc, fault)?;
+    push_help(alloc, out, help.as_str())
+}
+
+impl<'a> Source<'a> {
+    /// A source under the name that the reports show, or `AllocError`.
+    pub fn new(
+        alloc: Global,
+        name: &'a str,
+        text: &'a str,
+        paint: Paint,
+    ) -> Result<Source<'a>, AllocError>
+        requires { length text.now ≤ 2147483647 }
+    {
+        let lines = LineResolver::new(alloc, text)?;
+        Ok(Source {
+            name,
+            text,
+            lines,
+            paint,
+        })
+    }
+
+    // Line and column of an offset, both from 1.
+    fn position(&self, offset: usize) -> (u32, u32)
+        ensures line { result.0 ≡ line self.now.text.now (min offset (length self.now.text.now)) + 1 }
+        ensures column { result.1 ≡ column self.now.text.now (min offset (length self.now.text.now)) + 1 }
+    {
+        let (line, column) = self.lines.resolve(offset.min(self.text.len()));
+        (line.unsigned_abs() + 1, column.unsigned_abs() + 1)
+    }
+
+    // `:LINE:COLUMN:` of the place at which a fault is reported.
+    fn push_position(&self, out: &mut String, fault: &ParseErrorKind) -> Result<(), AllocError>
+        ensures { OnOk result (string_bytes out.new ≡ string_bytes out.old ++ position_text self.now.text.now fault.now) }
+    {
+        let (line, column) = self.position(place_of(self.text, fault));
+        push_place(out, line, column)
+    }
+
+    // `FILE:LINE:COLUMN: text`
+    fn push_title(
+        &self,
+        alloc: Global,
+        out: &mut String,
+        fault: &ParseErrorKind,
+    ) -> Result<(), AllocError>
+        ensures { OnOk result (string_bytes out.new ≡ string_bytes out.old ++ title self.now.paint self.now.name.now self.now.text.now fault.now) }
+    {
+        out.push_str(self.paint.place)?;
+        push_shown(alloc, out, self.name)?;
+        self.push_position(out, fault)?;
+        out.push_str(self.paint.end)?;
+        out.push_str(" ")?;
+        push_text(alloc, out, fault)?;
+        out.push_str("\n")?;
+        Ok(())
+    }
+
+    // Marks under what the span covers, at least one, and the label.
+    fn push_marks(
+        &self,
+        alloc: Global,
+        out: &mut String,
+        number: &str,
+        shown: &Excerpt<'_>,
+        label: &str,
+    ) -> Result<(), AllocError>
+        ensures { OnOk result (string_bytes out.new ≡ string_bytes out.old ++ excerpt_marks self.now.paint number.now shown.now label.now) }
+    {
+        push_below(out, number)?;
+        out.push_str(" | ")?;
+        push_below_dots(out, shown.cut_before)?;
+        push_under(alloc, out, shown.before, b' ')?;
+        out.push_str(self.paint.mark)?;
+        push_carets(alloc, out, shown.marked)?;
+        push_label(out, label)?;
+        out.push_str(self.paint.end)?;
+        out.push_str("\n")?;
+        Ok(())
+    }
+
+    // Both lines of an excerpt.
+    fn push_lines(
+        &self,
+        alloc: Global,
+        out: &mut String,
+        number: &str,
+        shown: &Excerpt<'_>,
+        label: &str,
+    ) -> Result<(), AllocError>
+        ensures { OnOk result (string_bytes out.new ≡ string_bytes out.old ++ excerpt_lines self.now.paint number.now shown.now label.now) }
+    {
+        push_line(alloc, out, number, shown)?;
+        self.push_marks(alloc, out, number, shown, label)?;
+        Ok(())
+    }
+
+    // The number of the line in which a span starts.
+    fn number_at(&self, alloc: Global, span: &Span) -> Result<String, AllocError>
+        ensures { IfOk result (λ number. string_bytes number ≡ number_of self.now.text.now span.now) }
+    {
+        let (line, _) = self.position(span.start);
+        format!(in alloc; "{line}")
+    }
+
+    // The line in which a span starts, and the marks under it.
+    fn push_excerpt(
+        &self,
+        alloc: Global,
+        out: &mut String,
+        span: &Span,
+        label: &str,
+    ) -> Result<(), AllocError>
+        ensures { OnOk result (Tells self.now.text.now self.now.paint span.now label.now (string_bytes out.old) (string_bytes out.new)) }
+    {
+        let shown = excerpt_of(self.text, span);
+        let number = self.number_at(alloc, span)?;
+        self.push_lines(alloc, out, number.as_str(), &shown, label)?;
+        Ok(())
+    }
+
+    // The excerpts of a fault: two where it has two places, none where it is of the whole source.
+    fn push_excerpts(
+        &self,
+        alloc: Global,
+        out: &mut String,
+        fault: &ParseErrorKind,
+    ) -> Result<(), AllocError>
+        ensures { OnOk result (AreTold self.now.text.now self.now.paint fault.now (string_bytes out.old) (string_bytes out.new)) }
+    {
+        if !is_placed(fault) {
+            return Ok(());
+        }
+        self.push_excerpt(alloc, out, &first_span(self.text, fault), label_at(fault))?;
+        if let Some((second, label)) = fault.second_label() {
+            self.push_excerpt(alloc, out, &second, label)?;
+        }
+        Ok(())
+    }
+
+    /// Adds the report of a fault: its title, its excerpts and its help, each on lines of their own.
+    pub fn push_fault(
+        &self,
+        alloc: Global,
+        out: &mut String,
+        fault: &ParseErrorKind,
+    ) -> Result<(), AllocError>
+        ensures { OnOk result (IsReported self.now.name.now self.now.text.now self.now.paint fault.now (string_bytes out.old) (string_bytes out.new)) }
+    {
+        self.push_title(alloc, out, fault)?;
+        self.push_excerpts(alloc, out, fault)?;
+        push_help_of(alloc, out, fault)?;
+        Ok(())
+    }
+}

@@ -1,0 +1,84 @@
+//! How the characters of a source are shown: on one line, and with none that a terminal obeys.
+
+ghost use Rattle.std.specs.Prelude.{◌≡◌, ◌<◌, ◌++◌, OnOk, IfOk, chars, replicate};
+ghost use Rattle.std.specs.List.{flat_map};
+ghost use Rattle.std.specs.String.{string_bytes};
+ghost use Rattle.protox_report.specs.Shown.{shown, shown_character, in_place, own_columns, columns, under};
+
+use std::alloc::{AllocError, Global};
+use unicode_width::UnicodeWidthChar;
+
+// The columns of a character that is shown as itself; None of one that takes none.
+fn columns_alone(c: char) -> Option<usize>
+    ensures { result ≡ own_columns c }
+{
+    match c.width() {
+        Some(0) => None,
+        width => width,
+    }
+}
+
+// What stands for a character that is not shown as itself: blanks for a tab, and for each other its
+// number.
+fn stand_in(alloc: Global, c: char) -> Result<String, AllocError>
+    ensures { IfOk result (λ text. string_bytes text ≡ in_place c) }
+{
+    if c == '\t' {
+        return String::from_str(alloc, "    ");
+    }
+    let number = u32::from(c);
+    format!(in alloc; "\\u{{{number:x}}}")
+}
+
+fn push_character(alloc: Global, out: &mut String, c: char) -> Result<(), AllocError>
+    ensures { OnOk result (string_bytes out.new ≡ string_bytes out.old ++ shown_character c) }
+{
+    if columns_alone(c).is_some() {
+        return out.push(c);
+    }
+    let text = stand_in(alloc, c)?;
+    out.push_str(text.as_str())
+}
+
+/// Adds a text as it is shown.
+pub fn push_shown(alloc: Global, out: &mut String, text: &str) -> Result<(), AllocError>
+    ensures { OnOk result (string_bytes out.new ≡ string_bytes out.old ++ shown text.now) }
+{
+    for c in text.chars() {
+        push_character(alloc, out, c)?;
+    }
+    Ok(())
+}
+
+fn columns_of(alloc: Global, c: char) -> Result<usize, AllocError>
+    ensures { IfOk result (λ count. count ≡ columns c) }
+{
+    if let Some(count) = columns_alone(c) {
+        return Ok(count);
+    }
+    let text = stand_in(alloc, c)?;
+    Ok(text.len())
+}
+
+/// Adds an ASCII character so many times.
+pub fn push_times(out: &mut String, mark: u8, count: usize) -> Result<(), AllocError>
+    requires { mark < 128 }
+    ensures { OnOk result (string_bytes out.new ≡ string_bytes out.old ++ replicate count mark) }
+{
+    for done in 0..count {
+        out.push(char::from(mark))?;
+    }
+    Ok(())
+}
+
+/// Adds a mark for each column that the text takes as it is shown.
+pub fn push_under(alloc: Global, out: &mut String, text: &str, mark: u8) -> Result<(), AllocError>
+    requires { mark < 128 }
+    ensures { OnOk result (string_bytes out.new ≡ string_bytes out.old ++ under mark text.now) }
+{
+    for c in text.chars() {
+        let count = columns_of(alloc, c)?;
+        push_times(out, mark, count)?;
+    }
+    Ok(())
+}

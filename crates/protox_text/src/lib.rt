@@ -1,0 +1,11 @@
+//! Descriptors in the text format of Protocol Buffers.
+#![tactic(auto)]
+
+pub mod descriptors;
+mod enums;
+mod fields;
+pub mod lines;
+mod messages;
+mod options;
+mod services;
+mod source_info;

@@ -6,18 +6,18 @@ use Rattle.protox_descriptor.specs.Location.{Location}
 use Rattle.protox_descriptor.specs.declared.descriptor.source_code_info.LocationComments.{LocationComments}
 use Rattle.protox_descriptor.specs.declared.descriptor.source_code_info.Location.TheInside.{Inside}
 
-abbrev Comments : Type 0
+abbrev pub Comments : Type 0
 Comments = Option (Box LocationComments Global)
 
-abbrev leading : Comments → Option (List ℕ)
+abbrev pub leading : Comments → Option (List ℕ)
 leading None = None
 leading (Some comments) = comments.value.leading
 
-abbrev trailing : Comments → Option (List ℕ)
+abbrev pub trailing : Comments → Option (List ℕ)
 trailing None = None
 trailing (Some comments) = comments.value.trailing
 
-abbrev detached : Comments → List (List ℕ)
+abbrev pub detached : Comments → List (List ℕ)
 detached None = []
 detached (Some comments) = comments.value.detached
 

@@ -1,6 +1,6 @@
 //! The message `FieldDescriptorProto`.
 
-ghost use Rattle.std.specs.Prelude.{◌≡◌, None, IsOk, IfOk};
+ghost use Rattle.std.specs.Prelude.{◌≡◌, None, IsOk, IsSome, IfOk, OnOk, OnErr};
 ghost use Rattle.std.specs.Option.{option_copied};
 ghost use Rattle.protox_descriptor.specs.HeldField.{rare_parts};
 ghost use Rattle.protox_descriptor.specs.SameFields.{options_eq, rare_eq, field_eq, field_per};
@@ -220,6 +220,191 @@ impl FieldDescriptorProto {
             Rest::Rare(parts) => parts.options.as_ref(),
             Rest::Plain(_) => None,
         }
+    }
+
+    // Gives back the room of the rare parts, if none of them is there.
+    fn settle(&mut self)
+        ensures { self.new ≡ self.old }
+    {
+        if let Rest::Rare(parts) = &self.rest {
+            if parts.extendee.is_none()
+                && parts.default_value.is_none()
+                && parts.json_name.is_none()
+                && parts.options.is_none()
+            {
+                self.rest = Rest::Plain(parts.in_oneof);
+            }
+        }
+    }
+
+    /// Sets the place of the field's oneof in `oneof_decl`, from 0, or says that there is none.
+    pub fn set_oneof_index(&mut self, oneof_index: Option<i32>)
+        ensures { self.new ≡ record self.old { oneof_index = oneof_index } }
+    {
+        match &mut self.rest {
+            Rest::Plain(in_oneof) => in_oneof.index = oneof_index,
+            Rest::Rare(parts) => parts.in_oneof.index = oneof_index,
+        }
+    }
+
+    /// Sets whether a field of proto3 has the word `optional`.
+    pub fn set_proto3_optional(&mut self, proto3_optional: Option<bool>)
+        ensures { self.new ≡ record self.old { proto3_optional = proto3_optional } }
+    {
+        match &mut self.rest {
+            Rest::Plain(in_oneof) => in_oneof.proto3_optional = proto3_optional,
+            Rest::Rare(parts) => parts.in_oneof.proto3_optional = proto3_optional,
+        }
+    }
+
+    /// Sets the message that an extension extends, in place of the one there. On `AllocError` the field is
+    /// unchanged, and what was given is gone. It takes memory only where the field had none of the
+    /// parts that most fields lack.
+    pub fn set_extendee(&mut self, alloc: Global, extendee: Option<Text>) -> Result<(), AllocError>
+        ensures ok { OnOk result (self.new ≡ record self.old { extendee = extendee }) }
+        ensures err { OnErr result (self.new ≡ self.old) }
+        ensures free { extendee ≡ None → IsOk result }
+        ensures in_place { IsSome self.old.extendee → IsOk result }
+    {
+        match &mut self.rest {
+            Rest::Rare(parts) => parts.extendee = extendee,
+            Rest::Plain(in_oneof) => {
+                let rest = rest_of(alloc, *in_oneof, extendee, None, None, None)?;
+                self.rest = rest;
+            }
+        }
+        self.settle();
+        Ok(())
+    }
+
+    /// Takes the message that an extension extends out of the field.
+    pub fn take_extendee(&mut self) -> Option<Text>
+        ensures value { result ≡ self.old.extendee }
+        ensures rest { self.new ≡ record self.old { extendee = None } }
+    {
+        let taken = match &mut self.rest {
+            Rest::Rare(parts) => parts.extendee.take(),
+            Rest::Plain(_) => None,
+        };
+        self.settle();
+        taken
+    }
+
+    /// Sets the value that a field has where none is given, as a text, in place of the one there.
+    /// On `AllocError` the field is
+    /// unchanged, and what was given is gone. It takes memory only where the field had none of the
+    /// parts that most fields lack.
+    pub fn set_default_value(
+        &mut self,
+        alloc: Global,
+        default_value: Option<Text>,
+    ) -> Result<(), AllocError>
+        ensures ok { OnOk result (self.new ≡ record self.old { default_value = default_value }) }
+        ensures err { OnErr result (self.new ≡ self.old) }
+        ensures free { default_value ≡ None → IsOk result }
+        ensures in_place { IsSome self.old.default_value → IsOk result }
+    {
+        match &mut self.rest {
+            Rest::Rare(parts) => parts.default_value = default_value,
+            Rest::Plain(in_oneof) => {
+                let rest = rest_of(alloc, *in_oneof, None, default_value, None, None)?;
+                self.rest = rest;
+            }
+        }
+        self.settle();
+        Ok(())
+    }
+
+    /// Takes the value that a field has where none is given out of the field.
+    pub fn take_default_value(&mut self) -> Option<Text>
+        ensures value { result ≡ self.old.default_value }
+        ensures rest { self.new ≡ record self.old { default_value = None } }
+    {
+        let taken = match &mut self.rest {
+            Rest::Rare(parts) => parts.default_value.take(),
+            Rest::Plain(_) => None,
+        };
+        self.settle();
+        taken
+    }
+
+    /// Sets the field's name in JSON, in place of the one there. On `AllocError` the field is
+    /// unchanged, and what was given is gone. It takes memory only where the field had none of the
+    /// parts that most fields lack.
+    ///
+    /// ```
+    /// let name = Text::copy(alloc, "userName")?;
+    /// field.set_json_name(alloc, Some(name))?;
+    /// ```
+    pub fn set_json_name(
+        &mut self,
+        alloc: Global,
+        json_name: Option<Text>,
+    ) -> Result<(), AllocError>
+        ensures ok { OnOk result (self.new ≡ record self.old { json_name = json_name }) }
+        ensures err { OnErr result (self.new ≡ self.old) }
+        ensures free { json_name ≡ None → IsOk result }
+        ensures in_place { IsSome self.old.json_name → IsOk result }
+    {
+        match &mut self.rest {
+            Rest::Rare(parts) => parts.json_name = json_name,
+            Rest::Plain(in_oneof) => {
+                let rest = rest_of(alloc, *in_oneof, None, None, json_name, None)?;
+                self.rest = rest;
+            }
+        }
+        self.settle();
+        Ok(())
+    }
+
+    /// Takes the field's name in JSON out of the field.
+    pub fn take_json_name(&mut self) -> Option<Text>
+        ensures value { result ≡ self.old.json_name }
+        ensures rest { self.new ≡ record self.old { json_name = None } }
+    {
+        let taken = match &mut self.rest {
+            Rest::Rare(parts) => parts.json_name.take(),
+            Rest::Plain(_) => None,
+        };
+        self.settle();
+        taken
+    }
+
+    /// Sets the options of the field, in place of those there. On `AllocError` the field is
+    /// unchanged, and what was given is gone. It takes memory only where the field had none of the
+    /// parts that most fields lack.
+    pub fn set_options(
+        &mut self,
+        alloc: Global,
+        options: Option<FieldOptions>,
+    ) -> Result<(), AllocError>
+        ensures ok { OnOk result (self.new ≡ record self.old { options = options }) }
+        ensures err { OnErr result (self.new ≡ self.old) }
+        ensures free { options ≡ None → IsOk result }
+        ensures in_place { IsSome self.old.options → IsOk result }
+    {
+        match &mut self.rest {
+            Rest::Rare(parts) => parts.options = options,
+            Rest::Plain(in_oneof) => {
+                let rest = rest_of(alloc, *in_oneof, None, None, None, options)?;
+                self.rest = rest;
+            }
+        }
+        self.settle();
+        Ok(())
+    }
+
+    /// Takes the options of the field out of it.
+    pub fn take_options(&mut self) -> Option<FieldOptions>
+        ensures value { result ≡ self.old.options }
+        ensures rest { self.new ≡ record self.old { options = None } }
+    {
+        let taken = match &mut self.rest {
+            Rest::Rare(parts) => parts.options.take(),
+            Rest::Plain(_) => None,
+        };
+        self.settle();
+        taken
     }
 }
 

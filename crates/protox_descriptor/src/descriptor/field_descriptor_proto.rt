@@ -1,4 +1,9 @@
-//! The enums that stand inside `FieldDescriptorProto`. `as i32` gives a case its number.
+//! The enums that stand inside `FieldDescriptorProto`. `as i32` gives a case its number,
+//! `from_number` a number its case, and Display a case its word.
+
+ghost use Rattle.std.specs.Prelude.{◌≡◌, ◌≢◌, Some, IfSome, IfNone};
+
+use std::fmt;
 
 /// The enum `FieldDescriptorProto.Label`.
 #[derive(Clone, Copy, PartialEq, Debug)]
@@ -9,6 +14,49 @@ pub enum Label {
     Required = 2,
     /// The word `repeated`; a map too.
     Repeated = 3,
+}
+
+impl Label {
+    ghost use Rattle.protox_descriptor.specs.declared.descriptor.field_descriptor_proto.Label.{Label};
+    ghost use Rattle.protox_descriptor.specs.FieldWords.{label_number, label_word};
+
+    /// The label with this number, as `FieldDescriptorProto::label` holds it, or None.
+    ///
+    /// ```
+    /// field.label.and_then(Label::from_number) == Some(Label::Repeated)
+    /// ```
+    pub fn from_number(number: i32) -> Option<Label>
+        ensures found { IfSome result (λ label. label_number label ≡ number) }
+        ensures none { IfNone result ((label : Label) → label_number label ≢ number) }
+    {
+        match number {
+            1 => Some(Label::Optional),
+            2 => Some(Label::Required),
+            3 => Some(Label::Repeated),
+            _ => None,
+        }
+    }
+
+    /// The word of a source: `optional`, `required` or `repeated`.
+    pub fn as_str(&self) -> &'static str
+        ensures { result.now ≡ label_word self.now }
+    {
+        match self {
+            Label::Optional => "optional",
+            Label::Required => "required",
+            Label::Repeated => "repeated",
+        }
+    }
+}
+
+impl fmt::Display for Label {
+    ghost use Rattle.protox_descriptor.specs.FieldWords.{label_word};
+
+    ghost output = { λ label. Some (label_word label) };
+
+    fn fmt<W: fmt::Write>(&self, f: &mut fmt::Formatter<W>) -> fmt::Result {
+        f.write_str(self.as_str())
+    }
 }
 
 /// The enum `FieldDescriptorProto.Type`.
@@ -50,4 +98,80 @@ pub enum FieldType {
     Sint32 = 17,
     /// The type `sint64`.
     Sint64 = 18,
+}
+
+impl FieldType {
+    ghost use Rattle.protox_descriptor.specs.declared.descriptor.field_descriptor_proto.FieldType.{FieldType};
+    ghost use Rattle.protox_descriptor.specs.FieldWords.{type_number, type_word};
+
+    /// The type with this number, as `FieldDescriptorProto::field_type` holds it, or None.
+    ///
+    /// ```
+    /// if let Some(field_type) = field.field_type.and_then(FieldType::from_number) {
+    ///     println!(rt; "{field_type}")?;
+    /// }
+    /// ```
+    pub fn from_number(number: i32) -> Option<FieldType>
+        ensures found { IfSome result (λ field_type. type_number field_type ≡ number) }
+        ensures none { IfNone result ((field_type : FieldType) → type_number field_type ≢ number) }
+    {
+        match number {
+            1 => Some(FieldType::Double),
+            2 => Some(FieldType::Float),
+            3 => Some(FieldType::Int64),
+            4 => Some(FieldType::Uint64),
+            5 => Some(FieldType::Int32),
+            6 => Some(FieldType::Fixed64),
+            7 => Some(FieldType::Fixed32),
+            8 => Some(FieldType::Bool),
+            9 => Some(FieldType::String),
+            10 => Some(FieldType::Group),
+            11 => Some(FieldType::Message),
+            12 => Some(FieldType::Bytes),
+            13 => Some(FieldType::Uint32),
+            14 => Some(FieldType::Enum),
+            15 => Some(FieldType::Sfixed32),
+            16 => Some(FieldType::Sfixed64),
+            17 => Some(FieldType::Sint32),
+            18 => Some(FieldType::Sint64),
+            _ => None,
+        }
+    }
+
+    /// The word of a source, as `int32`; of the types that a source names otherwise, `group`,
+    /// `message` and `enum`.
+    pub fn as_str(&self) -> &'static str
+        ensures { result.now ≡ type_word self.now }
+    {
+        match self {
+            FieldType::Double => "double",
+            FieldType::Float => "float",
+            FieldType::Int64 => "int64",
+            FieldType::Uint64 => "uint64",
+            FieldType::Int32 => "int32",
+            FieldType::Fixed64 => "fixed64",
+            FieldType::Fixed32 => "fixed32",
+            FieldType::Bool => "bool",
+            FieldType::String => "string",
+            FieldType::Group => "group",
+            FieldType::Message => "message",
+            FieldType::Bytes => "bytes",
+            FieldType::Uint32 => "uint32",
+            FieldType::Enum => "enum",
+            FieldType::Sfixed32 => "sfixed32",
+            FieldType::Sfixed64 => "sfixed64",
+            FieldType::Sint32 => "sint32",
+            FieldType::Sint64 => "sint64",
+        }
+    }
+}
+
+impl fmt::Display for FieldType {
+    ghost use Rattle.protox_descriptor.specs.FieldWords.{type_word};
+
+    ghost output = { λ field_type. Some (type_word field_type) };
+
+    fn fmt<W: fmt::Write>(&self, f: &mut fmt::Formatter<W>) -> fmt::Result {
+        f.write_str(self.as_str())
+    }
 }

@@ -1,17 +1,19 @@
 //! The message that stands inside `SourceCodeInfo`.
 
-ghost use Rattle.std.specs.Prelude.{◌≡◌, ◌==◌, [], None, IsOk, IfOk};
+ghost use Rattle.std.specs.Prelude.{◌≡◌, ◌≢◌, ◌==◌, [], None, IsOk, IsSome, IfOk, OnOk, OnErr};
 ghost use Rattle.std.specs.Option.{option_copied, option_eq};
 ghost use Rattle.std.specs.Ordering.{int_eq, on, eq_of_both};
 ghost use Rattle.std.specs.Cmp.Lexicographic.{pointwise};
 ghost use Rattle.std.specs.Cmp.Rules.{comparing};
 ghost use Rattle.std.proofs.Common.{rules};
+ghost use Rattle.protox_descriptor.specs.HeldComments.{leading, trailing, detached};
+ghost use Rattle.protox_descriptor.specs.Spans.{start_of, end_of, is_within};
 
 use crate::values::{Items, Numbers, Text};
 use std::alloc::{AllocError, Global};
 use std::boxed::Box;
-use std::fmt;
 use std::marker::Model;
+use std::{fmt, mem};
 
 // The comments of a location that has some.
 #[derive(Drop)]
@@ -19,6 +21,35 @@ struct LocationComments {
     leading: Option<Text>,
     trailing: Option<Text>,
     detached: Items<Text>,
+}
+
+// Where the comments of a location are put, if there are some.
+fn comments_of(
+    alloc: Global,
+    leading_comments: Option<Text>,
+    trailing_comments: Option<Text>,
+    leading_detached_comments: Items<Text>,
+) -> Result<Option<Box<LocationComments>>, AllocError>
+    ensures leading { IfOk result (λ made. leading made ≡ leading_comments) }
+    ensures trailing { IfOk result (λ made. trailing made ≡ trailing_comments) }
+    ensures detached { IfOk result (λ made. detached made ≡ leading_detached_comments) }
+    ensures free { leading_comments ≡ None → trailing_comments ≡ None → leading_detached_comments ≡ [] → IsOk result }
+{
+    if leading_comments.is_none()
+        && trailing_comments.is_none()
+        && leading_detached_comments.is_empty()
+    {
+        return Ok(None);
+    }
+    let comments = Box::new(
+        alloc,
+        LocationComments {
+            leading: leading_comments,
+            trailing: trailing_comments,
+            detached: leading_detached_comments,
+        },
+    )?;
+    Ok(Some(comments))
 }
 
 /// The message `SourceCodeInfo.Location`: the place of one part of a descriptor. Most locations have no
@@ -77,24 +108,16 @@ impl Location {
         ensures value { IfOk result (λ made. made ≡ record { path = path; span = span; leading_comments = leading_comments; trailing_comments = trailing_comments; leading_detached_comments = leading_detached_comments }) }
         ensures free { leading_comments ≡ None → trailing_comments ≡ None → leading_detached_comments ≡ [] → IsOk result }
     {
-        if leading_comments.is_none()
-            && trailing_comments.is_none()
-            && leading_detached_comments.is_empty()
-        {
-            return Ok(Location::bare(path, span));
-        }
-        let comments = Box::new(
+        let comments = comments_of(
             alloc,
-            LocationComments {
-                leading: leading_comments,
-                trailing: trailing_comments,
-                detached: leading_detached_comments,
-            },
+            leading_comments,
+            trailing_comments,
+            leading_detached_comments,
         )?;
         Ok(Location {
             path,
             span,
-            comments: Some(comments),
+            comments,
         })
     }
 
@@ -125,6 +148,170 @@ impl Location {
         match &self.comments {
             Some(comments) => comments.detached.as_slice(),
             None => &[],
+        }
+    }
+
+    // Gives back the room of the comments, if there is none of them.
+    fn settle(&mut self)
+        ensures { self.new ≡ self.old }
+    {
+        if let Some(comments) = &self.comments {
+            if comments.leading.is_none()
+                && comments.trailing.is_none()
+                && comments.detached.is_empty()
+            {
+                self.comments = None;
+            }
+        }
+    }
+
+    /// Sets the comment that leads the declaration, in place of what is there. On `AllocError` the location is
+    /// unchanged, and what was given is gone. It takes memory only where the location had no comment.
+    pub fn set_leading_comments(
+        &mut self,
+        alloc: Global,
+        leading_comments: Option<Text>,
+    ) -> Result<(), AllocError>
+        ensures ok { OnOk result (self.new ≡ record self.old { leading_comments = leading_comments }) }
+        ensures err { OnErr result (self.new ≡ self.old) }
+        ensures free { leading_comments ≡ None → IsOk result }
+        ensures in_place { IsSome self.old.leading_comments → IsOk result }
+    {
+        match &mut self.comments {
+            Some(comments) => comments.leading = leading_comments,
+            None => {
+                let comments = comments_of(alloc, leading_comments, None, Items::new(alloc))?;
+                self.comments = comments;
+            }
+        }
+        self.settle();
+        Ok(())
+    }
+
+    /// Sets the comment that trails the declaration, in place of what is there. On `AllocError` the location is
+    /// unchanged, and what was given is gone. It takes memory only where the location had no comment.
+    pub fn set_trailing_comments(
+        &mut self,
+        alloc: Global,
+        trailing_comments: Option<Text>,
+    ) -> Result<(), AllocError>
+        ensures ok { OnOk result (self.new ≡ record self.old { trailing_comments = trailing_comments }) }
+        ensures err { OnErr result (self.new ≡ self.old) }
+        ensures free { trailing_comments ≡ None → IsOk result }
+        ensures in_place { IsSome self.old.trailing_comments → IsOk result }
+    {
+        match &mut self.comments {
+            Some(comments) => comments.trailing = trailing_comments,
+            None => {
+                let comments = comments_of(alloc, None, trailing_comments, Items::new(alloc))?;
+                self.comments = comments;
+            }
+        }
+        self.settle();
+        Ok(())
+    }
+
+    /// Sets the comments that stand apart before the declaration, in place of what is there. On `AllocError` the location is
+    /// unchanged, and what was given is gone. It takes memory only where the location had no comment.
+    pub fn set_leading_detached_comments(
+        &mut self,
+        alloc: Global,
+        leading_detached_comments: Items<Text>,
+    ) -> Result<(), AllocError>
+        ensures ok { OnOk result (self.new ≡ record self.old { leading_detached_comments = leading_detached_comments }) }
+        ensures err { OnErr result (self.new ≡ self.old) }
+        ensures free { leading_detached_comments ≡ [] → IsOk result }
+        ensures in_place { self.old.leading_detached_comments ≢ [] → IsOk result }
+    {
+        match &mut self.comments {
+            Some(comments) => comments.detached = leading_detached_comments,
+            None => {
+                let comments = comments_of(alloc, None, None, leading_detached_comments)?;
+                self.comments = comments;
+            }
+        }
+        self.settle();
+        Ok(())
+    }
+
+    /// Takes the comment that leads the declaration out of the location.
+    pub fn take_leading_comments(&mut self) -> Option<Text>
+        ensures value { result ≡ self.old.leading_comments }
+        ensures rest { self.new ≡ record self.old { leading_comments = None } }
+    {
+        let taken = match &mut self.comments {
+            Some(comments) => comments.leading.take(),
+            None => None,
+        };
+        self.settle();
+        taken
+    }
+
+    /// Takes the comment that trails the declaration out of the location.
+    pub fn take_trailing_comments(&mut self) -> Option<Text>
+        ensures value { result ≡ self.old.trailing_comments }
+        ensures rest { self.new ≡ record self.old { trailing_comments = None } }
+    {
+        let taken = match &mut self.comments {
+            Some(comments) => comments.trailing.take(),
+            None => None,
+        };
+        self.settle();
+        taken
+    }
+
+    /// Takes the comments that stand apart before the declaration out of the location. It takes no
+    /// memory: `alloc` serves later growths of what is answered.
+    pub fn take_leading_detached_comments(&mut self, alloc: Global) -> Items<Text>
+        ensures value { result ≡ self.old.leading_detached_comments }
+        ensures rest { self.new ≡ record self.old { leading_detached_comments = [] } }
+    {
+        let taken = match &mut self.comments {
+            Some(comments) => mem::replace(&mut comments.detached, Items::new(alloc)),
+            None => Items::new(alloc),
+        };
+        self.settle();
+        taken
+    }
+
+    /// Where the declaration starts: its line and its column, in bytes, both from 0. None where the
+    /// span has neither three nor four numbers; those that `parse` answers have.
+    pub fn start(&self) -> Option<(i32, i32)>
+        ensures { result ≡ start_of self.now.span }
+    {
+        match self.span.as_slice() {
+            [line, column, _] => Some((*line, *column)),
+            [line, column, _, _] => Some((*line, *column)),
+            _ => None,
+        }
+    }
+
+    /// Where the declaration ends: the line and the column behind its last byte, both from 0. None
+    /// where the span has neither three nor four numbers; those that `parse` answers have.
+    pub fn end(&self) -> Option<(i32, i32)>
+        ensures { result ≡ end_of self.now.span }
+    {
+        match self.span.as_slice() {
+            [line, _, column] => Some((*line, *column)),
+            [_, _, line, column] => Some((*line, *column)),
+            _ => None,
+        }
+    }
+
+    /// Whether the place lies in the span, at its start or behind it, and before its end. Line and
+    /// column are from 0, and the column is in bytes. A span without a byte holds no place.
+    ///
+    /// ```
+    /// // The second byte of the fourth line.
+    /// location.holds(3, 1)
+    /// ```
+    pub fn holds(&self, line: i32, column: i32) -> bool
+        ensures { result ≡ is_within (line, column) (start_of self.now.span) (end_of self.now.span) }
+    {
+        let place = (line, column);
+        match (self.start(), self.end()) {
+            (Some(start), Some(end)) => start.cmp(&place).is_le() && place.cmp(&end).is_lt(),
+            _ => false,
         }
     }
 }

@@ -1,13 +1,14 @@
-ghost use Rattle.std.specs.Prelude.{◌≡◌, ◌^◌, ◌<◌, [], ◌∷◌, ◌++◌, ◌==◌, take, length, slice_get, IsOk, IfOk, OnOk, OnErr};
-ghost use Rattle.std.specs.Option.{option_copied};
-ghost use Rattle.std.specs.Slice.Iter.{iter_rest};
-ghost use Rattle.std.specs.Iterator.Adapters.{IterYieldsInOrder, IterYieldsInReverse};
+ghost use Rattle.std.specs.Prelude.{◌≡◌, ◌≤◌, ◌↔◌, ◌^◌, ◌<◌, [], ◌∷◌, ◌++◌, ◌==◌, take, insert, length, slice_get, IsOk, IsSome, IfOk, OnOk, OnErr};
+ghost use Rattle.std.specs.Borrow.{sem};
+ghost use Rattle.std.specs.Option.{option_copied, option_copied_mut, option_to_list};
+ghost use Rattle.std.specs.Slice.Iter.{iter_rest, iter_mut_rest};
+ghost use Rattle.std.specs.Iterator.Adapters.{IterYieldsInOrder, IterYieldsInReverse, IterMutYieldsInOrder};
 ghost use Rattle.std.specs.Cmp.Lexicographic.{pointwise, lists_per};
 
 use std::alloc::{AllocError, Global};
 use std::fmt;
 use std::marker::Model;
-use std::slice::Iter;
+use std::slice::{Iter, IterMut};
 
 /// A list that owns its elements. Contracts see it as the list of them.
 #[derive(Drop)]
@@ -27,6 +28,8 @@ impl<T> Model for Items<T> {
 }
 
 impl<T> Items<T> {
+    ghost use Rattle.protox_descriptor.specs.LentItems.{lends_element, lends_elements};
+
     /// The empty list. It takes no memory: `alloc` serves later growths.
     pub fn new(alloc: Global) -> Items<T>
         ensures { result ≡ [] }
@@ -105,9 +108,54 @@ impl<T> Items<T> {
     {
         self.elements.as_slice().iter()
     }
+
+    /// The element at `index`, counted from 0, to be changed; or None past the end.
+    ///
+    /// ```
+    /// if let Some(message) = file.message_type.get_mut(0) {
+    ///     message.name = None;
+    /// }
+    /// ```
+    pub fn get_mut(&mut self, index: usize) -> Option<&mut T>
+        // The list ends with what is left behind the reference at the index, and else as it was.
+        ensures* writes_back { sem 𝓛 (lends_element T.row self.entry index result) }
+        ensures value { option_copied_mut result ≡ slice_get self.old index }
+    {
+        self.elements.get_mut(index)
+    }
+
+    /// The elements in order, each to be changed.
+    pub fn iter_mut(&mut self) -> IterMut<'_, T>
+        // The list ends with what is left behind the references.
+        ensures* writes_back { sem 𝓛 (lends_elements T.row self.entry result) }
+        ensures rest { iter_mut_rest result ≡ self.old }
+        ensures bound { length (iter_mut_rest result) < 2 ^ 64 }
+        ensures runs { IterMutYieldsInOrder T }
+    {
+        self.elements.as_mut_slice().iter_mut()
+    }
+
+    /// Takes the last element out, if there is one. It gives no memory back.
+    pub fn pop(&mut self) -> Option<T>
+        ensures parted { self.old ≡ self.new ++ option_to_list result }
+        ensures some { IsSome result ↔ (0 < length self.old) }
+    {
+        self.elements.pop()
+    }
 }
 
 impl<T: Drop> Items<T> {
+    /// Puts `element` at `index`, counted from 0 and at most the number of elements; those from there
+    /// on move up by one. On `AllocError` the list is unchanged, and the element is gone.
+    pub fn insert(&mut self, index: usize, element: T) -> Result<(), AllocError>
+        requires { index ≤ length self.old }
+        ensures ok { OnOk result (self.new ≡ insert self.old index element) }
+        ensures err { OnErr result (self.new ≡ self.old) }
+    {
+        self.elements.insert(index, element)?;
+        Ok(())
+    }
+
     /// Appends `element`. On `AllocError` the list is unchanged, and the element is gone.
     pub fn push(&mut self, element: T) -> Result<(), AllocError>
         ensures ok { OnOk result (self.new ≡ self.old ++ element ∷ []) }
@@ -141,6 +189,38 @@ impl<T: Copy> Items<T> {
         ensures err { OnErr result (self.new ≡ self.old) }
     {
         self.elements.extend_from_slice(more)
+    }
+}
+
+impl<'a, T> IntoIterator for &'a Items<T> {
+    type Item = &'a T;
+
+    type IntoIter = Iter<'a, T>;
+
+    ghost into_iter_gives = { λ list it. (iter_rest it ≡ list.now) × (length (iter_rest it) < 2 ^ 64)
+        × IterYieldsInOrder T };
+
+    fn into_iter(self) -> Iter<'a, T> {
+        self.elements.as_slice().iter()
+    }
+}
+
+impl<'a, T> IntoIterator for &'a mut Items<T> {
+    ghost use Rattle.protox_descriptor.specs.LentItems.{lends_elements};
+
+    type Item = &'a mut T;
+
+    type IntoIter = IterMut<'a, T>;
+
+    ghost into_iter_gives = { λ list it. (iter_mut_rest it ≡ list.now) × (length (iter_mut_rest it) < 2 ^ 64)
+        × IterMutYieldsInOrder T };
+
+    fn into_iter(self) -> IterMut<'a, T>
+        ensures* writes_back { sem 𝓛 (lends_elements T.row self.entry result) }
+        ensures into_iter_gives { (iter_mut_rest result ≡ self.old) × (length (iter_mut_rest result) < 2 ^ 64)
+            × IterMutYieldsInOrder T }
+    {
+        self.iter_mut()
     }
 }
 

@@ -1,0 +1,52 @@
+-- How text from outside is shown on a line of a terminal.
+use Rattle.std.specs.Prelude.{ℕ, ◌||◌, Bool, false, if◌then◌else◌, nat_le, length, take, List, [], ◌∷◌, ◌++◌, flat_map, codes}
+use Rattle.std.specs.Char.{encode_utf8, is_control}
+use Rattle.std.specs.Fmt.{digits}
+use Rattle.std.specs.Int.{is_in_range}
+use Rattle.std.specs.Str.{chars}
+use Rattle.protox_fault.specs.FaultTexts.{text_of}
+use Rattle.protox_fault.specs.declared.error.ParseErrorKind.{ParseErrorKind}
+use Rattle.protox_fault.specs.declared.error.ParseErrorKind.TheVariants.{UnknownSyntax, UnexpectedToken, ValueInvalidType}
+
+-- Whether the character turns the direction of a text, or ends its line or paragraph.
+abbrev pub is_direction : ℕ → Bool
+is_direction c = is_in_range 0x61C 0x61C c || (is_in_range 0x200E 0x200F c || (is_in_range 0x2028 0x202E c || is_in_range 0x2066 0x2069 c))
+
+-- Whether the character has no width: a soft hyphen, a joiner, a separator, an operator that isn't seen, a byte order mark.
+abbrev pub is_zero_width : ℕ → Bool
+is_zero_width c = is_in_range 0xAD 0xAD c || (is_in_range 0x180E 0x180E c || (is_in_range 0x200B 0x200D c || (is_in_range 0x2060 0x2064 c || is_in_range 0xFEFF 0xFEFF c)))
+
+-- Whether a terminal acts on the character, or shows nothing of it.
+abbrev pub is_hidden : ℕ → Bool
+is_hidden c = is_control c || (is_direction c || is_zero_width c)
+
+-- `\u{..}` with the code of the character in hexadecimal digits
+abbrev pub escaped : ℕ → List ℕ
+escaped c = codes "\\u{" ++ (digits 16 false c ++ codes "}")
+
+-- how a character is shown: as it is, or escaped
+abbrev pub shown_char : ℕ → List ℕ
+shown_char c = if is_hidden c then escaped c else encode_utf8 c
+
+-- how a text is shown
+abbrev pub shown : List ℕ → List ℕ
+shown text = flat_map shown_char (chars text)
+
+-- the first 200 of some characters, and `…` in the place of the others
+abbrev pub cut : List ℕ → List ℕ
+cut cs = if nat_le (length cs) 200 then cs else take 200 cs ++ (0x2026 ∷ [])
+
+-- how a text is shown in brief
+abbrev pub shown_brief : List ℕ → List ℕ
+shown_brief text = flat_map shown_char (cut (chars text))
+
+-- the fault, with what it repeats of the source shown in brief
+abbrev pub in_brief : ParseErrorKind → ParseErrorKind
+in_brief (UnknownSyntax span syntax) = UnknownSyntax span (shown_brief syntax)
+in_brief (UnexpectedToken span expected found) = UnexpectedToken span expected (shown_brief found)
+in_brief (ValueInvalidType span expected actual) = ValueInvalidType span expected (shown_brief actual)
+in_brief fault = fault
+
+-- the text of a fault as it is shown
+abbrev pub shown_fault : ParseErrorKind → List ℕ
+shown_fault fault = text_of (in_brief fault)

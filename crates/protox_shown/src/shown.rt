@@ -1,0 +1,143 @@
+//! Texts and faults as they are shown.
+
+ghost use Rattle.std.specs.Prelude.{◌≡◌, Some};
+ghost use Rattle.std.specs.Fmt.{DisplaysOnOk};
+ghost use Rattle.protox_shown.specs.Shown as shown_as;
+
+use protox_fault::error::ParseErrorKind;
+use std::fmt;
+
+/// How many characters of a text are shown in brief.
+const BRIEF: usize = 200;
+
+// Whether the character turns the direction of a text, or ends its line or paragraph.
+fn is_direction(c: char) -> bool
+    ensures { result ≡ shown_as.is_direction c }
+{
+    matches!(
+        c,
+        '\u{61c}' | '\u{200e}'..='\u{200f}' | '\u{2028}'..='\u{202e}' | '\u{2066}'..='\u{2069}'
+    )
+}
+
+// Whether the character has no width.
+fn is_zero_width(c: char) -> bool
+    ensures { result ≡ shown_as.is_zero_width c }
+{
+    matches!(
+        c,
+        '\u{ad}' | '\u{180e}' | '\u{200b}'..='\u{200d}' | '\u{2060}'..='\u{2064}' | '\u{feff}'
+    )
+}
+
+/// Whether a terminal acts on the character, or shows nothing of it: a control character, one that turns
+/// the direction of a text or ends its line, or one without width.
+pub fn is_hidden(c: char) -> bool
+    ensures { result ≡ shown_as.is_hidden c }
+{
+    c.is_control() || is_direction(c) || is_zero_width(c)
+}
+
+// The character as it is, or `\u{..}` with its code in hexadecimal digits.
+fn write_shown<W: fmt::Write>(c: char, f: &mut fmt::Formatter<W>) -> fmt::Result
+    ensures { DisplaysOnOk W.write_str_gives f.old result (Some (shown_as.shown_char c)) f.new }
+{
+    if is_hidden(c) {
+        write!(f, "\\u{{{:x}}}", c as u32)
+    } else {
+        f.write_char(c)
+    }
+}
+
+fn write_text<W: fmt::Write>(text: &str, f: &mut fmt::Formatter<W>) -> fmt::Result
+    ensures { DisplaysOnOk W.write_str_gives f.old result (Some (shown_as.shown text.now)) f.new }
+{
+    for c in text.chars() {
+        write_shown(c, f)?;
+    }
+    Ok(())
+}
+
+fn write_brief<W: fmt::Write>(text: &str, f: &mut fmt::Formatter<W>) -> fmt::Result
+    ensures { DisplaysOnOk W.write_str_gives f.old result (Some (shown_as.shown_brief text.now)) f.new }
+{
+    let mut left = BRIEF;
+    for c in text.chars() {
+        if left == 0 {
+            return f.write_char('…');
+        }
+        left -= 1;
+        write_shown(c, f)?;
+    }
+    Ok(())
+}
+
+/// A text as a line of a terminal shows it: each character on which a terminal acts, or of which it
+/// shows nothing, as `\u{..}`.
+#[derive(Clone, Copy)]
+pub struct Shown<'a>(pub &'a str);
+
+impl fmt::Display for Shown<'_> {
+    ghost use Rattle.std.specs.Prelude.{Some};
+    ghost use Rattle.protox_shown.specs.Shown.{shown};
+
+    ghost output = { λ text. Some (shown text.0.now) };
+
+    fn fmt<W: fmt::Write>(&self, f: &mut fmt::Formatter<W>) -> fmt::Result {
+        write_text(self.0, f)
+    }
+}
+
+/// The same of a text's first 200 characters, and `…` in the place of further ones.
+#[derive(Clone, Copy)]
+pub struct Brief<'a>(pub &'a str);
+
+impl fmt::Display for Brief<'_> {
+    ghost use Rattle.std.specs.Prelude.{Some};
+    ghost use Rattle.protox_shown.specs.Shown.{shown_brief};
+
+    ghost output = { λ text. Some (shown_brief text.0.now) };
+
+    fn fmt<W: fmt::Write>(&self, f: &mut fmt::Formatter<W>) -> fmt::Result {
+        write_brief(self.0, f)
+    }
+}
+
+/// A fault as a line of a terminal shows it: its text, in which what it repeats of the source is shown in
+/// brief.
+#[derive(Clone, Copy)]
+pub struct ShownFault<'a>(pub &'a ParseErrorKind);
+
+impl fmt::Display for ShownFault<'_> {
+    ghost use Rattle.std.specs.Prelude.{Some};
+    ghost use Rattle.protox_shown.specs.Shown.{shown_fault};
+
+    ghost output = { λ fault. Some (shown_fault fault.0.now) };
+
+    fn fmt<W: fmt::Write>(&self, f: &mut fmt::Formatter<W>) -> fmt::Result {
+        match self.0 {
+            ParseErrorKind::UnknownSyntax { syntax, .. } => {
+                write!(f, "unknown syntax '{}'", Brief(syntax.as_str()))
+            }
+            ParseErrorKind::UnexpectedToken {
+                expected,
+                found,
+                ..
+            } => write!(
+                f,
+                "expected {expected}, but found '{}'",
+                Brief(found.as_str())
+            ),
+            ParseErrorKind::ValueInvalidType {
+                expected,
+                actual,
+                ..
+            } => write!(
+                f,
+                "expected value to be {expected}, but found '{}'",
+                Brief(actual.as_str())
+            ),
+            fault => write!(f, "{fault}"),
+        }
+    }
+}

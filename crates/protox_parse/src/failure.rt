@@ -12,6 +12,7 @@ ghost use Rattle.protox_parse.specs.Failures.{AreWrongOf, IsOutOfMemory, IsRefus
 
 use protox_descriptor::values::Text;
 use protox_lex::error::{ParseErrorKind, Span, SyntaxFailure};
+use protox_shown::shown::{Shown, ShownFault};
 use std::alloc::{AllocError, Global};
 use std::fmt;
 use std::marker::Model;
@@ -115,12 +116,15 @@ fn position(source: &[u8], offset: usize) -> (usize, usize) {
     (line, column)
 }
 
+/// The line that a user sees: `file:line:column: text`, line and column from 1, or the text of the first
+/// fault alone where that has no span. It is safe on a terminal: what would act on one, or not be seen,
+/// is shown as `\u{..}`, and of a long token the first 200 characters are.
 impl fmt::Debug for ParseError {
     fn fmt<W: fmt::Write>(&self, f: &mut fmt::Formatter<W>) -> fmt::Result {
-        let kind = self.kind();
+        let kind = ShownFault(self.kind());
         match self.span() {
             Some(span) => {
-                let file = self.file();
+                let file = Shown(self.file());
                 let (line, column) = position(self.source().as_bytes(), span.start);
                 write!(f, "{file}:{line}:{column}: {kind}")
             }

@@ -6,13 +6,15 @@ usage: refuse.py [FOLDER]       at the top of the repository; FOLDER holds the p
 
 A run with a refusal has to end as the run without one, or to say that memory ran out where the answer
 would stand: nothing else may change. A line for each program says how many requests it makes and how
-the runs ended. Then come words and an output that the programs can't use. The last line is
+the runs ended. Then come words and an output that protoscan can't use, and a bound on memory that its
+answer would pass. The last line is
 'N passed, M failed'. It needs a C compiler.
 """
 import collections
 import concurrent.futures
 import itertools
 import os
+import resource
 import shutil
 import subprocess
 import sys
@@ -93,23 +95,29 @@ def refuse(library, place, program, words, pool):
     return requests > 0 and None not in kinds
 
 
-def ends_so(place, words, status, said, out=subprocess.PIPE):
-    """Whether protoscan ends so on these words."""
+def ends_so(place, words, status, said, out=subprocess.DEVNULL, bound=resource.RLIM_INFINITY):
+    """Whether protoscan ends so on these words, with so many bytes of memory."""
     done = subprocess.run([os.path.abspath(place('protoscan')), *words], cwd=CASES, stdout=out,
-                          stderr=subprocess.PIPE, check=False)
+                          stderr=subprocess.PIPE, check=False,
+                          preexec_fn=lambda: resource.setrlimit(resource.RLIMIT_AS, (bound, bound)))
     well = (done.returncode, done.stderr) == (status, said)
     print(f'protoscan {words}: status {done.returncode}, {done.stderr}' + ('' if well else f', and not {status}, {said}'))
     return well
 
 
-def strange_words(place):
-    """Words that are no UTF-8 or that a terminal would obey, and an output that refuses each write."""
+def strange_runs(place):
+    """Words that are no UTF-8 or that a terminal would obey, an output that is full, and too little memory."""
     yield ends_so(place, [b'\xff'], 2, b'protoscan: an argument is not UTF-8\n')
     yield ends_so(place, [b'foo.proto', b'8\xc3'], 2, b'protoscan: an argument is not UTF-8\n')
     yield ends_so(place, [b'\x1b[31mno'], 2, b'protoscan: cannot read \\u{1b}[31mno\n')
     yield ends_so(place, [b'foo.proto', b'\xe2\x80\xae'], 2, b'protoscan: bad path \\u{202e}\n')
     with open('/dev/full', 'wb') as full:
         yield ends_so(place, ['foo.proto'], 2, b'', full)
+    with tempfile.NamedTemporaryFile('w', suffix='.proto') as file:
+        # 6 KB, whose descriptor takes more than 300 MB
+        file.write(f'message M {{ extensions {",".join(["1"] * 1000)} to 2 [{",".join(["a=1"] * 1000)}]; }}')
+        file.flush()
+        yield ends_so(place, [file.name], 2, b'protoscan: out of memory\n', bound=200_000_000)
 
 
 def main():
@@ -120,7 +128,7 @@ def main():
         compiler = next(filter(shutil.which, (os.environ.get('CC', 'gcc'), 'cc', 'clang')), 'gcc')
         subprocess.run([compiler, '-O2', '-shared', '-fPIC', '-o', library, 'bench/refuse.c'], check=True)
         well = [refuse(library, place, program, words, pool) for program, words in RUNS]
-    well += strange_words(place)
+    well += strange_runs(place)
     print(f'{well.count(True)} passed, {well.count(False)} failed')
     return 0 if all(well) else 1
 

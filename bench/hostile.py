@@ -3,9 +3,10 @@
 
 usage: hostile.py BYTES PROGRAM [ARGUMENT..]
 
-Each source has about BYTES bytes, and then twice as many. A line for each: its name, its bytes, the
-seconds and the largest memory of the program on it, and by how much both grow when the source doubles.
-A factor of 2 is growth in line with the source. The program is run as PROGRAM FILE ARGUMENT.., for
+Each source has about BYTES bytes, and then twice as many; those whose answer grows with their square
+have few. A line for each: its name, its bytes, the seconds and the largest memory of the program on
+it, and by how much both grow when the source doubles. A factor of 2 is growth in line with the source,
+and one of 4 with its square. The program is run as PROGRAM FILE ARGUMENT.., for
 example crates/parsecount/out/parsecount, which parses and prints a number; it may refuse the file.
 """
 import os
@@ -35,14 +36,14 @@ def nested(front, opened, closed, back):
 
 def ranges_with_options(size):
     """Each range of the statement has each option: the descriptor grows with the square of the source."""
-    count = size // 2000
+    count = size // 6
     return f'message M {{ extensions {",".join(["1"] * count)} to 2 [{",".join(["a=1"] * count)}]; }}'
 
 
 def fields_of_extendee(size):
     """Each field of the statement has the extended name: the descriptor grows with the square too."""
-    count = size // 100
-    return f'extend {"A" * count} {{ {"optional a b=1;" * (count // 16)} }}'
+    count = size // 2
+    return f'extend {"A" * count} {{ {"optional a b=1;" * (count // 15)} }}'
 
 
 DEEP = 'message M{' * 31
@@ -85,8 +86,11 @@ SOURCES = {
     'options': many('', 'option a=1;'),
     'options in a list': joined('message M{optional a b=1[', 'a=1', ',', '];}'),
     'methods': many('service S{', 'rpc a(b)returns(c);', '}'),
-    'ranges with options': ranges_with_options,
-    'fields of one extendee': fields_of_extendee,
+}
+# These have so many bytes.
+SHORT = {
+    'ranges with options': (ranges_with_options, 6000),
+    'fields of one extendee': (fields_of_extendee, 100000),
 }
 
 
@@ -105,8 +109,8 @@ def main():
     size, words = int(sys.argv[1]), sys.argv[2:]
     _, _, least = measured(words, '')
     print('source\tbytes\tseconds\tMB\tof twice the bytes: seconds times\tMB times')
-    for name, made in SOURCES.items():
-        one, two = (measured(words, made(bytes_)) for bytes_ in (size, 2 * size))
+    for name, (made, count) in {**{name: (made, size) for name, made in SOURCES.items()}, **SHORT}.items():
+        one, two = measured(words, made(count)), measured(words, made(2 * count))
         memory = max(two[2] - least, 1) / max(one[2] - least, 1)
         print(f'{name}\t{one[0]}\t{one[1]:.2f}\t{one[2] / 1000:.0f}\t{two[1] / one[1]:.1f}\t{memory:.1f}', flush=True)
 

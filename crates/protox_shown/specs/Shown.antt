@@ -8,17 +8,21 @@ use Rattle.protox_fault.specs.FaultTexts.{text_of}
 use Rattle.protox_fault.specs.declared.error.ParseErrorKind.{ParseErrorKind}
 use Rattle.protox_fault.specs.declared.error.ParseErrorKind.TheVariants.{UnknownSyntax, UnexpectedToken, ValueInvalidType}
 
--- Whether the character turns the direction of a text, or ends its line or paragraph.
-abbrev pub is_direction : ℕ → Bool
-is_direction c = is_in_range 0x61C 0x61C c || (is_in_range 0x200E 0x200F c || (is_in_range 0x2028 0x202E c || is_in_range 0x2066 0x2069 c))
+-- Whether the character has Unicode's property Default_Ignorable_Code_Point, so that a terminal shows nothing of it: marks that turn the direction
+-- of a text, joiners and spaces without width, fillers, selectors of variants, tags. First those up to U+2FFF, then the others.
+abbrev pub is_low_ignorable : ℕ → Bool
+is_low_ignorable c = is_in_range 0xAD 0xAD c || (is_in_range 0x34F 0x34F c || (is_in_range 0x61C 0x61C c || (is_in_range 0x115F 0x1160 c || (is_in_range 0x17B4 0x17B5 c || (is_in_range 0x180B 0x180F c || (is_in_range 0x200B 0x200F c || (is_in_range 0x202A 0x202E c || (is_in_range 0x2060 0x206F c))))))))
 
--- Whether the character has no width: a soft hyphen, a joiner, a separator, an operator that isn't seen, a byte order mark.
-abbrev pub is_zero_width : ℕ → Bool
-is_zero_width c = is_in_range 0xAD 0xAD c || (is_in_range 0x180E 0x180E c || (is_in_range 0x200B 0x200D c || (is_in_range 0x2060 0x2064 c || is_in_range 0xFEFF 0xFEFF c)))
+abbrev pub is_high_ignorable : ℕ → Bool
+is_high_ignorable c = is_in_range 0x3164 0x3164 c || (is_in_range 0xFE00 0xFE0F c || (is_in_range 0xFEFF 0xFEFF c || (is_in_range 0xFFA0 0xFFA0 c || (is_in_range 0xFFF0 0xFFF8 c || (is_in_range 0x1_BCA0 0x1_BCA3 c || (is_in_range 0x1_D173 0x1_D17A c || (is_in_range 0xE_0000 0xE_0FFF c)))))))
+
+-- Whether the character ends a line or a paragraph, and is no control character.
+abbrev pub is_separator : ℕ → Bool
+is_separator c = is_in_range 0x2028 0x2029 c
 
 -- Whether a terminal acts on the character, or shows nothing of it.
 abbrev pub is_hidden : ℕ → Bool
-is_hidden c = is_control c || (is_direction c || is_zero_width c)
+is_hidden c = is_control c || (is_separator c || (is_low_ignorable c || is_high_ignorable c))
 
 -- `\u{..}` with the code of the character in hexadecimal digits
 abbrev pub escaped : ℕ → List ℕ

@@ -10,32 +10,40 @@ use std::fmt;
 /// How many characters of a text are shown in brief.
 const BRIEF: usize = 200;
 
-// Whether the character turns the direction of a text, or ends its line or paragraph.
-fn is_direction(c: char) -> bool
-    ensures { result ≡ shown_as.is_direction c }
+// Whether the character has Unicode's property Default_Ignorable_Code_Point, up to U+2FFF.
+fn is_low_ignorable(c: char) -> bool
+    ensures { result ≡ shown_as.is_low_ignorable c }
 {
     matches!(
         c,
-        '\u{61c}' | '\u{200e}'..='\u{200f}' | '\u{2028}'..='\u{202e}' | '\u{2066}'..='\u{2069}'
+        '\u{ad}' | '\u{34f}' | '\u{61c}' | '\u{115f}'..='\u{1160}' | '\u{17b4}'..='\u{17b5}'
+            | '\u{180b}'..='\u{180f}' | '\u{200b}'..='\u{200f}' | '\u{202a}'..='\u{202e}'
+            | '\u{2060}'..='\u{206f}'
     )
 }
 
-// Whether the character has no width.
-fn is_zero_width(c: char) -> bool
-    ensures { result ≡ shown_as.is_zero_width c }
+// The same from U+3000 on.
+fn is_high_ignorable(c: char) -> bool
+    ensures { result ≡ shown_as.is_high_ignorable c }
 {
     matches!(
         c,
-        '\u{ad}' | '\u{180e}' | '\u{200b}'..='\u{200d}' | '\u{2060}'..='\u{2064}' | '\u{feff}'
+        '\u{3164}' | '\u{fe00}'..='\u{fe0f}' | '\u{feff}' | '\u{ffa0}'
+            | '\u{fff0}'..='\u{fff8}' | '\u{1bca0}'..='\u{1bca3}'
+            | '\u{1d173}'..='\u{1d17a}' | '\u{e0000}'..='\u{e0fff}'
     )
 }
 
-/// Whether a terminal acts on the character, or shows nothing of it: a control character, one that turns
-/// the direction of a text or ends its line, or one without width.
+/// Whether a terminal acts on the character, or shows nothing of it: a control character, one that ends a
+/// line or a paragraph, or one that Unicode says to ignore (Default_Ignorable_Code_Point), as marks that
+/// turn the direction of a text and those without width.
 pub fn is_hidden(c: char) -> bool
     ensures { result ≡ shown_as.is_hidden c }
 {
-    c.is_control() || is_direction(c) || is_zero_width(c)
+    c.is_control()
+        || matches!(c, '\u{2028}'..='\u{2029}')
+        || is_low_ignorable(c)
+        || is_high_ignorable(c)
 }
 
 // The character as it is, or `\u{..}` with its code in hexadecimal digits.

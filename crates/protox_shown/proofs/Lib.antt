@@ -1,1 +1,2 @@
 mod Cut
+pub mod Newlines

@@ -2,4 +2,5 @@
 //! unseen.
 #![tactic(auto)]
 
+pub mod line;
 pub mod shown;

@@ -3,14 +3,17 @@
 
 usage: cases.py [NAME..]        at the top of the repository; a NAME is a line of args, as foo.proto
 
-It takes about a minute, most of it for the build. Of each case whose lines differ from those in
-`stdout` it shows the first that does. The last line is 'N passed, M failed'.
+It takes about a minute, most of it for the build. A case is a line of `stdout` that begins with `== `,
+and the lines below it. Of each case whose lines differ from those in `stdout` it shows the first that
+does. The large sources take too long in such a build: they are left to the gate. The last line is
+'N passed, M failed'.
 """
 import itertools
 import subprocess
 import sys
 
 FOLDER = 'crates/protocases'
+LARGE = '--large'
 
 
 def cases_in(text):
@@ -29,12 +32,12 @@ def words_of(names):
     """The words of the program for these cases, or for all."""
     with open(f'{FOLDER}/args', encoding='utf-8') as file:
         words = file.read().split()
-    return [word for word in words if word.startswith('--') or not names or word in names]
+    return [word for word in words if word != LARGE and (word.startswith('--') or not names or word in names)]
 
 
 def run(words):
     """What the program prints, built without proofs."""
-    files = [f'--data={word}=data/{word}' for word in words if not word.startswith('--')]
+    files = dict.fromkeys(f'--data={word}=data/{word}' for word in words if not word.startswith('--'))
     flags = list(itertools.chain.from_iterable(flag.split('=', 1) for flag in files))
     ran = subprocess.run(['rt', 'try', *flags, '--', *words], cwd=FOLDER, capture_output=True, text=True, check=False)
     if ran.returncode:
@@ -48,7 +51,7 @@ def main():
         wanted = cases_in(file.read())
     found = cases_in(run(words))
     passed = failed = 0
-    for name in (word for word in words if not word.startswith('--')):
+    for name in found if sys.argv[1:] else dict.fromkeys(case for case in [*wanted, *found] if case != LARGE):
         pairs = itertools.zip_longest(found.get(name, []), wanted.get(name, []), fillvalue='(no line)')
         differing = [pair for pair in pairs if pair[0] != pair[1] and pair != ('', '(no line)')]
         passed, failed = passed + (not differing), failed + bool(differing)

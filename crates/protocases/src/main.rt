@@ -1,40 +1,107 @@
-//! `protocases [FILE..] [--lexemes FILE..]` prints what the parser answers of each file: its descriptor,
-//! in the text format of Protocol Buffers, and a line for each location with its comments, or what is
-//! wrong with the file. Of the files behind `--lexemes` it prints what the lexer makes of them: the
-//! lexemes and faults as the lexer gives them, and the rows, gaps, comments and faults as the table
-//! does. So a case of the parser or of the lexer is a file in `data/` and its lines in `stdout`.
+//! `protocases [FILE..] [--lexemes FILE..] [--fronts FILE..] [--returns FILE..] [--large] [--calls]`
+//! prints what the parser answers of each file: its descriptor, in the text format of Protocol Buffers,
+//! and a line for each location with its comments, or what is wrong with the file. So a case is a file in
+//! `data/` and its lines in `stdout`. The words between change what is printed of the files behind them:
+//!
+//! - `--lexemes`: what the lexer makes of the file: the lexemes and faults as the lexer gives them, and the
+//!   rows, gaps, comments and faults as the table does
+//! - `--fronts`: whether each front of the file is accepted
+//! - `--returns`: whether the answer is the same when the lines end with `\r\n`
+//!
+//! `--large` prints the answers of sources that are deep or long, and `--calls` what calls answer that
+//! take memory.
 #![tactic(auto)]
 
+mod calls;
 mod cases;
+mod fronts;
+mod large;
 mod lexemes;
 mod locations;
+mod returns;
 mod shown;
+mod states;
 mod table;
 
+use calls::write_calls;
 use cases::write_case;
+use fronts::write_fronts;
+use large::write_large;
 use lexemes::write_lexemes;
+use returns::write_returns;
+use std::alloc::Global;
 use std::io::{self, BufWriter, Write};
 use std::process::ExitCode;
 use std::{env, fs};
 
-fn write_cases(rt: &HostRuntime) -> io::Result<()> {
-    let mut out = BufWriter::new(rt.alloc(), rt.stdout())?;
-    let mut as_lexemes = false;
-    for word in env::args(rt)?.skip(1) {
-        if word.as_str() == "--lexemes" {
-            as_lexemes = true;
-            continue;
+// What is printed of a file.
+#[derive(Clone, Copy)]
+enum Mode {
+    Case,
+    Lexemes,
+    Fronts,
+    Returns,
+}
+
+// The mode that a word sets for the files behind it.
+fn mode_of(word: &str) -> Option<Mode> {
+    match word {
+        "--lexemes" => Some(Mode::Lexemes),
+        "--fronts" => Some(Mode::Fronts),
+        "--returns" => Some(Mode::Returns),
+        _ => None,
+    }
+}
+
+fn write_file<W: Write>(
+    alloc: Global,
+    out: &mut W,
+    mode: Mode,
+    name: &str,
+    bytes: &[u8],
+) -> io::Result<()> {
+    match mode {
+        Mode::Case => write_case(alloc, out, name, bytes),
+        Mode::Lexemes => write_lexemes(alloc, out, name, bytes),
+        Mode::Fronts => write_fronts(alloc, out, name, bytes),
+        Mode::Returns => write_returns(alloc, out, name, bytes),
+    }
+}
+
+fn write_word<W: Write>(rt: &HostRuntime, out: &mut W, mode: Mode, word: &str) -> io::Result<()> {
+    match word {
+        "--large" => write_large(rt.alloc(), out),
+        "--calls" => write_calls(rt.alloc(), out),
+        name => {
+            let bytes = fs::read(rt, name)?;
+            write_file(rt.alloc(), out, mode, name, bytes.as_slice())
         }
-        let bytes = fs::read(rt, word.as_str())?;
-        if as_lexemes {
-            write_lexemes(rt.alloc(), &mut out, word.as_str(), bytes.as_slice())?;
-        } else {
-            write_case(rt.alloc(), &mut out, word.as_str(), bytes.as_slice())?;
+    }
+}
+
+fn write_words(rt: &HostRuntime) -> io::Result<()> {
+    let mut out = BufWriter::new(rt.alloc(), rt.stdout())?;
+    let mut mode = Mode::Case;
+    for word in env::args(rt)?.skip(1) {
+        match mode_of(word.as_str()) {
+            Some(set) => mode = set,
+            None => write_word(rt, &mut out, mode, word.as_str())?,
         }
     }
     out.flush()
 }
 
+// Says where memory ran out, for which no memory is asked. Where that can't be said, nothing is.
+fn failed(rt: &HostRuntime, error: &io::Error) -> u8 {
+    if error.kind() == io::ErrorKind::OutOfMemory {
+        let _said = rt.stderr().write_all(b"protocases: out of memory\n");
+    }
+    2
+}
+
 fn main(rt: HostRuntime) -> ExitCode {
-    ExitCode::from(if write_cases(&rt).is_ok() { 0 } else { 2 })
+    ExitCode::from(match write_words(&rt) {
+        Ok(()) => 0,
+        Err(error) => failed(&rt, &error),
+    })
 }

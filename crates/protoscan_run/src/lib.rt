@@ -9,6 +9,7 @@ ghost use Rattle.protox_parse.specs.Files.{IsFile};
 use protox_parse::descriptor::FileDescriptorProto;
 use protox_parse::descriptor::source_code_info::Location;
 use protox_parse::{ParseFailure, locate, parse};
+use protox_shown::shown::Shown;
 use std::alloc::{AllocError, Global};
 use std::io::{self, Write};
 
@@ -218,18 +219,13 @@ fn scan<W: Write, E: Write>(
     }
 }
 
-// A line in three parts, for which no memory is asked.
-fn write_line<E: Write>(err: &mut E, before: &str, name: &str, behind: &str) -> io::Result<()> {
-    err.write_all(before.as_bytes())?;
-    err.write_all(name.as_bytes())?;
-    err.write_all(behind.as_bytes())
-}
-
-// Says why nothing is printed. Where that can't be written, nothing more is.
+// Says why nothing is printed, in a line for which no memory is asked. Where that can't be written,
+// nothing more is.
 fn failed<E: Write>(err: &mut E, before: &str, name: &str, behind: &str) -> u8
     ensures { result ≡ 2 }
 {
-    match write_line(err, before, name, behind) {
+    let name = Shown(name);
+    match write!(err, "{before}{name}{behind}") {
         Ok(()) => FAILED,
         Err(_) => FAILED,
     }
@@ -243,6 +239,17 @@ pub fn broken<E: Write>(err: &mut E, error: &io::Error) -> u8
         return failed(err, OUT_OF_MEMORY, "", "");
     }
     FAILED
+}
+
+/// The status where the program's words can't be had. A line says why: one of them is not UTF-8, or memory
+/// ran out.
+pub fn without_words<E: Write>(err: &mut E, error: &io::Error) -> u8
+    ensures { result ≡ 2 }
+{
+    if error.kind() == io::ErrorKind::InvalidData {
+        return failed(err, "protoscan: an argument is not UTF-8\n", "", "");
+    }
+    broken(err, error)
 }
 
 // A number in decimal digits, up to 2147483647.
@@ -338,6 +345,7 @@ fn scan_file<W: Write, E: Write>(
 /// there is nothing to parse. Then a line to `err` says why: there is no word or more than two, the
 /// second spells no path, there is no file (`None`: it could not be read), its text is no UTF-8, or
 /// memory ran out. The status is 2 too where a write failed, and then nothing more is written.
+/// Whatever of names and sources is written to `err` is shown as Debug of a `ParseError` shows it.
 pub fn run<W: Write, E: Write>(
     alloc: Global,
     words: &[String],

@@ -12,6 +12,7 @@ ghost use Rattle.protox_parse.specs.Failures.{AreWrongOf, IsOutOfMemory, IsRefus
 
 use protox_descriptor::values::Text;
 use protox_lex::error::{ParseErrorKind, Span, SyntaxFailure};
+use protox_shown::line::FaultLine;
 use std::alloc::{AllocError, Global};
 use std::fmt;
 use std::marker::Model;
@@ -100,32 +101,22 @@ impl fmt::Display for ParseError {
     }
 }
 
-// The line and the column of an offset, both from 1. Lines end with a newline, columns count bytes.
-fn position(source: &[u8], offset: usize) -> (usize, usize) {
-    let mut line: usize = 1;
-    let mut column: usize = 1;
-    for byte in source.iter().take(offset) {
-        if *byte == b'\n' {
-            line = line.saturating_add(1);
-            column = 1;
-        } else {
-            column = column.saturating_add(1);
-        }
-    }
-    (line, column)
-}
-
+/// The line that a user sees: `file:line:column: text`, line and column from 1, or the text of the first
+/// fault alone where that has no span. It is safe on a terminal: what would act on one, or not be seen,
+/// is shown as `\u{..}`, and of a long token the first 200 characters are.
 impl fmt::Debug for ParseError {
+    ghost use Rattle.std.specs.Prelude.{option_map};
+    ghost use Rattle.protox_shown.specs.Line.{fault_line};
+
+    ghost debug_output = { λ refusal. option_map (fault_line refusal.file refusal.source) (first_of refusal.errors) };
+
     fn fmt<W: fmt::Write>(&self, f: &mut fmt::Formatter<W>) -> fmt::Result {
-        let kind = self.kind();
-        match self.span() {
-            Some(span) => {
-                let file = self.file();
-                let (line, column) = position(self.source().as_bytes(), span.start);
-                write!(f, "{file}:{line}:{column}: {kind}")
-            }
-            None => write!(f, "{kind}"),
-        }
+        let line = FaultLine {
+            file: self.file(),
+            source: self.source(),
+            fault: self.kind(),
+        };
+        write!(f, "{line}")
     }
 }
 

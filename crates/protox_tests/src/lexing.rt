@@ -1,7 +1,6 @@
-//! Equality of tokens, states of comments, and lexers that run out of memory.
+//! Equality of tokens, states of comments, and lexemes that take no memory.
 use protox_descriptor::values::{Items, Text};
 use protox_lex::comments::Comments;
-use protox_lex::error::ParseErrorKind;
 use protox_lex::laws::five_lexemes;
 use protox_lex::lex::*;
 use std::alloc::{AllocError, Global};
@@ -20,32 +19,6 @@ fn keyword_is_the_row(rt: HostRuntime) -> Result<(), Fail> {
     assert!(rt; is);
     let is = row_is(rt.alloc(), "@ max", 2, MAX)?;
     assert!(rt; !is);
-    Ok(())
-}
-
-// `/*`, so many times.
-fn openers(alloc: Global, count: usize) -> Result<String, AllocError> {
-    let mut source = String::new(alloc);
-    for _ in 0..count {
-        source.push_str("/*")?;
-    }
-    Ok(source)
-}
-
-// How many faults the first lexeme has, and whether the last of them is that the source ends.
-fn faults_of_openers(alloc: Global, count: usize) -> Result<(usize, bool), AllocError> {
-    let source = openers(alloc, count)?;
-    let mut lexer = Token::lexer(alloc, source.as_str());
-    lexer.next()?;
-    let faults = lexer.errors();
-    let ends = matches!(faults.last(), Some(ParseErrorKind::UnexpectedEof { .. }));
-    Ok((faults.len(), ends))
-}
-
-#[test]
-fn many_levels(rt: HostRuntime) -> Result<(), Fail> {
-    let (count, ends) = faults_of_openers(rt.alloc(), 100_000)?;
-    assert!(rt; count == 100_000 && ends);
     Ok(())
 }
 
@@ -118,71 +91,5 @@ fn lexemes_without_memory(rt: HostRuntime) -> Result<(), Fail> {
         && is_token(&found[3], &Token::FloatLiteral(float))
         && is_token(&found[4], &Token::LineComment(CowStr::Borrowed(" c\n")));
     assert!(rt; all);
-    Ok(())
-}
-
-// The next lexeme. Where memory is refused, the faults have to stay, and the next call has to say so
-// again.
-fn step(lexer: &mut Lexer<'_>) -> bool {
-    let faults = lexer.errors().len();
-    let refused = lexer.next().is_err();
-    !refused || (lexer.errors().len() == faults && lexer.next().is_err())
-}
-
-// Each of these lexemes takes memory. A lexer to which it was refused says so for good, and its
-// faults stay.
-#[test]
-fn next_after_refusal(rt: HostRuntime) -> Result<(), Fail> {
-    let mut lexer = Token::lexer(rt.alloc(), "'a\\n' 10f 0x1g /* a\nb */ // c\r\n");
-    let mut kept = true;
-    for _ in 0..8 {
-        kept = step(&mut lexer) && kept;
-    }
-    assert!(rt; kept);
-    Ok(())
-}
-
-// Each call is made once more where memory was refused.
-fn add_line(comments: &mut Comments, text: &str) -> Result<(), AllocError> {
-    if comments.line_comment(CowStr::Borrowed(text)).is_err() {
-        comments.line_comment(CowStr::Borrowed(text))?;
-    }
-    Ok(())
-}
-
-fn add_block(comments: &mut Comments, text: &str) -> Result<(), AllocError> {
-    if comments.block_comment(CowStr::Borrowed(text)).is_err() {
-        comments.block_comment(CowStr::Borrowed(text))?;
-    }
-    Ok(())
-}
-
-fn close(comments: &mut Comments) -> Result<(), AllocError> {
-    if comments.flush().is_err() {
-        comments.flush()?;
-    }
-    Ok(())
-}
-
-fn fill_after_refusals(comments: &mut Comments) -> Result<(), AllocError> {
-    comments.reset();
-    add_line(comments, " a\n")?;
-    add_line(comments, " b\n")?;
-    add_block(comments, " c ")?;
-    close(comments)?;
-    add_line(comments, " d\n")
-}
-
-fn filled_after_refusals(alloc: Global) -> Result<String, AllocError> {
-    let mut comments = Comments::new(alloc);
-    fill_after_refusals(&mut comments)?;
-    handed_out(alloc, &mut comments)
-}
-
-// A call to which memory was refused has changed nothing: made once more, it gives what it would have.
-#[test]
-fn comments_after_refusal(rt: HostRuntime) -> Result<(), Fail> {
-    let found = filled_after_refusals(rt.alloc())?;
-    assert_eq!(rt; found.as_str(), "< a\n b\n= c > d\n");
     Ok(())
 }

@@ -1,12 +1,10 @@
-//! One run of each public call of the crates below, with what a program's lines cannot show: equality, what
-//! is answered by value, and runs that other programs make with memory refused. Cases of the parser and the
-//! lexer are data of the program `protocases`.
+//! One run of each public call of the crates below, with what a program's lines cannot show: equality, and
+//! what is answered by value. Cases of the parser and the lexer, and calls that memory may be refused to,
+//! are lines of the program `protocases`.
 #![tactic(auto)]
 
 #[cfg(test)]
 mod descriptors;
-#[cfg(test)]
-mod large_sources;
 #[cfg(test)]
 mod laws;
 #[cfg(test)]

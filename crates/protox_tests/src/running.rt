@@ -1,6 +1,7 @@
 //! The work of the program `protoscan`.
-use protoscan_run::{file_name, run};
+use protoscan_run::{broken, file_name, run, without_words};
 use std::alloc::Global;
+use std::io;
 use std::test::Fail;
 
 // What is written, what is said of a refusal, and the status, for words and a file's bytes.
@@ -56,6 +57,11 @@ fn without_a_file_to_read(rt: HostRuntime) -> Result<(), Fail> {
     assert_eq!(rt; bytes.as_str(), "protoscan: a is not UTF-8\n2");
     let wordless = scanned(rt.alloc(), &[], Some(b"".as_slice()))?;
     assert_eq!(rt; wordless.as_str(), "usage: protoscan FILE [PATH]\n2");
+    let coloured = scanned_as(rt.alloc(), "\u{1b}[31ma\u{202e}", None)?;
+    assert_eq!(rt;
+        coloured.as_str(),
+        "protoscan: cannot read \\u{1b}[31ma\\u{202e}\n2"
+    );
     let three = [0, 1, 2].map(|_: usize| String::new(rt.alloc()));
     let crowded = scanned(rt.alloc(), &three, Some(b"".as_slice()))?;
     assert_eq!(rt; crowded.as_str(), "usage: protoscan FILE [PATH]\n2");
@@ -124,6 +130,34 @@ fn words_that_are_no_path(rt: HostRuntime) -> Result<(), Fail> {
         let written = scanned_at(rt.alloc(), path, None)?;
         let expected = format!(in rt.alloc(); "false protoscan: bad path {path}\n2")?;
         assert_eq!(rt; written.as_str(), expected.as_str());
+    }
+    Ok(())
+}
+
+// What is said where the words or the file can't be had.
+fn said(alloc: Global, kind: io::ErrorKind) -> Result<String, Fail> {
+    let error = io::Error::from(kind);
+    let mut err = Vec::new(alloc);
+    let status = (without_words(&mut err, &error), broken(&mut err, &error));
+    let lines = String::from_utf8_lossy(alloc, &err)?;
+    Ok(format!(in alloc; "{lines}{status:?}")?)
+}
+
+#[test]
+fn words_that_cant_be_had(rt: HostRuntime) -> Result<(), Fail> {
+    for (kind, expected) in [
+        (
+            io::ErrorKind::InvalidData,
+            "protoscan: an argument is not UTF-8\n(2, 2)",
+        ),
+        (
+            io::ErrorKind::OutOfMemory,
+            "protoscan: out of memory\nprotoscan: out of memory\n(2, 2)",
+        ),
+        (io::ErrorKind::NotFound, "(2, 2)"),
+    ] {
+        let found = said(rt.alloc(), kind)?;
+        assert_eq!(rt; found.as_str(), expected);
     }
     Ok(())
 }

@@ -265,7 +265,8 @@ pub struct Message {
     pub span: Span,
 }
 
-/// What stands between the braces of a message or a group.
+/// What stands between the braces of a message or a group. Drop, `==` and Debug go down level by level: at most
+/// 31 in what comes from a source (see `Boxed`), and as deep as a caller nested it else.
 #[cycle(ast)]
 #[derive(PartialEq, Debug, Drop)]
 pub struct MessageBody {

@@ -9,6 +9,10 @@ use std::marker::Model;
 
 /// A value in a block of its own, so that it takes the room of an address where it stands. Contracts see it as
 /// the value.
+///
+/// Drop, `==` and Debug go down into the value, level by level. What comes from a source has at most 31 levels
+/// of messages and groups: `levels` of `IsAccepted`, in the clause `found` of `parse_file`. A value that a
+/// caller nested deeper may take more stack than there is.
 #[derive(Drop)]
 pub struct Boxed<T> {
     held: Box<T>,

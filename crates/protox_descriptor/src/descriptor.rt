@@ -73,7 +73,8 @@ impl FileDescriptorProto {
     }
 }
 
-/// The message `DescriptorProto`: a message type.
+/// The message `DescriptorProto`: a message type. Drop, `==` and Debug go down through `nested_type` level by
+/// level: at most 31 in what comes from a source, and as deep as a caller nested it else.
 #[derive(PartialEq, Debug, Drop)]
 pub struct DescriptorProto {
     /// Its name, without the package and the messages around it.

@@ -15,6 +15,11 @@ abbrev pub IfNotParsed : {T : Type 0} → Result T BytesFailure → (ParseFailur
 IfNotParsed (Err (NotParsed failure)) P = P failure
 IfNotParsed _ P = Unit {0}
 
+-- If there is a failure, the source was parsed.
+abbrev pub IsParsed : {T : Type 0} → Result T BytesFailure → Type 0
+IsParsed (Err (NotParsed failure)) = ⊥
+IsParsed _ = Unit {0}
+
 -- A descriptor has no bytes to give: memory ran out, or they are 2 GiB or more, or a double in it is the text of no float.
 abbrev pub IsWithout : FileDescriptorProto → BytesFailure → Type 0
 IsWithout descriptor (NotParsed failure) = parsed.IsOutOfMemory failure

@@ -8,7 +8,7 @@ use std::alloc::AllocError;
 pub enum EncodeError {
     /// It would take 2 GiB or more, and messages of Protocol Buffers are smaller.
     TooLarge,
-    /// The text of some `double_value` is no float. No file that is parsed has such a text.
+    /// The text of some `double_value` is no float's.
     NotAFloat,
     /// Memory ran out.
     OutOfMemory,

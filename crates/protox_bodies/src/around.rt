@@ -16,7 +16,7 @@ use protox_blocks::ranges::{extensions, reserved};
 use protox_grammar::note::Note;
 use protox_lex::error::{ParseErrorKind, Span};
 use protox_options::options::option;
-use protox_rows::checks::add_fault;
+use protox_rows::checks::add_read_fault;
 use protox_rows::class::{OPTION, RESERVED, sees};
 use protox_rows::expected::Expected;
 use protox_rows::leaf::{copied, is_mark, refused};
@@ -78,7 +78,7 @@ pub(crate) fn sunk(
     match rows.split() {
         Some((row, rest)) if is_mark(row.token(), b'{') => {
             let span = copied(word);
-            match add_fault(notes, &rest, ParseErrorKind::MessageNestingTooDeep { span }) {
+            match add_read_fault(notes, &rest, ParseErrorKind::MessageNestingTooDeep { span }) {
                 Ok(()) => Refused::TooDeep { left: rows.len() },
                 Err(_) => Refused::OutOfMemory,
             }

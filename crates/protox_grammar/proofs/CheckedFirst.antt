@@ -145,7 +145,7 @@ module _ (lexemes : List Lexeme) (w : Place) (v : FirstOf lexemes w) where
         end_most = k.1;
         is_wrong = k.2;
         counted = elim v.left_is [
-          | inl e ↦ inl (omega (arith, e.0, many))
+          | inl e ↦ inl (omega (arith, e, many))
           | inr e ↦ inr (omega (arith, e, many))
         ];
         none_before = fronts;

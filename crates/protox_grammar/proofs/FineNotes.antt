@@ -12,7 +12,6 @@ use Rattle.protox_ast.specs.Tree as t
 use Rattle.protox_grammar.specs.Noted.{noted_nodes}
 use Rattle.protox_grammar.specs.Reader.{head_in}
 use Rattle.protox_grammar.specs.Steps.{ANode, APackage, AKeyword, ADeepBody, ADeeperBody, AnOpenBrace, ACloseBrace, Token, Note, Steps}
-use Rattle.protox_grammar.specs.Told as told
 use Rattle.protox_grammar.specs.Told.{Notes, behind, brace_notes, is_invalid, node_notes, noted, at_once, told, unless_so}
 use Rattle.protox_grammar.specs.declared.note.Noted.{Noted}
 use Rattle.protox_grammar.specs.declared.note.Noted.TheVariants.{Fault, TextFormat}
@@ -71,17 +70,14 @@ fine-noted (AGroupName x) xs h = none-at-once (is_group_name x.0) _ xs h
 fine-noted (APackageAgain first again) xs h = absurd h
 fine-noted (ATooDeep keyword open_at) xs h = absurd h
 
-one-noted : (f : ParseErrorKind) (xs : Rows Place) → head_in is_invalid xs ≡ false → IsFaultless (told.one_note f xs) → ⊥
-one-noted f xs e h = true≢false (sym (some-noted false f xs e (faultless-both (told.one_note f xs) [] h tt)))
-
 pub noted-fine : (x : CheckedNode Place) (xs : Rows Place) → head_in is_invalid xs ≡ false → IsFaultless (node_notes x xs) → IsFine x
 noted-fine (ASyntax x) xs e h = some-noted (is_known_syntax (strings_value x)) _ xs e h
 noted-fine (AnImport x) xs e h = (some-noted (is_text (strings_value x)) _ xs e (faultless-first _ _ h), some-noted (is_import_path (text_of (strings_value x))) _ xs e (faultless-last (noted (unless_so (is_text (strings_value x)) _) xs) _ h))
 noted-fine (AReservedName x) xs e h =
     (some-noted (is_text (strings_value x)) _ xs e (faultless-first _ _ h), some-noted (is_ident (text_of (strings_value x))) _ xs e (faultless-last (noted (unless_so (is_text (strings_value x)) _) xs) _ h))
 noted-fine (AGroupName x) xs e h = some-at-once (is_group_name x.0) _ xs h
-noted-fine (APackageAgain first again) xs e h = one-noted _ xs e h
-noted-fine (ATooDeep keyword open_at) xs e h = one-noted _ xs e h
+noted-fine (APackageAgain first again) xs e h = h.0
+noted-fine (ATooDeep keyword open_at) xs e h = h.0
 
 -- ---- steps
 
@@ -115,9 +111,9 @@ fine-told first w [] xs a h = tt
 fine-told first w (Token r ∷ l) xs a h = fine-told first w l (behind xs) (tokens-behind xs a) h
 fine-told first w (Note (ANode x) ∷ l) xs a h = (noted-fine x xs (head-token xs a) (faultless-first _ _ h), fine-told first w l xs a (faultless-last (node_notes x xs) _ h))
 fine-told None w (Note (APackage x) ∷ l) xs a h = fine-told (Some x) w l xs a h
-fine-told (Some f) w (Note (APackage x) ∷ l) xs a h = (noted-fine (APackageAgain f x) xs (head-token xs a) (faultless-first _ _ h), fine-told (Some f) w l xs a (faultless-last (node_notes (APackageAgain f x) xs) _ h))
+fine-told (Some f) w (Note (APackage x) ∷ l) xs a h = absurd h.0
 fine-told first w (Note (AKeyword m) ∷ l) xs a h = fine-told first m l xs a h
-fine-told first w (Note (ADeepBody m) ∷ l) xs a h = (noted-fine (ATooDeep w m) xs (head-token xs a) (faultless-first _ _ h), fine-told first w l xs a (faultless-last (node_notes (ATooDeep w m) xs) _ h))
+fine-told first w (Note (ADeepBody m) ∷ l) xs a h = absurd h.0
 fine-told first w (Note (ADeeperBody m) ∷ l) xs a h = fine-told first w l xs a h
 fine-told first w (Note (AnOpenBrace m) ∷ l) xs a h = fine-told first w l xs a h.1
 fine-told first w (Note (ACloseBrace m) ∷ l) xs a h = fine-told first w l xs a h.1

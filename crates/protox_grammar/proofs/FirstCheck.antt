@@ -11,7 +11,7 @@ use Rattle.protox_ast.specs.Tree as t
 use Rattle.protox_grammar.specs.Noted.{noted_nodes}
 use Rattle.protox_grammar.specs.Reader.{head_in}
 use Rattle.protox_grammar.specs.Steps.{Event, ANode, APackage, AKeyword, ADeepBody, ADeeperBody, AnOpenBrace, ACloseBrace, Token, Note, Steps}
-use Rattle.protox_grammar.specs.Told.{Notes, at_once, behind, first_with, is_invalid, keyword_with, node_notes, noted, one_note, past, span_of, told, unless_so}
+use Rattle.protox_grammar.specs.Told.{Notes, at_once, behind, first_with, is_invalid, keyword_with, node_notes, noted, run_note, past, span_of, told, unless_so}
 use Rattle.protox_grammar.specs.declared.note.Note as note_type
 use Rattle.protox_grammar.specs.declared.note.Noted.TheVariants.{Fault}
 use Rattle.protox_grammar.proofs.FineNotes.{IsFaultless, faultless-both}
@@ -24,22 +24,22 @@ use Rattle.protox_grammar.proofs.Telling.{told-append}
 abbrev pub fault_note : ℕ → ParseErrorKind → note_type.Note
 fault_note left f = record { left = left; noted = Fault f }
 
--- A fault is noted with the rows behind the last one taken, where the next is valid; or with this last one, too.
+-- A fault is noted with the rows behind the last one taken, or with this one, too.
 abbrev pub IsLeftThere : ℕ → Rows Place → Type 0
-IsLeftThere left xs = ((left ≡ length xs) × (head_in is_invalid xs ≡ false)) ⊎ (left ≡ suc (length xs))
+IsLeftThere left xs = (left ≡ length xs) ⊎ (left ≡ suc (length xs))
 
 abbrev IsNotedOf : Notes → Bool → ℕ → ParseErrorKind → Rows Place → Type 0
 IsNotedOf ns so left f xs = (so ≡ false) × IsLeftThere left xs × (ns ≡ fault_note left f ∷ [])
 
-one-by : (c : Bool) (f : ParseErrorKind) (xs : Rows Place) → head_in is_invalid xs ≡ c → (one_note f xs ≡ []) ⊎ (IsLeftThere (length xs) xs × (one_note f xs ≡ fault_note (length xs) f ∷ []))
+one-by : (c : Bool) (f : ParseErrorKind) (xs : Rows Place) → head_in is_invalid xs ≡ c → (run_note f xs ≡ []) ⊎ (IsLeftThere (length xs) xs × (run_note f xs ≡ fault_note (length xs) f ∷ []))
 one-by true f xs e = inl (ap (λ b. cond b [] (fault_note (length xs) f ∷ [])) e)
-one-by false f xs e = inr (inl (refl, e), ap (λ b. cond b [] (fault_note (length xs) f ∷ [])) e)
+one-by false f xs e = inr (inl refl, ap (λ b. cond b [] (fault_note (length xs) f ∷ [])) e)
 
 test-by : (so : Bool) (f : ParseErrorKind) (xs : Rows Place) → (noted (unless_so so f) xs ≡ []) ⊎ IsNotedOf (noted (unless_so so f) xs) so (length xs) f xs
 test-by true f xs = inl refl
 test-by false f xs = elim (one-by (head_in is_invalid xs) f xs refl) [
-  | inl e ↦ inl (append-nil (one_note f xs) ∙ e)
-  | inr e ↦ inr (refl, e.0, append-nil (one_note f xs) ∙ e.1)
+  | inl e ↦ inl (append-nil (run_note f xs) ∙ e)
+  | inr e ↦ inr (refl, e.0, append-nil (run_note f xs) ∙ e.1)
 ]
 
 once-by : (so : Bool) (f : ParseErrorKind) (xs : Rows Place) → (at_once (unless_so so f) xs ≡ []) ⊎ IsNotedOf (at_once (unless_so so f) xs) so (suc (length xs)) f xs
@@ -90,15 +90,8 @@ node-by (AGroupName x) xs = elim (once-by (is_group_name x.0) (fault.InvalidGrou
   | inr e ↦ inr (record { fault = fault.InvalidGroupName x.1.span; left = suc (length xs); more = []; is = e.2; left_is = e.1; is_wrong = (e.0, refl) })
 ]
 node-by (APackageAgain first again) xs =
-    let wrong : ParseErrorKind = fault.DuplicatePackage (package_span span_of first) (package_span span_of again) in
-    elim (one-by (head_in is_invalid xs) wrong xs refl) [
-      | inl e ↦ inl e
-      | inr e ↦ inr (record { fault = wrong; left = length xs; more = []; is = e.1; left_is = e.0; is_wrong = refl })
-    ]
-node-by (ATooDeep keyword open_at) xs = elim (one-by (head_in is_invalid xs) (fault.MessageNestingTooDeep keyword.span) xs refl) [
-  | inl e ↦ inl e
-  | inr e ↦ inr (record { fault = fault.MessageNestingTooDeep keyword.span; left = length xs; more = []; is = e.1; left_is = e.0; is_wrong = refl })
-]
+    inr (record { fault = fault.DuplicatePackage (package_span span_of first) (package_span span_of again); left = length xs; more = []; is = refl; left_is = inl refl; is_wrong = refl })
+node-by (ATooDeep keyword open_at) xs = inr (record { fault = fault.MessageNestingTooDeep keyword.span; left = length xs; more = []; is = refl; left_is = inl refl; is_wrong = refl })
 
 -- ---- of a note
 

@@ -63,11 +63,9 @@ fine-to first w (Token r ∷ l) zero xs m a h = absurd (omega (arith, m))
 fine-to first w (Token r ∷ l) (suc n) xs m a h = fine-to first w l n (behind xs) (omega (arith, m)) (behind-to n xs a) h
 fine-to first w (Note (ANode x) ∷ l) n xs m a h = (noted-fine x xs (head-to n xs a) (faultless-first _ _ h), fine-to first w l n xs m a (faultless-last (node_notes x xs) _ h))
 fine-to None w (Note (APackage x) ∷ l) n xs m a h = fine-to (Some x) w l n xs m a h
-fine-to (Some f) w (Note (APackage x) ∷ l) n xs m a h =
-    (noted-fine (APackageAgain f x) xs (head-to n xs a) (faultless-first _ _ h), fine-to (Some f) w l n xs m a (faultless-last (node_notes (APackageAgain f x) xs) _ h))
+fine-to (Some f) w (Note (APackage x) ∷ l) n xs m a h = absurd h.0
 fine-to first w (Note (AKeyword k) ∷ l) n xs m a h = fine-to first k l n xs m a h
-fine-to first w (Note (ADeepBody k) ∷ l) n xs m a h =
-    (noted-fine (ATooDeep w k) xs (head-to n xs a) (faultless-first _ _ h), fine-to first w l n xs m a (faultless-last (node_notes (ATooDeep w k) xs) _ h))
+fine-to first w (Note (ADeepBody k) ∷ l) n xs m a h = absurd h.0
 fine-to first w (Note (ADeeperBody k) ∷ l) n xs m a h = fine-to first w l n xs m a h
 fine-to first w (Note (AnOpenBrace k) ∷ l) n xs m a h = fine-to first w l n xs m a h.1
 fine-to first w (Note (ACloseBrace k) ∷ l) n xs m a h = fine-to first w l n xs m a h.1

@@ -13,7 +13,7 @@ use Rattle.protox_ast.specs.Tree as t
 use Rattle.protox_grammar.specs.Noted.{open_behind}
 use Rattle.protox_grammar.specs.Reader.{head_in}
 use Rattle.protox_grammar.specs.Steps.{ANode, APackage, AKeyword, ADeepBody, ADeeperBody, AnOpenBrace, ACloseBrace, Token, Note, Steps, tokens, until}
-use Rattle.protox_grammar.specs.Told.{Notes, behind, told, noted, one_note, at_once, node_notes, is_invalid, syntax_faults, text_faults, path_faults, ident_faults, group_faults, span_of}
+use Rattle.protox_grammar.specs.Told.{Notes, behind, told, noted, run_note, read_note, at_once, node_notes, is_invalid, syntax_faults, text_faults, path_faults, ident_faults, group_faults, span_of}
 use Rattle.protox_grammar.specs.declared.note.Noted.{Noted}
 use Rattle.protox_grammar.specs.declared.note.Noted.TheVariants.{Fault, TextFormat}
 use Rattle.protox_grammar.proofs.StepLists.{EndsDeep}
@@ -47,16 +47,19 @@ plain-none b left = refl
 plain-both : (a c : Notes) → Plain a → Plain c → Plain (a ++ c)
 plain-both a c h k b left = mode-append b left a c ∙ ap (λ v. mode_at v left c) (h b left) ∙ k b left
 
-plain-one : (wrong : ParseErrorKind) (xs : Rows Place) → Plain (one_note wrong xs)
+plain-one : (wrong : ParseErrorKind) (xs : Rows Place) → Plain (run_note wrong xs)
 plain-one wrong xs b left = at (head_in is_invalid xs)
   where
     at : (c : Bool) → mode_at b left (cond c [] (record { left = length xs; noted = Fault wrong } ∷ [])) ≡ b
     at true = refl
     at false = same-both (nat_lt left (length xs)) b
 
+plain-read : (wrong : ParseErrorKind) (xs : Rows Place) → Plain (read_note wrong xs)
+plain-read wrong xs b left = same-both (nat_lt left (length xs)) b
+
 plain-noted : (fs : List ParseErrorKind) (xs : Rows Place) → Plain (noted fs xs)
 plain-noted [] xs = plain-none
-plain-noted (f ∷ fs) xs = plain-both (one_note f xs) (noted fs xs) (plain-one f xs) (plain-noted fs xs)
+plain-noted (f ∷ fs) xs = plain-both (run_note f xs) (noted fs xs) (plain-one f xs) (plain-noted fs xs)
 
 plain-at-once : (fs : List ParseErrorKind) (xs : Rows Place) → Plain (at_once fs xs)
 plain-at-once [] xs b left = refl
@@ -69,8 +72,8 @@ plain-node (AnImport x) xs = plain-both (noted (text_faults (strings_value x) (s
 plain-node (AReservedName x) xs = plain-both (noted (text_faults (strings_value x) (strings_span x)) xs) (noted (ident_faults (text_of (strings_value x)) (strings_span x)) xs)
     (plain-noted (text_faults (strings_value x) (strings_span x)) xs) (plain-noted (ident_faults (text_of (strings_value x)) (strings_span x)) xs)
 plain-node (AGroupName x) xs = plain-at-once (group_faults x.0 x.1.span) xs
-plain-node (APackageAgain first again) xs = plain-one (fault.DuplicatePackage (package_span span_of first) (package_span span_of again)) xs
-plain-node (ATooDeep keyword open_at) xs = plain-one (fault.MessageNestingTooDeep keyword.span) xs
+plain-node (APackageAgain first again) xs = plain-read (fault.DuplicatePackage (package_span span_of first) (package_span span_of again)) xs
+plain-node (ATooDeep keyword open_at) xs = plain-read (fault.MessageNestingTooDeep keyword.span) xs
 
 -- what is noted of a node sets no mode
 past-node : (x : CheckedNode Place) (xs : Rows Place) (b : Bool) (left : ℕ) (more : Notes) → mode_at b left (node_notes x xs ++ more) ≡ mode_at b left more

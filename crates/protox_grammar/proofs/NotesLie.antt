@@ -13,7 +13,7 @@ use Rattle.protox_ast.specs.Spelling as s
 use Rattle.protox_ast.specs.Tree as t
 use Rattle.protox_grammar.specs.Reader.{head_in}
 use Rattle.protox_grammar.specs.Rules as r
-use Rattle.protox_grammar.specs.Told.{at_once, group_faults, group_notes, ident_faults, import_notes, is_invalid, name_notes, noted, one_note, path_faults, syntax_faults, syntax_notes, text_faults}
+use Rattle.protox_grammar.specs.Told.{at_once, group_faults, group_notes, ident_faults, import_notes, is_invalid, name_notes, noted, run_note, path_faults, syntax_faults, syntax_notes, text_faults}
 use Rattle.protox_grammar.specs.declared.note.Noted.TheVariants.{Fault}
 use Rattle.protox_grammar.proofs.Parts as parts
 use Rattle.protox_grammar.proofs.Telling.{AllLie, both-lie, cond-lie}
@@ -56,12 +56,12 @@ faults-lie : (high : ℕ) (so : Bool) (wrong : ParseErrorKind) → LiesIn high w
 faults-lie high true wrong h = tt
 faults-lie high false wrong h = (h, tt)
 
-pub one-lies : (high : ℕ) (wrong : ParseErrorKind) (xs : Rows Place) → LiesIn high wrong → AllLie high (one_note wrong xs)
+pub one-lies : (high : ℕ) (wrong : ParseErrorKind) (xs : Rows Place) → LiesIn high wrong → AllLie high (run_note wrong xs)
 one-lies high wrong xs h = cond-lie high (head_in is_invalid xs) [] (record { left = length xs; noted = Fault wrong } ∷ []) tt (h, tt)
 
 noted-lie : (high : ℕ) (faults : List ParseErrorKind) (xs : Rows Place) → Each (LiesIn high) faults → AllLie high (noted faults xs)
 noted-lie high [] xs h = tt
-noted-lie high (f ∷ fs) xs h = both-lie high (one_note f xs) (noted fs xs) (one-lies high f xs h.0) (noted-lie high fs xs h.1)
+noted-lie high (f ∷ fs) xs h = both-lie high (run_note f xs) (noted fs xs) (one-lies high f xs h.0) (noted-lie high fs xs h.1)
 
 at-once-lie : (high : ℕ) (faults : List ParseErrorKind) (xs : Rows Place) → Each (LiesIn high) faults → AllLie high (at_once faults xs)
 at-once-lie high [] xs h = tt

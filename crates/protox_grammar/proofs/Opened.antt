@@ -245,7 +245,7 @@ pub sunk-lie : (w : Span) (low high : ℕ) (xs : Rows Place) → SpanLiesIn high
 sunk-lie w low high [] e h = tt
 sunk-lie w low high (r ∷ rs) e h =
     cond-lie high (is_token (Mark s.open_brace) r.shape) (deep_notes w rs) []
-    (cond-lie high (head_in is_invalid rs) [] (record { left = length rs; noted = Fault (fault.MessageNestingTooDeep w) } ∷ []) tt (e, tt)) tt
+    (e, tt) tt
 
 abbrev pub sunk : {B : Type 0} (view : t.Mbody Place → B) → Opened deep_read (deep_trace ADeepBody) view
 sunk view = record { code = mapped view deep_read; notes = sunk_notes; shows = right-shows view (as_is deep_read); says = sunk-says; left = sunk-left; lies = sunk-lie }

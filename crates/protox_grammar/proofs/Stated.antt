@@ -166,7 +166,7 @@ module _ {B : Type 0} {a : Reader Place (t.Package Place)} {s : Rows Place → S
       where
         again-lies : (q : Option Span) (here : Span) (rest : Rows Place) → Given (SpanLiesIn high) q → SpanLiesIn high here → AllLie high (again_notes q here rest)
         again-lies None here rest i j = tt
-        again-lies (Some first) here rest i j = cond-lie high (head_in is_invalid rest) [] (record { left = length rest; noted = Fault (DuplicatePackage first here) } ∷ []) tt ((i, j), tt)
+        again-lies (Some first) here rest i j = ((i, j), tt)
 
         at : (r : Result (t.Package Place × Rows Place) Refusal) → a xs ≡ r → AllLie high (checked (λ x rest. again_notes q (span x) rest) (r >>= λ y. Ok (f y.0, y.1)))
         at (Ok y) e = again-lies q (span (f y.0)) y.1 g (safe low high xs y e k)

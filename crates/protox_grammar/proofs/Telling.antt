@@ -32,9 +32,9 @@ told-append first w (Token r ∷ l) k xs = told-append first w l k (behind xs)
 told-append first w (Note (ANode x) ∷ l) k xs = ap (λ v. node_notes x xs ++ v) (told-append first w l k xs) ∙ sym (append_assoc (node_notes x xs) _ _)
 told-append None w (Note (APackage x) ∷ l) k xs = told-append (Some x) w l k xs
 told-append (Some f) w (Note (APackage x) ∷ l) k xs =
-    ap (λ v. node_notes (APackageAgain f x) xs ++ v) (told-append (Some f) w l k xs) ∙ sym (append_assoc (node_notes (APackageAgain f x) xs) _ _)
+    ap (λ v. node_notes (APackageAgain f x) xs ++ v) (told-append (Some f) w l k xs)
 told-append first w (Note (AKeyword m) ∷ l) k xs = told-append first m l k xs
-told-append first w (Note (ADeepBody m) ∷ l) k xs = ap (λ v. node_notes (ATooDeep w m) xs ++ v) (told-append first w l k xs) ∙ sym (append_assoc (node_notes (ATooDeep w m) xs) _ _)
+told-append first w (Note (ADeepBody m) ∷ l) k xs = ap (λ v. node_notes (ATooDeep w m) xs ++ v) (told-append first w l k xs)
 told-append first w (Note (ADeeperBody m) ∷ l) k xs = told-append first w l k xs
 told-append first w (Note (AnOpenBrace m) ∷ l) k xs = ap (λ v. brace_notes true xs ++ v) (told-append first w l k xs)
 told-append first w (Note (ACloseBrace m) ∷ l) k xs = ap (λ v. brace_notes false xs ++ v) (told-append first w l k xs)

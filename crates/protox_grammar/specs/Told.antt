@@ -45,13 +45,17 @@ abbrev pub is_invalid : Shape → Bool
 is_invalid Invalid = true
 is_invalid _ = false
 
--- A fault is noted once the row behind the node is read, too. Where this is invalid, that is the only fault there.
-abbrev pub one_note : ParseErrorKind → Rows Place → Notes
-one_note wrong xs = if head_in is_invalid xs then [] else record { left = length xs; noted = Fault wrong } ∷ []
+-- A run of strings ends where the row behind it is read, and its fault is noted then. Where this row is invalid, that is the only fault there.
+abbrev pub run_note : ParseErrorKind → Rows Place → Notes
+run_note wrong xs = if head_in is_invalid xs then [] else record { left = length xs; noted = Fault wrong } ∷ []
 
 abbrev pub noted : List ParseErrorKind → Rows Place → Notes
 noted [] xs = []
-noted (f ∷ fs) xs = one_note f xs ++ noted fs xs
+noted (f ∷ fs) xs = run_note f xs ++ noted fs xs
+
+-- Any other node has ended when the row behind it is read, so its fault is noted whatever this row is.
+abbrev pub read_note : ParseErrorKind → Rows Place → Notes
+read_note wrong xs = record { left = length xs; noted = Fault wrong } ∷ []
 
 -- before the row behind is read
 abbrev pub at_once : List ParseErrorKind → Rows Place → Notes
@@ -74,10 +78,10 @@ abbrev pub span_of : Place → Span
 span_of place = place.span
 
 abbrev pub package_notes : Span → Span → Rows Place → Notes
-package_notes first again xs = one_note (fault.DuplicatePackage first again) xs
+package_notes first again xs = read_note (fault.DuplicatePackage first again) xs
 
 abbrev pub deep_notes : Span → Rows Place → Notes
-deep_notes keyword xs = one_note (fault.MessageNestingTooDeep keyword) xs
+deep_notes keyword xs = read_note (fault.MessageNestingTooDeep keyword) xs
 
 abbrev pub node_notes : CheckedNode Place → Rows Place → Notes
 node_notes (ASyntax x) xs = syntax_notes (strings_value x, strings_span x) xs

@@ -3,7 +3,7 @@
 ghost use Rattle.std.specs.Prelude.{◌≡◌, ◌++◌, OnOk};
 ghost use Rattle.protox_ast.specs.Checks.{is_text};
 ghost use Rattle.protox_grammar.specs.Reader.{head_in};
-ghost use Rattle.protox_grammar.specs.Told.{ident_faults, is_invalid, noted, one_note, text_faults};
+ghost use Rattle.protox_grammar.specs.Told.{ident_faults, is_invalid, noted, read_note, run_note, text_faults};
 
 use crate::leaf::copied;
 use crate::rows::Unread;
@@ -21,18 +21,34 @@ fn sees_invalid(rows: &Unread<'_, '_>) -> bool
     }
 }
 
-/// Notes a fault of the node just read. It is dropped where the next token is invalid, which is
-/// reported alone.
-pub fn add_fault(
+/// Notes a fault of the run of strings just read. It is dropped where the next token is invalid,
+/// which is reported alone.
+pub fn add_run_fault(
     notes: &mut Vec<Note>,
     rows: &Unread<'_, '_>,
     fault: ParseErrorKind,
 ) -> Result<(), AllocError>
-    ensures { OnOk result (notes.new.items ≡ notes.old.items ++ one_note fault rows.now) }
+    ensures { OnOk result (notes.new.items ≡ notes.old.items ++ run_note fault rows.now) }
 {
     if sees_invalid(rows) {
         return Ok(());
     }
+    notes.push(Note {
+        left: rows.len(),
+        noted: Noted::Fault(fault),
+    })?;
+    Ok(())
+}
+
+/// Notes a fault of the node just read. It stands behind the faults of the next token, even if
+/// that is invalid.
+pub fn add_read_fault(
+    notes: &mut Vec<Note>,
+    rows: &Unread<'_, '_>,
+    fault: ParseErrorKind,
+) -> Result<(), AllocError>
+    ensures { OnOk result (notes.new.items ≡ notes.old.items ++ read_note fault rows.now) }
+{
     notes.push(Note {
         left: rows.len(),
         noted: Noted::Fault(fault),
@@ -62,7 +78,7 @@ pub fn check_text(
         return Ok(());
     }
     let span = copied(span);
-    add_fault(notes, rows, ParseErrorKind::InvalidUtf8String { span })
+    add_run_fault(notes, rows, ParseErrorKind::InvalidUtf8String { span })
 }
 
 /// Whether a text is an identifier.
@@ -78,5 +94,5 @@ pub fn check_ident(
         return Ok(());
     }
     let span = copied(span);
-    add_fault(notes, rows, ParseErrorKind::InvalidIdentifier { span })
+    add_run_fault(notes, rows, ParseErrorKind::InvalidIdentifier { span })
 }

@@ -10,7 +10,7 @@ use Rattle.protox_lexeme.specs.Lexemes.{Lexeme}
 use Rattle.protox_lexeme.specs.Printed.{printed}
 use Rattle.protox_lexeme.specs.Shapes.{Row, Rows}
 use Rattle.protox_lexeme.specs.Table.{faults_of, rows_of, table_of}
-use Rattle.protox_ast.proofs.Standing.{as-many, bare-placed}
+use Rattle.protox_ast.proofs.Standing.{as-many}
 use Rattle.protox_ast.specs.Places.{Place}
 use Rattle.protox_ast.specs.Truth.{is_terminator}
 use Rattle.protox_grammar.specs.MarkLaws.{placed_steps_by, placed_tokens}
@@ -39,10 +39,10 @@ use Rattle.protox_syntax.specs.Recovery.{IsBegun}
 use Rattle.protox_syntax.specs.Statements.{levels, notes_behind, syntax_if_any}
 use Rattle.protox_syntax.specs.Weave.{refusal, row_at, weave}
 use Rattle.protox_syntax.specs.Whole.{Whole, all_notes, file_seen, whole}
-use Rattle.protox_syntax.proofs.Judged.{bare-get, front-faultless, is-invalid}
+use Rattle.protox_syntax.proofs.Judged.{front-faultless, is-invalid}
 use Rattle.protox_syntax.proofs.Modes.{faults-none}
 use Rattle.protox_syntax.proofs.Modes as modes
-use Rattle.protox_syntax.proofs.Reading.{deep-behind, err-read, file-told, whole-shows}
+use Rattle.protox_syntax.proofs.Reading.{deep-noted, err-read, file-told, whole-shows}
 use Rattle.protox_syntax.proofs.SyntaxNotes.{syntax-faults}
 use Rattle.protox_syntax.proofs.Weaving.{Fall}
 use Rattle.protox_syntax.proofs.WeaveFirst.{AreClearBelow, HasFirst, IsFirstRow, first-row-as, first-row-on, first-row-to, front-first, has-first-on, has-first-as}
@@ -159,11 +159,6 @@ module _ (lexemes : List Lexeme) where
       let v = (main.laws here levels).traced.halts (rows lexemes) (Unexpected left) (err-read (rows lexemes) (Unexpected left) e) in
       omega (arith, v.left_is, ap length v.parts, length-append (tokens l) v.rest)
 
-  sinks-at : (left : ℕ) → whole (rows lexemes) ≡ Err (Deep left) → taken lexemes + left ≡ suc (length (rows lexemes))
-  sinks-at left e =
-      let v = (main.laws here levels).traced.halts (rows lexemes) (Deep left) (err-read (rows lexemes) (Deep left) e) in
-      omega (arith, v.left_is, ap length v.parts, length-append (tokens l) v.rest)
-
   ends-at : (x : Whole) → whole (rows lexemes) ≡ Ok (x, []) → taken lexemes ≡ length (rows lexemes)
   ends-at x e =
       let laws = main.laws here levels in
@@ -267,26 +262,12 @@ module _ (lexemes : List Lexeme) where
           | inr y ↦ of_row y
         ]
 
-    -- where a body is too deep and that isn't noted, the row behind its `{` is invalid
-    sunk-first : (left : ℕ) (errors more : Faults) → whole (rows lexemes) ≡ Err (Deep left) → errors ≡ found notes (left - 1) ++ more → FirstOfList lexemes errors
-    sunk-first left errors more e w =
-        let b = deep-behind (rows lexemes) left e fine in
-        let place : b.index ≡ taken lexemes = omega (arith, b.counted, sinks-at left e) in
-        let bare : Row Span = record { shape = b.row.shape; at = b.row.at.span } in
-        let at : slice_get (rows_of lexemes) b.index ≡ Some bare = subst (λ (xs : Rows Span). slice_get xs b.index ≡ Some bare) (bare-placed true (rows_of lexemes) (table_of lexemes).gaps) (bare-get (rows lexemes) b.index b.row b.there) in
-        elim (rows-first (left - 1) errors more (omega (arith, sinks-at left e, b.some_left)) w) [
-          | inl h ↦ absurd (row-valid (is_open_behind lexemes b.index) lexemes b.index bare at (h.1 b.index (omega (arith, place))) (is-invalid b.row.shape b.invalid))
-          | inr y ↦ of_row y
-        ]
-
     recovered-first : (e : Refused) (begun later : Notes) (errors : Faults) → Fails e (whole (rows lexemes)) → IsBegun (rows_of lexemes) e begun → errors ≡ found (notes ++ (begun ++ later)) 0 → FirstOfList lexemes errors
     recovered-first OutOfMemory begun later errors fails h w = absurd h
     recovered-first (At left expected) begun later errors fails h w =
         let front = behind-up-to left (refusal h.0 (row_at (rows_of lexemes) left)) later in
         stopped-first left h.0 errors front.0 h.1 fails (w ∙ ap (λ u. found (notes ++ (u ++ later)) 0) h.2 ∙ front.1)
-    recovered-first (TooDeep left) begun later errors fails h w =
-        let front = weave-behind entries (total lexemes) notes (note_at (left - 1) (TextFormat false)) later (left - 1) 0 (omega arith) in
-        sunk-first left errors front.0 fails (w ∙ ap (λ u. found (notes ++ (u ++ later)) 0) h ∙ front.1)
+    recovered-first (TooDeep left) begun later errors fails h w = absurd (deep-noted (rows lexemes) left fails fine)
 
     fine-first : (errors : Faults) → (errors ≡ [] → ⊥) → IsWoven (table_of lexemes) errors → FirstOfList lexemes errors
     fine-first errors some (stopped node w) = absurd (node (faults-none (syntax_if_any.notes (rows lexemes)) (syntax-faults (rows lexemes)) (front-faultless (rows lexemes) fine)))

@@ -32,7 +32,7 @@ use Rattle.protox_syntax.specs.Weave.{weave, refusal, row_at}
 use Rattle.protox_syntax.specs.Judging.{IsTableOf, IsWhole, IsWoven, stopped, ended, recovered, finished, all_faults, first_left, total_of}
 use Rattle.protox_syntax.proofs.Entries.{append-empty, all-each, each-at, invalid-faulty}
 use Rattle.protox_syntax.proofs.Modes.{faults-none}
-use Rattle.protox_syntax.proofs.Reading.{left-within, deep-behind, none-read, notes-lie}
+use Rattle.protox_syntax.proofs.Reading.{left-within, deep-noted, none-read, notes-lie}
 use Rattle.protox_syntax.proofs.SyntaxNotes.{syntax-faults}
 use Rattle.protox_syntax.proofs.WeaveParts.{Grows, weave-behind, weave-note}
 use Rattle.protox_syntax.proofs.Weaving.{each-append, faultless, weave-lie, weave-seen}
@@ -168,11 +168,7 @@ module _ (t : Table) (size : ℕ) (tab : IsTableOf size t) where
 
   -- where a body is too deep, there is a fault up to the row behind its `{`
   some-sunk : (left : ℕ) → whole (placed t) ≡ Err (Deep left) → weave t.faults (total_of t) (all_notes (placed t)) (left - 1) ≡ [] → ⊥
-  some-sunk left read none =
-      let b = deep-behind (placed t) left read (faultless t.faults (total_of t) (all_notes (placed t)) (left - 1) none) in
-      let seen = weave-seen t.faults (total_of t) (all_notes (placed t)) (left - 1) b.index none (omega (arith, b.counted, b.some_left, many)) in
-      let there = subst (λ (xs : Rows Span). slice_get xs b.index ≡ Some (bare_row b.row)) bare-rows (bare-get (placed t) b.index b.row b.there) in
-      invalid-entry b.index (bare_row b.row) there (is-invalid b.row.shape b.invalid) seen.0 seen.1
+  some-sunk left read none = deep-noted (placed t) left read (faultless t.faults (total_of t) (all_notes (placed t)) (left - 1) none)
 
   -- what is noted of a refused statement itself lies in the source
   begun-lies : (e : Refused) (begun : Notes) → IsBegun t.rows e begun → AllLie size begun

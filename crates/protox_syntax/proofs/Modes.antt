@@ -28,7 +28,7 @@ use Rattle.protox_grammar.specs.Steps.{ANode, APackage, AKeyword, ADeepBody, ADe
 use Rattle.protox_grammar.specs.declared.note.Note as note_type
 use Rattle.protox_grammar.specs.declared.note.Noted.{Noted}
 use Rattle.protox_grammar.specs.declared.note.Noted.TheVariants.{Fault, TextFormat}
-use Rattle.protox_grammar.specs.Told.{Notes, at_once, behind, group_faults, ident_faults, is_invalid, node_notes, noted, one_note, path_faults, span_of, syntax_faults, text_faults, told}
+use Rattle.protox_grammar.specs.Told.{Notes, at_once, behind, group_faults, ident_faults, is_invalid, node_notes, noted, run_note, path_faults, span_of, syntax_faults, text_faults, told}
 use Rattle.protox_grammar.proofs.CleanModes.{clean-modes, in-none}
 use Rattle.protox_grammar.proofs.FineNotes.{AreTokens, IsFaultless, IsNoFault, faultless-first, faultless-last}
 use Rattle.protox_grammar.proofs.InsideLaws as insides
@@ -72,22 +72,19 @@ cond-faults false a b h g = g
 
 pub noted-faults : (fs : List ParseErrorKind) (xs : Rows Place) → AreFaults (noted fs xs)
 noted-faults [] xs = tt
-noted-faults (f ∷ fs) xs = both-faults (one_note f xs) (noted fs xs) (cond-faults (head_in is_invalid xs) [] (record { left = length xs; noted = Fault f } ∷ []) tt (tt, tt)) (noted-faults fs xs)
+noted-faults (f ∷ fs) xs = both-faults (run_note f xs) (noted fs xs) (cond-faults (head_in is_invalid xs) [] (record { left = length xs; noted = Fault f } ∷ []) tt (tt, tt)) (noted-faults fs xs)
 
 at-once-faults : (fs : List ParseErrorKind) (xs : Rows Place) → AreFaults (at_once fs xs)
 at-once-faults [] xs = tt
 at-once-faults (f ∷ fs) xs = (tt, at-once-faults fs xs)
-
-one-fault : (f : ParseErrorKind) (xs : Rows Place) → AreFaults (one_note f xs)
-one-fault f xs = cond-faults (head_in is_invalid xs) [] (record { left = length xs; noted = Fault f } ∷ []) tt (tt, tt)
 
 pub node-faults : (x : CheckedNode Place) (xs : Rows Place) → AreFaults (node_notes x xs)
 node-faults (ASyntax x) xs = noted-faults (syntax_faults (strings_value x) (strings_span x)) xs
 node-faults (AnImport x) xs = both-faults _ _ (noted-faults (text_faults (strings_value x) (strings_span x)) xs) (noted-faults (path_faults (text_of (strings_value x)) (strings_span x)) xs)
 node-faults (AReservedName x) xs = both-faults _ _ (noted-faults (text_faults (strings_value x) (strings_span x)) xs) (noted-faults (ident_faults (text_of (strings_value x)) (strings_span x)) xs)
 node-faults (AGroupName x) xs = at-once-faults (group_faults x.0 x.1.span) xs
-node-faults (APackageAgain first again) xs = one-fault (fault.DuplicatePackage (package_span span_of first) (package_span span_of again)) xs
-node-faults (ATooDeep keyword open_at) xs = one-fault (fault.MessageNestingTooDeep keyword.span) xs
+node-faults (APackageAgain first again) xs = (tt, tt)
+node-faults (ATooDeep keyword open_at) xs = (tt, tt)
 
 fall-wider : (b c : ℕ) (ns : Notes) → b ≤ c → Fall b ns → Fall c ns
 fall-wider b c [] le h = tt

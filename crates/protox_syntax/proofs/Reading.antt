@@ -1,27 +1,22 @@
 -- What the code reads and notes of a file is what the reader of the grammar reads and notes.
 use Rattle.std.proofs.Common.{◌≡◌, ◌≤◌, ◌<◌, ◌+◌, ◌-◌, ℕ, zero, suc, Bool, true, false, ◌||◌, cond, List, [], ◌∷◌, ◌++◌, length, Option, Some, None, Result, Ok, Err, refl, sym, ap, subst, ◌∙◌, arith}
 use Rattle.std.proofs.lemmas.List.{length-append}
-use Rattle.std.specs.Prelude.{slice_get}
-use Rattle.protox_lexeme.specs.Shapes.{Row, Rows}
+use Rattle.protox_lexeme.specs.Shapes.{Rows}
 use Rattle.protox_ast.proofs.Standing.{Stand}
-use Rattle.protox_fault.specs.declared.error.ParseErrorKind.TheVariants as fault
 use Rattle.protox_ast.specs.Ast as ast
-use Rattle.protox_ast.specs.CheckedNodes.{APackageAgain}
 use Rattle.protox_ast.specs.Places.{Place}
 use Rattle.protox_ast.specs.Spelling.{spell}
 use Rattle.protox_ast.specs.Tree as tree
 use Rattle.protox_grammar.specs.Bodies as bodies
 use Rattle.protox_grammar.specs.Class.{all, only, in_set}
 use Rattle.protox_grammar.specs.Noted.{steps, trace}
-use Rattle.protox_grammar.specs.Reader.{Refusal, Unexpected, Deep, head_in, ◌>>=◌, star}
+use Rattle.protox_grammar.specs.Reader.{Refusal, Unexpected, Deep, ◌>>=◌, star}
 use Rattle.protox_grammar.specs.Reads.{read}
 use Rattle.protox_grammar.specs.Rule as rule
 use Rattle.protox_grammar.specs.Rules as r
 use Rattle.protox_grammar.specs.Steps.{ANode, APackage, AKeyword, ADeepBody, ADeeperBody, AnOpenBrace, ACloseBrace, Token, Note, Steps, has_deep, star_trace, then_steps, tokens}
-use Rattle.protox_grammar.specs.declared.note.Note as note_type
-use Rattle.protox_grammar.specs.declared.note.Noted.TheVariants.{Fault}
-use Rattle.protox_grammar.specs.Told.{Notes, behind, node_notes, first_behind, is_invalid, keyword_behind, past, told, then_notes}
-use Rattle.protox_grammar.proofs.FineNotes.{IsFaultless, IsNoFault, faultless-last}
+use Rattle.protox_grammar.specs.Told.{Notes, behind, node_notes, first_behind, keyword_behind, past, told, then_notes}
+use Rattle.protox_grammar.proofs.FineNotes.{IsFaultless, faultless-last}
 use Rattle.protox_grammar.proofs.Kept as kept
 use Rattle.protox_grammar.proofs.Main as main
 use Rattle.protox_grammar.proofs.NotedFiles.{file-marks}
@@ -29,8 +24,6 @@ use Rattle.protox_grammar.proofs.Notes.{IsShallow, notes, notes-append, shallow-
 use Rattle.protox_grammar.proofs.Reading.{bind_err, map_err, ok-err, err-ok}
 use Rattle.protox_grammar.proofs.Shows.{Shows, left-shows, seq-shows}
 use Rattle.protox_grammar.proofs.Stated.{all-lie, all-says}
-use Rattle.protox_grammar.proofs.StepLists.{EndsDeep}
-use Rattle.protox_grammar.proofs.EndsDeep.{StopsDeep, stops-ends}
 use Rattle.protox_grammar.proofs.Takes.{bind_ok, ok_is}
 use Rattle.protox_grammar.proofs.Telling.{AllLie, both-lie, then-lie, then-seen, told-append}
 use Rattle.protox_options.specs.Options.{here}
@@ -116,64 +109,27 @@ left-within xs left e =
     let v = (main.laws here levels).traced.halts xs (Unexpected left) (err-read xs (Unexpected left) e) in
     omega (arith, v.left_is, ap length v.parts, length-append (tokens (trace levels xs)) v.rest)
 
-unless-invalid : (c : Bool) (n : note_type.Note) (more : Notes) → (IsNoFault n.noted → ⊥) → IsFaultless (cond c [] (n ∷ []) ++ more) → c ≡ true
-unless-invalid true n more h f = refl
-unless-invalid false n more h f = absurd (h f.0)
-
--- a body that is too deep is noted, unless an invalid character is behind its `{`
-deep-told : (p : Option (tree.Package Place)) (w : Place) (l : Steps Place) (xs : Rows Place) → EndsDeep l → IsShallow (notes l) → has_deep l ≡ true → IsFaultless (told p w l xs) → head_in is_invalid (past l xs) ≡ true
-deep-told p w [] xs d s h f = absurd cc
-deep-told p w (Token r ∷ l) xs d s h f = deep-told p w l (behind xs) d s h f
-deep-told p w (Note (ANode x) ∷ l) xs d s h f = deep-told p w l xs d.1 s h (faultless-last (node_notes x xs) (told p w l xs) f)
-deep-told None w (Note (APackage x) ∷ l) xs d s h f = deep-told (Some x) w l xs d.1 s h f
-deep-told (Some y) w (Note (APackage x) ∷ l) xs d s h f = deep-told (Some y) w l xs d.1 s h (faultless-last (node_notes (APackageAgain y x) xs) (told (Some y) w l xs) f)
-deep-told p w (Note (AKeyword m) ∷ l) xs d s h f = deep-told p m l xs d.1 s h f
-deep-told p w (Note (ADeepBody m) ∷ l) xs d s h f =
-    ap (λ k. head_in is_invalid (past k xs)) (d.0 refl) ∙ unless-invalid (head_in is_invalid xs) (record { left = length xs; noted = Fault (fault.MessageNestingTooDeep w.span) }) (told p w l xs) (λ g. g) f
-deep-told p w (Note (ADeeperBody m) ∷ l) xs d s h f = absurd s
-deep-told p w (Note (AnOpenBrace m) ∷ l) xs d s h f = deep-told p w l xs d.1 s h f.1
-deep-told p w (Note (ACloseBrace m) ∷ l) xs d s h f = deep-told p w l xs d.1 s h f.1
-
-past-tokens : (l : Steps Place) (rest : Rows Place) → past l (tokens l ++ rest) ≡ rest
-past-tokens [] rest = refl
-past-tokens (Token r ∷ l) rest = past-tokens l rest
-past-tokens (Note e ∷ l) rest = past-tokens l rest
-
-get-behind : (front : Rows Place) (x : Row Place) (rs : Rows Place) → slice_get (front ++ x ∷ rs) (length front) ≡ Some x
-get-behind [] x rs = refl
-get-behind (y ∷ front) x rs = get-behind front x rs
-
--- an invalid row, behind which one less is left than the reading says
-pub record IsInvalidBehind (xs : Rows Place) (left : ℕ) : Type 0 where
-  pub index : ℕ
-  pub row : Row Place
-  pub there : slice_get xs index ≡ Some row
-  pub invalid : is_invalid row.shape ≡ true
-  pub counted : index + left ≡ suc (length xs)
-  pub some_left : 1 ≤ left
-
-invalid-behind : (xs front rest : Rows Place) (left : ℕ) → xs ≡ front ++ rest → left ≡ suc (length rest) → head_in is_invalid rest ≡ true → IsInvalidBehind xs left
-invalid-behind xs front [] left e f h = absurd cc
-invalid-behind xs front (x ∷ rs) left e f h = record {
-  index = length front;
-  row = x;
-  there = ap (λ v. slice_get v (length front)) e ∙ get-behind front x rs;
-  invalid = h;
-  counted = omega (arith, f, ap length e, length-append front (x ∷ rs));
-  some_left = omega (arith, f);
-}
+-- a body that is too deep is noted
+deep-told : (p : Option (tree.Package Place)) (w : Place) (l : Steps Place) (xs : Rows Place) → IsShallow (notes l) → has_deep l ≡ true → IsFaultless (told p w l xs) → ⊥
+deep-told p w [] xs s h f = absurd cc
+deep-told p w (Token r ∷ l) xs s h f = deep-told p w l (behind xs) s h f
+deep-told p w (Note (ANode x) ∷ l) xs s h f = deep-told p w l xs s h (faultless-last (node_notes x xs) (told p w l xs) f)
+deep-told None w (Note (APackage x) ∷ l) xs s h f = deep-told (Some x) w l xs s h f
+deep-told (Some y) w (Note (APackage x) ∷ l) xs s h f = f.0
+deep-told p w (Note (AKeyword m) ∷ l) xs s h f = deep-told p m l xs s h f
+deep-told p w (Note (ADeepBody m) ∷ l) xs s h f = f.0
+deep-told p w (Note (ADeeperBody m) ∷ l) xs s h f = s
+deep-told p w (Note (AnOpenBrace m) ∷ l) xs s h f = deep-told p w l xs s h f.1
+deep-told p w (Note (ACloseBrace m) ∷ l) xs s h f = deep-told p w l xs s h f.1
 
 file-shallow : (f : tree.File Place) → file_rule.may f → IsShallow (notes (steps levels f))
 unfolding bodies.file
 file-shallow f h = (file-marks f h).1 tt
 
-pub deep-behind : (xs : Rows Place) (left : ℕ) → whole xs ≡ Err (Deep left) → IsFaultless (all_notes xs) → IsInvalidBehind xs left
-deep-behind xs left e f =
-    let laws = (main.laws here levels).traced in
-    let v = laws.halts xs (Deep left) (err-read xs (Deep left) e) in
-    let ends = subst (λ q. StopsDeep q (trace levels xs)) (err-read xs (Deep left) e) (laws.stops xs) in
+-- where reading stops at a body that is too deep, there is a fault
+pub deep-noted : (xs : Rows Place) (left : ℕ) → whole xs ≡ Err (Deep left) → IsFaultless (all_notes xs) → ⊥
+deep-noted xs left e f =
+    let v = (main.laws here levels).traced.halts xs (Deep left) (err-read xs (Deep left) e) in
     let whole_shallow = subst IsShallow (ap notes v.goes_on ∙ notes-append (trace levels xs) v.later) (file-shallow v.tree v.tree_may) in
     let shallow = shallow-front (notes (trace levels xs)) (notes v.later) whole_shallow in
-    let invalid = deep-told None here (trace levels xs) xs ends shallow (v.deep left refl) (subst IsFaultless (sym (file-told xs)) f) in
-    let same : past (trace levels xs) xs ≡ v.rest = ap (past (trace levels xs)) v.parts ∙ past-tokens (trace levels xs) v.rest in
-    invalid-behind xs (tokens (trace levels xs)) v.rest left v.parts v.left_is (sym (ap (head_in is_invalid) same) ∙ invalid)
+    deep-told None here (trace levels xs) xs shallow (v.deep left refl) (subst IsFaultless (sym (file-told xs)) f)

@@ -19,7 +19,7 @@ use Rattle.protox_ast.specs.Tree as tree
 use Rattle.protox_grammar.specs.Class.{among, in_set, only}
 use Rattle.protox_grammar.specs.Reader.{head_in}
 use Rattle.protox_grammar.specs.Steps.{ANode, APackage, AKeyword, ADeepBody, ADeeperBody, AnOpenBrace, ACloseBrace, Token, Note, Steps}
-use Rattle.protox_grammar.specs.Told.{Notes, at_once, behind, is_invalid, node_notes, noted, one_note, past, span_of, told, unless_so}
+use Rattle.protox_grammar.specs.Told.{Notes, at_once, behind, is_invalid, node_notes, noted, run_note, past, span_of, told, unless_so}
 use Rattle.protox_grammar.specs.declared.note.Note as note_type
 use Rattle.protox_grammar.specs.declared.note.Noted.TheVariants.{Fault, TextFormat}
 use Rattle.protox_grammar.proofs.Stated.{place_of}
@@ -119,19 +119,19 @@ module _ (rows : Rows Span) where
 
   syntax-noted : (c : Bool) (span : Span) (value : List ℕ) (xs : Rows Place) → AreNotable rows (noted (unless_so c (fault.UnknownSyntax span value)) xs)
   syntax-noted true span value xs = tt
-  syntax-noted false span value xs = notable-both (one_note (fault.UnknownSyntax span value) xs) [] (notable-cond (head_in is_invalid xs) [] _ tt (refl, tt)) tt
+  syntax-noted false span value xs = notable-both (run_note (fault.UnknownSyntax span value) xs) [] (notable-cond (head_in is_invalid xs) [] _ tt (refl, tt)) tt
 
   text-noted : (c : Bool) (span : Span) (xs : Rows Place) → AreNotable rows (noted (unless_so c (fault.InvalidUtf8String span)) xs)
   text-noted true span xs = tt
-  text-noted false span xs = notable-both (one_note (fault.InvalidUtf8String span) xs) [] (notable-cond (head_in is_invalid xs) [] _ tt (refl, tt)) tt
+  text-noted false span xs = notable-both (run_note (fault.InvalidUtf8String span) xs) [] (notable-cond (head_in is_invalid xs) [] _ tt (refl, tt)) tt
 
   path-noted : (c : Bool) (span : Span) (xs : Rows Place) → AreNotable rows (noted (unless_so c (fault.InvalidImport span)) xs)
   path-noted true span xs = tt
-  path-noted false span xs = notable-both (one_note (fault.InvalidImport span) xs) [] (notable-cond (head_in is_invalid xs) [] _ tt (refl, tt)) tt
+  path-noted false span xs = notable-both (run_note (fault.InvalidImport span) xs) [] (notable-cond (head_in is_invalid xs) [] _ tt (refl, tt)) tt
 
   name-noted : (c : Bool) (span : Span) (xs : Rows Place) → AreNotable rows (noted (unless_so c (fault.InvalidIdentifier span)) xs)
   name-noted true span xs = tt
-  name-noted false span xs = notable-both (one_note (fault.InvalidIdentifier span) xs) [] (notable-cond (head_in is_invalid xs) [] _ tt (refl, tt)) tt
+  name-noted false span xs = notable-both (run_note (fault.InvalidIdentifier span) xs) [] (notable-cond (head_in is_invalid xs) [] _ tt (refl, tt)) tt
 
   group-noted : (c : Bool) (span : Span) (xs : Rows Place) → AreNotable rows (at_once (unless_so c (fault.InvalidGroupName span)) xs)
   group-noted true span xs = tt
@@ -142,8 +142,8 @@ module _ (rows : Rows Span) where
   node-notable (AnImport x) xs = notable-both _ _ (text-noted (is_text (strings_value x)) (strings_span x) xs) (path-noted (is_import_path (text_of (strings_value x))) (strings_span x) xs)
   node-notable (AReservedName x) xs = notable-both _ _ (text-noted (is_text (strings_value x)) (strings_span x) xs) (name-noted (is_ident (text_of (strings_value x))) (strings_span x) xs)
   node-notable (AGroupName x) xs = group-noted (is_group_name x.0) x.1.span xs
-  node-notable (APackageAgain first again) xs = notable-cond (head_in is_invalid xs) [] _ tt (refl, tt)
-  node-notable (ATooDeep keyword open_at) xs = notable-cond (head_in is_invalid xs) [] _ tt (refl, tt)
+  node-notable (APackageAgain first again) xs = (refl, tt)
+  node-notable (ATooDeep keyword open_at) xs = (refl, tt)
 
   pub told-notable : (p : Option (tree.Package Place)) (w : Place) (l : Steps Place) (xs : Rows Place) → AreNotable rows (told p w l xs)
   told-notable p w [] xs = tt

@@ -8,7 +8,7 @@ ghost use Rattle.protox_grammar.proofs.Stated.{again_notes};
 
 use protox_grammar::note::Note;
 use protox_lex::error::{ParseErrorKind, Span};
-use protox_rows::checks::add_fault;
+use protox_rows::checks::{add_read_fault, add_run_fault};
 use protox_rows::leaf::copied;
 use protox_rows::rows::Unread;
 use protox_rows::strings::text_of;
@@ -57,7 +57,7 @@ pub fn check_syntax(
         span: copied(span),
         syntax: text_of(alloc, value)?,
     };
-    add_fault(notes, rows, fault)
+    add_run_fault(notes, rows, fault)
 }
 
 /// Whether an import's text is a path of plain components.
@@ -73,7 +73,7 @@ pub fn check_path(
         return Ok(());
     }
     let span = copied(span);
-    add_fault(notes, rows, ParseErrorKind::InvalidImport { span })
+    add_run_fault(notes, rows, ParseErrorKind::InvalidImport { span })
 }
 
 /// Whether a package is the first.
@@ -90,7 +90,7 @@ pub fn check_package(
         Some(first) => {
             let first = copied(first);
             let second = copied(span);
-            add_fault(
+            add_read_fault(
                 notes,
                 rows,
                 ParseErrorKind::DuplicatePackage { first, second },

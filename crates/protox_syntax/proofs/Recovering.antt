@@ -54,15 +54,15 @@ last-cond : (c : Bool) (all a b : Rows Place) → IsLastOf all a → IsLastOf al
 last-cond true all a b h g = h
 last-cond false all a b h g = g
 
-last-fewer : (a b : Rows Place) → IsLastOf a b → length b ≤ length a
+pub last-fewer : (a b : Rows Place) → IsLastOf a b → length b ≤ length a
 last-fewer a b h = omega (arith, ap length h.1, length-append h.0 b)
 
-drop-last : (n : ℕ) (xs : Rows Place) → IsLastOf xs (drop n xs)
+pub drop-last : (n : ℕ) (xs : Rows Place) → IsLastOf xs (drop n xs)
 drop-last zero xs = last-self xs
 drop-last (suc n) [] = last-self []
 drop-last (suc n) (x ∷ xs) = last-more x xs (drop n xs) (drop-last n xs)
 
-from-last : (rows : Rows Place) → IsLastOf rows (from_statement rows)
+pub from-last : (rows : Rows Place) → IsLastOf rows (from_statement rows)
 from-last [] = last-self []
 from-last (r ∷ rs) = last-cond (in_set (among statement_words) r.shape) (r ∷ rs) (r ∷ rs) (from_statement rs) (last-self (r ∷ rs)) (last-more r rs (from_statement rs) (from-last rs))
 
@@ -93,7 +93,7 @@ module _ (t : Table) where
   within-last : (most count : ℕ) (rows : Rows Place) → IsLastOf (last_rows t (at_most most count)) rows → length rows ≤ most
   within-last most count rows h = omega (arith, last-fewer (last_rows t (at_most most count)) rows h, count-last (at_most most count), most-most most count)
 
-  from-block : (rows : Rows Place) → IsLastOf rows (from_statement (behind_block 0 rows))
+  pub from-block : (rows : Rows Place) → IsLastOf rows (from_statement (behind_block 0 rows))
   from-block rows = last-last rows (behind_block 0 rows) _ (block-last 0 rows) (from-last (behind_block 0 rows))
 
   pub next-last : (e : Refused) (most : ℕ) → AreLast t (next_rows t e most)

@@ -296,7 +296,7 @@ module _ (lexemes : List Lexeme) where
     down : DownTo v.left front_notes
     down =
         let least : v.left ≤ suc (length (past v.before (rows lexemes))) = elim v.left_is [
-          | inl e ↦ omega (arith, e.0)
+          | inl e ↦ omega (arith, e)
           | inr e ↦ omega (arith, e)
         ] in
         above-down (suc (length (past v.before (rows lexemes)))) v.left front_notes least (told-in-order None here v.before (rows lexemes) v.faultless).1

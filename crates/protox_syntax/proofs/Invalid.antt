@@ -10,7 +10,7 @@ use Rattle.protox_ast.proofs.Standing.{as-many}
 use Rattle.protox_lexeme.specs.Shapes.{Shape, Invalid, Row, Rows}
 use Rattle.protox_ast.specs.Places.{Place, placed, placed_from}
 use Rattle.protox_grammar.specs.Class.{all, in_set}
-use Rattle.protox_grammar.specs.Reader.{Refusal, Unexpected, gathered, head_in, star, star_at, ◌>>=◌}
+use Rattle.protox_grammar.specs.Reader.{Refusal, Unexpected, fixed, gathered, head_in, star, star_at, ◌>>=◌}
 use Rattle.protox_grammar.specs.Told.{Notes, checked, is_invalid, then_notes}
 use Rattle.protox_grammar.proofs.Stated.{stated-turn}
 use Rattle.protox_blocks.specs.Services.{service}
@@ -27,11 +27,11 @@ bad m = record { shape = Invalid; at = m }
 
 module _ (m : Place) (rs : Rows Place) where
   refused-code : statement.code (bad m ∷ rs) ≡ Err (Unexpected (suc (length rs)))
-  unfolding statement declared item_ service
+  unfolding statement declared item_ service fixed
   refused-code = refl
 
   refused-notes : statement.notes None (bad m ∷ rs) ≡ []
-  unfolding statement declared item_ service
+  unfolding statement declared item_ service fixed
   refused-notes = refl
 
   no-syntax : syntax_if_any.code (bad m ∷ rs) ≡ Ok (None, bad m ∷ rs)

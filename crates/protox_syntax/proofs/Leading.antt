@@ -21,13 +21,14 @@ use Rattle.protox_grammar.proofs.Reading.{map_err}
 use Rattle.protox_grammar.proofs.Shows.{as_is, shows-eats}
 use Rattle.protox_grammar.proofs.Stated.{place_of}
 use Rattle.protox_options.specs.Options.{here}
+use Rattle.protox_rows.proofs.Turns.{all_read}
 use Rattle.protox_rows.specs.Notes.{AddsTo}
 use Rattle.protox_rows.specs.Outcome.{Fails}
 use Rattle.protox_rows.specs.declared.refused.Refused.{Refused}
 use Rattle.protox_rows.specs.declared.refused.Refused.TheVariants.{OutOfMemory, At, TooDeep}
 use Rattle.protox_syntax.specs.AllFaults.{Progress, after_statement, along, beginning, behind_block, faults_of_table, from_statement, in_mode, last, nowhere, progress, read, refused, statements}
 use Rattle.protox_syntax.specs.Leading.{Alike, Ends, IsRefusedAt, IsStoppedAt, Leads, played, rest_of}
-use Rattle.protox_syntax.specs.Recovery.{AreLast, IsBegun, at_most, last_rows, next_rows, plain_note}
+use Rattle.protox_syntax.specs.Recovery.{AreLast, IsBegun, at_most, last_rows, next_rows, plain_note, refusal_notes}
 use Rattle.protox_syntax.specs.Statements.{levels, next_first, statement, statement_rule, statement_seen}
 use Rattle.protox_syntax.specs.declared.statement_types.Begun.{Begun}
 use Rattle.protox_syntax.specs.declared.statement_types.Statement as statement_type
@@ -74,12 +75,13 @@ module _ (t : Table) where
 
 -- ---- the rows with which reading goes on
 
-drop-past : (a : ℕ) (front ys : Rows Place) → drop (length front + a) (front ++ ys) ≡ drop a ys
-drop-past a [] ys = refl
-drop-past a (x ∷ front) ys = drop-past a front ys
+drop-past : (n a : ℕ) (front ys : Rows Place) → n ≡ length front + a → drop n (front ++ ys) ≡ drop a ys
+drop-past n a [] ys e = let same : n ≡ a = omega (arith, e) in ap (λ m. drop m ys) same
+drop-past zero a (x ∷ front) ys e = absurd (omega (arith, e))
+drop-past (suc n) a (x ∷ front) ys e = drop-past n a front ys (omega (arith, e))
 
 module _ (t : Table) (r : Row Place) (rs : Rows Place) (h : AreLast t (r ∷ rs)) where
-  front : Rows Place
+  abbrev front : Rows Place
   front = h.0 ++ r ∷ []
 
   parts : placed t ≡ front ++ rs
@@ -91,7 +93,7 @@ module _ (t : Table) (r : Row Place) (rs : Rows Place) (h : AreLast t (r ∷ rs)
   last-at : (count : ℕ) → count ≤ length rs → last_rows t count ≡ drop (length rs - count) rs
   last-at count le =
       let skipped : length t.rows - count ≡ length front + (length rs - count) = omega (arith, many, le) in
-      (λ i. drop (skipped i) (parts i)) ∙ drop-past (length rs - count) front rs
+      ap (drop (length t.rows - count)) parts ∙ drop-past (length t.rows - count) (length rs - count) front rs skipped
 
   pub last-is : (left : ℕ) → last_rows t (at_most (length rs) left) ≡ last left rs
   last-is left = by (nat_lt left (length rs)) refl
@@ -154,19 +156,19 @@ module _ (t : Table) (notes : Notes) (q : Option Span) (r : Row Place) (rs : Row
   leads-refused OutOfMemory begun new most is fails h added = absurd h
   leads-refused (At left expected) begun new most is fails h added =
       let rows : next_rows t (At left expected) most ≡ from_statement (last left rs) = ap (λ n. next_rows t (At left expected) n) is ∙ ap from_statement (last-is t r rs v.last left) in
-      let notes-are = added ∙ ap (λ n. (notes ++ statement.notes q xs) ++ n) h.2 in
+      let notes-are : new ≡ (notes ++ statement.notes q xs) ++ refusal_notes left h.0 t.rows = added ∙ ap (λ n. (notes ++ statement.notes q xs) ++ n) h.2 in
       record {
         statement_first = v.statement_first;
         found = refused t left found_then;
         first_is = v.first_is;
         last = next-last t (At left expected) most;
-        alike = subst (λ (u : Progress). Alike u (refused t left found_then)) (sym (ap (λ n. played t n beginning) notes-are ∙ played-append t (notes ++ statement.notes q xs) _ beginning))
+        alike = subst (λ (u : Progress). Alike u (refused t left found_then)) (sym (ap (λ n. played t n beginning) notes-are ∙ played-append t (notes ++ statement.notes q xs) (refusal_notes left h.0 t.rows) beginning))
             (alike-refused t left h.0 (played t (notes ++ statement.notes q xs) beginning) found_then h.1 alike-then);
         rest = ap (λ ys. rest_of t v.statement_first ys (refused t left found_then)) rows ∙ rest-then (Err (Unexpected left)) (statement-err xs (Unexpected left) fails);
       }
   leads-refused (TooDeep left) begun new most is fails h added =
       let rows : next_rows t (TooDeep left) most ≡ from_statement (behind_block 0 (last (left - 1) rs)) = ap (λ n. next_rows t (TooDeep left) n) is ∙ ap (λ ys. from_statement (behind_block 0 ys)) (last-is t r rs v.last (left - 1)) in
-      let notes-are = added ∙ ap (λ n. (notes ++ statement.notes q xs) ++ n) h in
+      let notes-are : new ≡ (notes ++ statement.notes q xs) ++ plain_note (left - 1) = added ∙ ap (λ n. (notes ++ statement.notes q xs) ++ n) h in
       let seen : Progress = in_mode false (read t (left - 1) found_then) in
       let alike = alike-read t (left - 1) (played t (notes ++ statement.notes q xs) beginning) found_then alike-then in
       record {
@@ -185,12 +187,8 @@ leads-end t notes q (r ∷ rs) e v = absurd cc
 
 -- ---- turns of the loops
 
-none-left : (xs : Rows Place) → eqb (length xs) 0 ≡ true → xs ≡ []
-none-left [] e = refl
-none-left (x ∷ xs) e = absurd cc
-
 pub leads-over : (t : Table) (notes : Notes) (q : Option Span) (rows : Rows Place) → eqb (length rows) 0 ≡ true → Leads t notes q rows → Ends t notes
-leads-over t notes q rows e v = leads-end t notes q rows (none-left rows e) v
+leads-over t notes q rows e v = leads-end t notes q rows (all_read rows e) v
 
 pub leads-more : (t : Table) (notes : Notes) (q : Option Span) (xs ys : Rows Place) (x : statement_type.Statement) (new : Notes) → Leads t notes q xs → statement.code xs ≡ Ok (x, ys) → new ≡ notes ++ statement.notes q xs → Leads t new (next_first q x) ys
 leads-more t notes q [] ys x new v e added = absurd (omega (arith, statement-eats [] (x, ys) e))

@@ -95,8 +95,9 @@ fn begun_invalid(alloc: Global, table: &TokenTable<'_>, size: usize) -> Result<F
     requires invalid { head_in is_invalid (placed table.now) ≡ true }
     ensures { Judges table.now size result }
 {
-    let total = table.rows() + 1;
-    let errors = woven(alloc, table, total, Vec::new(alloc), table.rows())?;
+    let left = table.rows();
+    let total = left + 1;
+    let errors = woven(alloc, table, total, Vec::new(alloc), left)?;
     Err(SyntaxFailure::Faults(errors))
 }
 

@@ -1,5 +1,5 @@
 -- What is found with the same notes is alike, whatever words say what was expected.
-use Rattle.std.proofs.Common.{◌≡◌, ◌≤◌, ℕ, suc, ◌+◌, ◌-◌, Bool, true, false, cond, List, [], ◌∷◌, ◌++◌, length, map, Option, Some, None, refl, sym, ap, subst, ◌∙◌, append-nil, arith}
+use Rattle.std.proofs.Common.{◌≡◌, ◌≤◌, ℕ, ◌+◌, ◌-◌, Bool, true, false, cond, List, [], ◌∷◌, ◌++◌, length, map, Option, Some, None, refl, sym, ap, subst, ◌∙◌, append-nil, arith}
 use Rattle.std.proofs.lemmas.List.{map-append}
 use Rattle.std.specs.Prelude.{option_to_list}
 use Rattle.protox_fault.specs.Faults.{Span}
@@ -13,7 +13,7 @@ use Rattle.protox_grammar.specs.Told.{Notes, is_invalid}
 use Rattle.protox_grammar.specs.declared.note.Note as note_type
 use Rattle.protox_grammar.specs.declared.note.Noted.{Noted}
 use Rattle.protox_grammar.specs.declared.note.Noted.TheVariants.{Fault, TextFormat}
-use Rattle.protox_syntax.specs.AllFaults.{Progress, beginning, found, in_mode, progress, read, refusal, refused, released, row_at, stopped_with, to_read, unworded}
+use Rattle.protox_syntax.specs.AllFaults.{Progress, found, in_mode, progress, read, refusal, refused, released, row_at, stopped_with, to_read, unworded}
 use Rattle.protox_syntax.specs.Leading.{Alike, played}
 use Rattle.protox_syntax.specs.Recovery.{fault_note, plain_note, refusal_notes}
 use Rattle.protox_syntax.specs.Weave.{with_noted}

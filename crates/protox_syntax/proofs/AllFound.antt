@@ -1,5 +1,5 @@
 -- What is answered of a table is all that is found in it.
-use Rattle.std.proofs.Common.{◌≡◌, ℕ, suc, ◌+◌, Bool, true, false, cond, List, [], ◌∷◌, ◌++◌, length, map, Option, Some, None, option_map, Result, Ok, Err, refl, sym, ap, subst, ◌∙◌, append-nil}
+use Rattle.std.proofs.Common.{◌≡◌, ℕ, true, false, cond, List, [], ◌∷◌, ◌++◌, length, map, Option, None, option_map, Ok, Err, refl, sym, ap, subst, ◌∙◌}
 use Rattle.std.specs.Prelude.{option_to_list}
 use Rattle.protox_fault.specs.Faults.{Span}
 use Rattle.protox_fault.specs.declared.error.ParseErrorKind.{ParseErrorKind}
@@ -14,7 +14,6 @@ use Rattle.protox_grammar.specs.Told.{Notes, is_invalid, then_notes}
 use Rattle.protox_grammar.proofs.FineNotes.{IsFaultless}
 use Rattle.protox_grammar.proofs.Reading.{map_err}
 use Rattle.protox_grammar.proofs.Takes.{bind_ok, ok_is}
-use Rattle.protox_grammar.specs.declared.note.Note as note_type
 use Rattle.protox_syntax.specs.AllFaults.{Progress, after_syntax, along, beginning, faults_of_table, nowhere, read, refusal, row_at, syntax_rule, unless_found, unworded}
 use Rattle.protox_syntax.specs.Judging.{AreAllOf, first_left, total_of}
 use Rattle.protox_syntax.specs.Leading.{Ends, Leads, played, rest_of}

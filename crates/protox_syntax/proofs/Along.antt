@@ -1,9 +1,7 @@
 -- What is found along the steps of a statement is what is noted of them, played among the rows.
-use Rattle.std.proofs.Common.{◌≡◌, ℕ, suc, ◌+◌, ◌-◌, Bool, true, false, cond, List, [], ◌∷◌, ◌++◌, length, map, Option, Some, None, refl, sym, ap, ◌∙◌, append-nil, append_assoc, arith}
-use Rattle.protox_fault.specs.Faults.{Span}
+use Rattle.std.proofs.Common.{◌≡◌, suc, Bool, true, false, cond, List, [], ◌∷◌, ◌++◌, length, Option, Some, None, refl, sym, ap, ◌∙◌, append_assoc}
 use Rattle.protox_fault.specs.declared.error.ParseErrorKind.{ParseErrorKind}
-use Rattle.protox_fault.specs.declared.error.ParseErrorKind.TheVariants as fault
-use Rattle.protox_lexeme.specs.Shapes.{Row, Rows}
+use Rattle.protox_lexeme.specs.Shapes.{Rows}
 use Rattle.protox_lexeme.specs.Table.{Table}
 use Rattle.protox_ast.specs.AstParts.{text_of, strings_value, strings_span}
 use Rattle.protox_ast.specs.CheckedNodes.{CheckedNode, ASyntax, AnImport, AReservedName, AGroupName, APackageAgain, ATooDeep}
@@ -12,7 +10,7 @@ use Rattle.protox_ast.specs.Tree as tree
 use Rattle.protox_grammar.specs.Reader.{head_in}
 use Rattle.protox_grammar.specs.Steps.{ANode, APackage, AKeyword, ADeepBody, ADeeperBody, AnOpenBrace, ACloseBrace, Token, Note, Steps}
 use Rattle.protox_grammar.specs.Told.{Notes, at_once, behind, group_faults, ident_faults, is_invalid, node_notes, noted, path_faults, run_note, syntax_faults, text_faults, told}
-use Rattle.protox_grammar.specs.declared.note.Noted.TheVariants.{Fault, TextFormat}
+use Rattle.protox_grammar.specs.declared.note.Noted.TheVariants.{Fault}
 use Rattle.protox_syntax.specs.AllFaults.{along, found, found_at, found_at_once, found_behind, found_of_run, in_mode, read}
 use Rattle.protox_syntax.specs.AllFaults.{Progress}
 use Rattle.protox_syntax.specs.Leading.{played}

@@ -1,5 +1,5 @@
 -- A file that begins with an invalid character is refused there, and nothing is noted.
-use Rattle.std.proofs.Common.{◌≡◌, ℕ, suc, ◌-◌, Bool, true, false, cond, List, [], ◌∷◌, ◌++◌, length, Option, Some, None, Result, Ok, Err, refl, sym, ap, subst, ◌∙◌, append-nil, arith}
+use Rattle.std.proofs.Common.{◌≡◌, ℕ, suc, ◌-◌, true, cond, List, [], ◌∷◌, ◌++◌, length, Some, None, Ok, Err, refl, sym, ap, subst, ◌∙◌, append-nil, arith}
 use Rattle.std.specs.Prelude.{option_to_list, slice_get}
 use Rattle.protox_fault.specs.Faults.{Span}
 use Rattle.protox_fault.specs.declared.error.ParseErrorKind.{ParseErrorKind}
@@ -10,8 +10,8 @@ use Rattle.protox_ast.proofs.Standing.{as-many}
 use Rattle.protox_lexeme.specs.Shapes.{Shape, Invalid, Row, Rows}
 use Rattle.protox_ast.specs.Places.{Place, placed, placed_from}
 use Rattle.protox_grammar.specs.Class.{all, in_set}
-use Rattle.protox_grammar.specs.Reader.{Refusal, Unexpected, fixed, gathered, head_in, star, star_at, ◌>>=◌}
-use Rattle.protox_grammar.specs.Told.{Notes, checked, is_invalid, then_notes}
+use Rattle.protox_grammar.specs.Reader.{Unexpected, fixed, gathered, head_in, star, star_at, ◌>>=◌}
+use Rattle.protox_grammar.specs.Told.{checked, is_invalid, then_notes}
 use Rattle.protox_grammar.proofs.Stated.{stated-turn}
 use Rattle.protox_blocks.specs.Services.{service}
 use Rattle.protox_syntax.specs.AllFaults.{refusal, row_at}

@@ -1,5 +1,5 @@
 -- What is judged of the table of a source tells its first fault.
-use Rattle.std.proofs.Common.{◌≡◌, inl, inr, ℕ, List, [], length, Option, Some, None, Result, Ok, Err, IfErr, refl, ◌⊎◌}
+use Rattle.std.proofs.Common.{◌≡◌, ℕ, List, length, Option, Some, None, Result, Ok, Err, IfErr, refl}
 use Rattle.std.specs.Prelude.{IfSome}
 use Rattle.protox_fault.specs.declared.error.ParseErrorKind.{ParseErrorKind}
 use Rattle.protox_fault.specs.declared.error.SyntaxFailure.{SyntaxFailure}

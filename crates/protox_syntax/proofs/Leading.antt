@@ -1,5 +1,5 @@
 -- Each statement leads on in the list of all faults, whether it is read or refused.
-use Rattle.std.proofs.Common.{◌≡◌, ◌<◌, ◌≤◌, ℕ, zero, suc, ◌+◌, ◌-◌, Bool, true, false, cond, List, [], ◌∷◌, ◌++◌, drop, length, map, Option, Some, None, Result, Ok, Err, refl, sym, ap, subst, ◌∙◌, append-nil, append_assoc, arith, inl, inr}
+use Rattle.std.proofs.Common.{◌≡◌, ◌<◌, ◌≤◌, ℕ, zero, suc, ◌+◌, ◌-◌, Bool, true, false, cond, List, [], ◌∷◌, ◌++◌, drop, length, Option, Result, Ok, Err, refl, sym, ap, subst, ◌∙◌, append_assoc, arith, inl, inr}
 use Rattle.std.proofs.lemmas.Bool.{cases_lt, lt-ltb, le-ltb}
 use Rattle.std.proofs.lemmas.List.{length-append}
 use Rattle.std.specs.Prelude.{eqb, nat_lt}
@@ -14,19 +14,18 @@ use Rattle.protox_ast.specs.Tree as tree
 use Rattle.protox_grammar.specs.Bodies as bodies
 use Rattle.protox_grammar.specs.Reader.{Consumes, Refusal, Unexpected, Deep}
 use Rattle.protox_grammar.specs.Steps.{Steps}
-use Rattle.protox_grammar.specs.Told.{Notes, behind, first_behind, told}
+use Rattle.protox_grammar.specs.Told.{Notes, first_behind, told}
 use Rattle.protox_grammar.proofs.Depths.{body-laws}
 use Rattle.protox_grammar.proofs.Messages as messages
 use Rattle.protox_grammar.proofs.Reading.{map_err}
 use Rattle.protox_grammar.proofs.Shows.{as_is, shows-eats}
-use Rattle.protox_grammar.proofs.Stated.{place_of}
 use Rattle.protox_options.specs.Options.{here}
 use Rattle.protox_rows.proofs.Turns.{all_read}
 use Rattle.protox_rows.specs.Notes.{AddsTo}
 use Rattle.protox_rows.specs.Outcome.{Fails}
 use Rattle.protox_rows.specs.declared.refused.Refused.{Refused}
 use Rattle.protox_rows.specs.declared.refused.Refused.TheVariants.{OutOfMemory, At, TooDeep}
-use Rattle.protox_syntax.specs.AllFaults.{Progress, after_statement, along, beginning, behind_block, faults_of_table, from_statement, in_mode, last, nowhere, progress, read, refused, statements}
+use Rattle.protox_syntax.specs.AllFaults.{Progress, after_statement, along, beginning, behind_block, faults_of_table, from_statement, in_mode, last, nowhere, read, refused, statements}
 use Rattle.protox_syntax.specs.Leading.{Alike, Ends, IsRefusedAt, IsStoppedAt, Leads, played, rest_of}
 use Rattle.protox_syntax.specs.Recovery.{AreLast, IsBegun, at_most, last_rows, next_rows, plain_note, refusal_notes}
 use Rattle.protox_syntax.specs.Statements.{levels, next_first, statement, statement_rule, statement_seen}
@@ -34,7 +33,7 @@ use Rattle.protox_syntax.specs.declared.statement_types.Begun.{Begun}
 use Rattle.protox_syntax.specs.declared.statement_types.Statement as statement_type
 use Rattle.protox_syntax.proofs.Along.{along-played, played-append}
 use Rattle.protox_syntax.proofs.Alike.{alike-played, alike-read, alike-refused}
-use Rattle.protox_syntax.proofs.Recovering.{IsLastOf, drop-last, from-block, from-last, last-behind, last-fewer, last-last, next-last, statement-read}
+use Rattle.protox_syntax.proofs.Recovering.{drop-last, from-block, from-last, last-behind, last-fewer, last-last, next-last, statement-read}
 use Rattle.protox_syntax.proofs.Turns.{statement-eats}
 
 -- ---- the bound on the statements doesn't matter

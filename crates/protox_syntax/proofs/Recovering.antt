@@ -1,10 +1,9 @@
 -- Rows that are skipped behind a refused statement, and what may be noted of those behind them.
-use Rattle.std.proofs.Common.{◌≡◌, ◌<◌, ◌≤◌, ◌-◌, ℕ, zero, suc, Bool, true, false, cond, List, [], ◌∷◌, ◌++◌, drop, length, Option, Some, None, option_map, Ok, refl, sym, ap, subst, ◌∙◌, append-nil, append_assoc, arith, inl, inr}
+use Rattle.std.proofs.Common.{◌≡◌, ◌≤◌, ◌-◌, ℕ, zero, suc, Bool, true, false, cond, List, [], ◌∷◌, ◌++◌, drop, length, Option, Some, None, option_map, Ok, refl, sym, ap, subst, ◌∙◌, append-nil, append_assoc, arith, inl, inr}
 use Rattle.std.proofs.lemmas.List.{length-append, length-drop}
 use Rattle.std.specs.Prelude.{◌==◌, nat_lt}
-use Rattle.std.proofs.lemmas.Bool.{cases_lt, lt-ltb, le-ltb}
+use Rattle.std.proofs.lemmas.Bool.{cases_lt, le-ltb}
 use Rattle.protox_fault.specs.Faults.{Span, SpanLiesIn}
-use Rattle.protox_fault.specs.declared.error.ParseErrorKind.{ParseErrorKind}
 use Rattle.protox_fault.specs.declared.error.ParseErrorKind.TheVariants as fault
 use Rattle.protox_lexeme.specs.Shapes.{Row, Rows}
 use Rattle.protox_lexeme.specs.Table.{Table}
@@ -12,16 +11,14 @@ use Rattle.protox_lexeme.specs.TokenClass.{class}
 use Rattle.protox_ast.proofs.Standing.{Stand, as-many, stand-after}
 use Rattle.protox_ast.specs.AstParts.{strings_span, strings_value, text_of}
 use Rattle.protox_ast.specs.CheckedNodes.{CheckedNode, ASyntax, AnImport, AReservedName, AGroupName, APackageAgain, ATooDeep}
-use Rattle.protox_ast.specs.Checks.{is_group_name, is_ident, is_import_path, is_known_syntax, is_text, package_span}
+use Rattle.protox_ast.specs.Checks.{is_group_name, is_ident, is_import_path, is_known_syntax, is_text}
 use Rattle.protox_ast.specs.KeywordWalk.{Given}
 use Rattle.protox_ast.specs.Places.{Place, placed}
 use Rattle.protox_ast.specs.Tree as tree
 use Rattle.protox_grammar.specs.Class.{among, in_set, only}
 use Rattle.protox_grammar.specs.Reader.{head_in}
 use Rattle.protox_grammar.specs.Steps.{ANode, APackage, AKeyword, ADeepBody, ADeeperBody, AnOpenBrace, ACloseBrace, Token, Note, Steps}
-use Rattle.protox_grammar.specs.Told.{Notes, at_once, behind, is_invalid, node_notes, noted, run_note, past, span_of, told, unless_so}
-use Rattle.protox_grammar.specs.declared.note.Note as note_type
-use Rattle.protox_grammar.specs.declared.note.Noted.TheVariants.{Fault, TextFormat}
+use Rattle.protox_grammar.specs.Told.{Notes, at_once, behind, is_invalid, node_notes, noted, run_note, past, told, unless_so}
 use Rattle.protox_grammar.proofs.Stated.{place_of}
 use Rattle.protox_grammar.proofs.Telling.{AllLie, both-lie}
 use Rattle.protox_grammar.proofs.Takes.{bind_ok, ok_is}

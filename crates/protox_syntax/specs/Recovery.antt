@@ -1,5 +1,5 @@
 -- MACHINERY. How reading goes on behind a statement that is refused.
-use Rattle.std.specs.Prelude.{◌≡◌, ℕ, zero, suc, ◌-◌, ◌==◌, false, nat_lt, if◌then◌else◌, List, [], ◌∷◌, ◌++◌, drop, length, Option, Some, None, Any}
+use Rattle.std.specs.Prelude.{◌≡◌, ℕ, ◌-◌, false, nat_lt, if◌then◌else◌, List, [], ◌∷◌, ◌++◌, drop, length, Option, Some, None, Any}
 use Rattle.protox_fault.specs.Faults.{Span, SpanLiesIn}
 use Rattle.protox_fault.specs.declared.error.ParseErrorKind.{ParseErrorKind}
 use Rattle.protox_fault.specs.declared.error.ParseErrorKind.TheVariants.{UnexpectedToken}

@@ -1,5 +1,5 @@
 -- MACHINERY. The list of faults: those of the rows in their order, and among them those that are noted at nodes.
-use Rattle.std.specs.Prelude.{ℕ, Bool, List, [], ◌∷◌, ◌++◌}
+use Rattle.std.specs.Prelude.{ℕ, List, [], ◌∷◌, ◌++◌}
 use Rattle.protox_fault.specs.declared.error.ParseErrorKind.{ParseErrorKind}
 use Rattle.protox_grammar.specs.Told.{Notes}
 use Rattle.protox_grammar.specs.declared.note.Note.{Note}

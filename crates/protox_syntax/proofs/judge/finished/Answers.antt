@@ -1,4 +1,4 @@
-use Rattle.std.proofs.Common.{◌+◌, [], ap, sym, subst, ◌∙◌, arith}
+use Rattle.std.proofs.Common.{◌+◌, [], ap, sym, ◌∙◌, arith}
 use Rattle.protox_ast.specs.Places.{placed}
 use Rattle.protox_syntax.specs.Judging.{made}
 use Rattle.protox_syntax.proofs.AllFound.{finished-all}

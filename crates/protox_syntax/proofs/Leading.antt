@@ -203,17 +203,17 @@ stopped-at : (t : Table) (notes new : Notes) (begun : Begun) (e : Refused) (xs :
 stopped-at t notes new begun e [] some left v added fails = absurd cc
 stopped-at t notes new begun e (r ∷ rs) some left v added fails = record { row = r; rows = rs; before = notes; counted = left; leads = v; notes_are = added; fails = fails }
 
-pub refused-at : (t : Table) (notes new : Notes) (begun : Begun) (e : Refused) (xs : Rows Place) → eqb (length xs) 0 ≡ false → begun.left ≡ length xs → Leads t notes begun.first xs → AddsTo e notes (statement.notes begun.first xs) new → Fails e (statement.code xs) → IsRefusedAt t new begun e
-refused-at t notes new begun OutOfMemory xs some left v added fails = tt
-refused-at t notes new begun (At n expected) xs some left v added fails = stopped-at t notes new begun (At n expected) xs some left v added fails
-refused-at t notes new begun (TooDeep n) xs some left v added fails = stopped-at t notes new begun (TooDeep n) xs some left v added fails
+pub refused-at : (t : Table) (notes new : Notes) (begun : Begun) (e : Refused) (rows : Rows Place) → eqb (length rows) 0 ≡ false → begun.left ≡ length rows → Leads t notes begun.first rows → AddsTo e notes (statement.notes begun.first rows) new → Fails e (statement.code rows) → IsRefusedAt t new begun e
+refused-at t notes new begun OutOfMemory rows some left v added fails = tt
+refused-at t notes new begun (At n expected) rows some left v added fails = stopped-at t notes new begun (At n expected) rows some left v added fails
+refused-at t notes new begun (TooDeep n) rows some left v added fails = stopped-at t notes new begun (TooDeep n) rows some left v added fails
 
 -- reading goes on behind it
 again-at : (t : Table) (notes new : Notes) (begun : Begun) (e : Refused) (own : Notes) (most : ℕ) → IsStoppedAt t notes begun e → IsBegun t.rows e own → new ≡ notes ++ own → most ≡ begun.left - 1 → Leads t new begun.first (next_rows t e most)
 again-at t notes new begun e own most v h added is =
     leads-refused t v.before begun.first v.row v.rows v.leads e own new most (omega (arith, is, v.counted)) v.fails h (added ∙ ap (λ n. n ++ own) v.notes_are)
 
-pub leads-again : (t : Table) (notes new : Notes) (begun : Begun) (e : Refused) (own : Notes) (most : ℕ) → IsRefusedAt t notes begun e → IsBegun t.rows e own → new ≡ notes ++ own → most ≡ begun.left - 1 → Leads t new begun.first (next_rows t e most)
-leads-again t notes new begun OutOfMemory own most v h added is = absurd h
-leads-again t notes new begun (At left expected) own most v h added is = again-at t notes new begun (At left expected) own most v h added is
-leads-again t notes new begun (TooDeep left) own most v h added is = again-at t notes new begun (TooDeep left) own most v h added is
+pub leads-again : (t : Table) (notes new : Notes) (begun : Begun) (e : Refused) (begun_notes : Notes) (most : ℕ) → IsRefusedAt t notes begun e → IsBegun t.rows e begun_notes → new ≡ notes ++ begun_notes → most ≡ begun.left - 1 → Leads t new begun.first (next_rows t e most)
+leads-again t notes new begun OutOfMemory begun_notes most v h added is = absurd h
+leads-again t notes new begun (At left expected) begun_notes most v h added is = again-at t notes new begun (At left expected) begun_notes most v h added is
+leads-again t notes new begun (TooDeep left) begun_notes most v h added is = again-at t notes new begun (TooDeep left) begun_notes most v h added is

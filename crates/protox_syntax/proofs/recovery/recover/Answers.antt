@@ -8,7 +8,7 @@ use Rattle.protox_syntax.proofs.recovery.recover.Goals as goal
 pub more-init : goal.more-init
 more-init c = record {
   noted = recovers-begun c.args.table.now c.args.refused.now c.args.begun.first c.args.notes.now.items c.in_ok-add_refused.ensures.0 c.add_refused.new.notes.items c.in_ok-add_refused.ensures.1 c.in_ok-add_refused.ensures.2;
-  last = subst (AreLast c.args.table.now) (sym c.next_rows-rows.ensures) (next-last c.args.table.now c.args.refused.now _);
+  last = subst (AreLast c.args.table.now) (sym c.next_rows-rows.ensures) (next-last c.args.table.now _ _);
   first = lies-itself c.args.table.now c.args.begun.first;
   leads = λ v.
       subst (Leads c.args.table.now c.add_refused.new.notes.items c.args.begun.first) (sym c.next_rows-rows.ensures)

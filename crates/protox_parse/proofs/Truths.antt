@@ -15,22 +15,43 @@ use Rattle.protox_ast.specs.Places.{Place}
 use Rattle.protox_ast.specs.Tree as t
 use Rattle.protox_ast.specs.Truth.{IsTrueOf}
 use Rattle.protox_ast.specs.declared.ast.File.{File}
-use Rattle.protox_checks.specs.Faults.{Wrong}
+use Rattle.protox_checks.specs.Checks.{AreListed}
+use Rattle.protox_checks.specs.Faults.{HasEachWrong, HaveAll, Wrong}
+use Rattle.protox_generate.specs.File.{AreListedAll}
 use Rattle.protox_descriptor.specs.declared.descriptor.FileDescriptorProto.{FileDescriptorProto}
 use Rattle.protox_checks.proofs.PlainFaults.{IsPlain, all-plain, plain-stand}
-use Rattle.protox_parse.specs.Failures.{AreWrongOf, IsRefusalOf}
-use Rattle.protox_parse.specs.FaultLists.{AreLexicalAlone, AreStanding, HasFaultsOf}
+use Rattle.protox_parse.specs.Failures.{AreWrongOf, IsOutOfMemory, IsRefusalOf}
+use Rattle.protox_parse.specs.FaultLists.{AreAllFound, AreLexicalAlone, AreListedOf, AreStanding, HasAllOf, HasFaultsOf}
 use Rattle.protox_parse.specs.Refusal.{Refusal}
 use Rattle.protox_parse.specs.Truth.{IsTightFirst, IsTightOfSource, IsTrueFirst, IsTrueOfSource}
 use Rattle.protox_parse.specs.declared.failure.ParseFailure.{ParseFailure}
 use Rattle.protox_parse.specs.declared.failure.ParseFailure.TheVariants.{Refused, OutOfMemory}
+use Rattle.protox_syntax.specs.AllFaults.{AreAllFaults}
 use Rattle.protox_syntax.specs.FirstFaults as syntax
+use Rattle.protox_syntax.specs.FoundFaults as found
 use Rattle.protox_syntax.specs.LexicalFaults as lexical
 use Rattle.protox_syntax.specs.StandingFaults as standing
 
 if-more : {A : Type 0} (P Q : A → Type 0) (o : Option A) → ((x : A) → P x → Q x) → IfSome o P → IfSome o Q
 if-more P Q None h k = tt
 if-more P Q (Some x) h k = h x k
+
+-- ---- all faults of a syntax tree
+
+pub has-all : (file : File) (e : SyntaxFailure) (r : ParseFailure) → HasFaultsOf e r → HaveAll file e → HasAllOf file r
+has-all file e OutOfMemory same h = tt
+has-all file failure.OutOfMemory (Refused x) same h = absurd same
+has-all file (failure.Faults v) (Refused x) same h = subst (HasEachWrong file) (sym same) h
+
+pub has-listed : (file : File) (e : SyntaxFailure) (r : ParseFailure) → HasFaultsOf e r → AreListedAll file e → AreListedOf file r
+has-listed file e OutOfMemory same h = tt
+has-listed file failure.OutOfMemory (Refused x) same h = absurd same
+has-listed file (failure.Faults v) (Refused x) same h = subst (AreListed file) (sym same) h
+
+-- Where memory ran out there is no list.
+pub none-of-all : (file : File) (e : ParseFailure) → IsOutOfMemory e → HasAllOf file e × AreListedOf file e
+none-of-all file OutOfMemory h = (tt, tt)
+none-of-all file (Refused e) h = absurd h
 
 module _ (source : List ℕ) where
   -- ---- the faults of reading
@@ -56,6 +77,11 @@ module _ (source : List ℕ) where
   read-lexical e OutOfMemory same h = tt
   read-lexical failure.OutOfMemory (Refused x) same h = absurd same
   read-lexical (failure.Faults v) (Refused x) same h = λ fits f spelled deep nothing valid unclean. subst (AreFaultsOf (cut 0 source)) (sym same) (h f spelled deep nothing valid)
+
+  pub read-all : (e : SyntaxFailure) (r : ParseFailure) → HasFaultsOf e r → found.AreAllFound source e → AreAllFound source r
+  read-all e OutOfMemory same h = tt
+  read-all failure.OutOfMemory (Refused x) same h = absurd same
+  read-all (failure.Faults v) (Refused x) same h = λ fits none. subst (AreAllFaults source) (sym same) h
 
   -- ---- those of the generator
 
@@ -87,6 +113,11 @@ module _ (source : List ℕ) where
   made-lexical file is (Err OutOfMemory) = tt
   made-lexical file is (Err (Refused e)) = λ fits f spelled deep nothing valid unclean. absurd (unclean is.1.clean)
 
+  pub made-all : (file : File) → IsFileOf source file → (r : Result FileDescriptorProto ParseFailure) → IfErr r (AreAllFound source)
+  made-all file is (Ok d) = tt
+  made-all file is (Err OutOfMemory) = tt
+  made-all file is (Err (Refused e)) = λ fits none. absurd (none is.0 is.1)
+
   -- ---- that the source is too large
 
   module _ (name : List ℕ) (large : Fits source → ⊥) where
@@ -106,3 +137,7 @@ module _ (source : List ℕ) where
     pub large-lexical : (r : ParseFailure) → AreLexicalAlone source r
     large-lexical OutOfMemory = tt
     large-lexical (Refused e) = λ fits f spelled deep nothing valid unclean. absurd (large fits)
+
+    pub large-all : (r : ParseFailure) → AreAllFound source r
+    large-all OutOfMemory = tt
+    large-all (Refused e) = λ fits none. absurd (large fits)

@@ -14,7 +14,7 @@ ghost use Rattle.protox_lexeme.specs.Lexemes.{cut};
 ghost use Rattle.protox_ast.specs.Places.{Place};
 ghost use Rattle.protox_parse.specs.Commented.{AreCommentedOnce};
 ghost use Rattle.protox_parse.specs.Failures.{AreWrongOf, IsOutOfMemory, IsRefusalOf};
-ghost use Rattle.protox_parse.specs.FaultLists.{AreLexicalAlone, AreStanding};
+ghost use Rattle.protox_parse.specs.FaultLists.{AreAllFound, AreLexicalAlone, AreListedOf, AreStanding, HasAllOf};
 ghost use Rattle.protox_parse.specs.Truth.{IsTightFirst, IsTrueFirst};
 
 mod failure;
@@ -57,6 +57,8 @@ fn translated(
     ensures named { IfOk result (HasNames source.now) }
     ensures refused { IfErr result (IsRefusalOf name.now source.now) }
     ensures wrong { IfErr result (AreWrongOf file) }
+    ensures all { IfErr result (HasAllOf file) }
+    ensures in_order { IfErr result (AreListedOf file) }
 {
     match generate_file(alloc, file, name, source) {
         Ok(descriptor) => Ok(descriptor),
@@ -88,6 +90,9 @@ pub fn parse(alloc: Global, name: &str, source: &str) -> Result<FileDescriptorPr
     ensures refused { IfErr result (IsRefusalOf name.now source.now) }
     // Where the source's tokens spell a tree that is accepted, each fault is one of its syntax tree.
     ensures wrong { (f : tree.File Place) → IsAccepted source.now f → IfErr result (AreWrongOf (ast_of.file (length source.now) f)) }
+    // Then all faults of the syntax tree are in the list, in the order in which they are found.
+    ensures all { (f : tree.File Place) → IsAccepted source.now f → IfErr result (HasAllOf (ast_of.file (length source.now) f)) }
+    ensures in_order { (f : tree.File Place) → IsAccepted source.now f → IfErr result (AreListedOf (ast_of.file (length source.now) f)) }
     // The first fault is true of the source.
     ensures is_true { IfErr result (IsTrueFirst source.now) }
     // No fault comes before it.
@@ -96,6 +101,8 @@ pub fn parse(alloc: Global, name: &str, source: &str) -> Result<FileDescriptorPr
     ensures stands { IfErr result (AreStanding source.now) }
     // If only lexemes are at fault, and no character is invalid, exactly their faults are reported.
     ensures lexical { IfErr result (AreLexicalAlone source.now) }
+    // Where the parser refuses a source that fits, exactly these are its faults, in this order, but for the words of what was expected.
+    ensures all_found { IfErr result (AreAllFound source.now) }
 {
     if !source_fits(source.len()) {
         return Err(too_large(alloc, name));

@@ -1,5 +1,5 @@
 -- What is judged of the table of a source is what is said of the source.
-use Rattle.std.proofs.Common.{◌≡◌, ℕ, List, length, Result, Ok, Err, IfOk, IfErr, MatchResult, refl, sym, ap, subst, ◌∙◌}
+use Rattle.std.proofs.Common.{◌≡◌, ℕ, List, length, Result, Ok, Err, IfOk, IfErr, MatchResult, sym, ap, ◌∙◌}
 use Rattle.protox_fault.specs.declared.error.SyntaxFailure.{SyntaxFailure}
 use Rattle.protox_fault.specs.declared.error.SyntaxFailure.TheVariants.{Faults, OutOfMemory}
 use Rattle.protox_lexeme.specs.Lexemes.{cut}
@@ -11,7 +11,6 @@ use Rattle.protox_ast.specs.Tree as tree
 use Rattle.protox_ast.specs.declared.ast.File.{File}
 use Rattle.protox_grammar.specs.Reads.{read}
 use Rattle.protox_grammar.proofs.Main as main
-use Rattle.protox_grammar.proofs.Reading.{ok-err}
 use Rattle.protox_grammar.proofs.Takes.{ok_is}
 use Rattle.protox_options.specs.Options.{here}
 use Rattle.protox_syntax.specs.Judging.{IsWhole, Judges, JudgesFault}

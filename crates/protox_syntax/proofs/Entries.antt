@@ -1,9 +1,9 @@
 -- What the faults of a table say of its rows.
-use Rattle.std.proofs.Common.{◌≡◌, ◌<◌, ◌+◌, ℕ, zero, suc, Bool, true, false, not, cond, List, [], ◌∷◌, ◌++◌, length, Some, refl, sym, ap, subst, ◌∙◌, arith}
+use Rattle.std.proofs.Common.{◌≡◌, ℕ, zero, suc, Bool, true, false, not, cond, List, [], ◌∷◌, ◌++◌, Some, refl, sym, ap, ◌∙◌, arith}
 use Rattle.std.specs.Prelude.{slice_index_or, slice_get, filter}
 use Rattle.std.specs.List.{All}
 use Rattle.protox_fault.specs.Faults.{Span, faults_in, is_of_mode, span_from}
-use Rattle.protox_lexeme.specs.Shapes.{Shape, Invalid, Row, Rows}
+use Rattle.protox_lexeme.specs.Shapes.{Invalid, Row, Rows}
 use Rattle.protox_lexeme.specs.Lexemes.{Lexeme}
 use Rattle.protox_lexeme.specs.Table.{is_gap, rows_of, faults_of, in_front, row_faults, invalid_faults}
 use Rattle.protox_fault.specs.declared.error.ParseErrorKind.{ParseErrorKind}

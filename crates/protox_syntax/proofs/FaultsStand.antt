@@ -1,5 +1,5 @@
 -- Each fault of a source stands somewhere in it, and no lexical one twice.
-use Rattle.std.proofs.Common.{◌≡◌, ◌≤◌, ◌<◌, ◌+◌, ◌-◌, ℕ, zero, suc, Bool, true, false, not, cond, List, [], ◌∷◌, ◌++◌, length, map, filter, Option, Some, None, Result, Ok, Err, IfErr, inl, inr, refl, sym, ap, subst, ◌∙◌, le_refl, zero-le, arith}
+use Rattle.std.proofs.Common.{◌≡◌, ◌≤◌, ◌+◌, ◌-◌, ℕ, zero, suc, Bool, true, false, not, cond, List, [], ◌∷◌, ◌++◌, length, map, filter, Option, Some, None, Result, Ok, Err, IfErr, inl, inr, refl, sym, subst, ◌∙◌, le_refl, zero-le, arith}
 use Rattle.std.proofs.lemmas.List.{map-append}
 use Rattle.std.proofs.lemmas.Option.{slice_get_within}
 use Rattle.std.specs.Prelude.{Any, slice_get, slice_index_or, option_to_list}
@@ -19,14 +19,13 @@ use Rattle.protox_ast.proofs.Membership.{Among, Somewhere, any-from}
 use Rattle.protox_ast.proofs.SpansStand.{each-append, each-so}
 use Rattle.protox_ast.specs.Basics.{Each}
 use Rattle.protox_ast.specs.FaultList.{IsOwn, Stands, StandIn, StandOnce, is_lexical}
-use Rattle.protox_ast.specs.Places.{Place, placed}
+use Rattle.protox_ast.specs.Places.{placed}
 use Rattle.protox_ast.specs.declared.ast.File.{File}
 use Rattle.protox_grammar.specs.Noted.{trace}
 use Rattle.protox_grammar.specs.Rule as rule
 use Rattle.protox_grammar.specs.Rules as r
 use Rattle.protox_grammar.specs.Class.{only}
 use Rattle.protox_grammar.specs.Told.{Notes, is_invalid}
-use Rattle.protox_grammar.specs.declared.note.Note.{Note}
 use Rattle.protox_grammar.specs.declared.note.Noted.{Noted}
 use Rattle.protox_grammar.specs.declared.note.Noted.TheVariants.{Fault, TextFormat}
 use Rattle.protox_options.specs.Options.{here}
@@ -34,7 +33,7 @@ use Rattle.protox_syntax.specs.Judging.{IsWoven, Judges, JudgesFault, stopped, e
 use Rattle.protox_syntax.specs.Recovery.{AreNotable, IsNotable, IsNotableNote}
 use Rattle.protox_syntax.specs.StandingFaults.{AreStanding}
 use Rattle.protox_syntax.specs.Statements.{levels, syntax_if_any}
-use Rattle.protox_syntax.specs.Weave.{Progress, beginning, noted_in, play, progress, read_to, refusal, released, row_at, to_read, weave, with_noted}
+use Rattle.protox_syntax.specs.Weave.{Progress, beginning, noted_in, play, read_to, refusal, released, row_at, to_read, weave, with_noted}
 use Rattle.protox_syntax.specs.Whole.{all_notes}
 use Rattle.protox_syntax.proofs.Entries.{each-in}
 use Rattle.protox_syntax.proofs.Reading.{file-told}

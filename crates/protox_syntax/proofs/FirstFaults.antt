@@ -1,7 +1,6 @@
 -- The first fault of a source's list is true of the source, and nothing is passed over in front of it.
-use Rattle.std.proofs.Common.{◌≡◌, ◌≤◌, ◌<◌, ◌+◌, inl, inr, ◌⊎◌, ℕ, zero, suc, Bool, true, false, not, cond, codes, List, [], ◌∷◌, ◌++◌, length, Option, Some, None, Result, Ok, Err, refl, sym, ap, subst, ◌∙◌, arith}
+use Rattle.std.proofs.Common.{◌≡◌, ◌≤◌, ◌<◌, inl, inr, ◌⊎◌, ℕ, zero, suc, Bool, true, false, not, cond, codes, List, [], ◌∷◌, ◌++◌, length, Some, Ok, Err, refl, sym, ap, subst, ◌∙◌, arith}
 use Rattle.std.specs.Prelude.{slice_get, filter}
-use Rattle.std.proofs.lemmas.Bool.{cases_Bool}
 use Rattle.protox_fault.specs.Faults.{Span, faults_in, is_of_mode, span_from}
 use Rattle.protox_fault.specs.declared.error.ParseErrorKind.{ParseErrorKind}
 use Rattle.protox_fault.specs.declared.error.ParseErrorKind.TheVariants as fault
@@ -9,21 +8,20 @@ use Rattle.protox_lexeme.proofs.FaultModes.{IsOwnKind, IsRowKind}
 use Rattle.protox_lexeme.specs.Lexemes.{Lexeme}
 use Rattle.protox_lexeme.specs.Printed.{printed}
 use Rattle.protox_lexeme.specs.Shapes.{Shape, Ident, Int, Float, Str, Mark, LineComment, BlockComment, Newline, Invalid, Row, Rows}
-use Rattle.protox_lexeme.specs.Table.{faults_of, invalid_faults, is_gap, row_faults, rows_of, table_of}
+use Rattle.protox_lexeme.specs.Table.{invalid_faults, is_gap, row_faults, rows_of, table_of}
 use Rattle.protox_ast.proofs.Standing.{as-many, bare-placed}
 use Rattle.protox_ast.specs.Basics.{Each, first_of}
 use Rattle.protox_ast.specs.CheckedNodes.{CheckedNode, ASyntax, AnImport, AReservedName, AGroupName, APackageAgain, ATooDeep, checked_nodes}
 use Rattle.protox_ast.specs.Checks.{WrongCheckedNode}
-use Rattle.protox_ast.specs.FirstFault.{IsFirstAtEnd, IsFirstOfLexemes, IsFirstOfNodes, IsFirstUnexpected, IsTightOf, NoneIsWrongBefore}
+use Rattle.protox_ast.specs.FirstFault.{IsFirstOfLexemes, IsFirstOfNodes, IsTightOf, NoneIsWrongBefore}
 use Rattle.protox_ast.specs.Fronts.{Inside}
 use Rattle.protox_ast.specs.Keywords.{is_significant}
 use Rattle.protox_ast.specs.Places.{Place}
 use Rattle.protox_ast.specs.Spells.{BeginsFile, IsEnded, IsUnexpected, shapes}
-use Rattle.protox_ast.specs.Truth.{IsFirstOfLexeme, IsInvalidThere, IsTrueOf, IsWrongBefore, IsWrongBehind, is_terminator, source_row, token_span}
+use Rattle.protox_ast.specs.Truth.{IsFirstOfLexeme, IsInvalidThere, IsTrueOf, IsWrongBefore, IsWrongBehind, is_terminator, token_span}
 use Rattle.protox_grammar.specs.Reader.{Refusal, Unexpected, ◌>>=◌}
 use Rattle.protox_grammar.specs.Reads.{read}
 use Rattle.protox_grammar.specs.Told.{is_invalid}
-use Rattle.protox_grammar.proofs.CheckedFirst.{IsCheckedFirst}
 use Rattle.protox_grammar.proofs.CleanFronts.{AreClearTo, AreToldTo, IsFirstLexeme, clean-all, clean-through, first-lexeme, row-there, row-valid}
 use Rattle.protox_grammar.proofs.DeepOutside.{mode-inside-all}
 use Rattle.protox_grammar.proofs.FrontModes.{begins-at, is_open_behind}

@@ -1,6 +1,6 @@
 -- The first fault of a source's list: that of the first row that has one in its mode, or the first that is noted, or that of a token that doesn't fit, or
 -- that the tokens end too soon; and what is known of the rows before it.
-use Rattle.std.proofs.Common.{◌≡◌, ◌≤◌, ◌<◌, ◌+◌, ◌-◌, inl, inr, ◌⊎◌, ℕ, zero, suc, Bool, true, false, cond, List, [], ◌∷◌, ◌++◌, length, Option, Some, None, Result, Ok, Err, refl, sym, ap, subst, ◌∙◌, append-nil, append_assoc, arith}
+use Rattle.std.proofs.Common.{◌≡◌, ◌≤◌, ◌<◌, ◌+◌, ◌-◌, inl, inr, ◌⊎◌, ℕ, zero, suc, Bool, true, false, cond, List, [], ◌∷◌, ◌++◌, length, Option, Some, None, Ok, Err, refl, sym, ap, subst, ◌∙◌, append-nil, append_assoc, arith}
 use Rattle.std.specs.Prelude.{slice_index_or, slice_get, option_to_list}
 use Rattle.std.proofs.lemmas.List.{length-append}
 use Rattle.protox_fault.specs.Faults.{Span, faults_in}
@@ -15,8 +15,8 @@ use Rattle.protox_ast.specs.Places.{Place}
 use Rattle.protox_ast.specs.Truth.{is_terminator}
 use Rattle.protox_grammar.specs.MarkLaws.{placed_steps_by, placed_tokens}
 use Rattle.protox_grammar.specs.Noted.{trace}
-use Rattle.protox_grammar.specs.Reader.{Refusal, Unexpected, Deep}
-use Rattle.protox_grammar.specs.Steps.{Steps, Note, tokens, until}
+use Rattle.protox_grammar.specs.Reader.{Unexpected}
+use Rattle.protox_grammar.specs.Steps.{Steps, tokens, until}
 use Rattle.protox_grammar.specs.Told.{Notes, first_behind, is_invalid, keyword_behind, past, told, then_notes}
 use Rattle.protox_grammar.specs.declared.note.Noted.TheVariants.{Fault, TextFormat}
 use Rattle.protox_grammar.proofs.CheckedFirst.{FirstOf, IsCheckedFirst, checked-first, past-taken, taken-rows}

@@ -1,5 +1,5 @@
 -- What is judged of a table.
-use Rattle.std.proofs.Common.{◌≡◌, ◌≤◌, ◌<◌, ◌+◌, ◌-◌, ◌^◌, ℕ, zero, suc, Bool, true, false, cond, List, [], ◌∷◌, ◌++◌, length, Option, Some, None, Result, Ok, Err, refl, sym, ap, subst, ◌∙◌, append-nil, append_assoc, arith}
+use Rattle.std.proofs.Common.{◌≡◌, ◌≤◌, ◌<◌, ◌+◌, ◌-◌, ◌^◌, ℕ, zero, suc, Bool, true, false, cond, List, [], ◌∷◌, ◌++◌, length, Option, Some, None, Ok, Err, refl, sym, ap, subst, ◌∙◌, append-nil, append_assoc, arith}
 use Rattle.std.specs.Prelude.{slice_index_or, slice_get, option_to_list}
 use Rattle.std.specs.List.{All}
 use Rattle.protox_fault.specs.Faults.{Span, SpanLiesIn, LiesIn, faults_in}
@@ -15,9 +15,8 @@ use Rattle.protox_ast.specs.Keywords.{Each}
 use Rattle.protox_ast.specs.Places.{Place, placed}
 use Rattle.protox_ast.specs.Tree as tree
 use Rattle.protox_ast.specs.Truth.{is_terminator}
-use Rattle.protox_grammar.specs.Reader.{Refusal, Unexpected, Deep, head_in}
+use Rattle.protox_grammar.specs.Reader.{Unexpected, Deep}
 use Rattle.protox_grammar.specs.Told.{Notes, is_invalid, then_notes}
-use Rattle.protox_grammar.specs.declared.note.Note.{Note}
 use Rattle.protox_grammar.specs.declared.note.Noted.TheVariants.{TextFormat}
 use Rattle.protox_grammar.proofs.FineNotes.{IsFaultless, faultless-first}
 use Rattle.protox_grammar.proofs.Telling.{AllLie, both-lie}
@@ -25,7 +24,7 @@ use Rattle.protox_rows.specs.Notes.{AddsTo}
 use Rattle.protox_rows.specs.Outcome.{Fails}
 use Rattle.protox_rows.specs.declared.refused.Refused.{Refused}
 use Rattle.protox_rows.specs.declared.refused.Refused.TheVariants.{OutOfMemory, At, TooDeep}
-use Rattle.protox_syntax.specs.Statements.{levels, syntax_if_any, notes_behind}
+use Rattle.protox_syntax.specs.Statements.{syntax_if_any, notes_behind}
 use Rattle.protox_syntax.specs.Whole.{Whole, whole, all_notes}
 use Rattle.protox_syntax.specs.Recovery.{FirstLies, IsBegun, Recovers, fault_note, plain_note}
 use Rattle.protox_syntax.specs.Weave.{weave, refusal, row_at}

@@ -1,5 +1,5 @@
 -- What is judged of the table of a source tells its first fault.
-use Rattle.std.proofs.Common.{◌≡◌, inl, inr, ℕ, List, [], length, Option, Some, None, Result, Ok, Err, IfErr, refl, ◌⊎◌}
+use Rattle.std.proofs.Common.{◌≡◌, ℕ, List, length, Option, Some, None, Result, Ok, Err, IfErr, refl}
 use Rattle.std.specs.Prelude.{IfSome}
 use Rattle.protox_fault.specs.declared.error.ParseErrorKind.{ParseErrorKind}
 use Rattle.protox_fault.specs.declared.error.SyntaxFailure.{SyntaxFailure}
@@ -12,6 +12,7 @@ use Rattle.protox_ast.specs.FirstFault.{IsTightOf}
 use Rattle.protox_ast.specs.Truth.{IsTrueOf}
 use Rattle.protox_ast.specs.declared.ast.File.{File}
 use Rattle.protox_syntax.specs.FirstFaults.{IsTightFirst, IsTrueFirst}
+use Rattle.protox_syntax.specs.FoundFaults.{AreAllFound}
 use Rattle.protox_syntax.specs.Judging.{Judges, JudgesFault}
 use Rattle.protox_syntax.proofs.FirstFaults.{first-is}
 
@@ -37,3 +38,11 @@ judged-true source (Err e) j = (its-first source e j).0
 pub judged-tight : (source : List ℕ) (r : Result File SyntaxFailure) → Judges (table_of (cut 0 source)) (length source) r → IfErr r (IsTightFirst source)
 judged-tight source (Ok file) j = tt
 judged-tight source (Err e) j = (its-first source e j).1
+
+found-by : (source : List ℕ) (e : SyntaxFailure) → JudgesFault (table_of (cut 0 source)) (length source) e → AreAllFound source e
+found-by source OutOfMemory j = tt
+found-by source (Faults v) j = j.4
+
+pub judged-found-all : (source : List ℕ) (r : Result File SyntaxFailure) → Judges (table_of (cut 0 source)) (length source) r → IfErr r (AreAllFound source)
+judged-found-all source (Ok file) j = tt
+judged-found-all source (Err e) j = found-by source e j

@@ -1,5 +1,5 @@
 -- Of a source whose tokens are those of a file with which nothing is wrong, the faults are those of its lexemes.
-use Rattle.std.proofs.Common.{◌≡◌, ◌≤◌, ◌<◌, ◌+◌, ◌-◌, ℕ, zero, suc, Bool, true, List, [], ◌∷◌, ◌++◌, length, Result, Ok, Err, IfErr, refl, sym, ap, subst, ◌∙◌, arith}
+use Rattle.std.proofs.Common.{◌≡◌, ◌≤◌, ◌+◌, ℕ, zero, suc, Bool, true, List, [], ◌∷◌, ◌++◌, length, Result, Ok, Err, IfErr, refl, sym, ap, subst, ◌∙◌, arith}
 use Rattle.std.specs.Prelude.{slice_index_or}
 use Rattle.protox_fault.specs.Faults.{faults_in}
 use Rattle.protox_fault.specs.declared.error.ParseErrorKind.{ParseErrorKind}
@@ -11,12 +11,12 @@ use Rattle.protox_lexeme.specs.Table.{faults_of, is_gap, rows_of, table_of}
 use Rattle.protox_ast.specs.Checks.{NothingWrong}
 use Rattle.protox_ast.specs.FaultList.{AreFaultsOf}
 use Rattle.protox_ast.specs.Nodes.{depth}
-use Rattle.protox_ast.specs.Places.{Place, placed}
+use Rattle.protox_ast.specs.Places.{Place}
 use Rattle.protox_ast.specs.Spells.{Spells}
 use Rattle.protox_ast.specs.Tree as tree
 use Rattle.protox_ast.specs.declared.ast.File.{File}
 use Rattle.protox_grammar.specs.MarkLaws.{placed_tokens}
-use Rattle.protox_grammar.specs.Reader.{Refusal, Unexpected, Deep}
+use Rattle.protox_grammar.specs.Reader.{Unexpected, Deep}
 use Rattle.protox_grammar.specs.Reads.{read}
 use Rattle.protox_grammar.specs.Told.{Notes}
 use Rattle.protox_grammar.proofs.FineNotes.{IsFaultless}
@@ -26,7 +26,7 @@ use Rattle.protox_options.specs.Options.{here}
 use Rattle.protox_rows.specs.Outcome.{Fails}
 use Rattle.protox_rows.specs.declared.refused.Refused.{Refused}
 use Rattle.protox_rows.specs.declared.refused.Refused.TheVariants as refused
-use Rattle.protox_syntax.specs.Judging.{IsWoven, Judges, JudgesFault, stopped, ended, recovered, finished, total_of}
+use Rattle.protox_syntax.specs.Judging.{IsWoven, Judges, JudgesFault, stopped, ended, recovered, finished}
 use Rattle.protox_syntax.specs.LexicalFaults.{AreLexicalAlone, AreTokens}
 use Rattle.protox_syntax.specs.Recovery.{IsBegun}
 use Rattle.protox_syntax.specs.Statements.{levels, syntax_if_any}

@@ -19,3 +19,8 @@ pub mod FirstFaults
 pub mod JudgedFirst
 pub mod FaultsStand
 pub mod ValuesBack
+pub mod Along
+pub mod Alike
+pub mod Leading
+pub mod Invalid
+pub mod AllFound

@@ -1,10 +1,9 @@
 -- Of a source whose tokens are those of a file there is no fault exactly where nothing is wrong with the file and its lexemes are clean.
-use Rattle.std.proofs.Common.{◌≡◌, ◌↔◌, ◌≤◌, ◌<◌, ◌+◌, ◌-◌, ℕ, zero, suc, Bool, true, false, cond, List, [], ◌∷◌, ◌++◌, length, Option, Some, None, Ok, refl, sym, ap, subst, ◌∙◌, arith, inl, inr, true≢false}
+use Rattle.std.proofs.Common.{◌≡◌, ◌↔◌, ◌≤◌, ◌<◌, ◌+◌, ◌-◌, ℕ, zero, suc, Bool, true, false, cond, List, [], ◌∷◌, ◌++◌, length, Option, Some, None, refl, sym, ap, subst, ◌∙◌, arith, inl, inr, true≢false}
 use Rattle.std.proofs.lemmas.Bool.{cases_lt, lt-ltb, le-ltb}
 use Rattle.std.specs.Prelude.{slice_index_or, nat_lt}
 use Rattle.protox_fault.specs.Faults.{Span, faults_in, span_from}
 use Rattle.protox_fault.specs.declared.error.ParseErrorKind.{ParseErrorKind}
-use Rattle.protox_fault.specs.declared.error.ParseErrorKind.TheVariants as fault
 use Rattle.protox_lexeme.specs.Lexemes.{Lexeme}
 use Rattle.protox_lexeme.specs.Shapes.{Shape, Ident, Int, Float, Str, Mark, LineComment, BlockComment, Newline, Invalid, Row, Rows}
 use Rattle.protox_lexeme.specs.Table.{faults_of, is_gap, rows_of, table_of}
@@ -12,23 +11,23 @@ use Rattle.protox_lex.proofs.Tables.{faults_of_length}
 use Rattle.protox_ast.proofs.Standing.{as-many}
 use Rattle.protox_ast.specs.AstParts.{strings_span, strings_value, text_of}
 use Rattle.protox_ast.specs.CheckedNodes.{CheckedNode, ASyntax, AnImport, AReservedName, AGroupName, APackageAgain, ATooDeep}
-use Rattle.protox_ast.specs.Checks.{NothingWrong, package_span}
+use Rattle.protox_ast.specs.Checks.{NothingWrong}
 use Rattle.protox_ast.specs.Nodes.{depth}
 use Rattle.protox_ast.specs.Fronts.{AreClean, AreCleanBehind, Inside}
 use Rattle.protox_ast.specs.KeywordWalk as k
-use Rattle.protox_ast.specs.Places.{Place, later_gaps, placed, placed_from}
+use Rattle.protox_ast.specs.Places.{Place, later_gaps, placed_from}
 use Rattle.protox_ast.specs.Spells.{Spells, shapes}
 use Rattle.protox_ast.specs.Tree as tree
 use Rattle.protox_grammar.specs.Bodies as bodies
-use Rattle.protox_grammar.specs.CheckLaws.{is_too_deep_by, steps_by}
-use Rattle.protox_grammar.specs.MarkLaws.{no_place, placed_steps_by, placed_tokens}
-use Rattle.protox_grammar.specs.Noted.{open_behind, steps, trace}
+use Rattle.protox_grammar.specs.CheckLaws.{is_too_deep_by}
+use Rattle.protox_grammar.specs.MarkLaws.{placed_tokens}
+use Rattle.protox_grammar.specs.Noted.{open_behind, trace}
 use Rattle.protox_grammar.specs.Reader.{head_in}
 use Rattle.protox_grammar.specs.Steps.{ANode, APackage, AKeyword, ADeepBody, ADeeperBody, AnOpenBrace, ACloseBrace, Token, Note, Steps, has_deep, tokens, until}
 use Rattle.protox_grammar.specs.declared.note.Note as note_type
 use Rattle.protox_grammar.specs.declared.note.Noted.{Noted}
 use Rattle.protox_grammar.specs.declared.note.Noted.TheVariants.{Fault, TextFormat}
-use Rattle.protox_grammar.specs.Told.{Notes, at_once, behind, group_faults, ident_faults, is_invalid, node_notes, noted, run_note, path_faults, span_of, syntax_faults, text_faults, told}
+use Rattle.protox_grammar.specs.Told.{Notes, at_once, behind, group_faults, ident_faults, is_invalid, node_notes, noted, run_note, path_faults, syntax_faults, text_faults, told}
 use Rattle.protox_grammar.proofs.CleanModes.{clean-modes, in-none}
 use Rattle.protox_grammar.proofs.FineNotes.{AreTokens, IsFaultless, IsNoFault, faultless-first, faultless-last}
 use Rattle.protox_grammar.proofs.InsideLaws as insides

@@ -1,5 +1,5 @@
 -- What the code reads and notes of a file is what the reader of the grammar reads and notes.
-use Rattle.std.proofs.Common.{◌≡◌, ◌≤◌, ◌<◌, ◌+◌, ◌-◌, ℕ, zero, suc, Bool, true, false, ◌||◌, cond, List, [], ◌∷◌, ◌++◌, length, Option, Some, None, Result, Ok, Err, refl, sym, ap, subst, ◌∙◌, arith}
+use Rattle.std.proofs.Common.{◌≡◌, ◌≤◌, ℕ, suc, true, [], ◌∷◌, ◌++◌, length, Option, Some, None, Result, Ok, Err, refl, sym, ap, subst, ◌∙◌, arith}
 use Rattle.std.proofs.lemmas.List.{length-append}
 use Rattle.protox_lexeme.specs.Shapes.{Rows}
 use Rattle.protox_ast.proofs.Standing.{Stand}
@@ -10,25 +10,25 @@ use Rattle.protox_ast.specs.Tree as tree
 use Rattle.protox_grammar.specs.Bodies as bodies
 use Rattle.protox_grammar.specs.Class.{all, only, in_set}
 use Rattle.protox_grammar.specs.Noted.{steps, trace}
-use Rattle.protox_grammar.specs.Reader.{Refusal, Unexpected, Deep, ◌>>=◌, star}
+use Rattle.protox_grammar.specs.Reader.{Refusal, Unexpected, Deep, ◌>>=◌}
 use Rattle.protox_grammar.specs.Reads.{read}
 use Rattle.protox_grammar.specs.Rule as rule
 use Rattle.protox_grammar.specs.Rules as r
 use Rattle.protox_grammar.specs.Steps.{ANode, APackage, AKeyword, ADeepBody, ADeeperBody, AnOpenBrace, ACloseBrace, Token, Note, Steps, has_deep, star_trace, then_steps, tokens}
-use Rattle.protox_grammar.specs.Told.{Notes, behind, node_notes, first_behind, keyword_behind, past, told, then_notes}
+use Rattle.protox_grammar.specs.Told.{behind, node_notes, first_behind, keyword_behind, past, told, then_notes}
 use Rattle.protox_grammar.proofs.FineNotes.{IsFaultless, faultless-last}
 use Rattle.protox_grammar.proofs.Kept as kept
 use Rattle.protox_grammar.proofs.Main as main
 use Rattle.protox_grammar.proofs.NotedFiles.{file-marks}
 use Rattle.protox_grammar.proofs.Notes.{IsShallow, notes, notes-append, shallow-front}
-use Rattle.protox_grammar.proofs.Reading.{bind_err, map_err, ok-err, err-ok}
+use Rattle.protox_grammar.proofs.Reading.{map_err, err-ok}
 use Rattle.protox_grammar.proofs.Shows.{Shows, left-shows, seq-shows}
 use Rattle.protox_grammar.proofs.Stated.{all-lie, all-says}
 use Rattle.protox_grammar.proofs.Takes.{bind_ok, ok_is}
 use Rattle.protox_grammar.proofs.Telling.{AllLie, both-lie, then-lie, then-seen, told-append}
 use Rattle.protox_options.specs.Options.{here}
 use Rattle.protox_syntax.specs.Judging.{made}
-use Rattle.protox_syntax.specs.Statements.{levels, statement, statement_rule, statements-shows, syntax_if_any, notes_behind, next_first}
+use Rattle.protox_syntax.specs.Statements.{levels, statement, statement_rule, statements-shows, syntax_if_any, notes_behind}
 use Rattle.protox_syntax.specs.Whole.{Whole, whole, all_notes, file_seen}
 
 -- ---- what is read

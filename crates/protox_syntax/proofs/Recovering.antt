@@ -1,10 +1,9 @@
 -- Rows that are skipped behind a refused statement, and what may be noted of those behind them.
-use Rattle.std.proofs.Common.{◌≡◌, ◌<◌, ◌≤◌, ◌-◌, ℕ, zero, suc, Bool, true, false, cond, List, [], ◌∷◌, ◌++◌, drop, length, Option, Some, None, option_map, Ok, refl, sym, ap, subst, ◌∙◌, append-nil, append_assoc, arith, inl, inr}
+use Rattle.std.proofs.Common.{◌≡◌, ◌≤◌, ◌-◌, ℕ, zero, suc, Bool, true, false, cond, List, [], ◌∷◌, ◌++◌, drop, length, Option, Some, None, option_map, Ok, refl, sym, ap, subst, ◌∙◌, append-nil, append_assoc, arith, inl, inr}
 use Rattle.std.proofs.lemmas.List.{length-append, length-drop}
 use Rattle.std.specs.Prelude.{◌==◌, nat_lt}
-use Rattle.std.proofs.lemmas.Bool.{cases_lt, lt-ltb, le-ltb}
+use Rattle.std.proofs.lemmas.Bool.{cases_lt, le-ltb}
 use Rattle.protox_fault.specs.Faults.{Span, SpanLiesIn}
-use Rattle.protox_fault.specs.declared.error.ParseErrorKind.{ParseErrorKind}
 use Rattle.protox_fault.specs.declared.error.ParseErrorKind.TheVariants as fault
 use Rattle.protox_lexeme.specs.Shapes.{Row, Rows}
 use Rattle.protox_lexeme.specs.Table.{Table}
@@ -12,16 +11,14 @@ use Rattle.protox_lexeme.specs.TokenClass.{class}
 use Rattle.protox_ast.proofs.Standing.{Stand, as-many, stand-after}
 use Rattle.protox_ast.specs.AstParts.{strings_span, strings_value, text_of}
 use Rattle.protox_ast.specs.CheckedNodes.{CheckedNode, ASyntax, AnImport, AReservedName, AGroupName, APackageAgain, ATooDeep}
-use Rattle.protox_ast.specs.Checks.{is_group_name, is_ident, is_import_path, is_known_syntax, is_text, package_span}
+use Rattle.protox_ast.specs.Checks.{is_group_name, is_ident, is_import_path, is_known_syntax, is_text}
 use Rattle.protox_ast.specs.KeywordWalk.{Given}
 use Rattle.protox_ast.specs.Places.{Place, placed}
 use Rattle.protox_ast.specs.Tree as tree
 use Rattle.protox_grammar.specs.Class.{among, in_set, only}
 use Rattle.protox_grammar.specs.Reader.{head_in}
 use Rattle.protox_grammar.specs.Steps.{ANode, APackage, AKeyword, ADeepBody, ADeeperBody, AnOpenBrace, ACloseBrace, Token, Note, Steps}
-use Rattle.protox_grammar.specs.Told.{Notes, at_once, behind, is_invalid, node_notes, noted, run_note, past, span_of, told, unless_so}
-use Rattle.protox_grammar.specs.declared.note.Note as note_type
-use Rattle.protox_grammar.specs.declared.note.Noted.TheVariants.{Fault, TextFormat}
+use Rattle.protox_grammar.specs.Told.{Notes, at_once, behind, is_invalid, node_notes, noted, run_note, past, told, unless_so}
 use Rattle.protox_grammar.proofs.Stated.{place_of}
 use Rattle.protox_grammar.proofs.Telling.{AllLie, both-lie}
 use Rattle.protox_grammar.proofs.Takes.{bind_ok, ok_is}
@@ -54,15 +51,15 @@ last-cond : (c : Bool) (all a b : Rows Place) → IsLastOf all a → IsLastOf al
 last-cond true all a b h g = h
 last-cond false all a b h g = g
 
-last-fewer : (a b : Rows Place) → IsLastOf a b → length b ≤ length a
+pub last-fewer : (a b : Rows Place) → IsLastOf a b → length b ≤ length a
 last-fewer a b h = omega (arith, ap length h.1, length-append h.0 b)
 
-drop-last : (n : ℕ) (xs : Rows Place) → IsLastOf xs (drop n xs)
+pub drop-last : (n : ℕ) (xs : Rows Place) → IsLastOf xs (drop n xs)
 drop-last zero xs = last-self xs
 drop-last (suc n) [] = last-self []
 drop-last (suc n) (x ∷ xs) = last-more x xs (drop n xs) (drop-last n xs)
 
-from-last : (rows : Rows Place) → IsLastOf rows (from_statement rows)
+pub from-last : (rows : Rows Place) → IsLastOf rows (from_statement rows)
 from-last [] = last-self []
 from-last (r ∷ rs) = last-cond (in_set (among statement_words) r.shape) (r ∷ rs) (r ∷ rs) (from_statement rs) (last-self (r ∷ rs)) (last-more r rs (from_statement rs) (from-last rs))
 
@@ -93,7 +90,7 @@ module _ (t : Table) where
   within-last : (most count : ℕ) (rows : Rows Place) → IsLastOf (last_rows t (at_most most count)) rows → length rows ≤ most
   within-last most count rows h = omega (arith, last-fewer (last_rows t (at_most most count)) rows h, count-last (at_most most count), most-most most count)
 
-  from-block : (rows : Rows Place) → IsLastOf rows (from_statement (behind_block 0 rows))
+  pub from-block : (rows : Rows Place) → IsLastOf rows (from_statement (behind_block 0 rows))
   from-block rows = last-last rows (behind_block 0 rows) _ (block-last 0 rows) (from-last (behind_block 0 rows))
 
   pub next-last : (e : Refused) (most : ℕ) → AreLast t (next_rows t e most)

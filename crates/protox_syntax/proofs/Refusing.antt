@@ -2,9 +2,8 @@
 use Rattle.std.proofs.Common.{◌≡◌, ◌≤◌, ◌-◌, ℕ, zero, suc, Bool, true, false, cond, List, [], ◌∷◌, ◌++◌, length, Option, Some, None, refl, sym, subst, arith}
 use Rattle.std.proofs.lemmas.Option.{slice_get_within}
 use Rattle.std.specs.Prelude.{slice_get, slice_index_or}
-use Rattle.protox_fault.specs.Faults.{Span, LiesIn}
-use Rattle.protox_fault.specs.declared.error.ParseErrorKind.{ParseErrorKind}
-use Rattle.protox_fault.specs.declared.error.ParseErrorKind.TheVariants.{UnexpectedToken, UnexpectedEof}
+use Rattle.protox_fault.specs.Faults.{Span}
+use Rattle.protox_fault.specs.declared.error.ParseErrorKind.TheVariants.{UnexpectedToken}
 use Rattle.protox_lexeme.specs.Printed.{printed}
 use Rattle.protox_lexeme.specs.Shapes.{Shape, Invalid, Row, Rows}
 use Rattle.protox_lexeme.specs.Table.{StandBetween, Table}

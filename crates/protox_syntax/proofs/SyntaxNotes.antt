@@ -1,5 +1,5 @@
 -- Of the syntax statement nothing but faults is noted.
-use Rattle.std.proofs.Common.{codes, ◌≡◌, ℕ, Bool, List, [], ◌∷◌, cond, Result, Ok, Err}
+use Rattle.std.proofs.Common.{codes, ℕ, List, [], Result, Ok, Err}
 use Rattle.protox_fault.specs.Faults.{Span}
 use Rattle.protox_lexeme.specs.Shapes.{Ident, Mark, Rows}
 use Rattle.protox_ast.specs.Spelling as s

@@ -1,5 +1,5 @@
 -- MACHINERY. What reading a table answers.
-use Rattle.std.specs.Prelude.{◌≡◌, ℕ, ◌+◌, false, List, [], ◌∷◌, ◌++◌, length, Option, Some, None, option_map, option_to_list, Result, Ok, Err}
+use Rattle.std.specs.Prelude.{◌≡◌, ℕ, ◌+◌, false, List, [], ◌∷◌, ◌++◌, length, map, Option, Some, None, option_map, option_to_list, Result, Ok, Err}
 use Rattle.std.specs.Str.{IsUtf8}
 use Rattle.protox_fault.specs.Faults.{Span, LiesIn}
 use Rattle.protox_lexeme.specs.Shapes.{Row, Rows}
@@ -24,6 +24,7 @@ use Rattle.protox_grammar.specs.Reads.{read}
 use Rattle.protox_grammar.specs.Told.{Notes}
 use Rattle.protox_rows.specs.Outcome.{Fails}
 use Rattle.protox_rows.specs.declared.refused.Refused.{Refused}
+use Rattle.protox_syntax.specs.AllFaults.{faults_of_table, unworded}
 use Rattle.protox_syntax.specs.Recovery.{AreNotable, IsBegun}
 use Rattle.protox_syntax.specs.Statements.{levels, syntax_if_any}
 use Rattle.protox_syntax.specs.Whole.{Whole, whole, all_notes}
@@ -87,9 +88,13 @@ pub data IsWoven (t : Table) (errors : List ParseErrorKind) : Type 0 where
   -- All rows are read.
   finished : (x : Whole) → whole (placed t) ≡ Ok (x, []) → errors ≡ weave t.faults (total_of t) (all_notes (placed t)) 0 → IsWoven t errors
 
+-- these are all faults of the table, but for the words of what was expected
+abbrev pub AreAllOf : Table → List ParseErrorKind → Type 0
+AreAllOf t errors = map unworded errors ≡ map unworded (faults_of_table t)
+
 abbrev pub JudgesFault : Table → ℕ → SyntaxFailure → Type 0
 JudgesFault t size OutOfMemory = Unit {0}
-JudgesFault t size (Faults v) = (v.items ≡ [] → ⊥) × Each (LiesIn size) v.items × ((f : tree.File Place) → IsWhole t f → ⊥) × IsWoven t v.items
+JudgesFault t size (Faults v) = (v.items ≡ [] → ⊥) × Each (LiesIn size) v.items × ((f : tree.File Place) → IsWhole t f → ⊥) × IsWoven t v.items × AreAllOf t v.items
 
 -- a file where all is well, and else faults that lie in the source
 abbrev pub Judges : Table → ℕ → Result File SyntaxFailure → Type 0

@@ -1,19 +1,17 @@
 -- MACHINERY. How reading goes on behind a statement that is refused.
-use Rattle.std.specs.Prelude.{◌≡◌, ℕ, zero, suc, ◌-◌, ◌==◌, false, nat_lt, if◌then◌else◌, List, [], ◌∷◌, ◌++◌, drop, length, Option, Some, None, Any}
+use Rattle.std.specs.Prelude.{◌≡◌, ℕ, ◌-◌, false, nat_lt, if◌then◌else◌, List, [], ◌∷◌, ◌++◌, drop, length, Option, Some, None, Any}
 use Rattle.protox_fault.specs.Faults.{Span, SpanLiesIn}
 use Rattle.protox_fault.specs.declared.error.ParseErrorKind.{ParseErrorKind}
 use Rattle.protox_fault.specs.declared.error.ParseErrorKind.TheVariants.{UnexpectedToken}
 use Rattle.protox_lexeme.specs.Printed.{printed}
 use Rattle.protox_lexeme.specs.Shapes.{Invalid, Row, Rows}
 use Rattle.protox_lexeme.specs.Table.{Table}
-use Rattle.protox_lexeme.specs.TokenClass.{class}
 use Rattle.protox_ast.proofs.Standing.{Stand}
 use Rattle.protox_ast.specs.Basics.{Each}
 use Rattle.protox_ast.specs.FaultList.{is_lexical}
 use Rattle.protox_ast.specs.KeywordWalk.{Given}
 use Rattle.protox_ast.specs.Places.{Place, placed}
 use Rattle.protox_ast.specs.Truth.{is_terminator}
-use Rattle.protox_grammar.specs.Class.{among, in_set}
 use Rattle.protox_grammar.specs.Told.{Notes}
 use Rattle.protox_grammar.specs.declared.note.Note as note_type
 use Rattle.protox_grammar.specs.declared.note.Noted.{Noted}
@@ -21,24 +19,10 @@ use Rattle.protox_grammar.specs.declared.note.Noted.TheVariants.{Fault, TextForm
 use Rattle.protox_grammar.proofs.Telling.{AllLie}
 use Rattle.protox_rows.specs.declared.refused.Refused.{Refused}
 use Rattle.protox_rows.specs.declared.refused.Refused.TheVariants.{OutOfMemory, At, TooDeep}
+pub use Rattle.protox_syntax.specs.AllFaults.{behind_block, from_statement, statement_words}
 use Rattle.protox_syntax.specs.Weave.{refusal, row_at}
 
 -- ---- the rows that are skipped
-
--- the classes of the words that begin a statement
-abbrev pub statement_words : List ℕ
-statement_words = 5 ∷ 11 ∷ 2 ∷ 12 ∷ 6 ∷ 7 ∷ 1 ∷ []
-
--- from the next such word on
-abbrev pub from_statement : Rows Place → Rows Place
-from_statement [] = []
-from_statement (r ∷ rs) = if in_set (among statement_words) r.shape then r ∷ rs else from_statement rs
-
--- behind the `}` of a block, in which so many others are open
-abbrev pub behind_block : ℕ → Rows Place → Rows Place
-behind_block depth [] = []
-behind_block zero (r ∷ rs) = if class r.shape == 47 then behind_block 1 rs else if class r.shape == 48 then rs else behind_block 0 rs
-behind_block (suc depth) (r ∷ rs) = if class r.shape == 47 then behind_block (suc (suc depth)) rs else if class r.shape == 48 then behind_block depth rs else behind_block (suc depth) rs
 
 -- the last rows of a table, so many of them
 abbrev pub last_rows : Table → ℕ → Rows Place

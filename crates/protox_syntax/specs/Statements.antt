@@ -1,10 +1,9 @@
 -- MACHINERY. The statements of a file, as the code reads and notes them.
-use Rattle.std.specs.Prelude.{◌≡◌, ℕ, List, [], ◌∷◌, ◌++◌, map, Option, Some, None, option_map, ◌⊎◌, codes, Result, Ok}
+use Rattle.std.specs.Prelude.{◌≡◌, ℕ, List, [], ◌∷◌, ◌++◌, map, Option, Some, None, option_map, ◌⊎◌, codes}
 use Rattle.std.specs.List.{filter_map}
 use Rattle.std.proofs.Common.{refl, sym, ap, ◌∙◌, append-nil, append_assoc, inl, inr}
-use Rattle.protox_fault.specs.Faults.{Span, SpanLiesIn}
+use Rattle.protox_fault.specs.Faults.{Span}
 use Rattle.protox_lexeme.specs.Shapes.{Rows}
-use Rattle.protox_ast.proofs.Standing.{Stand}
 use Rattle.protox_ast.specs.Tree as tree
 use Rattle.protox_ast.specs.Spelling as s
 use Rattle.protox_ast.specs.Ast as ast

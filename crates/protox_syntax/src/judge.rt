@@ -1,18 +1,20 @@
 //! Reads a whole table, and says what is wrong with it.
 
-ghost use Rattle.std.specs.Prelude.{◌≡◌, [], Ok, Err, option_map};
+ghost use Rattle.std.specs.Prelude.{◌≡◌, [], Ok, Err, true, false, option_map};
 ghost use Rattle.protox_ast.specs.Places.{placed};
-ghost use Rattle.protox_grammar.specs.Reader.{Unexpected};
+ghost use Rattle.protox_grammar.specs.Reader.{Deep, Unexpected, head_in};
+ghost use Rattle.protox_grammar.specs.Told.{is_invalid};
 ghost use Rattle.protox_rows.specs.Notes.{AddsTo};
 ghost use Rattle.protox_rows.specs.Outcome.{Fails};
 ghost use Rattle.protox_syntax.specs.Judging.{IsTableOf, Judges, bare_span, first_left, made, syntax_or_default, stated_at};
+ghost use Rattle.protox_syntax.specs.Leading.{Ends, IsRefusedAt};
 ghost use Rattle.protox_syntax.specs.Recovery.{FirstLies};
 ghost use Rattle.protox_syntax.specs.Statements as rule;
 ghost use Rattle.protox_syntax.specs.Whole.{whole, all_notes};
 
 use crate::progress::{add_refusal, woven};
 use crate::recovery::recover;
-use crate::statement_types::Statements;
+use crate::statement_types::{Begun, Statements};
 use crate::statements::{statements, syntax_if_any};
 use protox_ast::ast::{Comments, File, Syntax};
 use protox_grammar::note::Note;
@@ -87,6 +89,18 @@ fn first_left(notes: &Vec<Note>) -> usize
     }
 }
 
+// The first row is invalid: nothing behind it is read.
+fn begun_invalid(alloc: Global, table: &TokenTable<'_>, size: usize) -> Result<File, SyntaxFailure>
+    requires table { IsTableOf size table.now }
+    requires invalid { head_in is_invalid (placed table.now) ≡ true }
+    ensures { Judges table.now size result }
+{
+    let left = table.rows();
+    let total = left + 1;
+    let errors = woven(alloc, table, total, Vec::new(alloc), left)?;
+    Err(SyntaxFailure::Faults(errors))
+}
+
 // A check of the syntax statement failed: nothing behind it is read.
 fn stopped(
     alloc: Global,
@@ -95,6 +109,7 @@ fn stopped(
     notes: Vec<Note>,
 ) -> Result<File, SyntaxFailure>
     requires table { IsTableOf size table.now }
+    requires valid { head_in is_invalid (placed table.now) ≡ false }
     requires notes { notes.items ≡ (rule.syntax_if_any).notes (placed table.now) }
     requires some { notes.items ≡ [] → ⊥ }
     ensures { Judges table.now size result }
@@ -105,22 +120,22 @@ fn stopped(
     Err(SyntaxFailure::Faults(errors))
 }
 
-// A row doesn't fit, the syntax statement's or the first of the file: nothing behind it is read.
+// A row of the syntax statement doesn't fit: nothing behind it is read.
 fn ended(
     alloc: Global,
     table: &TokenTable<'_>,
     size: usize,
-    notes: Vec<Note>,
     left: usize,
     expected: Expected,
 ) -> Result<File, SyntaxFailure>
     requires table { IsTableOf size table.now }
-    requires read { whole (placed table.now) ≡ Err (Unexpected left) }
-    requires notes { notes.items ≡ all_notes (placed table.now) }
+    requires valid { head_in is_invalid (placed table.now) ≡ false }
+    requires read { (rule.syntax_if_any).code (placed table.now) ≡ Err (Unexpected left) }
+    requires notes { (rule.syntax_if_any).notes (placed table.now) ≡ [] }
     ensures { Judges table.now size result }
 {
     let total = table.rows() + 1;
-    let mut errors = woven(alloc, table, total, notes, left)?;
+    let mut errors = woven(alloc, table, total, Vec::new(alloc), left)?;
     add_refusal(alloc, table, left, expected.text(), &mut errors)?;
     Err(SyntaxFailure::Faults(errors))
 }
@@ -132,24 +147,39 @@ fn recovered(
     size: usize,
     noted: Vec<Note>,
     refused: Refused,
-    first: Option<Span>,
+    begun: Begun,
 ) -> Result<File, SyntaxFailure>
     requires table { IsTableOf size table.now }
     requires read { Fails refused (whole (placed table.now)) }
     requires noted { AddsTo refused [] (all_notes (placed table.now)) noted.items }
-    requires first { FirstLies (placed table.now) first }
+    requires first { FirstLies (placed table.now) begun.first }
+    requires leads { IsRefusedAt table.now noted.items begun refused }
     ensures { Judges table.now size result }
 {
     let mut notes = noted;
-    recover(alloc, table, &mut notes, &refused, first)?;
+    recover(alloc, table, &mut notes, &refused, begun)?;
     let total = table.rows() + 1;
     let errors = woven(alloc, table, total, notes, 0)?;
     Err(SyntaxFailure::Faults(errors))
 }
 
+// No syntax statement holds a body.
+fn never(table: &TokenTable<'_>, left: usize) -> Result<File, SyntaxFailure>
+    requires read { (rule.syntax_if_any).code (placed table.now) ≡ Err (Deep left) }
+    requires notes { (rule.syntax_if_any).notes (placed table.now) ≡ [] }
+    ensures { ⊥ }
+{
+    unreachable!()
+}
+
 // Whether the first row is invalid.
-fn begins_invalid(table: &TokenTable<'_>) -> bool {
-    matches!(table.row(0), Some(Err(_)))
+fn begins_invalid(rows: &Unread<'_, '_>) -> bool
+    ensures { result ≡ head_in is_invalid rows.now }
+{
+    match rows.first() {
+        Some(first) => first.token().is_err(),
+        None => false,
+    }
 }
 
 // All rows are read.
@@ -164,6 +194,7 @@ fn finished(
     requires table { IsTableOf size table.now }
     requires read { whole (placed table.now) ≡ Ok ((syntax, statements), []) }
     requires notes { notes.items ≡ all_notes (placed table.now) }
+    requires leads { Ends table.now notes.items }
     ensures { Judges table.now size result }
 {
     let total = table.rows() + 1;
@@ -183,19 +214,20 @@ fn after_syntax(
     rest: Unread<'_, '_>,
 ) -> Result<File, SyntaxFailure>
     requires table { IsTableOf size table.now }
+    requires valid { head_in is_invalid (placed table.now) ≡ false }
     requires read { (rule.syntax_if_any).code (placed table.now) ≡ Ok (syntax, rest) }
     requires notes { (rule.syntax_if_any).notes (placed table.now) ≡ [] }
     ensures { Judges table.now size result }
 {
     let mut notes = Vec::new(alloc);
     let mut rows = rest;
-    let mut first = None;
-    match statements(alloc, &mut notes, &mut rows, &mut first) {
+    let mut begun = Begun {
+        left: 0,
+        first: None,
+    };
+    match statements(alloc, &mut notes, &mut rows, &mut begun) {
         Ok(found) => finished(alloc, table, size, notes, syntax, found),
-        Err(Refused::At { left, expected }) if begins_invalid(table) => {
-            ended(alloc, table, size, notes, left, expected)
-        }
-        Err(refused) => recovered(alloc, table, size, notes, refused, first),
+        Err(refused) => recovered(alloc, table, size, notes, refused, begun),
     }
 }
 
@@ -211,11 +243,14 @@ pub(crate) fn judge(
 {
     let mut notes = Vec::new(alloc);
     let mut rows = Unread::all(table);
+    if begins_invalid(&rows) {
+        return begun_invalid(alloc, table, size);
+    }
     match syntax_if_any(alloc, &mut notes, &mut rows) {
         Err(Refused::OutOfMemory) => Err(SyntaxFailure::OutOfMemory),
         _ if !notes.is_empty() => stopped(alloc, table, size, notes),
-        Err(Refused::At { left, expected }) => ended(alloc, table, size, notes, left, expected),
-        Err(refused) => recovered(alloc, table, size, notes, refused, None),
+        Err(Refused::At { left, expected }) => ended(alloc, table, size, left, expected),
+        Err(Refused::TooDeep { left }) => never(table, left),
         Ok(syntax) => after_syntax(alloc, table, size, syntax, rows),
     }
 }

@@ -8,6 +8,7 @@ ghost use Rattle.protox_ast.specs.Places.{Place};
 ghost use Rattle.protox_grammar.specs.Grammar.{OneTree};
 ghost use Rattle.protox_syntax.specs.Aggregates.{AggregatesLexBack};
 ghost use Rattle.protox_syntax.specs.FirstFaults.{IsTightFirst, IsTrueFirst};
+ghost use Rattle.protox_syntax.specs.FoundFaults.{AreAllFound};
 ghost use Rattle.protox_syntax.specs.LexicalFaults.{AreLexicalAlone};
 ghost use Rattle.protox_syntax.specs.StandingFaults.{AreStanding};
 
@@ -38,6 +39,8 @@ pub fn parse_file(alloc: Global, source: &str) -> Result<File, SyntaxFailure>
     ensures stands { IfErr result (AreStanding source.now) }
     // If only lexemes are at fault, and no character is invalid, exactly their faults are reported.
     ensures lexical { IfErr result (AreLexicalAlone source.now) }
+    // These are all faults of the source, in their order, but for the words of what was expected.
+    ensures all_found { IfErr result (AreAllFound source.now) }
     // No tokens are the spelling of two trees, with their places or without.
     ensures one_tree { OneTree (Unit {0}) }
     ensures one_placed_tree { OneTree Place }

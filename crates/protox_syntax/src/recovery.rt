@@ -3,10 +3,11 @@
 ghost use Rattle.std.specs.Prelude.{◌≡◌, ◌≢◌, ◌<◌, ◌++◌, [], OnOk, length};
 ghost use Rattle.protox_grammar.specs.Told.{Notes};
 ghost use Rattle.protox_syntax.specs.Recovery.{AreLast, AreLater, IsBegun, LiesToo, Recovers, at_most, behind_block, from_statement, last_rows, next_rows, plain_note, refusal_notes};
+ghost use Rattle.protox_syntax.specs.Leading.{Ends, IsRefusedAt, Leads};
 ghost use Rattle.protox_syntax.specs.Statements.{next_first};
 
 use crate::progress::refusal;
-use crate::statement_types::Statement;
+use crate::statement_types::{Begun, Statement};
 use crate::statements::statement;
 use protox_grammar::note::{Note, Noted};
 use protox_lex::error::Span;
@@ -165,6 +166,7 @@ fn read_one<'t, 'a>(
     ensures left { OnOk result (AreLast table.now rows.new) }
     ensures fewer { OnOk result (length rows.new < length rows.old) }
     ensures first { OnOk result (LiesToo table.now first.old first.new) }
+    ensures leads { OnOk result (Leads table.now notes.old.items first.old rows.old → Leads table.now notes.new.items first.new rows.new) }
 {
     let most = rows.len() - 1;
     match statement(alloc, notes, rows, first) {
@@ -180,20 +182,20 @@ fn read_one<'t, 'a>(
     }
 }
 
-/// Notes that a statement is refused and what is wrong with those behind it. The place of the first package statement before it is given, if
-/// there is one.
+/// Notes that a statement is refused and what is wrong with those behind it.
 pub(crate) fn recover(
     alloc: Global,
     table: &TokenTable<'_>,
     notes: &mut Vec<Note>,
     refused: &Refused,
-    first: Option<Span>,
+    begun: Begun,
 ) -> Result<(), AllocError>
-    ensures { OnOk result (Recovers table.now refused.now first notes.old.items notes.new.items) }
+    ensures notes { OnOk result (Recovers table.now refused.now begun.first notes.old.items notes.new.items) }
+    ensures leads { OnOk result (IsRefusedAt table.now notes.old.items begun refused.now → Ends table.now notes.new.items) }
 {
     add_refused(alloc, table, notes, refused)?;
-    let mut rows = next_rows(table, refused, table.rows());
-    let mut first = first;
+    let mut rows = next_rows(table, refused, begun.left.saturating_sub(1));
+    let mut first = begun.first;
     'more: while !rows.is_empty() {
         read_one(alloc, table, notes, &mut rows, &mut first)?;
     }

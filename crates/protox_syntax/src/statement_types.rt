@@ -2,6 +2,7 @@
 
 use protox_ast::ast::{FileItem, Import, Option as OptionStatement, Package};
 use protox_descriptor::values::Items;
+use protox_lex::error::Span;
 
 /// A statement of a file.
 #[derive(Drop)]
@@ -11,6 +12,14 @@ pub(crate) enum Statement {
     Package(Package),
     Option(OptionStatement),
     Item(FileItem),
+}
+
+/// Where a statement begins: how many rows are left there, and the place of the first package
+/// statement before it.
+#[derive(Drop)]
+pub(crate) struct Begun {
+    pub left: usize,
+    pub first: Option<Span>,
 }
 
 /// What statements give to a file. Of several packages the first is kept.

@@ -1,15 +1,17 @@
 //! The syntax statement, and the statements of a file.
 
-ghost use Rattle.std.specs.Prelude.{◌≡◌, ◌++◌, [], OnOk, IfErr, IfOk, option_map};
+ghost use Rattle.std.specs.Prelude.{◌≡◌, ◌++◌, [], None, OnOk, IfErr, IfOk, MatchResult, option_map};
+ghost use Rattle.protox_lexeme.specs.Table.{Table};
 ghost use Rattle.protox_ast.specs.Ast.{syntax_of, text_of};
 ghost use Rattle.protox_grammar.specs.Told.{import_notes};
 ghost use Rattle.protox_rows.specs.Outcome.{Gives};
 ghost use Rattle.protox_rows.specs.Notes.{Adds};
+ghost use Rattle.protox_syntax.specs.Leading.{Ends, IsRefusedAt, Leads};
 ghost use Rattle.protox_syntax.specs.Recovery.{FirstLies};
 ghost use Rattle.protox_syntax.specs.Statements as rule;
 
 use crate::checks::{check_package, check_path, check_syntax};
-use crate::statement_types::{Statement, Statements};
+use crate::statement_types::{Begun, Statement, Statements};
 use protox_ast::ast::{Comments, FileItem, FullIdent, Import, ImportKind, Package, Syntax};
 use protox_blocks::enums::enum_;
 use protox_blocks::services::service;
@@ -323,17 +325,18 @@ fn put_package(file: &mut Statements, found: Package)
     }
 }
 
-/// statement*, up to the end or to the first that is refused. The place of the first package statement before that is kept.
+/// statement*, up to the end or to the first that is refused. Where the last of them begins is kept.
 #[tactic(auto, unfolding(crate::specs::Statements::statements_at))]
 pub(crate) fn statements(
     alloc: Global,
     notes: &mut Vec<Note>,
     rows: &mut Unread<'_, '_>,
-    first: &mut Option<Span>,
+    begun: &mut Begun,
 ) -> Result<Statements, Refused>
     ensures read { Gives (λ x. x) result [] (rule.statements_at rows.old) }
     ensures notes { Adds result notes.old.items (rule.notes_behind None rows.old) notes.new.items }
-    ensures first { IfErr result (λ refused. FirstLies rows.old first.new) }
+    ensures first { IfErr result (λ refused. FirstLies rows.old begun.new.first) }
+    ensures leads { (t : Table) → Leads t notes.old.items None rows.old → MatchResult result (λ found. Ends t notes.new.items) (IsRefusedAt t notes.new.items begun.new) }
 {
     let mut file = Statements {
         first: None,
@@ -342,8 +345,9 @@ pub(crate) fn statements(
         items: Items::new(alloc),
     };
     'more: while !rows.is_empty() {
-        *first = first_place(&file);
-        let statement = statement(alloc, notes, rows, first)?;
+        begun.left = rows.len();
+        begun.first = first_place(&file);
+        let statement = statement(alloc, notes, rows, &begun.first)?;
         put_statement(&mut file, statement)?;
     }
     Ok(file)

@@ -1,7 +1,9 @@
+use Rattle.std.proofs.Common.{IfErr, subst}
 use Rattle.std.specs.Prelude.{length, Err}
 use Rattle.protox_ast.specs.Ast as ast_of
 use Rattle.protox_parse.proofs.Translating.{commented, found, only, wrong-of, out-of-memory}
 use Rattle.protox_parse.proofs.Truths as truths
+use Rattle.protox_parse.specs.FaultLists.{AreListedOf, HasAllOf}
 use Rattle.protox_parse.proofs.parse.Goals as goal
 
 pub returns-in-Ok-clause-found : goal.returns-in-Ok-clause-found
@@ -45,3 +47,21 @@ returns-in-Err-clause-stands c = truths.read-stand c.args.source.now c.in-Err.fa
 
 pub returns-in-Err-clause-lexical : goal.returns-in-Err-clause-lexical
 returns-in-Err-clause-lexical c = truths.read-lexical c.args.source.now c.in-Err.failure c.refused.result c.refused.ensures.same c.in-Err.ensures.lexical
+
+pub returns-in-Ok-clause-all_found : goal.returns-in-Ok-clause-all_found
+returns-in-Ok-clause-all_found c = truths.made-all c.args.source.now c.in-Ok.file c.in-Ok.ensures.found c.translated.result
+
+pub returns-in-Err-clause-all_found : goal.returns-in-Err-clause-all_found
+returns-in-Err-clause-all_found c = truths.read-all c.args.source.now c.in-Err.failure c.refused.result c.refused.ensures.same c.in-Err.ensures.all_found
+
+pub returns-in-Ok-clause-all : goal.returns-in-Ok-clause-all
+returns-in-Ok-clause-all c f accepted = subst (λ v. IfErr c.translated.result (HasAllOf v)) (c.in-Ok.ensures.only f accepted) c.translated.ensures.all
+
+pub returns-in-Ok-clause-in_order : goal.returns-in-Ok-clause-in_order
+returns-in-Ok-clause-in_order c f accepted = subst (λ v. IfErr c.translated.result (AreListedOf v)) (c.in-Ok.ensures.only f accepted) c.translated.ensures.in_order
+
+pub returns-in-Err-clause-all : goal.returns-in-Err-clause-all
+returns-in-Err-clause-all c f accepted = (truths.none-of-all (ast_of.file (length c.args.source.now) f) _ (c.refused.ensures.memory (c.in-Err.ensures.only f accepted))).0
+
+pub returns-in-Err-clause-in_order : goal.returns-in-Err-clause-in_order
+returns-in-Err-clause-in_order c f accepted = (truths.none-of-all (ast_of.file (length c.args.source.now) f) _ (c.refused.ensures.memory (c.in-Err.ensures.only f accepted))).1

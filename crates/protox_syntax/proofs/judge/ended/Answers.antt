@@ -1,4 +1,8 @@
-use Rattle.std.proofs.Common.{◌+◌, ap, arith}
+use Rattle.std.proofs.Common.{◌+◌, [], ap, sym, ◌∙◌, arith}
+use Rattle.protox_ast.specs.Places.{placed}
+use Rattle.protox_grammar.specs.Reader.{Unexpected}
+use Rattle.protox_syntax.specs.Weave.{weave}
+use Rattle.protox_syntax.proofs.AllFound.{ended-all, notes-err, whole-err}
 use Rattle.protox_syntax.proofs.Judged.{total-fits, ended-judged}
 use Rattle.protox_syntax.proofs.judge.ended.Goals as goal
 
@@ -7,4 +11,10 @@ overflow_add-total c = omega (arith, c.rows-total.ensures, total-fits c.args.tab
 
 pub returns : goal.returns
 returns c =
-    ended-judged c.args.table.now c.args.size c.requires.table c.args.notes.items _ c.args.left c.text.result.now c.in_ok-errors.errors.items c.add_refusal.new.errors.items (ap (λ n. n + 1) c.rows-total.ensures) c.text.ensures c.requires.read c.requires.notes c.in_ok-errors.ensures c.in_ok-add_refusal.ensures
+    let t = c.args.table.now in
+    let total = ap (λ n. n + 1) c.rows-total.ensures in
+    let read = whole-err (placed t) (Unexpected c.args.left) c.requires.read in
+    let none = notes-err (placed t) (Unexpected c.args.left) c.requires.read c.requires.notes in
+    let woven = c.in_ok-errors.ensures ∙ ap (λ n. weave t.faults (c.rows-total.result + 1) n c.args.left) c.new.ensures.items in
+    let j = ended-judged t c.args.size c.requires.table [] _ c.args.left c.text.result.now c.in_ok-errors.errors.items c.add_refusal.new.errors.items total c.text.ensures read (sym none) woven c.in_ok-add_refusal.ensures in
+    (j.0, j.1, j.2, j.3, ended-all t c.requires.valid _ c.args.left c.text.result.now c.in_ok-errors.errors.items c.add_refusal.new.errors.items total c.text.ensures c.requires.notes c.requires.read woven c.in_ok-add_refusal.ensures)

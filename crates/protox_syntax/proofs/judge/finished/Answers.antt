@@ -1,6 +1,7 @@
-use Rattle.std.proofs.Common.{◌+◌, [], ap, sym, subst, ◌∙◌, arith}
+use Rattle.std.proofs.Common.{◌+◌, [], ap, sym, ◌∙◌, arith}
 use Rattle.protox_ast.specs.Places.{placed}
 use Rattle.protox_syntax.specs.Judging.{made}
+use Rattle.protox_syntax.proofs.AllFound.{finished-all}
 use Rattle.protox_syntax.proofs.Judged.{total-fits, no-faults-are, faulty-judged}
 use Rattle.protox_syntax.proofs.Reading.{made-of, whole-read}
 use Rattle.protox_syntax.proofs.Spans.{none-if-empty, some-if-not-empty}
@@ -21,4 +22,7 @@ returns-then-is_empty c =
 
 pub returns : goal.returns
 returns c =
-    faulty-judged c.args.table.now c.args.size c.requires.table (c.args.syntax, c.args.statements) c.args.notes.items _ c.in_ok-errors.errors.items (ap (λ n. n + 1) c.rows-total.ensures) c.requires.read c.requires.notes c.in_ok-errors.ensures (some-if-not-empty c.in_ok-errors.errors.items c.in_ok-errors.errors.len c.in_ok-errors.errors.ok.0 c.if-is_empty.ensures)
+    let total = ap (λ n. n + 1) c.rows-total.ensures in
+    let some = some-if-not-empty c.in_ok-errors.errors.items c.in_ok-errors.errors.len c.in_ok-errors.errors.ok.0 c.if-is_empty.ensures in
+    let j = faulty-judged c.args.table.now c.args.size c.requires.table (c.args.syntax, c.args.statements) c.args.notes.items _ c.in_ok-errors.errors.items total c.requires.read c.requires.notes c.in_ok-errors.ensures some in
+    (j.0, j.1, j.2, j.3, finished-all c.args.table.now c.args.notes.items _ c.in_ok-errors.errors.items total c.requires.leads c.in_ok-errors.ensures)

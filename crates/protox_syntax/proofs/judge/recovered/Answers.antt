@@ -1,4 +1,5 @@
 use Rattle.std.proofs.Common.{◌+◌, ap, arith}
+use Rattle.protox_syntax.proofs.AllFound.{finished-all}
 use Rattle.protox_syntax.proofs.Judged.{total-fits, recovered-judged}
 use Rattle.protox_syntax.proofs.judge.recovered.Goals as goal
 
@@ -7,4 +8,6 @@ overflow_add-total c = omega (arith, c.rows-total.ensures, total-fits c.args.tab
 
 pub returns : goal.returns
 returns c =
-    recovered-judged c.args.table.now c.args.size c.requires.table c.args.refused c.args.first c.args.noted.items c.recover.new.notes.items _ c.in_ok-errors.errors.items (ap (λ n. n + 1) c.rows-total.ensures) c.requires.read c.requires.noted c.requires.first c.in_ok-recover.ensures c.in_ok-errors.ensures
+    let total = ap (λ n. n + 1) c.rows-total.ensures in
+    let j = recovered-judged c.args.table.now c.args.size c.requires.table c.args.refused c.args.begun.first c.args.noted.items c.recover.new.notes.items _ c.in_ok-errors.errors.items total c.requires.read c.requires.noted c.requires.first c.in_ok-recover.ensures.notes c.in_ok-errors.ensures in
+    (j.0, j.1, j.2, j.3, finished-all c.args.table.now c.recover.new.notes.items _ c.in_ok-errors.errors.items total (c.in_ok-recover.ensures.leads c.requires.leads) c.in_ok-errors.ensures)

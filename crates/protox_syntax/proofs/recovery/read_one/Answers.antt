@@ -1,6 +1,8 @@
 use Rattle.std.proofs.Common.{◌-◌, ◌++◌, length, sym, ap, subst, ◌∙◌, append_assoc, arith}
 use Rattle.protox_syntax.specs.Recovery.{AreLast, LiesToo}
 use Rattle.protox_syntax.specs.Statements as rule
+use Rattle.protox_syntax.specs.Leading.{Leads}
+use Rattle.protox_syntax.proofs.Leading.{leads-behind, leads-more}
 use Rattle.protox_syntax.proofs.Recovering.{first-stays, last-behind, next-fewer, next-last, refused-later, statement-later}
 use Rattle.protox_syntax.proofs.Refusing.{added-behind, begun-lie, begun-notable, some-length}
 use Rattle.protox_syntax.proofs.Turns.{statement-eats}
@@ -34,3 +36,15 @@ returns-in_ok-add_refused-in-Err-clause-left c = subst (AreLast c.args.table.now
 pub returns-in_ok-add_refused-in-Err-clause-fewer : goal.returns-in_ok-add_refused-in-Err-clause-fewer
 returns-in_ok-add_refused-in-Err-clause-fewer c =
     omega (arith, ap length c.next_rows.ensures, next-fewer c.args.table.now c.in-Err.refused (c.len-most.result - 1), c.len-most.ensures, some-length c.args.rows.now c.requires.some)
+
+pub returns-in-Ok-clause-leads : goal.returns-in-Ok-clause-leads
+returns-in-Ok-clause-leads c v =
+    subst (λ u. Leads c.args.table.now c.statement.new.notes.items u c.statement.new.rows) (sym c.keep_first.ensures)
+    (leads-more c.args.table.now c.args.notes.now.items c.args.first.now c.args.rows.now c.statement.new.rows c.in-Ok.statement c.statement.new.notes.items v c.in-Ok.ensures.read c.in-Ok.ensures.notes)
+
+pub returns-in_ok-add_refused-in-Err-clause-leads : goal.returns-in_ok-add_refused-in-Err-clause-leads
+returns-in_ok-add_refused-in-Err-clause-leads c v =
+    let b = c.in_ok-add_refused-in-Err.ensures in
+    let is = added-behind c.args.table.now.rows c.in-Err.refused c.args.notes.now.items ((rule.statement).notes c.args.first.now c.args.rows.now) c.statement.new.notes.items b.0 b.2 c.in-Err.ensures.notes in
+    subst (Leads c.args.table.now c.add_refused.new.notes.items c.args.first.now) (sym c.next_rows.ensures)
+    (leads-behind c.args.table.now c.args.notes.now.items c.args.first.now c.args.rows.now c.in-Err.refused b.0 c.add_refused.new.notes.items _ c.requires.some v (ap (λ n. n - 1) c.len-most.ensures) c.in-Err.ensures.read b.2 (b.1 ∙ ap (λ n. n ++ b.0) is))

@@ -1,0 +1,79 @@
+-- A file that begins with an invalid character is refused there, and nothing is noted.
+use Rattle.std.proofs.Common.{◌≡◌, ℕ, suc, ◌-◌, true, cond, List, [], ◌∷◌, ◌++◌, length, Some, None, Ok, Err, refl, sym, ap, subst, ◌∙◌, append-nil, arith}
+use Rattle.std.specs.Prelude.{option_to_list, slice_get}
+use Rattle.protox_fault.specs.Faults.{Span}
+use Rattle.protox_fault.specs.declared.error.ParseErrorKind.{ParseErrorKind}
+use Rattle.protox_fault.specs.declared.error.ParseErrorKind.TheVariants as fault
+use Rattle.protox_lexeme.specs.Printed.{printed}
+use Rattle.protox_lexeme.specs.Table.{Table}
+use Rattle.protox_ast.proofs.Standing.{as-many}
+use Rattle.protox_lexeme.specs.Shapes.{Shape, Invalid, Row, Rows}
+use Rattle.protox_ast.specs.Places.{Place, placed, placed_from}
+use Rattle.protox_grammar.specs.Class.{all, in_set}
+use Rattle.protox_grammar.specs.Reader.{Unexpected, fixed, gathered, head_in, star, star_at, ◌>>=◌}
+use Rattle.protox_grammar.specs.Told.{checked, is_invalid, then_notes}
+use Rattle.protox_grammar.proofs.Stated.{stated-turn}
+use Rattle.protox_blocks.specs.Services.{service}
+use Rattle.protox_syntax.specs.AllFaults.{refusal, row_at}
+use Rattle.protox_syntax.specs.Judging.{IsTableOf, total_of}
+use Rattle.protox_syntax.specs.Statements.{add_statement, declared, item_, next_first, no_statements, notes_behind, statement, statements_at, syntax_if_any}
+use Rattle.protox_syntax.specs.Weave.{weave}
+use Rattle.protox_syntax.specs.Whole.{all_notes, whole}
+use Rattle.protox_syntax.proofs.Judged.{IsJudged, ended-judged, is-invalid}
+use Rattle.protox_syntax.proofs.Turns.{statement-eats}
+
+abbrev bad : Place → Row Place
+bad m = record { shape = Invalid; at = m }
+
+module _ (m : Place) (rs : Rows Place) where
+  refused-code : statement.code (bad m ∷ rs) ≡ Err (Unexpected (suc (length rs)))
+  unfolding statement declared item_ service fixed
+  refused-code = refl
+
+  refused-notes : statement.notes None (bad m ∷ rs) ≡ []
+  unfolding statement declared item_ service fixed
+  refused-notes = refl
+
+  no-syntax : syntax_if_any.code (bad m ∷ rs) ≡ Ok (None, bad m ∷ rs)
+  unfolding syntax_if_any
+  no-syntax = refl
+
+  no-syntax-notes : syntax_if_any.notes (bad m ∷ rs) ≡ []
+  unfolding syntax_if_any
+  no-syntax-notes = refl
+
+  refused-statements : statements_at (bad m ∷ rs) ≡ Err (Unexpected (suc (length rs)))
+  unfolding statements_at star star_at
+  refused-statements = ap (λ v. gathered add_statement no_statements (v >>= λ y. star_at (in_set all) statement.code (suc (length rs)) y.1 >>= λ z. Ok (y.0 ∷ z.0, z.1))) refused-code
+
+  refused-whole : whole (bad m ∷ rs) ≡ Err (Unexpected (suc (length rs)))
+  unfolding whole
+  refused-whole = ap (λ v. v >>= λ x. statements_at x.1 >>= λ y. Ok ((x.0, y.0), y.1)) no-syntax ∙ ap (λ v. v >>= λ y. Ok ((None, y.0), y.1)) refused-statements
+
+  no-notes : all_notes (bad m ∷ rs) ≡ []
+  unfolding all_notes
+  no-notes =
+      (λ i. no-syntax-notes i ++ then_notes (notes_behind None) (no-syntax i))
+      ∙ stated-turn (in_set all) next_first statement.code statement.notes statement-eats None (bad m ∷ rs) refl
+      ∙ (λ i. refused-notes i ++ checked (λ x rest. notes_behind (next_first None x) rest) (refused-code i))
+
+abbrev IsRefusedFirst : Rows Place → Type 0
+IsRefusedFirst xs = (whole xs ≡ Err (Unexpected (length xs))) × (all_notes xs ≡ [])
+
+pub invalid-first : (xs : Rows Place) → head_in is_invalid xs ≡ true → IsRefusedFirst xs
+invalid-first [] h = absurd cc
+invalid-first (r ∷ rs) h = subst (λ s. IsRefusedFirst (record { shape = s; at = r.at } ∷ rs)) (sym (is-invalid r.shape h)) (refused-whole r.at rs, no-notes r.at rs)
+
+-- ---- what is answered then
+
+first-none : (rows : Rows Span) (gaps : List (List Shape)) → head_in is_invalid (placed_from true rows gaps) ≡ true → refusal [] (slice_get rows 0) ≡ None
+first-none [] gaps h = absurd cc
+first-none (r ∷ rs) gaps h = ap (λ b. cond b None (Some (fault.UnexpectedToken r.at [] (printed r.shape)))) h
+
+pub invalid-judged : (t : Table) (size : ℕ) → IsTableOf size t → (total left : ℕ) (errors : List ParseErrorKind) → total ≡ total_of t → left ≡ length t.rows → head_in is_invalid (placed t) ≡ true → errors ≡ weave t.faults total [] left → IsJudged t size errors
+invalid-judged t size tab total left errors is left-is h e =
+    let first = invalid-first (placed t) h in
+    let counted : length (placed t) ≡ left = omega (arith, as-many true t.rows t.gaps, left-is) in
+    let start : 0 ≡ length t.rows - left = omega (arith, left-is) in
+    let none : refusal [] (row_at t.rows left) ≡ None = ap (λ n. refusal [] (slice_get t.rows n)) (sym start) ∙ first-none t.rows t.gaps h in
+    ended-judged t size tab [] total left [] errors errors is refl (first.0 ∙ ap (λ n. Err (Unexpected n)) counted) (sym first.1) e (sym (append-nil errors) ∙ ap (λ o. errors ++ option_to_list o) (sym none))

@@ -1,5 +1,5 @@
 -- The lists of parts that the elements of a body bring, one for each kind, and that all of them together take comments of the elements' rows.
-use Rattle.std.proofs.Common.{ℕ, ◌+◌, ◌≤◌, List, [], ◌++◌, arith}
+use Rattle.std.proofs.Common.{◌+◌, ◌≤◌, List, [], ◌++◌, arith}
 use Rattle.protox_lexeme.specs.Shapes.{Rows}
 use Rattle.protox_ast.specs.Places.{Place}
 use Rattle.protox_locate.specs.LocationWords.{Part}

@@ -1,18 +1,17 @@
 -- What enums and services take: comments of their own rows.
-use Rattle.std.proofs.Common.{◌≡◌, ℕ, ◌+◌, ◌≤◌, List, [], ◌∷◌, ◌++◌, map, flat_map, Option, Some, None, codes, ℤ, refl, sym, subst, arith}
+use Rattle.std.proofs.Common.{◌+◌, ◌≤◌, List, [], ◌∷◌, ◌++◌, map, flat_map, Option, Some, None, codes, ℤ, refl, arith}
 use Rattle.std.specs.List.{filter_map}
 use Rattle.protox_fault.specs.Faults.{Span}
-use Rattle.protox_lexeme.specs.Shapes.{Rows}
 use Rattle.protox_ast.specs.Ast as ast
 use Rattle.protox_ast.specs.Options.{listed}
 use Rattle.protox_ast.specs.Places.{Place}
 use Rattle.protox_ast.specs.Spelling as s
 use Rattle.protox_ast.specs.Tree as t
 use Rattle.protox_ast.specs.declared.ast.Reserved.{Reserved}
-use Rattle.protox_locate.specs.LocationWords.{Path, Part, option_statement, range_statement, name_statement}
+use Rattle.protox_locate.specs.LocationWords.{Path, option_statement, range_statement, name_statement}
 use Rattle.protox_locate.specs.EnumLocations.{enum_value_locations, enum_locations}
 use Rattle.protox_locate.specs.ServiceLocations.{stream_locations, method_locations, service_locations}
-use Rattle.protox_parse.proofs.Taking.{Weights, Cost, free, weigh, weigh-append, Take, take-none, take-more, take-bare, take-commented, take-append, bare-then, then-bare, Parts, parts-none, parts-more, parts-first, parts-one, parts-append}
+use Rattle.protox_parse.proofs.Taking.{Weights, Cost, free, weigh, weigh-append, Take, take-none, take-bare, take-commented, take-append, bare-then, then-bare, Parts, parts-none, parts-more, parts-first, parts-append}
 use Rattle.protox_parse.proofs.PartsTaking.{list-free, options-take, option-takes, ranges-take, names-take, reserved-takes}
 
 module _ (numbers : Span → List ℤ) where

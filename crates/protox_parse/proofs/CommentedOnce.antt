@@ -1,29 +1,28 @@
 -- Each comment of an accepted source stands in at most one field of one location.
 use Rattle.std.proofs.Common.{◌≡◌, ◌≢◌, ℕ, ◌+◌, ◌≤◌, Bool, true, false, if◌then◌else◌, ◌==◌, List, [], ◌∷◌, ◌++◌, length, map, flat_map, Option, Some, None, ℤ, refl, ap, sym, subst, ◌∙◌, arith}
 use Rattle.std.specs.Str.{IsUtf8}
-use Rattle.std.proofs.lemmas.Bool.{ne_eqb}
 use Rattle.std.proofs.lemmas.Bool.Decides.{Decides-eqb}
 use Rattle.std.proofs.lemmas.List.{append-nil}
 use Rattle.protox_fault.specs.Faults.{Span}
 use Rattle.protox_lexeme.proofs.Places.{stand}
 use Rattle.protox_lexeme.specs.Lexemes.{Lexeme, cut}
-use Rattle.protox_lexeme.specs.Table.{table_of, rows_of, gaps_of, StandBetween}
+use Rattle.protox_lexeme.specs.Table.{rows_of, gaps_of, StandBetween}
 use Rattle.protox_ast.proofs.Standing.{bare-placed}
 use Rattle.protox_ast.specs.Accepted.{IsAccepted}
 use Rattle.protox_ast.specs.Ast as ast
 use Rattle.protox_ast.specs.Keywords.{Each}
-use Rattle.protox_ast.specs.Places.{Place, placed}
+use Rattle.protox_ast.specs.Places.{Place}
 use Rattle.protox_ast.specs.Spelling as s
 use Rattle.protox_ast.specs.Tree as t
 use Rattle.protox_descriptor.specs.declared.descriptor.source_code_info.Location.{Location}
 use Rattle.protox_locate.specs.Locations.{file_locations}
-use Rattle.protox_parse.specs.Commented.{text_at, AreText, AreField, AreTexts, Sources, AreOf, AreOfEach, numbers_of, NoneTwice, CommentedOnce}
+use Rattle.protox_parse.specs.Commented.{text_at, AreText, AreField, AreTexts, Sources, AreOfEach, numbers_of, NoneTwice, CommentedOnce}
 use Rattle.protox_parse.proofs.FilesTaking.{file-takes}
-use Rattle.protox_parse.proofs.GapsWeighed.{of_text, of_texts, of_lexemes, weights, all-within}
+use Rattle.protox_parse.proofs.GapsWeighed.{of_text, of_texts, of_lexemes, all-within}
 use Rattle.protox_parse.proofs.NumberedComments.{numbered, count, count-append, count-grows, is_empty, empty-grows, none-empty, count-once, from-start, count-none, text_or}
-use Rattle.protox_parse.proofs.Once.{IsFound, found, with_numbers, make, numbers_at, rows-made, by_numbers, weigh-numbers, listed, false_texts, differ, differ-none, none-false}
+use Rattle.protox_parse.proofs.Once.{IsFound, found, with_numbers, make, numbers_at, rows-made, by_numbers, weigh-numbers, listed, false_texts, differ-none, none-false}
 use Rattle.protox_parse.proofs.TextsNatural.{made_row}
-use Rattle.protox_parse.proofs.Taking.{Taken, nothing, these, Says, SayEach, Weights, weigh, cost, Take}
+use Rattle.protox_parse.proofs.Taking.{Taken, nothing, these, SayEach, weigh, cost}
 
 -- ---- numbers that occur once
 

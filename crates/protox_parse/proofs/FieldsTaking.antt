@@ -1,5 +1,5 @@
 -- What fields take: a field its own comments, or the message of a group in its place.
-use Rattle.std.proofs.Common.{◌≡◌, ℕ, ◌+◌, ◌≤◌, List, [], ◌∷◌, ◌++◌, map, flat_map, Option, Some, None, codes, ℤ, refl, ap, sym, subst, ◌∙◌, arith}
+use Rattle.std.proofs.Common.{ℕ, ◌+◌, ◌≤◌, List, [], ◌∷◌, ◌++◌, map, Option, Some, None, ℤ, refl, ap, sym, subst, ◌∙◌, arith}
 use Rattle.std.specs.Option.{unwrap_or}
 use Rattle.protox_fault.specs.Faults.{Span}
 use Rattle.protox_lexeme.specs.Shapes.{Rows}
@@ -12,9 +12,9 @@ use Rattle.protox_ast.specs.Tree as t
 use Rattle.protox_ast.specs.declared.ast.Field.{Field, out-Field}
 use Rattle.protox_ast.specs.declared.ast.TypeName.{TypeName}
 use Rattle.protox_locate.specs.FieldLocations.{OfField, OfKind, Normal, Group, Map}
-use Rattle.protox_locate.specs.LocationWords.{Path, Part}
+use Rattle.protox_locate.specs.LocationWords.{Path}
 use Rattle.protox_locate.specs.Locations.{location_steps, messages_of}
-use Rattle.protox_parse.proofs.Taking.{Weights, Cost, free, weigh, weigh-append, Take, take-none, take-more, take-bare, take-commented, Parts, parts-none, parts-more, parts-first, parts-one, parts-append}
+use Rattle.protox_parse.proofs.Taking.{Weights, Cost, free, weigh, weigh-append, Take, take-none, take-bare, take-commented, Parts, parts-none, parts-first, parts-one, parts-append}
 use Rattle.protox_parse.proofs.PartsTaking.{behind-free}
 
 -- ---- the rows of a field

@@ -1,14 +1,12 @@
 -- What a file takes: comments of its rows, those of each row at most once.
-use Rattle.std.proofs.Common.{◌≡◌, ℕ, ◌+◌, ◌≤◌, List, [], ◌∷◌, ◌++◌, map, flat_map, Option, Some, None, ℤ, refl, sym, subst, arith}
+use Rattle.std.proofs.Common.{ℕ, List, [], ◌∷◌, ◌++◌, map, flat_map, Option, Some, None, ℤ, refl, arith}
 use Rattle.std.specs.Prelude.{option_map}
 use Rattle.std.specs.List.{filter_map}
 use Rattle.protox_fault.specs.Faults.{Span}
-use Rattle.protox_lexeme.specs.Shapes.{Rows}
 use Rattle.protox_ast.specs.Ast as ast
 use Rattle.protox_ast.specs.Places.{Place}
 use Rattle.protox_ast.specs.Spelling as s
 use Rattle.protox_ast.specs.Tree as t
-use Rattle.protox_ast.specs.declared.ast.FileItem.{FileItem}
 use Rattle.protox_ast.specs.declared.ast.Import.{Import}
 use Rattle.protox_ast.specs.declared.ast.ImportKind.{ImportKind}
 use Rattle.protox_ast.specs.declared.ast.ImportKind.TheVariants as import_kind
@@ -17,10 +15,10 @@ use Rattle.protox_locate.specs.EnumLocations.{enum_locations}
 use Rattle.protox_locate.specs.ServiceLocations.{service_locations}
 use Rattle.protox_locate.specs.LocationWords.{Path, Part, option_statement}
 use Rattle.protox_locate.specs.Locations.{item_messages, item_enums, item_services, item_blocks, item_extensions, syntax_locations, package_locations, import_locations, public_words, weak_words, file_locations}
-use Rattle.protox_parse.proofs.Taking.{Weights, Cost, free, weigh, weigh-append, Take, take-none, take-more, take-bare, take-commented, take-append, bare-then, then-bare, Parts, parts-none, parts-one, parts-flat}
+use Rattle.protox_parse.proofs.Taking.{Cost, free, weigh, weigh-append, Take, take-none, take-more, take-bare, take-commented, take-append, bare-then, Parts, parts-none, parts-one, parts-flat}
 use Rattle.protox_parse.proofs.PartsTaking.{options-take, option-takes}
 use Rattle.protox_parse.proofs.BlocksTaking.{enum-takes, service-takes}
-use Rattle.protox_parse.proofs.Bags.{Lists, joined, Bag, no, bag-of, empty, bag-none, bag-more, bag-append}
+use Rattle.protox_parse.proofs.Bags.{Lists, Bag, no, bag-of, empty, bag-none, bag-more, bag-append}
 use Rattle.protox_parse.proofs.MessagesTaking.{message-takes, extend-takes}
 
 module _ (numbers : Span → List ℤ) where

@@ -1,11 +1,11 @@
 -- What a gap's comments come to, by any measure of texts that does not grow where texts are joined, the attribution gives at most once.
-use Rattle.std.proofs.Common.{◌≡◌, ℕ, ◌+◌, ◌≤◌, Bool, true, false, if◌then◌else◌, List, [], ◌∷◌, ◌++◌, Option, Some, None, refl, sym, subst, arith}
+use Rattle.std.proofs.Common.{◌≡◌, ℕ, ◌+◌, ◌≤◌, Bool, true, false, if◌then◌else◌, List, [], ◌∷◌, ◌++◌, Option, Some, None, refl, subst, arith}
 use Rattle.protox_fault.specs.Faults.{Span}
-use Rattle.protox_lexeme.specs.Gaps.{Item, block, blank, begins_line, joined, items, blocks, first_block, last_block, all_but_last, Attribution, may_lead, led_by, unless_leading, trailed_by, unless_trailing, among, attribution}
+use Rattle.protox_lexeme.specs.Gaps.{Item, block, blank, begins_line, joined, items, blocks, last_block, all_but_last, Attribution, may_lead, led_by, unless_leading, trailed_by, unless_trailing, among, attribution}
 use Rattle.protox_lexeme.specs.Lexemes.{Lexeme}
-use Rattle.protox_lexeme.specs.Shapes.{Shape, Ident, Int, Float, Str, Mark, LineComment, BlockComment, Newline, Invalid, Rows}
+use Rattle.protox_lexeme.specs.Shapes.{Shape, LineComment, BlockComment, Newline, Rows}
 use Rattle.protox_lexeme.specs.Table.{in_front, gaps_of, is_gap}
-use Rattle.protox_ast.specs.Places.{Place, next_gap, later_gaps, next_shape, placed_from}
+use Rattle.protox_ast.specs.Places.{next_gap, later_gaps, next_shape, placed_from}
 use Rattle.protox_parse.proofs.Taking.{Weights, weigh}
 
 module _ (e : List ℕ → ℕ) where

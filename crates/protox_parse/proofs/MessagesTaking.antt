@@ -1,18 +1,16 @@
 -- What messages and all that stands in them take: comments of their rows.
-use Rattle.std.proofs.Common.{◌≡◌, ℕ, ◌+◌, ◌≤◌, List, [], ◌∷◌, ◌++◌, map, flat_map, Option, Some, None, ℤ, refl, sym, subst, arith}
+use Rattle.std.proofs.Common.{◌≡◌, ◌+◌, ◌≤◌, List, [], ◌∷◌, ◌++◌, map, flat_map, Some, None, ℤ, refl, sym, subst, arith}
 use Rattle.protox_fault.specs.Faults.{Span}
 use Rattle.protox_lexeme.specs.Shapes.{Rows}
 use Rattle.protox_ast.proofs.Levels.{body-gives, message-gives, item-field, item-enum, item-message, item-extend, item-oneof}
 use Rattle.protox_ast.specs.Ast as ast
 use Rattle.protox_ast.specs.Places.{Place}
 use Rattle.protox_ast.specs.Spelling as s
-use Rattle.protox_ast.specs.Steps.{of_item, of_field, of_message, of_body, of_oneof, of_extend}
+use Rattle.protox_ast.specs.Steps.{of_item, of_field, of_message, of_oneof, of_extend}
 use Rattle.protox_ast.specs.Tree as t
-use Rattle.protox_ast.specs.declared.ast.Extensions.{Extensions}
 use Rattle.protox_ast.specs.declared.ast.MessageItem.{MessageItem}
 use Rattle.protox_ast.specs.declared.ast.MessageItem.TheVariants as item
 use Rattle.protox_ast.specs.declared.ast.Reserved.{Reserved}
-use Rattle.protox_locate.specs.EnumLocations.{enum_locations}
 use Rattle.protox_ast.specs.declared.ast.Field.{Field}
 use Rattle.protox_ast.specs.declared.ast.FieldKind.{FieldKind}
 use Rattle.protox_ast.specs.declared.ast.FieldKind.TheFolds.{fold-roll-Oneof, fold-roll-Extend}
@@ -25,10 +23,10 @@ use Rattle.protox_descriptor.specs.declared.tag.oneof.TheConstants as oneof_tag
 use Rattle.protox_locate.specs.FieldLocations.{OfField, OfKind}
 use Rattle.protox_locate.specs.LocationWords.{Path, Part, part, option_statement, range_statement, name_statement, extensions_statement}
 use Rattle.protox_locate.specs.Locations.{OfItem, OfOneof, OfExtend, location_steps, messages_of}
-use Rattle.protox_parse.proofs.Taking.{Weights, Cost, free, weigh, weigh-append, Take, take-none, take-more, take-bare, take-commented, take-append, Parts, parts-none, parts-more, parts-first, parts-one, parts-append}
+use Rattle.protox_parse.proofs.Taking.{Weights, Cost, free, weigh, weigh-append, Take, take-none, take-more, take-bare, take-commented, take-append, Parts, parts-first, parts-one, parts-append}
 use Rattle.protox_parse.proofs.PartsTaking.{options-take, option-takes, ranges-take, names-take, reserved-takes, extensions-take, extensions_statement-takes}
 use Rattle.protox_parse.proofs.BlocksTaking.{enum-takes}
-use Rattle.protox_parse.proofs.Bags.{Lists, joined, Bag, no, bag-of, empty, bag-none, bag-more, bag-append}
+use Rattle.protox_parse.proofs.Bags.{Lists, Bag, no, bag-of, empty, bag-none, bag-more, bag-append}
 use Rattle.protox_parse.proofs.FieldsTaking.{FieldTakes, BodyTakes, normal-takes, map-takes, group-takes, FieldsTake, fields-none, fields-more, fields-first}
 
 -- what an item brings

@@ -1,29 +1,20 @@
 -- Each comment of an accepted source stands in at most one field of one location.
-use Rattle.std.proofs.Common.{◌≡◌, ◌≢◌, ◌⊎◌, inl, inr, ℕ, zero, suc, ◌+◌, ◌<◌, ◌≤◌, Bool, true, false, if◌then◌else◌, ◌==◌, List, [], ◌∷◌, ◌++◌, length, map, flat_map, Option, Some, None, ℤ, refl, ap, sym, subst, ◌∙◌, arith}
+use Rattle.std.proofs.Common.{◌≡◌, ℕ, ◌+◌, ◌<◌, ◌≤◌, Bool, true, false, if◌then◌else◌, ◌==◌, List, [], ◌∷◌, map, Option, Some, None, refl, ap, sym, subst, ◌∙◌, arith}
 use Rattle.std.specs.Prelude.{option_map}
-use Rattle.std.specs.Bool.{Decides}
 use Rattle.std.specs.Str.{bytes_eq}
-use Rattle.std.proofs.lemmas.Bool.{eqb-true, eqb-false, ne_eqb}
+use Rattle.std.proofs.lemmas.Bool.{ne_eqb}
 use Rattle.std.proofs.lemmas.Bool.Decides.{Decides-eqb}
 use Rattle.std.proofs.lemmas.Slice.Eq.{bytes_eq-Decides}
-use Rattle.protox_fault.specs.Faults.{Span}
-use Rattle.protox_lexeme.specs.Lexemes.{Lexeme, cut}
+use Rattle.protox_lexeme.specs.Lexemes.{Lexeme}
 use Rattle.protox_lexeme.specs.Shapes.{Row, Rows}
-use Rattle.protox_lexeme.specs.Table.{table_of, rows_of, gaps_of, StandBetween}
-use Rattle.protox_ast.proofs.Standing.{Stand, tokens-stand, in-order}
-use Rattle.protox_ast.proofs.SpansStand.{each-so}
-use Rattle.protox_ast.specs.Accepted.{IsAccepted}
-use Rattle.protox_ast.specs.Ast as ast
+use Rattle.protox_lexeme.specs.Table.{table_of, rows_of, gaps_of}
+use Rattle.protox_ast.proofs.Standing.{Stand}
 use Rattle.protox_ast.specs.Keywords.{Each}
 use Rattle.protox_ast.specs.Places.{Place, placed, placed_from}
-use Rattle.protox_ast.specs.Spelling as s
-use Rattle.protox_ast.specs.Tree as t
-use Rattle.protox_locate.specs.Locations.{file_locations}
-use Rattle.protox_parse.specs.Commented.{text_at, AreText, AreField, AreTexts, Sources, AreOf, AreOfEach, numbers_of, NoneTwice, CommentedOnce}
-use Rattle.protox_parse.proofs.Taking.{Taken, nothing, these, Says, SayEach, Weights, weigh, cost, Take}
-use Rattle.protox_parse.proofs.GapsWeighed.{of_text, of_texts, of_lexemes, weights, all-within}
+use Rattle.protox_parse.proofs.Taking.{Weights, weigh}
+use Rattle.protox_parse.proofs.GapsWeighed.{weights}
 use Rattle.protox_parse.proofs.TextsNatural.{made_place, made_row, placed-made}
-use Rattle.protox_parse.proofs.NumberedComments.{numbered, count, count-append, count-grows, is_empty, empty-grows, none-empty, count-once, from-start, count-none, made, text_or, made-joins, gaps-made}
+use Rattle.protox_parse.proofs.NumberedComments.{numbered, from-start, made, made-joins, gaps-made}
 
 -- ---- texts that are the same
 

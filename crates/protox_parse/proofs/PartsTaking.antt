@@ -1,7 +1,6 @@
 -- What the parts of a declaration take: names, types, numbers, options and ranges take nothing, and a statement its own comments.
-use Rattle.std.proofs.Common.{◌≡◌, ℕ, ◌+◌, ◌≤◌, List, [], ◌∷◌, ◌++◌, map, flat_map, Option, Some, None, ℤ, refl, sym, subst, arith}
+use Rattle.std.proofs.Common.{◌≡◌, ◌+◌, ◌≤◌, List, [], ◌∷◌, ◌++◌, map, flat_map, Option, Some, None, ℤ, refl, arith}
 use Rattle.protox_fault.specs.Faults.{Span}
-use Rattle.protox_lexeme.specs.Shapes.{Rows}
 use Rattle.protox_ast.specs.Ast as ast
 use Rattle.protox_ast.specs.Options.{OptionStatement, default_of, json_name_of, options_left, listed}
 use Rattle.protox_ast.specs.Places.{Place}
@@ -21,9 +20,9 @@ use Rattle.protox_descriptor.specs.declared.descriptor.source_code_info.Location
 use Rattle.protox_descriptor.specs.declared.tag.TheConstants.{UNINTERPRETED_OPTION}
 use Rattle.protox_descriptor.specs.declared.tag.message.TheConstants as message_tag
 use Rattle.protox_descriptor.specs.declared.tag.message.extension_range.TheConstants as extension_range_tag
-use Rattle.protox_locate.specs.LocationWords.{Path, Part, part, siblings_at, option_place, option_statement, option_statements, option_body, option_list, range_locations, reserved_name, reserved_statement, range_statement, name_statement, range_statements, name_statements, extension_range, extensions_statement, extensions_statements}
-use Rattle.protox_locate.specs.FieldLocations.{OfKind, Normal, Group, Map, extended, label_locations, labelled, typed, defaulted, json_named, from_number}
-use Rattle.protox_parse.proofs.Taking.{Weights, Cost, free, weigh, weigh-append, Take, take-none, take-more, take-bare, take-commented, take-append, bare-then, then-bare, Parts, parts-none, parts-more, parts-first, parts-one, parts-append, parts-bare, parts-flat}
+use Rattle.protox_locate.specs.LocationWords.{Path, part, option_place, option_statement, option_statements, option_body, option_list, range_locations, reserved_name, reserved_statement, range_statement, name_statement, range_statements, name_statements, extension_range, extensions_statement, extensions_statements}
+use Rattle.protox_locate.specs.FieldLocations.{OfKind, Normal, Group, Map, extended, labelled, typed, defaulted, json_named, from_number}
+use Rattle.protox_parse.proofs.Taking.{Weights, Cost, free, weigh, weigh-append, Take, take-none, take-bare, take-commented, bare-then, then-bare, Parts, parts-none, parts-one, parts-bare, parts-flat}
 
 module _ (numbers : Span → List ℤ) where
   -- ---- options

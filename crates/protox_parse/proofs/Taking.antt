@@ -1,12 +1,10 @@
 -- Whose comments locations have: of each the rows that it takes them from, and how often all of them take those of a row.
-use Rattle.std.proofs.Common.{◌≡◌, ℕ, ◌+◌, ◌≤◌, List, [], ◌∷◌, ◌++◌, length, map, flat_map, Option, Some, None, ℤ, refl, ap, sym, subst, append_assoc, ◌∙◌, arith}
-use Rattle.protox_fault.specs.Faults.{Span}
+use Rattle.std.proofs.Common.{◌≡◌, ℕ, ◌+◌, ◌≤◌, List, [], ◌∷◌, ◌++◌, length, map, flat_map, None, ℤ, refl, ap, sym, subst, append_assoc, ◌∙◌, arith}
 use Rattle.protox_lexeme.specs.Shapes.{Rows}
-use Rattle.protox_ast.specs.Ast as ast
 use Rattle.protox_ast.specs.Places.{Place}
 use Rattle.protox_descriptor.specs.declared.descriptor.source_code_info.Location.{Location}
 use Rattle.protox_locate.proofs.Numbered.{numbered_append}
-use Rattle.protox_locate.specs.LocationWords.{Path, Part, nth, numbered, each_at, commented, bare}
+use Rattle.protox_locate.specs.LocationWords.{Path, Part, nth, numbered, each_at}
 
 -- A location has no comments, or those before a row and the one behind another.
 pub data Taken : Type 0 where

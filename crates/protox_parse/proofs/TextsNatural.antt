@@ -1,8 +1,8 @@
 -- Where the texts of comments are made of others, piece by piece, so are those that the attribution gives.
-use Rattle.std.proofs.Common.{◌≡◌, ℕ, Bool, true, false, if◌then◌else◌, List, [], ◌∷◌, ◌++◌, map, Option, Some, None, refl, ap, sym, subst, ◌∙◌}
-use Rattle.std.specs.Prelude.{option_map, drop}
+use Rattle.std.proofs.Common.{◌≡◌, ℕ, Bool, true, false, if◌then◌else◌, List, [], ◌∷◌, ◌++◌, map, Option, Some, None, refl, ap, sym, ◌∙◌}
+use Rattle.std.specs.Prelude.{option_map}
 use Rattle.protox_fault.specs.Faults.{Span}
-use Rattle.protox_lexeme.specs.Gaps.{Item, block, blank, begins_line, joined, items, blocks, first_block, last_block, all_but_last, Attribution, may_lead, led_by, unless_leading, trailed_by, unless_trailing, among, attribution}
+use Rattle.protox_lexeme.specs.Gaps.{Item, block, blank, begins_line, joined, items, blocks, last_block, all_but_last, Attribution, may_lead, led_by, unless_leading, trailed_by, unless_trailing, among, attribution}
 use Rattle.protox_lexeme.specs.Shapes.{Shape, LineComment, BlockComment, Newline, Row, Rows}
 use Rattle.protox_ast.specs.Places.{Place, next_gap, later_gaps, next_shape, placed_from}
 

@@ -1,5 +1,5 @@
 -- What is said of the faults of a failure is said of the refusal for it; and of the generator's faults, and that the source is too large.
-use Rattle.std.proofs.Common.{◌≡◌, inl, inr, ℕ, List, [], ◌∷◌, ◌++◌, Option, Some, None, Result, Ok, Err, IfErr, refl, sym, ap, subst}
+use Rattle.std.proofs.Common.{inl, inr, ℕ, List, [], ◌∷◌, Option, Some, None, Result, Ok, Err, IfErr, refl, sym, subst}
 use Rattle.std.specs.Prelude.{IfSome, length}
 use Rattle.protox_fault.specs.declared.error.ParseErrorKind.{ParseErrorKind}
 use Rattle.protox_fault.specs.declared.error.ParseErrorKind.TheVariants.{FileTooLarge}
@@ -19,7 +19,7 @@ use Rattle.protox_checks.specs.Checks.{AreListed}
 use Rattle.protox_checks.specs.Faults.{HasEachWrong, HaveAll, Wrong}
 use Rattle.protox_generate.specs.File.{AreListedAll}
 use Rattle.protox_descriptor.specs.declared.descriptor.FileDescriptorProto.{FileDescriptorProto}
-use Rattle.protox_checks.proofs.PlainFaults.{IsPlain, all-plain, plain-stand}
+use Rattle.protox_checks.proofs.PlainFaults.{all-plain, plain-stand}
 use Rattle.protox_parse.specs.Failures.{AreWrongOf, IsOutOfMemory, IsRefusalOf}
 use Rattle.protox_parse.specs.FaultLists.{AreAllFound, AreLexicalAlone, AreListedOf, AreStanding, HasAllOf, HasFaultsOf}
 use Rattle.protox_parse.specs.Refusal.{Refusal}

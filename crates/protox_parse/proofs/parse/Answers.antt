@@ -1,5 +1,5 @@
 use Rattle.std.proofs.Common.{IfErr, subst}
-use Rattle.std.specs.Prelude.{length, Err}
+use Rattle.std.specs.Prelude.{length}
 use Rattle.protox_ast.specs.Ast as ast_of
 use Rattle.protox_parse.proofs.Translating.{commented, found, only, wrong-of, out-of-memory}
 use Rattle.protox_parse.proofs.Truths as truths

@@ -4,6 +4,10 @@
 #![tactic(auto)]
 
 #[cfg(test)]
+mod changing;
+#[cfg(test)]
+mod copying;
+#[cfg(test)]
 mod descriptors;
 #[cfg(test)]
 mod large_sources;

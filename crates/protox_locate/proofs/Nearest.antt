@@ -1,5 +1,5 @@
 -- The nearest of the locations that hold a place is the innermost of them.
-use Rattle.std.proofs.Common.{◌≡◌, true, false, Bool, cond, List, [], ◌∷◌, ◌++◌, Option, Some, None, MatchOption, IfSome, IfNone, Ordering, Less, Equal, Greater, refl, ap, sym, ◌∙◌, subst, inl, inr, ◌⊎◌}
+use Rattle.std.proofs.Common.{◌≡◌, true, false, Bool, cond, List, [], ◌∷◌, Option, Some, None, MatchOption, IfSome, IfNone, Ordering, Less, Equal, Greater, refl, ap, sym, ◌∙◌, subst, inl, inr, ◌⊎◌}
 use Rattle.std.specs.Prelude.{ℤ}
 use Rattle.std.specs.Cmp.{IsTotalOrder, then_total, on_total, back_total}
 use Rattle.std.specs.Cmp.Lexicographic.{options_total}
@@ -12,7 +12,7 @@ use Rattle.protox_ast.specs.Basics.{Each}
 use Rattle.protox_descriptor.specs.Spans.{start_of, end_of, place_cmp, is_within}
 use Rattle.protox_descriptor.specs.declared.descriptor.source_code_info.Location.{Location}
 use Rattle.protox_locate.specs.Innermost.{Holds, IsInnermost, nearness}
-use Rattle.protox_locate.specs.Nearer.{nearer, next_best, best_of}
+use Rattle.protox_locate.specs.Nearer.{nearer, best_of}
 
 -- ---- the order by nearness
 

@@ -51,8 +51,9 @@ fn nearest(locations: &[Location], line: i32, column: i32) -> Option<&Location>
 /// and the column is in bytes.
 ///
 /// Of those whose span holds the place it is the one that starts last, and of those that start there
-/// the one that ends first. Of several with that span it is the last; in an answer of `parse` that
-/// has the longest path. It looks at each location once, takes no memory, and has no error.
+/// the one that ends first. Of several with that span it is the last; in an answer of `parse` a part
+/// stands behind what it is a part of. It looks at each location once, takes no memory, and has no
+/// error.
 ///
 /// ```
 /// if let Some(location) = declaration_at(info, 3, 11) {

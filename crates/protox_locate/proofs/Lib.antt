@@ -1,9 +1,11 @@
+pub mod First
 pub mod Fits
 pub mod FitsParts
 pub mod InOrder
 pub mod Keeps
 pub mod Left
 pub mod LineFacts
+pub mod Nearest
 pub mod Newlines
 pub mod Numbered
 pub mod Order

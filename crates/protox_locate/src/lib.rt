@@ -1,6 +1,7 @@
 //! Where in the source each part of a file stands, and which of these locations have a path.
 #![tactic(auto)]
 
+mod at;
 mod context;
 mod declarations;
 mod defaults;

@@ -28,6 +28,7 @@ pub use protox_generate::generate;
 use protox_generate::generate::generate_file;
 pub use protox_lex::error::ParseErrorKind;
 pub use protox_lex::{comments, error, lex};
+pub use protox_locate::find;
 pub use protox_locate::find::locate;
 pub use protox_syntax::parse as syntax;
 use protox_syntax::parse::parse_file;

@@ -6,6 +6,8 @@
 #[cfg(test)]
 mod changing;
 #[cfg(test)]
+mod copying;
+#[cfg(test)]
 mod descriptors;
 #[cfg(test)]
 mod laws;

@@ -1,6 +1,7 @@
 //! The parser, its two halves, and its refusals.
 use protox_parse::descriptor::SourceCodeInfo;
 use protox_parse::error::Span;
+use protox_parse::find::{comments, declaration_at, location};
 use protox_parse::generate::{LineResolver, generate_file};
 use protox_parse::lex::{STREAM, Token};
 use protox_parse::syntax::{ExpectedToken, MAX_MESSAGE_NESTING_DEPTH, parse_file};
@@ -148,6 +149,41 @@ fn locations_by_path(rt: HostRuntime) {
     }
     let none = SourceCodeInfo::new(rt.alloc());
     assert_eq!(rt; locate(&none, &[4]), 0..0);
+}
+
+// What is found in a source: the path around a place, and the comment that leads a path.
+fn around(alloc: Global, source: &str, line: i32, column: i32) -> Result<String, AllocError> {
+    match parse(alloc, "a.proto", source) {
+        Ok(file) => match &file.source_code_info {
+            Some(info) => {
+                let found = declaration_at(info, line, column).map(|location| &location.path);
+                let field = location(info, &[4, 0, 2, 0]).map(|location| &location.span);
+                let leading = comments(info, &[4, 0]).leading;
+                format!(in alloc; "{found:?} {field:?} {leading:?}")
+            }
+            None => String::from_str(alloc, "no locations"),
+        },
+        Err(_) => String::from_str(alloc, "refused"),
+    }
+}
+
+#[test]
+fn declarations_by_place(rt: HostRuntime) -> Result<(), Fail> {
+    let source = "// of A\nmessage A {\n  optional int32 b = 1;\n}\n";
+    for (line, column, path) in [
+        (0, 0, "None"),
+        (1, 0, "Some([4, 0])"),
+        (1, 8, "Some([4, 0, 1])"),
+        (2, 10, "Some([4, 0, 2, 0])"),
+        (2, 11, "Some([4, 0, 2, 0, 5])"),
+        (2, 17, "Some([4, 0, 2, 0, 1])"),
+        (3, 1, "None"),
+    ] {
+        let found = around(rt.alloc(), source, line, column)?;
+        let wanted = format!(in rt.alloc(); "{path} Some([2, 2, 23]) Some(\" of A\\n\")")?;
+        assert_eq!(rt; found.as_str(), wanted.as_str());
+    }
+    Ok(())
 }
 
 fn places(alloc: Global) -> Result<String, Fail> {

@@ -1,5 +1,5 @@
 -- The source that a refusal holds is within the limit.
-use Rattle.std.proofs.Common.{ℕ, ◌≤◌, List, length, ap, arith, ◌⊎◌, inl, inr}
+use Rattle.std.proofs.Common.{ℕ, ◌≤◌, List, length, ap, arith, inl, inr}
 use Rattle.protox_parse.specs.Failures.{IsOfSource}
 use Rattle.protox_parse.specs.Refusal.{Refusal}
 

@@ -4,7 +4,7 @@
 
 ghost use Rattle.std.specs.Prelude.{◌≡◌, ◌≤◌, ℕ, List, All, IfOk, length};
 ghost use Rattle.protoparse_run.specs.declared.tally.Outcome.TheVariants.{Failed};
-ghost use Rattle.protoparse_run.specs.Outcomes.{IsAccepted, IsRightOf, IsRightAbout};
+ghost use Rattle.protoparse_run.specs.Outcomes.{IsAccepted, IsFileNamed, IsName, IsRightOf, IsRightAbout};
 
 pub mod tally;
 mod words;
@@ -284,6 +284,8 @@ pub fn run<H: Host, W: Write, E: Write>(
 ) -> u8
     ensures status { result ≤ 2 }
     ensures no_word { length words.now ≡ 0 → result ≡ 2 }
+    // Where each word is a file's name, the status is 0 only if what was read under each is a file.
+    ensures accepted { All IsName words.now → result ≡ 0 → All (IsFileNamed H.holds host.now) words.now }
 {
     match asked_by(alloc, words) {
         Ok(Asked::Help) => tell(out, err, HELP),

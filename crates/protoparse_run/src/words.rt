@@ -1,7 +1,9 @@
 //! The words of the program.
 
-ghost use Rattle.std.specs.Prelude.{◌≡◌, IfOk, length};
+ghost use Rattle.std.specs.Prelude.{◌≡◌, ◌≢◌, All, IfOk, length, slice_index};
+ghost use Rattle.protoparse_run.specs.Outcomes.{IsName, IsWorkOn};
 ghost use Rattle.protoparse_run.specs.declared.words.Asked.TheVariants.{Nothing};
+ghost use Rattle.protoparse_run.specs.declared.words.Word.TheVariants.{File};
 
 use std::alloc::{AllocError, Global};
 
@@ -57,7 +59,12 @@ enum Word {
 }
 
 // What the word is, where options hold as `how` says.
-fn word_of(word: &str, how: How) -> Word {
+fn word_of(word: &str, how: How) -> Word
+    ensures { slice_index word.now 0 ≢ 45 → result ≡ File }
+{
+    if !word.starts_with('-') {
+        return Word::File;
+    }
     match word {
         "--help" | "-h" => Word::Help,
         "--version" | "-V" => Word::Version,
@@ -80,14 +87,14 @@ fn word_of(word: &str, how: How) -> Word {
         "--color" => Word::Options(How { color: true, ..how }),
         "--" => Word::OnlyFiles,
         "-" => Word::File,
-        word if word.starts_with('-') => Word::Unknown,
-        _ => Word::File,
+        _ => Word::Unknown,
     }
 }
 
 /// What the words ask for, or `AllocError`. An option holds for the files behind it.
 pub fn asked_by(alloc: Global, words: &[String]) -> Result<Asked<'_>, AllocError>
     ensures no_word { length words.now ≡ 0 → IfOk result (λ asked. asked ≡ Nothing) }
+    ensures names { All IsName words.now → IfOk result (IsWorkOn words.now) }
 {
     let mut tasks = Vec::new(alloc);
     let mut how = How {

@@ -1,4 +1,4 @@
-use Rattle.std.proofs.Common.{◌≡◌, List, All, [], false, subst}
+use Rattle.std.proofs.Common.{List, All, [], false, subst}
 use Rattle.std.proofs.lemmas.List.{take_all}
 use Rattle.std.proofs.lemmas.List.Elements.{All-more}
 use Rattle.protoparse_run.specs.Outcomes.{IsAccepted}

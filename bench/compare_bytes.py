@@ -22,7 +22,7 @@ CASES = 'crates/protocases'
 def bytes_of(program, file, *flags):
     """The bytes of the file's descriptor in the set that the program writes, or none."""
     folder, name = os.path.split(os.path.abspath(file))
-    words = [program, '--descriptor-set-out=-', *flags, '-I', '.', name]
+    words = [program, '--descriptor-set-out=-', *flags, name]
     ran = subprocess.run(words, cwd=folder, capture_output=True, check=False)
     if ran.returncode:
         return None

@@ -12,7 +12,7 @@ work=$(mktemp -d)
 trap 'rm -rf "$work"' EXIT
 cd "$root"
 if [ $# -gt 2 ]; then files=("${@:3}"); else files=(google/protobuf/*.proto); fi
-"$program" --descriptor-set-out="$work/set.pb" -I . "${files[@]}"
+"$program" --descriptor-set-out="$work/set.pb" "${files[@]}"
 for language in cpp python pyi java kotlin csharp ruby objc; do
     mkdir -p "$work/ours/$language" "$work/theirs/$language"
     protoc "--${language}_out=$work/theirs/$language" -I . "${files[@]}"

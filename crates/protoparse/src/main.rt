@@ -27,6 +27,10 @@ impl Host for Machine<'_> {
         self.rt.reader().read_to_end(&mut bytes)?;
         Ok(bytes)
     }
+
+    fn write(&self, name: &str, bytes: &[u8]) -> io::Result<()> {
+        fs::write(self.rt, name, bytes)
+    }
 }
 
 fn words(rt: &HostRuntime) -> io::Result<Vec<String>> {

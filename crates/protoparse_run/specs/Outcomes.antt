@@ -40,7 +40,7 @@ name_of task = task.name.now
 
 -- Nothing is asked for but work on the files that the words name, in their order.
 abbrev pub IsWorkOn : List (String Global) → Asked → Type 0
-IsWorkOn words (Work tasks) = map name_of tasks.items ≡ map string_bytes words
+IsWorkOn words (Work tasks set) = map name_of tasks.items ≡ map string_bytes words
 IsWorkOn words Nothing = Unit {0}
 IsWorkOn words Help = ⊥
 IsWorkOn words Version = ⊥

@@ -9,6 +9,7 @@ ghost use Rattle.protoparse_run.specs.Outcomes.{IsAccepted, IsFileNamed, IsName,
 pub mod tally;
 mod words;
 
+use protox_encode::{EncodeError, encode_entry};
 use protox_outline::write_outline;
 use protox_parse::descriptor::FileDescriptorProto;
 use protox_parse::{ParseError, ParseFailure, parse};
@@ -34,6 +35,9 @@ The file - is standard input. An option holds for the files behind it.
   --check           print only what is wrong (the default)
   --outline         print the declarations: place, kind, full name, first line of the comment
   --text            print the descriptor in text format
+  --descriptor-set-out=FILE
+                    write the descriptors to FILE, as one FileDescriptorSet, if all files are
+                    accepted
   --no-source-info  leave the locations out of the descriptor
   --color           print faults in colour
   --                each word behind it is a file
@@ -52,6 +56,9 @@ pub trait Host {
     /// The bytes of the file of this name; of `-` those of standard input.
     fn read(&self, name: &str) -> io::Result<Vec<u8>>
         ensures { IfOk result (λ bytes. holds self.now name.now bytes.items) };
+
+    /// Makes a file of this name, which has these bytes.
+    fn write(&self, name: &str, bytes: &[u8]) -> io::Result<()>;
 }
 
 // A line in one piece, which shows the file's name.
@@ -151,18 +158,45 @@ fn write_faults<W: Write>(
     Ok(())
 }
 
+// The bytes of a set of this one file. A text that is no float stands in no file that is parsed.
+fn bytes_of(alloc: Global, file: &FileDescriptorProto) -> io::Result<Vec<u8>> {
+    match encode_entry(alloc, file) {
+        Ok(bytes) => Ok(bytes),
+        Err(EncodeError::TooLarge) => Err(io::Error::other("a descriptor takes 2 GiB or more")),
+        Err(EncodeError::NotAFloat) => Err(io::Error::other("a double is no number")),
+        Err(EncodeError::OutOfMemory) => Err(io::Error::from(io::ErrorKind::OutOfMemory)),
+    }
+}
+
+// Adds a file to a set. Sets stand one behind the other.
+fn add_to_set(
+    alloc: Global,
+    set: &mut Vec<u8>,
+    source_info: bool,
+    mut file: FileDescriptorProto,
+) -> io::Result<()> {
+    if !source_info {
+        file.source_code_info = None;
+    }
+    let bytes = bytes_of(alloc, &file)?;
+    set.extend_from_slice(bytes.as_slice())?;
+    Ok(())
+}
+
 // What is asked for of a file that is accepted.
 fn write_answer<W: Write>(
     alloc: Global,
     out: &mut W,
+    set: &mut Vec<u8>,
     name: &str,
     how: How,
-    file: &FileDescriptorProto,
+    file: FileDescriptorProto,
 ) -> io::Result<()> {
     match how.mode {
         Mode::Check => Ok(()),
-        Mode::Outline => write_outline(alloc, out, name, file),
-        Mode::Text => write_file(alloc, out, file, how.source_info),
+        Mode::Outline => write_outline(alloc, out, name, &file),
+        Mode::Text => write_file(alloc, out, &file, how.source_info),
+        Mode::Set => add_to_set(alloc, set, how.source_info, file),
     }
 }
 
@@ -193,6 +227,7 @@ fn handle<W: Write, E: Write>(
     alloc: Global,
     out: &mut W,
     err: &mut E,
+    set: &mut Vec<u8>,
     task: Task<'_>,
     source: &str,
 ) -> io::Result<Outcome>
@@ -201,7 +236,7 @@ fn handle<W: Write, E: Write>(
     let name = shown_name(task.name);
     match parse(alloc, name, source) {
         Ok(file) => {
-            write_answer(alloc, out, name, task.how, &file)?;
+            write_answer(alloc, out, set, name, task.how, file)?;
             Ok(Outcome::Accepted)
         }
         Err(ParseFailure::Refused(error)) => {
@@ -218,6 +253,7 @@ fn handle_file<H: Host, W: Write, E: Write>(
     host: &H,
     out: &mut W,
     err: &mut E,
+    set: &mut Vec<u8>,
     task: Task<'_>,
 ) -> io::Result<Outcome>
     ensures { IfOk result (IsRightAbout (H.holds host.now task.entry.name.now)) }
@@ -227,7 +263,7 @@ fn handle_file<H: Host, W: Write, E: Write>(
         Err(error) => return Ok(unread(alloc, err, task.name, &error)),
     };
     match str::from_utf8(bytes.as_slice()) {
-        Ok(source) => handle(alloc, out, err, task, source),
+        Ok(source) => handle(alloc, out, err, set, task, source),
         Err(_) => Ok(complain(alloc, err, task.name, "not UTF-8")),
     }
 }
@@ -242,25 +278,51 @@ fn has_check(tasks: &[Task<'_>]) -> bool {
     false
 }
 
-// One file after another, and the summary where any is only checked.
+// Writes the set where each file was accepted, as the status says. Else it says that it doesn't.
+fn write_set<H: Host, W: Write, E: Write>(
+    alloc: Global,
+    host: &H,
+    out: &mut W,
+    err: &mut E,
+    name: &str,
+    set: &[u8],
+    status: u8,
+) -> io::Result<()> {
+    if status != 0 {
+        let _ = complain(alloc, err, name, "not written");
+        return Ok(());
+    }
+    if name == "-" {
+        return out.write_all(set);
+    }
+    host.write(name, set)
+}
+
+// One file after another, the summary where any is only checked, and the set where one is asked for.
 fn handle_all<H: Host, W: Write, E: Write>(
     alloc: Global,
     host: &H,
     out: &mut W,
     err: &mut E,
     tasks: &[Task<'_>],
+    set: Option<&str>,
 ) -> io::Result<u8>
     ensures status { IfOk result (λ status. status ≤ 2) }
     ensures accepted { IfOk result (λ status. status ≡ 0 → All (IsAccepted H.holds host.now) tasks.now) }
 {
     let mut tally = Tally::NONE;
+    let mut bytes = Vec::new(alloc);
     for task in tasks {
-        tally.add(handle_file(alloc, host, out, err, *task)?);
+        tally.add(handle_file(alloc, host, out, err, &mut bytes, *task)?);
     }
     if has_check(tasks) {
         tally.write_summary(out)?;
     }
-    Ok(tally.status())
+    let status = tally.status();
+    if let Some(name) = set {
+        write_set(alloc, host, out, err, name, bytes.as_slice(), status)?;
+    }
+    Ok(status)
 }
 
 // Writes a text that was asked for, and answers the status.
@@ -290,10 +352,12 @@ pub fn run<H: Host, W: Write, E: Write>(
     match asked_by(alloc, words) {
         Ok(Asked::Help) => tell(out, err, HELP),
         Ok(Asked::Version) => tell(out, err, VERSION),
-        Ok(Asked::Work(tasks)) => match handle_all(alloc, host, out, err, tasks.as_slice()) {
-            Ok(status) => status,
-            Err(error) => broken(err, &error),
-        },
+        Ok(Asked::Work(tasks, set)) => {
+            match handle_all(alloc, host, out, err, tasks.as_slice(), set) {
+                Ok(status) => status,
+                Err(error) => broken(err, &error),
+            }
+        }
         Ok(Asked::Nothing) => {
             say(
                 err,

@@ -1,8 +1,8 @@
 //! The words of the program.
 
 ghost use Rattle.std.specs.Prelude.{◌≡◌, ◌≢◌, All, IfOk, length, slice_index};
-ghost use Rattle.protoparse_run.specs.Outcomes.{IsName, IsWorkOn};
 ghost use Rattle.protoparse_run.specs.declared.words.Asked.TheVariants.{Nothing};
+ghost use Rattle.protoparse_run.specs.Outcomes.{IsName, IsWorkOn};
 ghost use Rattle.protoparse_run.specs.declared.words.Word.TheVariants.{File};
 
 use std::alloc::{AllocError, Global};
@@ -16,6 +16,8 @@ pub enum Mode {
     Outline,
     /// Its descriptor is printed, in text format.
     Text,
+    /// Its descriptor is one of the set that is written.
+    Set,
 }
 
 /// How a file is handled.
@@ -40,7 +42,8 @@ pub struct Task<'a> {
 pub enum Asked<'a> {
     Help,
     Version,
-    Work(Vec<Task<'a>>),
+    /// Work on these files, and under this name the set of descriptors.
+    Work(Vec<Task<'a>>, Option<&'a str>),
     /// No file is named.
     Nothing,
     /// There is no such option.
@@ -48,10 +51,12 @@ pub enum Asked<'a> {
 }
 
 // What one word is.
-enum Word {
+enum Word<'a> {
     Help,
     Version,
     Options(How),
+    // The name of the set.
+    Set(&'a str),
     File,
     // From here on each word is a file.
     OnlyFiles,
@@ -59,11 +64,14 @@ enum Word {
 }
 
 // What the word is, where options hold as `how` says.
-fn word_of(word: &str, how: How) -> Word
+fn word_of(word: &str, how: How) -> Word<'_>
     ensures { slice_index word.now 0 ≢ 45 → result ≡ File }
 {
     if !word.starts_with('-') {
         return Word::File;
+    }
+    if let Some(name) = word.strip_prefix("--descriptor-set-out=") {
+        return Word::Set(name);
     }
     match word {
         "--help" | "-h" => Word::Help,
@@ -102,6 +110,7 @@ pub fn asked_by(alloc: Global, words: &[String]) -> Result<Asked<'_>, AllocError
         source_info: true,
         color: false,
     };
+    let mut set = None;
     let mut only_files = false;
     for word in words {
         let name = word.as_str();
@@ -113,6 +122,10 @@ pub fn asked_by(alloc: Global, words: &[String]) -> Result<Asked<'_>, AllocError
             Word::Help => return Ok(Asked::Help),
             Word::Version => return Ok(Asked::Version),
             Word::Options(chosen) => how = chosen,
+            Word::Set(name) => {
+                set = Some(name);
+                how.mode = Mode::Set;
+            }
             Word::OnlyFiles => only_files = true,
             Word::File => tasks.push(Task { name, how })?,
             Word::Unknown => return Ok(Asked::Unknown(name)),
@@ -121,5 +134,5 @@ pub fn asked_by(alloc: Global, words: &[String]) -> Result<Asked<'_>, AllocError
     if tasks.is_empty() {
         return Ok(Asked::Nothing);
     }
-    Ok(Asked::Work(tasks))
+    Ok(Asked::Work(tasks, set))
 }

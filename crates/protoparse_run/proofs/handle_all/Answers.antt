@@ -18,6 +18,6 @@ loop-task-preserved g c = λ refused failed.
 
 pub returns-clause-accepted : goal.returns-clause-accepted
 returns-clause-accepted g c = λ zero.
-    let clean = c.status.ensures.clean zero in
+    let clean = c.status-status.ensures.clean zero in
     let P : List Task → Type 0 = λ tasks. All (IsAccepted g.H.Host.holds c.args.host.now) tasks in
     subst P (take_all c.loop-task.task-index c.args.tasks.now c.loop-task-test.false) (c.loop-task.invariant clean.0 clean.1)

@@ -106,9 +106,9 @@ fn changed_list(alloc: Global) -> Result<String, AllocError> {
     for number in list.iter_mut() {
         *number += 1;
     }
-    let mut sum = 0;
+    let mut sum: u8 = 0;
     for number in &list {
-        sum += *number;
+        sum = sum.saturating_add(*number);
     }
     let last = list.pop();
     format!(in alloc; "{list:?} {last:?} {sum}")

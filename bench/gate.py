@@ -11,6 +11,7 @@ takes on two cores: half of the sum, or the longest chain of crates where that i
 """
 import collections
 import os
+import resource
 import subprocess
 import sys
 import time
@@ -21,10 +22,10 @@ TICKS = os.sysconf('SC_CLK_TCK')
 
 
 def stat_of(pid):
-    """The parent of a process, and its processor seconds."""
+    """The parent of a process, its processor seconds, and when it was begun."""
     with open(f'/proc/{pid}/stat') as file:
         fields = file.read().rpartition(')')[2].split()
-    return int(fields[1]), (int(fields[11]) + int(fields[12])) / TICKS
+    return int(fields[1]), (int(fields[11]) + int(fields[12])) / TICKS, int(fields[19])
 
 
 def what_of(pid):
@@ -40,32 +41,36 @@ def what_of(pid):
 
 def is_below(pid, top):
     while pid > 1 and pid != top:
-        pid, _ = stat_of(pid)
+        pid = stat_of(pid)[0]
     return pid == top
 
 
 class Provers:
-    """The provers that were seen: each one's work, the prover that it serves, and its seconds."""
+    """The provers that were seen: each one's work, the prover that it serves, and its seconds.
+
+    A prover is named by its number and by when it was begun, since the system gives numbers again.
+    """
 
     def __init__(self):
         self.work, self.serves, self.seconds = {}, {}, {}
 
     def see(self, pid, top):
-        parent, seconds = stat_of(pid)
-        if pid not in self.work:
+        parent, seconds, begun = stat_of(pid)
+        prover = pid, begun
+        if prover not in self.work:
             what = what_of(pid)
             if what is None or not is_below(pid, top):
                 return
-            self.work[pid] = what
-            self.serves[pid] = self.serves.get(parent, pid)
-        self.seconds[pid] = seconds
+            self.work[prover] = what
+            self.serves[prover] = self.serves.get((parent, stat_of(parent)[2]), prover)
+        self.seconds[prover] = seconds
 
     def runs(self):
         """The work and the seconds of each run, in the order in which they were begun."""
         sums = collections.Counter()
-        for pid, seconds in self.seconds.items():
-            sums[self.serves[pid]] += seconds
-        return [(*self.work[pid], sums[pid]) for pid in self.work if self.serves[pid] == pid]
+        for prover, seconds in self.seconds.items():
+            sums[self.serves[prover]] += seconds
+        return [(*self.work[prover], sums[prover]) for prover in self.work if self.serves[prover] == prover]
 
 
 def watch(gate):
@@ -139,6 +144,9 @@ def main():
     print(f'{"all":28}' + ''.join(f'{sum(row[kind] for row in table.values()) / 60:8.1f}' for kind in kinds)
           + f'{sum(sum(row.values()) for row in table.values()) / 60:8.1f}')
     print(f'{(time.time() - began) / 60:.1f} minutes from start to end')
+    spent = resource.getrusage(resource.RUSAGE_CHILDREN)
+    spent = (spent.ru_utime + spent.ru_stime) / 60
+    print(f'{spent:.1f} minutes in all as the system counts them, with compiling and running')
     for crate, times in edits.items():
         for name, seconds in zip(names_of_edits(crate), times):
             print(f'{seconds:6.0f} s  {crate}/{name}')

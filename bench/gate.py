@@ -1,7 +1,8 @@
 #!/usr/bin/env python3
 """Runs the gate and says where its minutes went: processor minutes by crate and kind, and each edit's seconds.
 
-usage: gate.py [LOG]        at the top of the repository; runs `rt ci`, whose output goes to LOG (out of the tree) or is shown
+usage: gate.py [LOG [CRATE..]]      at the top of the repository; runs `rt ci`, whose output goes to LOG (out of the tree)
+                                    or is shown. It says the minutes of the named crates together, too
 
 The gate starts one prover for each proof, each crate's tests and each edit, and a prover starts others of its own. Their
 processor time is read from /proc twice a second, so what is said of one process is short by half a
@@ -121,6 +122,11 @@ def say_two_cores(table):
         print(f'WARNING: that is more than {LIMIT} minutes: make the dearest crates cheaper')
 
 
+def say_sum(what, rows, kinds):
+    print(f'{what:28}' + ''.join(f'{sum(row[kind] for row in rows) / 60:8.1f}' for kind in kinds)
+          + f'{sum(sum(row.values()) for row in rows) / 60:8.1f}')
+
+
 def main():
     began = time.time()
     log = open(sys.argv[1], 'w') if len(sys.argv) > 1 else None
@@ -141,8 +147,10 @@ def main():
     for crate in sorted(table, key=lambda crate: -sum(table[crate].values())):
         print(f'{crate:28}' + ''.join(f'{table[crate][kind] / 60:8.1f}' for kind in kinds)
               + f'{sum(table[crate].values()) / 60:8.1f}')
-    print(f'{"all":28}' + ''.join(f'{sum(row[kind] for row in table.values()) / 60:8.1f}' for kind in kinds)
-          + f'{sum(sum(row.values()) for row in table.values()) / 60:8.1f}')
+    say_sum('all', table.values(), kinds)
+    named = [table[crate] for crate in sys.argv[2:] if crate in table]
+    if named:
+        say_sum(f'{len(named)} that are named', named, kinds)
     print(f'{(time.time() - began) / 60:.1f} minutes from start to end')
     spent = resource.getrusage(resource.RUSAGE_CHILDREN)
     spent = (spent.ru_utime + spent.ru_stime) / 60

@@ -2,6 +2,7 @@ pub mod BlocksStand
 pub mod Equal
 pub mod EqualTrees
 pub mod FilesStand
+pub mod Keeps
 pub mod Levels
 pub mod LevelsStand
 pub mod Membership
@@ -17,3 +18,4 @@ pub mod Siblings
 pub mod SpansStand
 pub mod Standing
 pub mod Texts
+pub mod ValidTexts

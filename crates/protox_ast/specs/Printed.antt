@@ -1,8 +1,7 @@
 -- How the nodes of a tree are printed.
-use Rattle.std.specs.Prelude.{ℕ, ◌/◌, ◌%◌, ◌==◌, if◌then◌else◌, List, [], ◌∷◌, ◌++◌, flat_map, codes}
-use Rattle.std.specs.Char.{digit_char}
+use Rattle.std.specs.Prelude.{ℕ, ◌==◌, if◌then◌else◌, List, [], ◌∷◌, ◌++◌, flat_map, codes}
 use Rattle.std.specs.Fmt.{decimal}
-use Rattle.std.specs.Int.{is_in_range}
+use Rattle.protox_descriptor.specs.Literal.{printed_byte}
 use Rattle.protox_ast.specs.declared.ast.Int.{Int}
 use Rattle.protox_ast.specs.declared.ast.Syntax.{Syntax}
 use Rattle.protox_ast.specs.declared.ast.Syntax.TheVariants.{Proto2, Proto3}
@@ -17,22 +16,6 @@ syntax_text Proto3 = codes "proto3"
 -- in decimal, with a minus sign where it is written, before 0 too
 abbrev pub int_text : Int → List ℕ
 int_text int = if int.negative then 45 ∷ decimal int.value else decimal int.value
-
--- three octal digits
-abbrev pub octal : ℕ → List ℕ
-octal byte = digit_char (byte / 64) ∷ digit_char (byte / 8 % 8) ∷ digit_char (byte % 8) ∷ []
-
--- a byte of a string: itself where it is printable, else an escape
-abbrev pub printed_byte : ℕ → List ℕ
-printed_byte byte =
-    if byte == 9 then codes "\\t"
-    else if byte == 13 then codes "\\r"
-    else if byte == 10 then codes "\\n"
-    else if byte == 92 then codes "\\\\"
-    else if byte == 39 then codes "\\'"
-    else if byte == 34 then codes "\\\""
-    else if is_in_range 32 126 byte then byte ∷ []
-    else 92 ∷ octal byte
 
 -- a byte of a printed string between quotes
 abbrev pub quoted_byte : ℕ → List ℕ

@@ -17,6 +17,7 @@ use Rattle.protox_grammar.specs.Class.{only, but, among}
 use Rattle.protox_grammar.specs.Reader.{folded}
 use Rattle.protox_grammar.specs.Rule as rule
 use Rattle.protox_grammar.specs.Rules as r
+use Rattle.protox_grammar.specs.Token as token
 use Rattle.protox_grammar.proofs.Enums as enums
 use Rattle.protox_grammar.proofs.Shown.{Noting, both, seen, named, named_from, renamed, choice, gather, the, sign}
 use Rattle.protox_rows.specs.Names.{ident, int}
@@ -30,7 +31,7 @@ use Rattle.protox_blocks.specs.declared.enums.EnumParts.{EnumParts}
 unfoldable pub evalue : Noting r.evalue ast.evalue
 unfolding r.evalue
 evalue = named_from _ r.evalue (enums.evalue-laws here).read (λ xs. refl)
-    (λ xs x. record { name = x.0; number = x.1.1.0; options = x.1.1.1.0; comments = declared xs x.1.1.1.1; span = ast.join x.0.span x.1.1.1.1.span }) (λ x rest. refl)
+    (λ xs (name, (_, (number, (options, end)))). record { name = name; number = number; options = options; comments = declared xs end; span = ast.join name.span end.span }) (λ x rest. refl)
     (both ident (both (sign s.equals) (both int (both list_if_any (sign s.semicolon)))))
 
 abbrev pub element_seen : tree.EnumElement Place → element_type.EnumElement
@@ -49,8 +50,8 @@ element-is (inr (inr y)) = refl
 unfoldable pub enum_element : Noting r.enum_element element_seen
 unfolding r.enum_element
 enum_element = renamed r.to_enum_element element-is
-    (choice (only 56) (seen (λ m. element_of.Empty) (sign s.semicolon))
-    (choice (among (6 ∷ 34 ∷ [])) (choice (only 6) (seen element_of.Option option) (seen element_of.Reserved reserved)) (seen element_of.Value evalue)))
+    (choice (only token.semicolon) (seen (λ m. element_of.Empty) (sign s.semicolon))
+    (choice (among (token.option ∷ token.reserved ∷ [])) (choice (only token.option) (seen element_of.Option option) (seen element_of.Reserved reserved)) (seen element_of.Value evalue)))
 
 -- ---- what stands in an enum
 
@@ -74,10 +75,10 @@ gathered a b c (tree.enum_option x ∷ xs) = gathered (a ++ ast.option x ∷ [])
 gathered a b c (tree.enum_reserved x ∷ xs) = gathered a b (c ++ ast.reserved x ∷ []) xs ∙ ap (λ v. parts_of (a ++ filter_map ast.enum_option xs) (b ++ filter_map ast.enum_value xs) v) (append_assoc c (ast.reserved x ∷ []) (filter_map ast.enum_reserved xs))
 gathered a b c (tree.enum_value x ∷ xs) = gathered a (b ++ ast.evalue x ∷ []) c xs ∙ ap (λ v. parts_of (a ++ filter_map ast.enum_option xs) v (c ++ filter_map ast.enum_reserved xs)) (append_assoc b (ast.evalue x ∷ []) (filter_map ast.enum_value xs))
 
-unfoldable pub enum_elements : Noting (rule.times (but 48) r.enum_element) parts_seen
-enum_elements = gather (but 48) add (parts_of [] [] []) (λ xs. gathered [] [] [] xs) enum_element
+unfoldable pub enum_elements : Noting (rule.times (but token.close_brace) r.enum_element) parts_seen
+enum_elements = gather (but token.close_brace) add (parts_of [] [] []) (λ xs. gathered [] [] [] xs) enum_element
 
 unfoldable pub enum_ : Noting r.enum ast.enum
 unfolding r.enum
-enum_ = named _ (λ x. record { name = x.1.0; options = x.1.1.1.0.options; values = x.1.1.1.0.values; reserved = x.1.1.1.0.reserved; comments = ast.comments x.0 x.1.1.0; span = ast.join x.0.span x.1.1.1.1.span }) (λ x. refl)
+enum_ = named _ (λ (keyword, (name, (open_at, (inside, close_at)))). record { name = name; options = inside.options; values = inside.values; reserved = inside.reserved; comments = ast.comments keyword open_at; span = ast.join keyword.span close_at.span }) (λ x. refl)
     (both (the (codes "enum")) (both ident (both (sign s.open_brace) (both enum_elements (sign s.close_brace)))))

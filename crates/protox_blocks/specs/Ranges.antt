@@ -15,6 +15,7 @@ use Rattle.protox_grammar.specs.Rule as rule
 use Rattle.protox_grammar.specs.Rule.{on_sum}
 use Rattle.protox_grammar.specs.Rules as r
 use Rattle.protox_grammar.specs.Told.{name_notes}
+use Rattle.protox_grammar.specs.Token as token
 use Rattle.protox_grammar.proofs.Shows.{two}
 use Rattle.protox_grammar.proofs.Shown.{Silent, Noting, both, seen, named, renamed, shown_by, choice, optional, the, sign, list_of, list_view}
 use Rattle.protox_rows.specs.Names.{int}
@@ -34,7 +35,7 @@ range_end-is (m, inr p) = refl
 unfoldable pub range_end : Silent r.range_end range_end_seen
 unfolding r.range_end
 range_end = renamed r.to_range_end range_end-is
-    (seen (λ x. x.1) (both (the (codes "to")) (choice (among (39 ∷ 43 ∷ [])) (seen range_ends.Int int) (seen (λ (p : Place). range_ends.Max p.span) (the (codes "max"))))))
+    (seen (λ x. x.1) (both (the (codes "to")) (choice (among (token.an_integer ∷ token.minus ∷ [])) (seen range_ends.Int int) (seen (λ (p : Place). range_ends.Max p.span) (the (codes "max"))))))
 
 -- "to" and what is behind it, if there is any
 abbrev pub end_of : Option ReservedRangeEnd → ReservedRangeEnd
@@ -45,8 +46,8 @@ pub stop-is : (x : Option (tree.RangeEnd Place)) → end_of (option_map range_en
 stop-is None = refl
 stop-is (Some e) = refl
 
-unfoldable pub stop : Silent (rule.optional (only 36) r.range_end) ast.range_end
-stop = shown_by stop-is (seen end_of (optional (only 36) range_end))
+unfoldable pub stop : Silent (rule.optional (only token.to) r.range_end) ast.range_end
+stop = shown_by stop-is (seen end_of (optional (only token.to) range_end))
 
 unfoldable pub range : Silent r.range ast.range
 unfolding r.range
@@ -57,7 +58,7 @@ more_range = seen (λ x. x.1) (both (sign s.comma) range)
 
 unfoldable pub ranges : Silent r.ranges ast.ranges
 unfolding r.ranges
-ranges = renamed _ (λ x. refl) (list_of (only 53) range more_range)
+ranges = renamed _ (λ x. refl) (list_of (only token.comma) range more_range)
 
 -- ---- reserved names
 
@@ -72,13 +73,13 @@ names_seen x = ast.reserved_name x.first ∷ map (λ y. ast.reserved_name y.1) x
 
 unfoldable pub names : Noting r.names names_seen
 unfolding r.names
-names = renamed _ (λ x. refl) (list_of (only 53) reserved_name more_name)
+names = renamed _ (λ x. refl) (list_of (only token.comma) reserved_name more_name)
 
 -- ---- statements
 
 unfoldable pub reserved_kind : Noting r.reserved_kind ast.reserved_kind
 unfolding r.reserved_kind
-reserved_kind = renamed r.to_reserved_kind (two _ _ (λ x. refl) (λ x. refl)) (choice (among (39 ∷ 43 ∷ [])) (seen reserved_kinds.Ranges ranges) (seen reserved_kinds.Names names))
+reserved_kind = renamed r.to_reserved_kind (two _ _ (λ x. refl) (λ x. refl)) (choice (among (token.an_integer ∷ token.minus ∷ [])) (seen reserved_kinds.Ranges ranges) (seen reserved_kinds.Names names))
 
 unfoldable pub reserved : Noting r.reserved ast.reserved
 unfolding r.reserved
@@ -86,5 +87,5 @@ reserved = named _ (λ x. record { kind = x.1.0; comments = ast.comments x.0 x.1
 
 unfoldable pub extensions : Noting r.extensions ast.extensions
 unfolding r.extensions
-extensions = named _ (λ x. record { ranges = x.1.0; options = x.1.1.0; comments = ast.comments x.0 x.1.1.1; span = ast.join x.0.span x.1.1.1.span }) (λ x. refl)
+extensions = named _ (λ (keyword, (ranges, (options, end))). record { ranges = ranges; options = options; comments = ast.comments keyword end; span = ast.join keyword.span end.span }) (λ x. refl)
     (both (the (codes "extensions")) (both ranges (both list_if_any (sign s.semicolon))))

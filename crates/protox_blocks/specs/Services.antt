@@ -14,6 +14,7 @@ use Rattle.protox_grammar.specs.Class.{only, but, among}
 use Rattle.protox_grammar.specs.Reader.{folded}
 use Rattle.protox_grammar.specs.Rule as rule
 use Rattle.protox_grammar.specs.Rules as r
+use Rattle.protox_grammar.specs.Token as token
 use Rattle.protox_grammar.proofs.Shows.{two, three}
 use Rattle.protox_grammar.proofs.Shown.{Silent, Noting, both, seen, named, renamed, choice, gather, the, sign}
 use Rattle.protox_rows.specs.Names.{ident, typename}
@@ -30,11 +31,11 @@ rpc_type_seen x = (ast.span_if_any x.stream, ast.typename x.name)
 unfoldable pub rpc_type : Silent r.rpc_type rpc_type_seen
 unfolding r.rpc_type
 rpc_type = renamed r.to_rpc_type (two _ _ (λ x. refl) (λ x. refl))
-    (choice (among (9 ∷ [])) (seen (λ x. (Some x.0.span, x.1.0)) (both (the (codes "stream")) typename)) (seen (λ x. (None, x.0)) typename))
+    (choice (among (token.stream ∷ [])) (seen (λ x. (Some x.0.span, x.1.0)) (both (the (codes "stream")) typename)) (seen (λ x. (None, x.0)) typename))
 
 unfoldable pub rpc_element : Noting r.rpc_element ast.rpc_option
 unfolding r.rpc_element
-rpc_element = renamed r.to_rpc_element (two _ _ (λ x. refl) (λ x. refl)) (choice (only 56) (seen (λ m. None) (sign s.semicolon)) (seen Some option))
+rpc_element = renamed r.to_rpc_element (two _ _ (λ x. refl) (λ x. refl)) (choice (only token.semicolon) (seen (λ m. None) (sign s.semicolon)) (seen Some option))
 
 abbrev pub add_option : List option_type.Option → Option option_type.Option → List option_type.Option
 add_option xs None = xs
@@ -45,8 +46,8 @@ options-gathered a [] = sym (append-nil a)
 options-gathered a (tree.rpc_empty m ∷ xs) = options-gathered a xs
 options-gathered a (tree.rpc_option x ∷ xs) = options-gathered (a ++ ast.option x ∷ []) xs ∙ append_assoc a (ast.option x ∷ []) (filter_map ast.rpc_option xs)
 
-unfoldable pub rpc_elements : Noting (rule.times (but 48) r.rpc_element) (filter_map ast.rpc_option)
-rpc_elements = gather (but 48) add_option [] (λ xs. options-gathered [] xs) rpc_element
+unfoldable pub rpc_elements : Noting (rule.times (but token.close_brace) r.rpc_element) (filter_map ast.rpc_option)
+rpc_elements = gather (but token.close_brace) add_option [] (λ xs. options-gathered [] xs) rpc_element
 
 -- its options, and where it ends
 abbrev pub rpc_end_seen : tree.RpcEnd Place → List option_type.Option × Place
@@ -55,29 +56,29 @@ rpc_end_seen x = (ast.rpc_options x, ast.rpc_last x)
 unfoldable pub rpc_end : Noting r.rpc_end rpc_end_seen
 unfolding r.rpc_end
 rpc_end = renamed r.to_rpc_end (two _ _ (λ x. refl) (λ x. refl))
-    (choice (only 56) (seen (λ m. ([], m)) (sign s.semicolon)) (seen (λ x. (x.1.0, x.1.1)) (both (sign s.open_brace) (both rpc_elements (sign s.close_brace)))))
+    (choice (only token.semicolon) (seen (λ m. ([], m)) (sign s.semicolon)) (seen (λ x. (x.1.0, x.1.1)) (both (sign s.open_brace) (both rpc_elements (sign s.close_brace)))))
 
 -- what an rpc answers with, its options, and where it ends
 abbrev pub Output : Type 0
 Output = (Option Span × TypeName) × (List option_type.Option × Place)
 
 abbrev pub output_seen : Place × (Place × (tree.RpcType Place × (Place × tree.RpcEnd Place))) → Output
-output_seen x = (rpc_type_seen x.1.1.0, rpc_end_seen x.1.1.1.1)
+output_seen (_, (_, (type, (_, end)))) = (rpc_type_seen type, rpc_end_seen end)
 
 unfoldable pub output : Noting (rule.seq (r.the (codes "returns")) (rule.seq (r.sign s.open_paren) (rule.seq r.rpc_type (rule.seq (r.sign s.close_paren) r.rpc_end)))) output_seen
-output = seen (λ x. (x.1.1.0, x.1.1.1.1)) (both (the (codes "returns")) (both (sign s.open_paren) (both rpc_type (both (sign s.close_paren) rpc_end))))
+output = seen (λ (_, (_, (type, (_, end)))). (type, end)) (both (the (codes "returns")) (both (sign s.open_paren) (both rpc_type (both (sign s.close_paren) rpc_end))))
 
 unfoldable pub rpc : Noting r.rpc ast.rpc
 unfolding r.rpc
-rpc = named _ (λ x. record {
-  name = x.1.0;
-  input_ty = x.1.1.1.0.1;
-  output_ty = x.1.1.1.1.1.0.1;
-  options = x.1.1.1.1.1.1.0;
-  client_streaming = x.1.1.1.0.0;
-  server_streaming = x.1.1.1.1.1.0.0;
-  comments = ast.comments x.0 x.1.1.1.1.1.1.1;
-  span = ast.join x.0.span x.1.1.1.1.1.1.1.span;
+rpc = named _ (λ (keyword, (name, (_, ((client_stream, input), (_, ((server_stream, output), (options, end))))))). record {
+  name = name;
+  input_ty = input;
+  output_ty = output;
+  options = options;
+  client_streaming = client_stream;
+  server_streaming = server_stream;
+  comments = ast.comments keyword end;
+  span = ast.join keyword.span end.span;
 }) (λ x. refl)
     (both (the (codes "rpc")) (both ident (both (sign s.open_paren) (both rpc_type (both (sign s.close_paren) output)))))
 
@@ -91,7 +92,7 @@ element_seen (tree.service_rpc x) = element_of.Rpc (ast.rpc x)
 unfoldable pub service_element : Noting r.service_element element_seen
 unfolding r.service_element
 service_element = renamed r.to_service_element (three _ _ (λ x. refl) (λ x. refl) (λ x. refl))
-    (choice (only 56) (seen (λ m. element_of.Empty) (sign s.semicolon)) (choice (only 6) (seen element_of.Option option) (seen element_of.Rpc rpc)))
+    (choice (only token.semicolon) (seen (λ m. element_of.Empty) (sign s.semicolon)) (choice (only token.option) (seen element_of.Option option) (seen element_of.Rpc rpc)))
 
 abbrev pub add : ServiceParts → element_type.ServiceElement → ServiceParts
 add p element_of.Empty = p
@@ -110,10 +111,10 @@ gathered a b (tree.service_empty m ∷ xs) = gathered a b xs
 gathered a b (tree.service_option x ∷ xs) = gathered (a ++ ast.option x ∷ []) b xs ∙ ap (λ v. parts_of v (b ++ filter_map ast.service_rpc xs)) (append_assoc a (ast.option x ∷ []) (filter_map ast.service_option xs))
 gathered a b (tree.service_rpc x ∷ xs) = gathered a (b ++ ast.rpc x ∷ []) xs ∙ ap (λ v. parts_of (a ++ filter_map ast.service_option xs) v) (append_assoc b (ast.rpc x ∷ []) (filter_map ast.service_rpc xs))
 
-unfoldable pub service_elements : Noting (rule.times (but 48) r.service_element) parts_seen
-service_elements = gather (but 48) add (parts_of [] []) (λ xs. gathered [] [] xs) service_element
+unfoldable pub service_elements : Noting (rule.times (but token.close_brace) r.service_element) parts_seen
+service_elements = gather (but token.close_brace) add (parts_of [] []) (λ xs. gathered [] [] xs) service_element
 
 unfoldable pub service : Noting r.service ast.service
 unfolding r.service
-service = named _ (λ x. record { name = x.1.0; options = x.1.1.1.0.options; methods = x.1.1.1.0.methods; comments = ast.comments x.0 x.1.1.0; span = ast.join x.0.span x.1.1.1.1.span }) (λ x. refl)
+service = named _ (λ (keyword, (name, (open_at, (inside, close_at)))). record { name = name; options = inside.options; methods = inside.methods; comments = ast.comments keyword open_at; span = ast.join keyword.span close_at.span }) (λ x. refl)
     (both (the (codes "service")) (both ident (both (sign s.open_brace) (both service_elements (sign s.close_brace)))))

@@ -33,6 +33,7 @@ use Rattle.protox_grammar.specs.Rules as r
 use Rattle.protox_grammar.specs.Bodies as bodies
 use Rattle.protox_grammar.specs.Steps.{ANode}
 use Rattle.protox_grammar.specs.Told as told
+use Rattle.protox_grammar.specs.Token as token
 use Rattle.protox_grammar.proofs.Braced.{int-braced, options-braced}
 use Rattle.protox_grammar.proofs.Depths as depths
 use Rattle.protox_grammar.proofs.Forms.{optional-laws}
@@ -165,8 +166,8 @@ plain_seen (inl x) = element_of.Option (ast.option x)
 plain_seen (inr (inl x)) = element_of.Reserved (ast.reserved x)
 plain_seen (inr (inr x)) = element_of.Extensions (ast.extensions x)
 
-unfoldable pub plain : Noting (rule.choice (only 6) r.option (rule.choice (only 34) r.reserved r.extensions)) plain_seen
-plain = shown_by (three _ _ (λ x. refl) (λ x. refl) (λ x. refl)) (choice (only 6) (seen element_of.Option option) (choice (only 34) (seen element_of.Reserved reserved) (seen element_of.Extensions extensions)))
+unfoldable pub plain : Noting (rule.choice (only token.option) r.option (rule.choice (only token.reserved) r.reserved r.extensions)) plain_seen
+plain = shown_by (three _ _ (λ x. refl) (λ x. refl) (λ x. refl)) (choice (only token.option) (seen element_of.Option option) (choice (only token.reserved) (seen element_of.Reserved reserved) (seen element_of.Extensions extensions)))
 
 -- ---- what stands between a word and its body leaves the word as it is
 
@@ -179,8 +180,8 @@ equals-keeps = plain-keeps (fixed (Mark s.equals))
 pub int-keeps : Keeps (r.int).trace
 int-keeps = keeps-of r.int (parts.int-laws here).traced (λ x. []) int-braced
 
-pub options-keep : Keeps (rule.optional (only 49) r.list).trace
-options-keep = keeps-of (rule.optional (only 49) r.list) (optional-laws (only 49) (options.list-laws here) refl).traced (λ o. aggregates.of_list o) options-braced
+pub options-keep : Keeps (rule.optional (only token.open_bracket) r.list).trace
+options-keep = keeps-of (rule.optional (only token.open_bracket) r.list) (optional-laws (only token.open_bracket) (options.list-laws here) refl).traced (λ o. aggregates.of_list o) options-braced
 
 pub group_name-keeps : Keeps (rule.noting (λ (x : tree.Word Place). ANode (AGroupName x)) r.ident).trace
 group_name-keeps = node-keeps (r.ident).read (r.ident).trace (λ x. ANode (AGroupName x)) (λ x w. refl) name-keeps
@@ -193,19 +194,19 @@ module _ (n : ℕ) (b : Opened (bodies.unsealed n).read (bodies.unsealed n).trac
   Numbered = Int × (Option OptionList × (MessageBody × (Place × Place)))
 
   abbrev pub numbered_seen : Place × (tree.Int Place × (Option (tree.OptionList Place) × tree.Mbody Place)) → Numbered
-  numbered_seen x = (ast.int x.1.0, (option_map ast.list x.1.1.0, body_and_braces x.1.1.1))
+  numbered_seen (_, (number, (options, body))) = (ast.int number, (option_map ast.list options, body_and_braces body))
 
-  unfoldable pub numbered : Opened (rule.seq (r.sign s.equals) (rule.seq r.int (rule.seq (rule.optional (only 49) r.list) (bodies.mbody_at n)))).read (rule.seq (r.sign s.equals) (rule.seq r.int (rule.seq (rule.optional (only 49) r.list) (bodies.mbody_at n)))).trace numbered_seen
+  unfoldable pub numbered : Opened (rule.seq (r.sign s.equals) (rule.seq r.int (rule.seq (rule.optional (only token.open_bracket) r.list) (bodies.mbody_at n)))).read (rule.seq (r.sign s.equals) (rule.seq r.int (rule.seq (rule.optional (only token.open_bracket) r.list) (bodies.mbody_at n)))).trace numbered_seen
   numbered = body_seen (λ x. x.1) (before (sign s.equals) equals-keeps (before int int-keeps (before list_if_any options-keep b)))
 
   unfoldable pub group : Noting (bodies.group (bodies.mbody_at n)) (λ x. kind_seen (tree.group x))
   unfolding bodies.group
-  group = named bodies.to_group (λ x. (record { name = x.1.0; kind = kind.Group x.0.span x.1.1.1.1.0; number = x.1.1.0; options = x.1.1.1.0 }, x.1.1.1.1.1)) (λ x. refl)
+  group = named bodies.to_group (λ (keyword, (name, (number, (options, (body, braces))))). (record { name = name; kind = kind.Group keyword.span body; number = number; options = options }, braces)) (λ x. refl)
       (opened_by (codes "group") (before group_name group_name-keeps numbered))
 
   unfoldable pub field_kind : Noting (bodies.field_kind (bodies.mbody_at n)) kind_seen
   unfolding bodies.field_kind
-  field_kind = renamed bodies.to_field_kind (two _ _ (two _ _ (λ x. refl) (λ x. refl)) (λ x. refl)) (choice (among (16 ∷ 18 ∷ [])) (choice (only 16) map_field group) normal)
+  field_kind = renamed bodies.to_field_kind (two _ _ (two _ _ (λ x. refl) (λ x. refl)) (λ x. refl)) (choice (among (token.map ∷ token.group ∷ [])) (choice (only token.map) map_field group) normal)
 
   pub field-seen : (x : (tree.Label Place × tree.FieldKind Place) ⊎ tree.FieldKind Place) (rest : Rows Place) → field_of (s.field (bodies.to_field x) ++ rest) (labelled x) ≡ ast.field (bodies.to_field x)
   field-seen (inl x) rest = label-begins x.0 x.1 (labelled (inl x)) rest ∙ field-is (Some x.0) x.1
@@ -214,8 +215,8 @@ module _ (n : ℕ) (b : Opened (bodies.unsealed n).read (bodies.unsealed n).trac
   abbrev pub law : IsRead {M = Place} (bodies.field (bodies.mbody_at n))
   law = (messages.field-laws here k.KeepsMbody (bodies.FitsMbody n) (bodies.unsealed n).read (bodies.unsealed n).steps (bodies.unsealed n).trace (depths.body-laws here n)).read
 
-  unfoldable pub labelled_kind : Noting (rule.unless (among (13 ∷ 14 ∷ 15 ∷ [])) (rule.seq r.label (bodies.field_kind (bodies.mbody_at n))) (bodies.field_kind (bodies.mbody_at n))) labelled
-  labelled_kind = shown_by (two _ _ (λ x. refl) (λ x. refl)) (choice (among (13 ∷ 14 ∷ 15 ∷ [])) (seen (λ x. (Some x.0, x.1)) (both label field_kind)) (seen (λ x. (None, x)) field_kind))
+  unfoldable pub labelled_kind : Noting (rule.unless (among (token.optional ∷ token.required ∷ token.repeated ∷ [])) (rule.seq r.label (bodies.field_kind (bodies.mbody_at n))) (bodies.field_kind (bodies.mbody_at n))) labelled
+  labelled_kind = shown_by (two _ _ (λ x. refl) (λ x. refl)) (choice (among (token.optional ∷ token.required ∷ token.repeated ∷ [])) (seen (λ x. (Some x.0, x.1)) (both label field_kind)) (seen (λ x. (None, x)) field_kind))
 
   unfoldable pub field : Noting (bodies.field (bodies.mbody_at n)) ast.field
   unfolding bodies.field
@@ -223,34 +224,34 @@ module _ (n : ℕ) (b : Opened (bodies.unsealed n).read (bodies.unsealed n).trac
 
   unfoldable pub extend_element : Noting (bodies.extend_element (bodies.mbody_at n)) extend_element_seen
   unfolding bodies.extend_element
-  extend_element = renamed bodies.to_extend_element (two _ _ (λ x. refl) (λ x. refl)) (choice (only 56) (seen (λ m. None) (sign s.semicolon)) (seen Some field))
+  extend_element = renamed bodies.to_extend_element (two _ _ (λ x. refl) (λ x. refl)) (choice (only token.semicolon) (seen (λ m. None) (sign s.semicolon)) (seen Some field))
 
   unfoldable pub extend_elements : Noting (bodies.extend_elements (bodies.mbody_at n)) ast.extend_fields
   unfolding bodies.extend_elements
-  extend_elements = renamed bodies.to_extend_elements (λ xs. refl) (gather (but 48) add_field [] (λ xs. extend-gathered [] xs) extend_element)
+  extend_elements = renamed bodies.to_extend_elements (λ xs. refl) (gather (but token.close_brace) add_field [] (λ xs. extend-gathered [] xs) extend_element)
 
   unfoldable pub extend : Noting (bodies.extend (bodies.mbody_at n)) ast.extend
   unfolding bodies.extend
-  extend = named bodies.to_extend (λ x. roll-Extend (record { extendee = x.1.0.0; fields = x.1.1.1.0; comments = ast.comments x.0 x.1.1.0; span = ast.join x.0.span x.1.1.1.1.span })) (λ x. refl)
+  extend = named bodies.to_extend (λ (keyword, ((extendee, _), (open_at, (fields, close_at)))). roll-Extend (record { extendee = extendee; fields = fields; comments = ast.comments keyword open_at; span = ast.join keyword.span close_at.span })) (λ x. refl)
       (both (the (codes "extend")) (both typename (both (sign s.open_brace) (both extend_elements (sign s.close_brace)))))
 
   unfoldable pub oneof_element : Noting (bodies.oneof_element (bodies.mbody_at n)) oneof_element_seen
   unfolding bodies.oneof_element
   oneof_element = renamed bodies.to_oneof_element (three _ _ (λ x. refl) (λ x. refl) (λ x. refl))
-      (choice (only 56) (seen (λ m. oneof_element_of.Empty) (sign s.semicolon)) (choice (among (6 ∷ [])) (seen oneof_element_of.Option option) (seen oneof_element_of.Field field)))
+      (choice (only token.semicolon) (seen (λ m. oneof_element_of.Empty) (sign s.semicolon)) (choice (among (token.option ∷ [])) (seen oneof_element_of.Option option) (seen oneof_element_of.Field field)))
 
   unfoldable pub oneof_elements : Noting (bodies.oneof_elements (bodies.mbody_at n)) oneof_inside
   unfolding bodies.oneof_elements
-  oneof_elements = renamed bodies.to_oneof_elements (λ xs. refl) (gather (but 48) add_oneof no_oneof (λ xs. oneof-gathered [] [] xs) oneof_element)
+  oneof_elements = renamed bodies.to_oneof_elements (λ xs. refl) (gather (but token.close_brace) add_oneof no_oneof (λ xs. oneof-gathered [] [] xs) oneof_element)
 
   unfoldable pub oneof : Noting (bodies.oneof (bodies.mbody_at n)) ast.oneof
   unfolding bodies.oneof
-  oneof = named bodies.to_oneof (λ x. roll-Oneof (record { name = x.1.0; options = x.1.1.1.0.options; fields = x.1.1.1.0.fields; comments = ast.comments x.0 x.1.1.0; span = ast.join x.0.span x.1.1.1.1.span })) (λ x. refl)
+  oneof = named bodies.to_oneof (λ (keyword, (name, (open_at, (inside, close_at)))). roll-Oneof (record { name = name; options = inside.options; fields = inside.fields; comments = ast.comments keyword open_at; span = ast.join keyword.span close_at.span })) (λ x. refl)
       (both (the (codes "oneof")) (both ident (both (sign s.open_brace) (both oneof_elements (sign s.close_brace)))))
 
   unfoldable pub message : Noting (bodies.message (bodies.mbody_at n)) ast.message
   unfolding bodies.message
-  message = named bodies.to_message (λ x. roll-Message (record { name = x.1.0; body = x.1.1.0; comments = ast.comments x.0 x.1.1.1.0; span = ast.join x.0.span x.1.1.1.1.span })) (λ x. refl)
+  message = named bodies.to_message (λ (keyword, (name, (body, (open_at, close_at)))). roll-Message (record { name = name; body = body; comments = ast.comments keyword open_at; span = ast.join keyword.span close_at.span })) (λ x. refl)
       (opened_by (codes "message") (before ident name-keeps b))
 
   -- what begins with a word of its own
@@ -266,10 +267,10 @@ module _ (n : ℕ) (b : Opened (bodies.unsealed n).read (bodies.unsealed n).trac
 
   unfoldable pub special : Noting (bodies.special (bodies.mbody_at n)) special_seen
   special = shown_by (two _ _ (λ x. refl) (two _ _ (λ x. refl) (two _ _ (λ x. refl) (two _ _ (λ x. refl) (λ x. refl)))))
-      (choice (only 17) (seen (λ x. element_of.Item (item.Oneof x)) oneof)
-      (choice (only 5) (seen (λ x. element_of.Item (item.Enum x)) enum_)
-      (choice (only 12) (seen (λ x. element_of.Item (item.Message x)) message)
-      (choice (only 11) (seen (λ x. element_of.Item (item.Extend x)) extend) plain))))
+      (choice (only token.oneof) (seen (λ x. element_of.Item (item.Oneof x)) oneof)
+      (choice (only token.enum) (seen (λ x. element_of.Item (item.Enum x)) enum_)
+      (choice (only token.message) (seen (λ x. element_of.Item (item.Message x)) message)
+      (choice (only token.extend) (seen (λ x. element_of.Item (item.Extend x)) extend) plain))))
 
   pub element-is : (x : Place ⊎ (Specials ⊎ tree.Field Place)) → rule.on_sum (λ m. element_of.Empty) (rule.on_sum special_seen (λ y. element_of.Item (item.Field (ast.field y)))) x ≡ element_seen (bodies.to_element x)
   element-is (inl m) = refl
@@ -285,11 +286,11 @@ module _ (n : ℕ) (b : Opened (bodies.unsealed n).read (bodies.unsealed n).trac
   unfoldable pub element : Noting (bodies.element (bodies.mbody_at n)) element_seen
   unfolding bodies.element
   element = renamed bodies.to_element element-is
-      (choice (only 56) (seen (λ m. element_of.Empty) (sign s.semicolon)) (choice (among (17 ∷ 5 ∷ 12 ∷ 11 ∷ 6 ∷ 34 ∷ 35 ∷ [])) special (seen (λ x. element_of.Item (item.Field x)) field)))
+      (choice (only token.semicolon) (seen (λ m. element_of.Empty) (sign s.semicolon)) (choice (among (token.oneof ∷ token.enum ∷ token.message ∷ token.extend ∷ token.option ∷ token.reserved ∷ token.extensions ∷ [])) special (seen (λ x. element_of.Item (item.Field x)) field)))
 
   unfoldable pub elements : Noting (bodies.elements (bodies.mbody_at n)) inside
   unfolding bodies.elements
-  elements = renamed bodies.to_elements (λ xs. refl) (gather (but 48) add_element nothing_inside (λ xs. inside-gathered nothing_inside xs) element)
+  elements = renamed bodies.to_elements (λ xs. refl) (gather (but token.close_brace) add_element nothing_inside (λ xs. inside-gathered nothing_inside xs) element)
 
   unfoldable pub mbody : Noting (bodies.mbody (bodies.mbody_at n)) body_and_braces
   unfolding bodies.mbody

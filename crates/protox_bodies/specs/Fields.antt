@@ -20,6 +20,7 @@ use Rattle.protox_grammar.specs.Rule as rule
 use Rattle.protox_grammar.specs.Rules as r
 use Rattle.protox_grammar.specs.Steps.{ANode}
 use Rattle.protox_grammar.specs.Told.{group_notes}
+use Rattle.protox_grammar.specs.Token as token
 use Rattle.protox_grammar.proofs.NotesLie.{group-lie, word-lies}
 use Rattle.protox_grammar.proofs.Shown.{Noting, both, seen, named, the, sign, with_note}
 use Rattle.protox_rows.specs.Names.{ident, int, field_type}
@@ -42,25 +43,25 @@ abbrev pub Numbered : Type 0
 Numbered = Ident × (Int × (Option OptionList × Place))
 
 abbrev pub numbered_seen : tree.Word Place × (Place × (tree.Int Place × (Option (tree.OptionList Place) × Place))) → Numbered
-numbered_seen x = (ast.ident x.0, (ast.int x.1.1.0, (option_map ast.list x.1.1.1.0, x.1.1.1.1)))
+numbered_seen (name, (_, (number, (options, end)))) = (ast.ident name, (ast.int number, (option_map ast.list options, end)))
 
-unfoldable pub numbered : Noting (rule.seq r.ident (rule.seq (r.sign s.equals) (rule.seq r.int (rule.seq (rule.optional (only 49) r.list) (r.sign s.semicolon))))) numbered_seen
-numbered = seen (λ x. (x.0, (x.1.1.0, (x.1.1.1.0, x.1.1.1.1)))) (both ident (both (sign s.equals) (both int (both list_if_any (sign s.semicolon)))))
+unfoldable pub numbered : Noting (rule.seq r.ident (rule.seq (r.sign s.equals) (rule.seq r.int (rule.seq (rule.optional (only token.open_bracket) r.list) (r.sign s.semicolon))))) numbered_seen
+numbered = seen (λ (name, (_, (number, (options, end)))). (name, (number, (options, end)))) (both ident (both (sign s.equals) (both int (both list_if_any (sign s.semicolon)))))
 
 unfoldable pub normal : Noting r.normal (λ x. kind_seen (tree.normal x))
 unfolding r.normal
-normal = named _ (λ x. (record { name = x.1.0; kind = kind.Normal x.0.0 x.0.1; number = x.1.1.0; options = x.1.1.1.0 }, (x.1.1.1.1, x.1.1.1.1))) (λ x. refl) (both field_type numbered)
+normal = named _ (λ ((type, type_span), (name, (number, (options, end)))). (record { name = name; kind = kind.Normal type type_span; number = number; options = options }, (end, end))) (λ x. refl) (both field_type numbered)
 
 unfoldable pub map_field : Noting r.map (λ x. kind_seen (tree.map x))
 unfolding r.map
-map_field = named _ (λ x. (
+map_field = named _ (λ (keyword, (_, ((key, key_span), (_, ((value, value_span), (close_at, (name, (number, (options, end))))))))). (
   record {
-    name = x.1.1.1.1.1.1.0;
-    kind = kind.Map (ast.join x.0.span x.1.1.1.1.1.0.span) x.1.1.0.0 x.1.1.0.1 x.1.1.1.1.0.0 x.1.1.1.1.0.1;
-    number = x.1.1.1.1.1.1.1.0;
-    options = x.1.1.1.1.1.1.1.1.0;
+    name = name;
+    kind = kind.Map (ast.join keyword.span close_at.span) key key_span value value_span;
+    number = number;
+    options = options;
   },
-  (x.1.1.1.1.1.1.1.1.1, x.1.1.1.1.1.1.1.1.1),
+  (end, end),
 )) (λ x. refl)
     (both (the (codes "map")) (both (sign s.open_angle) (both field_type (both (sign s.comma) (both field_type (both (sign s.close_angle) numbered))))))
 
@@ -76,10 +77,10 @@ first_span [] = record { start = 0; end = 0 }
 first_span (x ∷ xs) = x.at.span
 
 abbrev pub field_of : Rows Place → Option (FieldLabel × Span) × Kind → Field
-field_of xs x = roll-Field (record { label = x.0; name = x.1.0.name; kind = x.1.0.kind; number = x.1.0.number; options = x.1.0.options; comments = declared xs x.1.1.0; span = ast.join (first_span xs) x.1.1.1.span })
+field_of xs (label, (field, (open_at, end))) = roll-Field (record { label = label; name = field.name; kind = field.kind; number = field.number; options = field.options; comments = declared xs open_at; span = ast.join (first_span xs) end.span })
 
 abbrev pub begun_at : Place → Option (FieldLabel × Span) × Kind → Field
-begun_at p x = roll-Field (record { label = x.0; name = x.1.0.name; kind = x.1.0.kind; number = x.1.0.number; options = x.1.0.options; comments = ast.comments p x.1.1.0; span = ast.join p.span x.1.1.1.span })
+begun_at p (label, (field, (open_at, end))) = roll-Field (record { label = label; name = field.name; kind = field.kind; number = field.number; options = field.options; comments = ast.comments p open_at; span = ast.join p.span end.span })
 
 abbrev pub kind_first : tree.FieldKind Place → Place
 kind_first (tree.normal x) = ast.type_first x.type

@@ -2,12 +2,10 @@ pub mod Adding
 pub mod DefaultLaw
 pub mod FaultLaw
 pub mod FaultsLie
-pub mod Keeps
 pub mod Left
 pub mod ListedFaults
 pub mod Membership
 pub mod NodeLevels
 pub mod NodesLie
-pub mod Texts
 pub mod OneofLabels
 pub mod PlainFaults

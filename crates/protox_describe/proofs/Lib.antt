@@ -2,5 +2,4 @@ pub mod Left
 pub mod Lists
 pub mod Oneofs
 pub mod Places
-pub mod Texts
 pub mod RealFirst

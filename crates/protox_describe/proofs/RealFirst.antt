@@ -9,9 +9,9 @@ use Rattle.protox_descriptor.specs.declared.descriptor.DescriptorProto.{Descript
 use Rattle.protox_descriptor.specs.declared.descriptor.DescriptorProto.TheFolds.{fold-roll-DescriptorProto}
 use Rattle.protox_descriptor.specs.FieldDescriptorProto.{FieldDescriptorProto}
 use Rattle.protox_descriptor.specs.declared.descriptor.OneofDescriptorProto.{OneofDescriptorProto}
-use Rattle.protox_describe.specs.Descriptor.{Gives, Item, OfField, OfMessage, OfOneof, OfEnum, OfExtend, all_oneofs, fields_of, in_oneof, is_oneof, oneofs_of, synthetic_index, synthetic_of}
+use Rattle.protox_describe.specs.Descriptor.{Gives, Item, OfField, OfMessage, OfOneof, OfEnum, OfExtend, all_oneofs, extensions_of, fields_of, in_oneof, is_oneof, oneofs_of, synthetic_index, synthetic_of}
 use Rattle.protox_describe.specs.Fields.{Parts, message_proto}
-use Rattle.protox_describe.specs.Oneofs.{AreIndexed, IsBelow, Own, RealFirst, each_own, is_optional, own_step}
+use Rattle.protox_describe.specs.Oneofs.{AreIndexed, AreInNone, IsBelow, Own, RealFirst, each_own, is_optional, own_step}
 use Rattle.protox_describe.specs.Siblings.{count, each_after}
 use Rattle.protox_describe.proofs.Lists.{flat_map-snoc}
 
@@ -25,9 +25,14 @@ pub data Made (gives : Gives) : Type 0 where
   none : gives.synthetic ≡ [] → IsPlain gives → Made gives
   one : (oneof : OneofDescriptorProto) → gives.synthetic ≡ oneof ∷ [] → is_optional gives.field.proto3_optional ≡ true → Made gives
 
+-- A field stands in no oneof, as it is made.
+abbrev pub IsApart : Gives → Type 0
+IsApart gives = gives.field.oneof_index ≡ None
+
 abbrev pub ItemMade : Item → Type 0
 ItemMade (OfField gives) = Made gives
 ItemMade (OfOneof oneof) = Each IsPlain oneof.fields
+ItemMade (OfExtend fields) = Each IsApart fields
 ItemMade _ = Unit {0}
 
 -- ---- one field, and those of a oneof
@@ -151,7 +156,22 @@ all-below real next all (f ∷ fs) le h =
       | false ↦ λ k. (given-below real all f.oneof_index le k.0, all-below real next all fs le k.1)
     ] h
 
-pub items-first : (items : List Item) → Each ItemMade items → RealFirst (record { fields = each_after (fields_of (count is_oneof items)) [] items; oneofs = all_oneofs items })
+-- ---- extensions
+
+pub apart-fields : (fields : List Gives) (more : List FieldDescriptorProto) → Each IsApart fields → AreInNone more → AreInNone (map (λ gives. gives.field) fields ++ more)
+apart-fields [] more a h = h
+apart-fields (f ∷ fs) more a h = (a.0, apart-fields fs more a.1 h)
+
+items-apart : (items : List Item) → Each ItemMade items → AreInNone (flat_map extensions_of items)
+items-apart [] made = tt
+items-apart (OfField gives ∷ items) made = items-apart items made.1
+items-apart (OfMessage message ∷ items) made = items-apart items made.1
+items-apart (OfOneof oneof ∷ items) made = items-apart items made.1
+items-apart (OfEnum enum ∷ items) made = items-apart items made.1
+items-apart (OfExtend fields ∷ items) made = apart-fields fields (flat_map extensions_of items) made.0 (items-apart items made.1)
+
+pub items-first : (items : List Item) → Each ItemMade items
+    → RealFirst (record { fields = each_after (fields_of (count is_oneof items)) [] items; extensions = flat_map extensions_of items; oneofs = all_oneofs items })
 items-first items made =
     let real = count is_oneof items in
     let all = length (all_oneofs items) in
@@ -159,9 +179,9 @@ items-first items made =
     let size : real + length (flat_map synthetic_of items) ≡ all =
     omega (arith, length-append (flat_map oneofs_of items) (flat_map synthetic_of items), written-size items) in
     let indexed : AreIndexed real real all fields = subst (λ n. AreIndexed real n all fields) (omega arith) (all-indexed real all [] items size (omega arith) made) in
-    record { below = all-below real real all fields (omega (arith, size)) indexed; real = real; indexed = indexed }
+    record { below = all-below real real all fields (omega (arith, size)) indexed; real = real; indexed = indexed; apart = items-apart items made }
 
-pub message-own : (name : List ℕ) (parts : Parts) → each_own (message_proto name parts) ≡ record { fields = parts.field; oneofs = parts.oneof } ∷ flat_map each_own parts.nested
+pub message-own : (name : List ℕ) (parts : Parts) → each_own (message_proto name parts) ≡ record { fields = parts.field; extensions = parts.extension; oneofs = parts.oneof } ∷ flat_map each_own parts.nested
 message-own name parts =
     fold-roll-DescriptorProto (List Own) own_step (record {
       name = Some name;
@@ -175,4 +195,4 @@ message-own name parts =
       reserved_range = parts.reserved_range;
       reserved_name = parts.reserved_name;
     })
-    ∙ ap (λ l. record { fields = parts.field; oneofs = parts.oneof } ∷ l) (flat_map-map (λ inner. inner) each_own parts.nested)
+    ∙ ap (λ l. record { fields = parts.field; extensions = parts.extension; oneofs = parts.oneof } ∷ l) (flat_map-map (λ inner. inner) each_own parts.nested)

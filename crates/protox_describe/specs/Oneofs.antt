@@ -11,14 +11,15 @@ use Rattle.protox_descriptor.specs.FieldDescriptorProto.{FieldDescriptorProto}
 use Rattle.protox_descriptor.specs.declared.descriptor.FileDescriptorProto.{FileDescriptorProto}
 use Rattle.protox_descriptor.specs.declared.descriptor.OneofDescriptorProto.{OneofDescriptorProto}
 
--- the fields and the oneofs of one message, apart from the messages in it
+-- the fields, the extensions and the oneofs of one message, apart from the messages in it
 pub record Own : Type 0 where
   pub fields : List FieldDescriptorProto
+  pub extensions : List FieldDescriptorProto
   pub oneofs : List OneofDescriptorProto
 
 -- those of a message, where those of the messages in it are known
 abbrev pub own_step : DescriptorProto-F (List Own) → List Own
-own_step m = record { fields = m.field; oneofs = m.oneof_decl } ∷ flat_map (λ inner. inner) m.nested_type
+own_step m = record { fields = m.field; extensions = m.extension; oneofs = m.oneof_decl } ∷ flat_map (λ inner. inner) m.nested_type
 
 -- those of a message and of each message in it, at every depth
 abbrev pub each_own : DescriptorProto → List Own
@@ -43,12 +44,18 @@ AreIndexed real next all (field ∷ more) =
       | false ↦ Given (IsBelow real) field.oneof_index × AreIndexed real next all more
     ]
 
+-- The fields stand in no oneof.
+abbrev pub AreInNone : List FieldDescriptorProto → Type 0
+AreInNone fields = Each (λ (field : FieldDescriptorProto). field.oneof_index ≡ None) fields
+
 -- Each field's index, where it has one, is below the number of oneofs; and of these some first ones are real, and the others synthetic.
+-- Extensions stand in no oneof.
 pub record RealFirst (own : Own) : Type 0 where
   pub below : Each (λ (field : FieldDescriptorProto). Given (IsBelow (length own.oneofs)) field.oneof_index) own.fields
   pub real : ℕ
   pub indexed : AreIndexed real real (length own.oneofs) own.fields
+  pub apart : AreInNone own.extensions
 
--- So it is in each message of a file, at every depth.
+-- So it is in each message of a file, at every depth, and of the file's own extensions.
 abbrev pub HasRealFirst : FileDescriptorProto → Type 0
-HasRealFirst file = Each RealFirst (flat_map each_own file.message_type)
+HasRealFirst file = Each RealFirst (flat_map each_own file.message_type) × AreInNone file.extension

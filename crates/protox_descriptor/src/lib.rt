@@ -5,5 +5,7 @@
 pub mod case;
 pub mod descriptor;
 pub mod laws;
+pub mod literal;
+pub mod printed;
 pub mod tag;
 pub mod values;

@@ -9,3 +9,7 @@ pub mod NamedParts
 pub mod Named
 pub mod NamedTrees
 pub mod NamedFiles
+pub mod Placed
+pub mod PlacedParts
+pub mod PlacedTrees
+pub mod PlacedFiles

@@ -37,9 +37,9 @@ use Rattle.protox_generate.proofs.Leads.{Fits, Fronts, Leads, a-name, all-fronts
 use Rattle.protox_generate.proofs.NamedParts.{Spelled, enum-fits, field-fits, not-group, own-none, service-fits}
 use Rattle.protox_generate.proofs.Spelled.{RowSpelled}
 use Rattle.protox_generate.specs.Names.{InSmallLetters, Lookup, Name, Written, in_enum, in_field, in_message, in_oneof as oneof_lookup, message_step, own}
-use Rattle.protox_locate.proofs.Keeps.{Pairs}
+use Rattle.protox_ast.proofs.Keeps.{Pairs}
 use Rattle.protox_locate.specs.FieldLocations.{OfField, OfKind, brought, group_locations}
-use Rattle.protox_locate.specs.Lines.{span_numbers}
+use Rattle.protox_places.specs.Lines.{span_numbers}
 use Rattle.protox_locate.specs.LocationWords.{Path, Part, part, bare, commented, each_at, extensions_statements, option_statements, numbered}
 use Rattle.protox_locate.specs.Locations.{OfExtend, OfItem, OfOneof as LocatedOneof, from_blocks, location_steps, messages_of}
 

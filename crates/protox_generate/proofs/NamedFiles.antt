@@ -32,8 +32,8 @@ use Rattle.protox_generate.proofs.NamedTrees.{extend-has, message-has}
 use Rattle.protox_generate.proofs.Spelled.{RowSpelled, rows-spelled}
 use Rattle.protox_generate.specs.File.{file_descriptor}
 use Rattle.protox_generate.specs.Names.{HasNames, IsNamed, Lookup, in_enum, in_field, in_file, in_message, in_service}
-use Rattle.protox_locate.proofs.Keeps.{Pairs}
-use Rattle.protox_locate.specs.Lines.{span_numbers}
+use Rattle.protox_ast.proofs.Keeps.{Pairs}
+use Rattle.protox_places.specs.Lines.{span_numbers}
 use Rattle.protox_locate.specs.LocationWords.{Path, Part, part, each_at, commented, bare, option_statements, siblings_at}
 use Rattle.protox_locate.specs.Locations as l
 use Rattle.protox_locate.specs.Locations.{file_at, file_from_blocks, file_locations, import_locations, package_locations, public_words, weak_words, syntax_locations}

@@ -31,10 +31,10 @@ use Rattle.protox_generate.proofs.NamedParts.{Spelled, enum-fits, field-fits, no
 use Rattle.protox_generate.proofs.Spelled.{RowSpelled}
 use Rattle.protox_generate.specs.Names.{InSmallLetters, Written, own}
 use Rattle.protox_lexeme.specs.Shapes.{Rows}
-use Rattle.protox_locate.proofs.Keeps.{Pairs}
+use Rattle.protox_ast.proofs.Keeps.{Pairs}
 use Rattle.protox_locate.specs.FieldLocations as kinds
 use Rattle.protox_locate.specs.FieldLocations.{OfField, OfKind}
-use Rattle.protox_locate.specs.Lines.{span_numbers}
+use Rattle.protox_places.specs.Lines.{span_numbers}
 use Rattle.protox_locate.specs.LocationWords.{Path, Part, part}
 use Rattle.protox_locate.specs.Locations.{OfExtend, OfItem, OfOneof, location_steps, messages_of}
 

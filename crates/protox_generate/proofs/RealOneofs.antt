@@ -17,18 +17,18 @@ use Rattle.protox_ast.specs.declared.ast.Syntax.TheVariants.{Proto2, Proto3}
 use Rattle.protox_ast.specs.declared.ast.Ty.{Ty}
 use Rattle.protox_ast.specs.declared.ast.TypeName.{TypeName}
 use Rattle.protox_fault.specs.Faults.{Span}
-use Rattle.protox_checks.proofs.Keeps.{Keeps, Pairs, message_has, extend_has}
+use Rattle.protox_ast.proofs.Keeps.{Keeps, Pairs, message_has, extend_has}
 use Rattle.protox_checks.proofs.Membership.{each-both}
 use Rattle.protox_checks.proofs.OneofLabels.{Fine, Holder, a_message, a_oneof, all-fine, an_extend}
 use Rattle.protox_checks.specs.FieldFaults.{KindNode}
 use Rattle.protox_checks.specs.Faults.{IsFaultless}
 use Rattle.protox_checks.specs.Nodes.{Node, empty_nodes, fields_nodes, item_nodes, json_name_nodes, node_steps, option_nodes}
 use Rattle.protox_describe.proofs.Oneofs.{extending-nested}
-use Rattle.protox_describe.proofs.RealFirst.{IsPlain, ItemMade, Made, items-first, message-own, none, one}
+use Rattle.protox_describe.proofs.RealFirst.{IsApart, IsPlain, ItemMade, Made, apart-fields, items-first, message-own, none, one}
 use Rattle.protox_describe.specs.Descriptor.{Gives, Item, OfField, OfOneof, OneofGives, descriptor_steps, extending, nested_of}
 use Rattle.protox_describe.specs.Fields.{Kind, Normal, Group, Map, Parts, entry_name, entry_parts, is_proto3_optional, message_proto, messages_of, optional_flag}
-use Rattle.protox_describe.specs.File.{file_proto, item_messages}
-use Rattle.protox_describe.specs.Oneofs.{HasRealFirst, Own, RealFirst, each_own, is_optional}
+use Rattle.protox_describe.specs.File.{file_proto, item_extensions, item_messages}
+use Rattle.protox_describe.specs.Oneofs.{AreInNone, HasRealFirst, Own, RealFirst, each_own, is_optional}
 use Rattle.protox_descriptor.specs.declared.descriptor.DescriptorProto.{DescriptorProto}
 use Rattle.protox_descriptor.specs.declared.descriptor.FileDescriptorProto.{FileDescriptorProto}
 use Rattle.protox_descriptor.specs.declared.descriptor.OneofDescriptorProto.{OneofDescriptorProto}
@@ -43,10 +43,11 @@ module _ (syntax : Syntax) where
   KindHas kind nodes = Each Fine nodes.1 → (name : List ℕ) → Each First (messages_of name kind)
 
   abbrev BodyHas : Parts → List Node → Type 0
-  BodyHas parts nodes = Each Fine nodes → RealFirst (record { fields = parts.field; oneofs = parts.oneof }) × Each First parts.nested
+  BodyHas parts nodes = Each Fine nodes → RealFirst (record { fields = parts.field; extensions = parts.extension; oneofs = parts.oneof }) × Each First parts.nested
 
   record FieldHas (gives : Gives) (nodes : Holder → List Node) : Type 0 where
     pub made : Made gives
+    pub apart : IsApart gives
     pub plain : Each Fine (nodes a_oneof) → IsPlain gives
     pub nested : (scope : Holder) → Each Fine (nodes scope) → Each First gives.nested
 
@@ -60,7 +61,7 @@ module _ (syntax : Syntax) where
   OneofHas oneof nodes = Each Fine nodes → Each IsPlain oneof.fields × Each First (flat_map (λ (gives : Gives). gives.nested) oneof.fields)
 
   abbrev ExtendHas : List Gives → List Node → Type 0
-  ExtendHas fields nodes = Each Fine nodes → Each First (flat_map (λ (gives : Gives). gives.nested) fields)
+  ExtendHas fields nodes = Each IsApart fields × (Each Fine nodes → Each First (flat_map (λ (gives : Gives). gives.nested) fields))
 
   -- ---- messages
 
@@ -68,11 +69,11 @@ module _ (syntax : Syntax) where
   flat-first [] h = tt
   flat-first (m ∷ ms) h = each-both RealFirst (each_own m) (flat_map each_own ms) h.0 (flat-first ms h.1)
 
-  message-first : (name : List ℕ) (parts : Parts) → RealFirst (record { fields = parts.field; oneofs = parts.oneof }) → Each First parts.nested → First (message_proto name parts)
+  message-first : (name : List ℕ) (parts : Parts) → RealFirst (record { fields = parts.field; extensions = parts.extension; oneofs = parts.oneof }) → Each First parts.nested → First (message_proto name parts)
   message-first name parts own nested = subst (Each RealFirst) (sym (message-own name parts)) (own, flat-first parts.nested nested)
 
   entry-first : (name : List ℕ) (key value : Ty) → First (message_proto name (entry_parts key value))
-  entry-first name key value = message-first name (entry_parts key value) (record { below = (tt, (tt, tt)); real = 0; indexed = (tt, (tt, refl)) }) tt
+  entry-first name key value = message-first name (entry_parts key value) (record { below = (tt, (tt, tt)); real = 0; indexed = (tt, (tt, refl)); apart = tt }) tt
 
   -- ---- fields
 
@@ -93,6 +94,7 @@ module _ (syntax : Syntax) where
       (node_steps.field (record { label = label; name = name; kind = k'; number = number; options = options; comments = comments; span = span }))
   field-has label name k k' number options comments span h = record {
     made = flag-made (is_proto3_optional syntax label) _ _ refl refl;
+    apart = refl;
     plain = λ fine. flag-plain (is_proto3_optional syntax label) (ap (is_proto3_optional syntax) fine.1.0 ∙ none-plain syntax);
     nested = λ scope fine. h (each-front Fine k'.1 (json_name_nodes (json_name_of options) ++ option_nodes (options_left options)) (fine.1.1)) name.value;
   }
@@ -113,6 +115,11 @@ module _ (syntax : Syntax) where
   plain-fields (f ∷ fs) (n ∷ ns) p fine =
       (p.0.plain (each-front Fine (n a_oneof) (fields_nodes a_oneof ns) fine), plain-fields fs ns p.1 (each-back Fine (n a_oneof) (fields_nodes a_oneof ns) fine))
 
+  extending-apart : (extendee : TypeName) (fields : List Gives) (nodes : List (Holder → List Node)) → Pairs FieldHas fields nodes → Each IsApart (map (extending extendee) fields)
+  extending-apart extendee [] nodes p = tt
+  extending-apart extendee (f ∷ fs) [] p = absurd p
+  extending-apart extendee (f ∷ fs) (n ∷ ns) p = (p.0.apart, extending-apart extendee fs ns p.1)
+
   -- ---- bodies
 
   items-have : (items : List Item) (nodes : List (List Node)) → Pairs ItemHas items nodes → Each Fine (flat_map (λ nodes. nodes) nodes) → Each ItemMade items × Each First (flat_map nested_of items)
@@ -132,9 +139,9 @@ module _ (syntax : Syntax) where
     item_field = λ x nodes h fine. (h.made, h.nested a_message fine);
     item_message = λ x nodes h fine. (tt, (h fine, tt));
     item_oneof = λ x nodes h fine. h fine;
-    item_extend = λ x nodes h fine. (tt, h fine);
+    item_extend = λ x nodes h fine. (h.0, h.1 fine);
     item_enum = λ x fine. (tt, tt);
-    extend = λ extendee fields nodes comments span p fine. subst (Each First) (sym (extending-nested extendee fields)) (nested-fields an_extend fields nodes p fine);
+    extend = λ extendee fields nodes comments span p. (extending-apart extendee fields nodes p, λ fine. subst (Each First) (sym (extending-nested extendee fields)) (nested-fields an_extend fields nodes p fine));
     field = field-has;
     message = λ name body nodes comments span h fine. let parts = h fine in message-first name.value body parts.0 parts.1;
     body = λ items nodes extensions options reserved p fine.
@@ -147,9 +154,12 @@ module _ (syntax : Syntax) where
 
   -- ---- a file
 
+  extend-kept : (x : Extend) → ExtendHas (of_extend (descriptor_steps syntax) x) (of_extend node_steps x)
+  extend-kept x = extend_has KindHas ItemHas ExtendHas FieldHas MessageHas BodyHas OneofHas (descriptor_steps syntax) node_steps all-keep x
+
   item-first : (x : FileItem) → Each Fine (item_nodes x) → Each First (item_messages syntax x)
   item-first (item.Message x) fine = (message_has KindHas ItemHas ExtendHas FieldHas MessageHas BodyHas OneofHas (descriptor_steps syntax) node_steps all-keep x fine, tt)
-  item-first (item.Extend x) fine = extend_has KindHas ItemHas ExtendHas FieldHas MessageHas BodyHas OneofHas (descriptor_steps syntax) node_steps all-keep x fine
+  item-first (item.Extend x) fine = (extend-kept x).1 fine
   item-first (item.Enum x) fine = tt
   item-first (item.Service x) fine = tt
 
@@ -159,10 +169,19 @@ module _ (syntax : Syntax) where
       each-both First (item_messages syntax x) (flat_map (item_messages syntax) xs) (item-first x (each-front Fine (item_nodes x) (flat_map item_nodes xs) fine))
       (all-first xs (each-back Fine (item_nodes x) (flat_map item_nodes xs) fine))
 
+  all-apart : (xs : List FileItem) → AreInNone (flat_map (item_extensions syntax) xs)
+  all-apart [] = tt
+  all-apart (item.Message x ∷ xs) = all-apart xs
+  all-apart (item.Extend x ∷ xs) = apart-fields (of_extend (descriptor_steps syntax) x) (flat_map (item_extensions syntax) xs) (extend-kept x).0 (all-apart xs)
+  all-apart (item.Enum x ∷ xs) = all-apart xs
+  all-apart (item.Service x ∷ xs) = all-apart xs
+
 pub faultless-first : (name : List ℕ) (file : File) → IsFaultless file → HasRealFirst (file_proto name file)
-faultless-first name file right =
-    flat-first file.syntax (flat_map (item_messages file.syntax) file.items)
-    (all-first file.syntax file.items (each-front Fine (flat_map item_nodes file.items) (option_nodes (bodies_of file.options)) (all-fine file right)))
+faultless-first name file right = (
+  flat-first file.syntax (flat_map (item_messages file.syntax) file.items)
+      (all-first file.syntax file.items (each-front Fine (flat_map item_nodes file.items) (option_nodes (bodies_of file.options)) (all-fine file right))),
+  all-apart file.syntax file.items,
+)
 
 -- and of what is answered
 pub answer-first : (name source : List ℕ) (file : File) (found : FileDescriptorProto) → IsFaultless file → found ≡ file_descriptor name source file → HasRealFirst found

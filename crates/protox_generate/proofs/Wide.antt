@@ -20,7 +20,7 @@ use Rattle.protox_ast.proofs.SpansStand.{each-front, each-back}
 use Rattle.protox_describe.specs.Siblings.{greatest}
 use Rattle.protox_describe.specs.Widths.{widths, file_item_width, file_width}
 use Rattle.protox_locate.proofs.FitsParts.{max-fits, from-zero, few, Stands}
-use Rattle.protox_locate.proofs.Keeps.{Keeps, Pairs, message_has, extend_has}
+use Rattle.protox_ast.proofs.Keeps.{Keeps, Pairs, message_has, extend_has}
 
 module _ (n : ℕ) where
   abbrev KindWide : ℕ → places.OfKind → Type 0

@@ -10,3 +10,4 @@ pub mod ExamplesItems
 pub mod ExamplesFaults
 pub mod ExamplesOneofs
 pub mod ExamplesNames
+pub mod ExamplesNamePaths

@@ -6,9 +6,9 @@ use Rattle.protox_describe.specs.File.{file_proto}
 use Rattle.protox_fault.specs.declared.error.SyntaxFailure.{SyntaxFailure}
 use Rattle.protox_fault.specs.declared.error.SyntaxFailure.TheVariants.{Faults, OutOfMemory}
 use Rattle.protox_checks.specs.Checks.{AreListed}
-use Rattle.protox_locate.specs.Lines.{span_numbers}
+use Rattle.protox_places.specs.Lines.{span_numbers}
 use Rattle.protox_locate.specs.Locations.{file_locations}
-use Rattle.protox_locate.specs.Order.{AreByPath, StartsBefore, InOrder}
+use Rattle.protox_places.specs.Order.{AreByPath, StartsBefore, InOrder}
 
 -- what a file of that name and that source gives
 unfoldable pub file_descriptor : List ℕ → List ℕ → File → FileDescriptorProto

@@ -21,7 +21,7 @@ use Rattle.protox_descriptor.specs.declared.tag.file.TheConstants as file_tag
 use Rattle.protox_descriptor.specs.declared.tag.message.TheConstants as message_tag
 use Rattle.protox_descriptor.specs.declared.tag.service.TheConstants as service_tag
 use Rattle.protox_fault.specs.Faults.{span_from}
-use Rattle.protox_locate.specs.Lines.{span_numbers}
+use Rattle.protox_places.specs.Lines.{span_numbers}
 use Rattle.protox_locate.specs.LocationWords.{Path}
 
 -- A name as it is written, or one that is written with capitals too: that of a group's field.

@@ -7,6 +7,7 @@ ghost use Rattle.protox_checks.specs.Faults.{AreWrong, HaveAll, IsFaultless};
 ghost use Rattle.protox_describe.specs.Oneofs.{HasRealFirst};
 ghost use Rattle.protox_describe.specs.Widths.{file_width};
 ghost use Rattle.protox_generate.specs.File.{file_descriptor, AreLocated, AreListedAll, AreSorted};
+ghost use Rattle.protox_generate.specs.NamePaths.{HasPlaces};
 ghost use Rattle.protox_generate.specs.Names.{HasNames};
 ghost use Rattle.protox_locate.specs.Bounds.{file_weight, file_reach};
 
@@ -16,7 +17,7 @@ use protox_describe::file::describe_file;
 use protox_descriptor::descriptor::FileDescriptorProto;
 use protox_fault::error::SyntaxFailure;
 use protox_locate::file::locate_file;
-pub use protox_locate::lines::LineResolver;
+pub use protox_places::lines::LineResolver;
 use std::alloc::{AllocError, Global};
 
 // What the tree gives, where it stands in the source, and its spans and places fit an i32.
@@ -62,6 +63,8 @@ pub fn generate_file(
     ensures oneofs { IfOk result HasRealFirst }
     // Where the path of a location leads to a name, the source has that name there.
     ensures named { IfOk result (HasNames source.now) }
+    // At the path of each name of the descriptor there is exactly one location.
+    ensures placed { IfOk result HasPlaces }
     // A refusal has faults. Each is wrong of the tree, each that is wrong is there, and they are in order.
     ensures wrong { IfErr result (AreWrong ast) }
     ensures all { IfErr result (HaveAll ast) }

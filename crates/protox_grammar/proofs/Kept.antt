@@ -15,6 +15,7 @@ use Rattle.protox_grammar.specs.Rule.{Rule, optional}
 use Rattle.protox_grammar.specs.Rules as r
 use Rattle.protox_grammar.specs.Steps.{Steps, plain_trace, plainly, rows_before}
 use Rattle.protox_grammar.specs.Told.{first_behind}
+use Rattle.protox_grammar.specs.Token as token
 use Rattle.protox_grammar.proofs.Braced as braced
 use Rattle.protox_grammar.proofs.Depths.{body-laws}
 use Rattle.protox_grammar.proofs.Enums as enums
@@ -53,8 +54,8 @@ module _ (some : Place) where
   first-of : {A : Type 0} (rule : Rule Place A) → IsTraced rule → (ns : (x : A) → List (CheckedNode Place)) → ((xs : Rows Place) (x : A × Rows Place) → rule.read xs ≡ Ok x → Says (rule.steps x.0) (ns x.0)) → KeepsFirst rule.read rule.trace
   first-of rule traced ns says p xs x e = ap (first_behind p) (traced.ok xs x e) ∙ kept-of some_package (rule.steps x.0) (ns x.0) (says xs x e) p some
 
-  pub syntax-first : KeepsFirst (optional (only 0) r.syntax).read (optional (only 0) r.syntax).trace
-  syntax-first = first-of (optional (only 0) r.syntax) (optional-laws (only 0) (parts.syntax-laws some) refl).traced (λ o. c.syntax_nodes o) (λ xs x e. (syntax-tells (Unit {0}) x.0).0)
+  pub syntax-first : KeepsFirst (optional (only token.syntax) r.syntax).read (optional (only token.syntax) r.syntax).trace
+  syntax-first = first-of (optional (only token.syntax) r.syntax) (optional-laws (only token.syntax) (parts.syntax-laws some) refl).traced (λ o. c.syntax_nodes o) (λ xs x e. (syntax-tells (Unit {0}) x.0).0)
 
   pub import-first : KeepsFirst (r.«import»).read (r.«import»).trace
   import-first = first-of r.«import» (parts.import-laws some).traced (λ x. AnImport x.value ∷ []) (λ xs x e. (import-tells (Unit {0}) x.0).0)

@@ -77,3 +77,4 @@ pub mod InsideModes
 pub mod FrontModes
 pub mod Outside
 pub mod DeepOutside
+pub mod TokenNames

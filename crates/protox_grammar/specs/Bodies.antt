@@ -327,5 +327,5 @@ statement b = named_fits s.statement (StatementHas b.may) (StatementHas b.fits) 
     (choice (just_mark s.semicolon) (sign s.semicolon) (choice (just_word (codes "import")) «import» (choice (just_word (codes "package")) (noting APackage «package») (choice (just_word (codes "option")) option (choice (just_word (codes "extend")) (extend b) (choice (just_word (codes "message")) (message b) (choice (just_word (codes "enum")) enum service)))))))
 
 unfoldable pub file : {M : Type 0} → Rule M (t.Mbody M) → Rule M (t.File M)
-file b = named_fits s.spell (FileHas b.may) (FileHas b.fits) (λ x. record { syntax = x.0; statements = x.1 }) (λ x. (x.syntax, x.statements))
+file b = named_fits s.spell (FileHas b.may) (FileHas b.fits) (λ (syntax, statements). record { syntax = syntax; statements = statements }) (λ x. (x.syntax, x.statements))
     (seq (optional (just_word (codes "syntax")) syntax) (times all (statement b)))

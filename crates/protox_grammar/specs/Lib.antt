@@ -1,4 +1,5 @@
 pub mod Class
+pub mod Token
 pub mod Reader
 pub mod Steps
 pub mod Rule

@@ -77,7 +77,7 @@ abbrev pub scalar_set : Set
 scalar_set = among_words k.scalars
 
 unfoldable pub strings : {M : Type 0} → Rule M (t.Strings M)
-strings = named s.strings free (λ x. record { first = x.0; others = x.1 }) (λ x. (x.first, x.others))
+strings = named s.strings free (λ (first, others). record { first = first; others = others }) (λ x. (x.first, x.others))
     (seq string (times (only a_string) string))
 
 -- strings that are checked
@@ -85,7 +85,7 @@ abbrev pub noted_strings : {M : Type 0} → (t.Strings M → CheckedNode M) → 
 noted_strings node = noting (λ x. ANode (node x)) strings
 
 unfoldable pub syntax : {M : Type 0} → Rule M (t.Syntax M)
-syntax = named s.syntax free (λ x. record { keyword = x.0; equals_sign = x.1.0; value = x.1.1.0; end = x.1.1.1 }) (λ x. (x.keyword, (x.equals_sign, (x.value, x.end))))
+syntax = named s.syntax free (λ (keyword, (equals_sign, (value, end))). record { keyword = keyword; equals_sign = equals_sign; value = value; end = end }) (λ x. (x.keyword, (x.equals_sign, (x.value, x.end))))
     (seq (the (codes "syntax")) (seq (sign s.equals) (seq (noted_strings ASyntax) (sign s.semicolon))))
 
 abbrev pub to_import_kind : {M : Type 0} → M ⊎ M → t.ImportKind M
@@ -101,19 +101,19 @@ import_kind = named s.import_kind free to_import_kind from_import_kind
     (choice (just_word (codes "weak")) (the (codes "weak")) (the (codes "public")))
 
 unfoldable pub «import» : {M : Type 0} → Rule M (t.Import M)
-«import» = named s.«import» free (λ x. record { keyword = x.0; kind = x.1.0; value = x.1.1.0; end = x.1.1.1 }) (λ x. (x.keyword, (x.kind, (x.value, x.end))))
+«import» = named s.«import» free (λ (keyword, (kind, (value, end))). record { keyword = keyword; kind = kind; value = value; end = end }) (λ x. (x.keyword, (x.kind, (x.value, x.end))))
     (seq (the (codes "import")) (seq (optional (among_words (codes "weak" ∷ codes "public" ∷ [])) import_kind) (seq (noted_strings AnImport) (sign s.semicolon))))
 
 unfoldable pub fullident : {M : Type 0} → Rule M (t.FullIdent M)
-fullident = named s.fullident free (λ x. record { first = x.0; others = x.1 }) (λ x. (x.first, x.others))
+fullident = named s.fullident free (λ (first, others). record { first = first; others = others }) (λ x. (x.first, x.others))
     (seq ident (times (just_mark s.dot) (seq (sign s.dot) ident)))
 
 unfoldable pub «package» : {M : Type 0} → Rule M (t.Package M)
-«package» = named s.«package» free (λ x. record { keyword = x.0; name = x.1.0; end = x.1.1 }) (λ x. (x.keyword, (x.name, x.end)))
+«package» = named s.«package» free (λ (keyword, (name, end)). record { keyword = keyword; name = name; end = end }) (λ x. (x.keyword, (x.name, x.end)))
     (seq (the (codes "package")) (seq fullident (sign s.semicolon)))
 
 unfoldable pub typename : {M : Type 0} → Rule M (t.TypeName M)
-typename = named s.typename free (λ x. record { leading_dot = x.0; name = x.1 }) (λ x. (x.leading_dot, x.name))
+typename = named s.typename free (λ (leading_dot, name). record { leading_dot = leading_dot; name = name }) (λ x. (x.leading_dot, x.name))
     (seq (optional (just_mark s.dot) (sign s.dot)) fullident)
 
 abbrev pub to_part : {M : Type 0} → t.Word M ⊎ (M × (t.TypeName M × M)) → t.Part M
@@ -157,19 +157,19 @@ value = named s.value k.KeepsValue to_value from_value
     (choice (union words (among (an_integer ∷ a_float ∷ mark s.minus ∷ []))) (seq (optional (just_mark s.minus) (sign s.minus)) constant) (choice (only a_string) strings (seq (noting AnOpenBrace (sign s.open_brace)) (noting (λ x. ACloseBrace x.1) closed))))
 
 unfoldable pub body : {M : Type 0} → Rule M (t.Body M)
-body = named s.body k.KeepsBody (λ x. record { first = x.0; others = x.1.0; equals_sign = x.1.1.0; value = x.1.1.1 }) (λ x. (x.first, (x.others, (x.equals_sign, x.value))))
+body = named s.body k.KeepsBody (λ (first, (others, (equals_sign, value))). record { first = first; others = others; equals_sign = equals_sign; value = value }) (λ x. (x.first, (x.others, (x.equals_sign, x.value))))
     (seq part (seq (times (just_mark s.dot) (seq (sign s.dot) part)) (seq (sign s.equals) value)))
 
 unfoldable pub option : {M : Type 0} → Rule M (t.OptionStatement M)
-option = named s.option k.KeepsOption (λ x. record { keyword = x.0; body = x.1.0; end = x.1.1 }) (λ x. (x.keyword, (x.body, x.end)))
+option = named s.option k.KeepsOption (λ (keyword, (body, end)). record { keyword = keyword; body = body; end = end }) (λ x. (x.keyword, (x.body, x.end)))
     (seq (the (codes "option")) (seq body (sign s.semicolon)))
 
 unfoldable pub list : {M : Type 0} → Rule M (t.OptionList M)
-list = named s.list k.KeepsList (λ x. record { open_at = x.0; first = x.1.0; others = x.1.1.0; close_at = x.1.1.1 }) (λ x. (x.open_at, (x.first, (x.others, x.close_at))))
+list = named s.list k.KeepsList (λ (open_at, (first, (others, close_at))). record { open_at = open_at; first = first; others = others; close_at = close_at }) (λ x. (x.open_at, (x.first, (x.others, x.close_at))))
     (seq (sign s.open_bracket) (seq body (seq (times (just_mark s.comma) (seq (sign s.comma) body)) (sign s.close_bracket))))
 
 unfoldable pub int : {M : Type 0} → Rule M (t.Int M)
-int = named s.int free (λ x. record { sign = x.0; number = x.1 }) (λ x. (x.sign, x.number))
+int = named s.int free (λ (sign, number). record { sign = sign; number = number }) (λ x. (x.sign, x.number))
     (seq (optional (just_mark s.minus) (sign s.minus)) integer)
 
 abbrev pub to_type : {M : Type 0} → (t.Scalar × M) ⊎ t.TypeName M → t.FieldType M
@@ -203,11 +203,11 @@ abbrev pub NormalAlone : {M : Type 0} → t.Normal M → Type 0
 NormalAlone x = k.TypeBeginsWithNone k.scalars x.type × k.Given k.KeepsList x.options
 
 unfoldable pub normal : {M : Type 0} → Rule M (t.Normal M)
-normal = named s.normal NormalAlone (λ x. record { type = x.0; name = x.1.0; equals_sign = x.1.1.0; number = x.1.1.1.0; options = x.1.1.1.1.0; end = x.1.1.1.1.1 }) (λ x. (x.type, (x.name, (x.equals_sign, (x.number, (x.options, x.end))))))
+normal = named s.normal NormalAlone (λ (type, (name, (equals_sign, (number, (options, end))))). record { type = type; name = name; equals_sign = equals_sign; number = number; options = options; end = end }) (λ x. (x.type, (x.name, (x.equals_sign, (x.number, (x.options, x.end))))))
     (seq type (seq ident (seq (sign s.equals) (seq int (seq (optional (just_mark s.open_bracket) list) (sign s.semicolon))))))
 
 unfoldable pub map : {M : Type 0} → Rule M (t.Map M)
-map = named s.map k.KeepsMap (λ x. record { keyword = x.0; open_at = x.1.0; key = x.1.1.0; comma_at = x.1.1.1.0; value = x.1.1.1.1.0; close_at = x.1.1.1.1.1.0; name = x.1.1.1.1.1.1.0; equals_sign = x.1.1.1.1.1.1.1.0; number = x.1.1.1.1.1.1.1.1.0; options = x.1.1.1.1.1.1.1.1.1.0; end = x.1.1.1.1.1.1.1.1.1.1 }) (λ x. (x.keyword, (x.open_at, (x.key, (x.comma_at, (x.value, (x.close_at, (x.name, (x.equals_sign, (x.number, (x.options, x.end)))))))))))
+map = named s.map k.KeepsMap (λ (keyword, (open_at, (key, (comma_at, (value, (close_at, (name, (equals_sign, (number, (options, end)))))))))). record { keyword = keyword; open_at = open_at; key = key; comma_at = comma_at; value = value; close_at = close_at; name = name; equals_sign = equals_sign; number = number; options = options; end = end }) (λ x. (x.keyword, (x.open_at, (x.key, (x.comma_at, (x.value, (x.close_at, (x.name, (x.equals_sign, (x.number, (x.options, x.end)))))))))))
     (seq (the (codes "map")) (seq (sign s.open_angle) (seq type (seq (sign s.comma) (seq type (seq (sign s.close_angle) (seq ident (seq (sign s.equals) (seq int (seq (optional (just_mark s.open_bracket) list) (sign s.semicolon)))))))))))
 
 -- `to` comes before both
@@ -223,14 +223,14 @@ unfoldable pub range_end : {M : Type 0} → Rule M (t.RangeEnd M)
 range_end = named s.range_end free to_range_end from_range_end (seq (the (codes "to")) (choice (among (an_integer ∷ mark s.minus ∷ [])) int (the (codes "max"))))
 
 unfoldable pub range : {M : Type 0} → Rule M (t.Range M)
-range = named s.range free (λ x. record { start = x.0; stop = x.1 }) (λ x. (x.start, x.stop)) (seq int (optional (just_word (codes "to")) range_end))
+range = named s.range free (λ (start, stop). record { start = start; stop = stop }) (λ x. (x.start, x.stop)) (seq int (optional (just_word (codes "to")) range_end))
 
 unfoldable pub ranges : {M : Type 0} → Rule M (t.Ranges M)
-ranges = named s.ranges free (λ x. record { first = x.0; others = x.1 }) (λ x. (x.first, x.others))
+ranges = named s.ranges free (λ (first, others). record { first = first; others = others }) (λ x. (x.first, x.others))
     (seq range (times (just_mark s.comma) (seq (sign s.comma) range)))
 
 unfoldable pub names : {M : Type 0} → Rule M (t.Names M)
-names = named s.names free (λ x. record { first = x.0; others = x.1 }) (λ x. (x.first, x.others))
+names = named s.names free (λ (first, others). record { first = first; others = others }) (λ x. (x.first, x.others))
     (seq (noted_strings AReservedName) (times (just_mark s.comma) (seq (sign s.comma) (noted_strings AReservedName))))
 
 abbrev pub to_reserved_kind : {M : Type 0} → t.Ranges M ⊎ t.Names M → t.ReservedKind M
@@ -246,18 +246,18 @@ reserved_kind = named s.reserved_kind free to_reserved_kind from_reserved_kind
     (choice (among (an_integer ∷ mark s.minus ∷ [])) ranges names)
 
 unfoldable pub reserved : {M : Type 0} → Rule M (t.Reserved M)
-reserved = named s.reserved free (λ x. record { keyword = x.0; kind = x.1.0; end = x.1.1 }) (λ x. (x.keyword, (x.kind, x.end)))
+reserved = named s.reserved free (λ (keyword, (kind, end)). record { keyword = keyword; kind = kind; end = end }) (λ x. (x.keyword, (x.kind, x.end)))
     (seq (the (codes "reserved")) (seq reserved_kind (sign s.semicolon)))
 
 unfoldable pub extensions : {M : Type 0} → Rule M (t.Extensions M)
-extensions = named s.extensions k.KeepsExtensions (λ x. record { keyword = x.0; ranges = x.1.0; options = x.1.1.0; end = x.1.1.1 }) (λ x. (x.keyword, (x.ranges, (x.options, x.end))))
+extensions = named s.extensions k.KeepsExtensions (λ (keyword, (ranges, (options, end))). record { keyword = keyword; ranges = ranges; options = options; end = end }) (λ x. (x.keyword, (x.ranges, (x.options, x.end))))
     (seq (the (codes "extensions")) (seq ranges (seq (optional (just_mark s.open_bracket) list) (sign s.semicolon))))
 
 abbrev pub EvalueAlone : {M : Type 0} → t.Evalue M → Type 0
 EvalueAlone x = k.Given k.KeepsList x.options
 
 unfoldable pub evalue : {M : Type 0} → Rule M (t.Evalue M)
-evalue = named s.evalue EvalueAlone (λ x. record { name = x.0; equals_sign = x.1.0; number = x.1.1.0; options = x.1.1.1.0; end = x.1.1.1.1 }) (λ x. (x.name, (x.equals_sign, (x.number, (x.options, x.end)))))
+evalue = named s.evalue EvalueAlone (λ (name, (equals_sign, (number, (options, end)))). record { name = name; equals_sign = equals_sign; number = number; options = options; end = end }) (λ x. (x.name, (x.equals_sign, (x.number, (x.options, x.end)))))
     (seq ident (seq (sign s.equals) (seq int (seq (optional (just_mark s.open_bracket) list) (sign s.semicolon)))))
 
 abbrev pub to_enum_element : {M : Type 0} → M ⊎ ((t.OptionStatement M ⊎ (t.Reserved M)) ⊎ t.Evalue M) → t.EnumElement M
@@ -277,7 +277,7 @@ enum_element = named s.enum_element k.KeepsEnumElement to_enum_element from_enum
     (choice (just_mark s.semicolon) (sign s.semicolon) (unless (among_words (codes "option" ∷ codes "reserved" ∷ [])) (choice (just_word (codes "option")) option reserved) evalue))
 
 unfoldable pub enum : {M : Type 0} → Rule M (t.Enum M)
-enum = named s.enum k.KeepsEnum (λ x. record { keyword = x.0; name = x.1.0; open_at = x.1.1.0; elements = x.1.1.1.0; close_at = x.1.1.1.1 }) (λ x. (x.keyword, (x.name, (x.open_at, (x.elements, x.close_at)))))
+enum = named s.enum k.KeepsEnum (λ (keyword, (name, (open_at, (elements, close_at)))). record { keyword = keyword; name = name; open_at = open_at; elements = elements; close_at = close_at }) (λ x. (x.keyword, (x.name, (x.open_at, (x.elements, x.close_at)))))
     (seq (the (codes "enum")) (seq ident (seq (sign s.open_brace) (seq (times (but_mark s.close_brace) enum_element) (sign s.close_brace)))))
 
 abbrev pub to_rpc_type : {M : Type 0} → (M × t.TypeName M) ⊎ t.TypeName M → t.RpcType M
@@ -319,7 +319,7 @@ rpc_end = named s.rpc_end k.KeepsRpcEnd to_rpc_end from_rpc_end
     (choice (just_mark s.semicolon) (sign s.semicolon) (seq (sign s.open_brace) (seq (times (but_mark s.close_brace) rpc_element) (sign s.close_brace))))
 
 unfoldable pub rpc : {M : Type 0} → Rule M (t.Rpc M)
-rpc = named s.rpc k.KeepsRpc (λ x. record { keyword = x.0; name = x.1.0; input_open = x.1.1.0; input = x.1.1.1.0; input_close = x.1.1.1.1.0; returns_at = x.1.1.1.1.1.0; output_open = x.1.1.1.1.1.1.0; output = x.1.1.1.1.1.1.1.0; output_close = x.1.1.1.1.1.1.1.1.0; end = x.1.1.1.1.1.1.1.1.1 }) (λ x. (x.keyword, (x.name, (x.input_open, (x.input, (x.input_close, (x.returns_at, (x.output_open, (x.output, (x.output_close, x.end))))))))))
+rpc = named s.rpc k.KeepsRpc (λ (keyword, (name, (input_open, (input, (input_close, (returns_at, (output_open, (output, (output_close, end))))))))). record { keyword = keyword; name = name; input_open = input_open; input = input; input_close = input_close; returns_at = returns_at; output_open = output_open; output = output; output_close = output_close; end = end }) (λ x. (x.keyword, (x.name, (x.input_open, (x.input, (x.input_close, (x.returns_at, (x.output_open, (x.output, (x.output_close, x.end))))))))))
     (seq (the (codes "rpc")) (seq ident (seq (sign s.open_paren) (seq rpc_type (seq (sign s.close_paren) (seq (the (codes "returns")) (seq (sign s.open_paren) (seq rpc_type (seq (sign s.close_paren) rpc_end)))))))))
 
 abbrev pub to_service_element : {M : Type 0} → M ⊎ (t.OptionStatement M ⊎ t.Rpc M) → t.ServiceElement M
@@ -337,5 +337,5 @@ service_element = named s.service_element k.KeepsServiceElement to_service_eleme
     (choice (just_mark s.semicolon) (sign s.semicolon) (choice (just_word (codes "option")) option rpc))
 
 unfoldable pub service : {M : Type 0} → Rule M (t.Service M)
-service = named s.service k.KeepsService (λ x. record { keyword = x.0; name = x.1.0; open_at = x.1.1.0; elements = x.1.1.1.0; close_at = x.1.1.1.1 }) (λ x. (x.keyword, (x.name, (x.open_at, (x.elements, x.close_at)))))
+service = named s.service k.KeepsService (λ (keyword, (name, (open_at, (elements, close_at)))). record { keyword = keyword; name = name; open_at = open_at; elements = elements; close_at = close_at }) (λ x. (x.keyword, (x.name, (x.open_at, (x.elements, x.close_at)))))
     (seq (the (codes "service")) (seq ident (seq (sign s.open_brace) (seq (times (but_mark s.close_brace) service_element) (sign s.close_brace)))))

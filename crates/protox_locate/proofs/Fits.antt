@@ -21,7 +21,7 @@ use Rattle.protox_ast.proofs.LevelsStand.{declarations-stand}
 use Rattle.protox_ast.proofs.SpansStand.{each-front, each-back}
 use Rattle.protox_locate.specs.Bounds.{total, greatest, reach, extensions_reach, reserved_reach, reaches, import_reach, package_reach, syntax_reach, file_item_reach, file_reach, extensions_weight, reserved_weight, weights, file_item_weight, file_weight}
 use Rattle.protox_locate.proofs.FitsParts.{max-fits, max-holds, from-zero, spans-back, few, Holds, SpanFits, Stands, each-fits, parts-fit, far-fits, place-fits, type-name-fits, list-fits, options-fit, reserved-fits, extensions-fit, enum-fits, service-fits, totals-hold, list-holds, reserved-holds, extensions-hold, enum-holds, service-holds}
-use Rattle.protox_locate.proofs.Keeps.{Keeps, Pairs, message_has, extend_has}
+use Rattle.protox_ast.proofs.Keeps.{Keeps, Pairs, message_has, extend_has}
 
 module _ (n : ℕ) where
   -- ---- how far the spans of a tree reach

@@ -10,9 +10,9 @@ use Rattle.protox_ast.specs.Siblings.{FileStands, SiblingsStand}
 use Rattle.protox_ast.proofs.Siblings.{StartsRise, starts-rise}
 use Rattle.protox_ast.specs.declared.ast.File.{File}
 use Rattle.protox_descriptor.specs.declared.descriptor.source_code_info.Location.{Location}
-use Rattle.protox_locate.specs.Lines.{newlines, behind_last, line, column, span_numbers}
+use Rattle.protox_places.specs.Lines.{newlines, behind_last, line, column, span_numbers}
 use Rattle.protox_locate.specs.Locations.{file_locations}
-use Rattle.protox_locate.specs.Order.{ComesBefore, StartsBefore, InOrder}
+use Rattle.protox_places.specs.Order.{ComesBefore, StartsBefore, InOrder}
 use Rattle.protox_locate.proofs.Order.{pos_below}
 use Rattle.protox_locate.proofs.OrderLaw.{file-fine}
 use Rattle.protox_locate.proofs.Rows.{RiseBy, Standing}

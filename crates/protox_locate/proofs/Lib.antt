@@ -1,14 +1,8 @@
-pub mod First
 pub mod Fits
 pub mod FitsParts
 pub mod InOrder
-pub mod Keeps
 pub mod Left
-pub mod LineFacts
-pub mod Nearest
-pub mod Newlines
 pub mod Numbered
 pub mod Order
 pub mod OrderLaw
 pub mod Rows
-pub mod SortedPaths

@@ -8,15 +8,12 @@ use Rattle.std.proofs.lemmas.Int.{ints}
 use Rattle.protox_ast.specs.Basics.{Each}
 use Rattle.protox_descriptor.specs.declared.descriptor.source_code_info.Location.{Location}
 use Rattle.protox_locate.specs.LocationWords.{Path, Part, nth, numbered}
-use Rattle.protox_locate.specs.Order.{ComesBefore, Ahead, by_path, by_start, InOrder}
+use Rattle.protox_places.proofs.SortedPaths.{each_so}
+use Rattle.protox_places.specs.Order.{ComesBefore, Ahead, by_path, by_start, InOrder}
 
 pub each_both : {A : Type 0} (P : A → Type 0) (xs ys : List A) → Each P xs → Each P ys → Each P (xs ++ ys)
 each_both P [] ys a b = b
 each_both P (x ∷ xs) ys a b = (a.0, each_both P xs ys a.1 b)
-
-pub each_so : {A : Type 0} (P Q : A → Type 0) (xs : List A) → ((x : A) → P x → Q x) → Each P xs → Each Q xs
-each_so P Q [] so a = tt
-each_so P Q (x ∷ xs) so a = (so x a.0, each_so P Q xs so a.1)
 
 -- ---- the order of paths
 

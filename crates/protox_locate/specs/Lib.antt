@@ -1,12 +1,7 @@
-pub mod Lines
 pub mod LocationWords
 pub mod EnumLocations
 pub mod ServiceLocations
 pub mod FieldLocations
-pub mod First
 pub mod Locations
-pub mod Order
 pub mod Bounds
 pub mod Walk
-pub mod Innermost
-pub mod Nearer

@@ -3,15 +3,15 @@
 ghost use Rattle.std.specs.Prelude.{◌≡◌, ◌≤◌, ◌++◌, ◌∷◌, [], ℤ, pos, length, IfOk, OnOk, List};
 ghost use Rattle.std.specs.Option.{option_copied};
 ghost use Rattle.protox_locate.specs.Bounds.{reach};
-ghost use Rattle.protox_locate.specs.Lines.{numbers_at};
+ghost use Rattle.protox_places.specs.Lines.{numbers_at};
 ghost use Rattle.protox_locate.specs.LocationWords.{bare, commented, part};
 ghost use Rattle.protox_locate.specs.Walk.{Emits};
 
-use crate::lines::LineResolver;
 use protox_ast::ast::Comments;
 use protox_descriptor::descriptor::source_code_info::Location;
 use protox_descriptor::values::{Items, Numbers, Text};
 use protox_fault::error::Span;
+use protox_places::lines::LineResolver;
 use std::alloc::{AllocError, Global};
 
 /// The path to the part that is read, the locations so far, and the line in which the last of them starts:

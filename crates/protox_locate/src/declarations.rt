@@ -2,7 +2,7 @@
 
 ghost use Rattle.std.specs.Prelude.{◌≡◌, ◌≤◌, ◌+◌, flat_map, map, IfOk, OnOk};
 ghost use Rattle.protox_locate.specs.Bounds.{file_item_reach, file_item_weight, greatest, total};
-ghost use Rattle.protox_locate.specs.Lines.{numbers_at};
+ghost use Rattle.protox_places.specs.Lines.{numbers_at};
 ghost use Rattle.protox_locate.specs.LocationWords.{each_at, part, siblings_at};
 ghost use Rattle.protox_locate.specs.Locations.{item_blocks, item_enums, item_extensions, item_messages, item_services};
 ghost use Rattle.protox_locate.specs.Walk.{Emits, Numbers};
@@ -10,11 +10,11 @@ ghost use Rattle.protox_locate.specs.Walk.{Emits, Numbers};
 use crate::context::Context;
 use crate::enums::enum_at;
 use crate::fields::extensions_in;
-use crate::lines::LineResolver;
 use crate::messages::{locate_message, messages_in};
 use crate::services::locate_service;
 use protox_ast::ast::FileItem;
 use protox_descriptor::tag::file::{ENUM_TYPE, EXTENSION, MESSAGE_TYPE, SERVICE};
+use protox_places::lines::LineResolver;
 use std::alloc::{AllocError, Global};
 
 /// The messages, those of groups in `extend` blocks among them.

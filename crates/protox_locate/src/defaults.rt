@@ -4,15 +4,15 @@ ghost use Rattle.std.specs.Prelude.{◌≡◌, ◌≤◌, ◌∷◌, codes, find
 ghost use Rattle.protox_ast.specs.Options.{default_of, has_name as is_called, json_name_of, options_left};
 ghost use Rattle.protox_locate.specs.Bounds.{body_reach, greatest, list_reach, list_weight, reach};
 ghost use Rattle.protox_locate.specs.FieldLocations.{defaulted, json_named};
-ghost use Rattle.protox_locate.specs.Lines.{numbers_at};
+ghost use Rattle.protox_places.specs.Lines.{numbers_at};
 ghost use Rattle.protox_locate.specs.LocationWords.{bare, option_body, option_list, part, siblings_at};
 ghost use Rattle.protox_locate.specs.Walk.{Emits, left};
 
 use crate::context::Context;
-use crate::lines::LineResolver;
 use protox_ast::ast::{Boxed, Opt, OptionBody, OptionList};
 use protox_descriptor::tag::UNINTERPRETED_OPTION;
 use protox_descriptor::tag::field::{DEFAULT_VALUE, JSON_NAME, OPTIONS};
+use protox_places::lines::LineResolver;
 use std::alloc::{AllocError, Global};
 
 // Whether it is the first of that name, where one was taken before or not.

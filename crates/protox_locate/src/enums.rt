@@ -3,17 +3,17 @@
 ghost use Rattle.std.specs.Prelude.{◌≡◌, ◌≤◌, map, OnOk};
 ghost use Rattle.protox_locate.specs.Bounds.{enum_reach, enum_weight, greatest, total, value_reach, value_weight};
 ghost use Rattle.protox_locate.specs.EnumLocations.{enum_locations, enum_value_locations};
-ghost use Rattle.protox_locate.specs.Lines.{numbers_at};
+ghost use Rattle.protox_places.specs.Lines.{numbers_at};
 ghost use Rattle.protox_locate.specs.LocationWords.{nth, siblings_at};
 ghost use Rattle.protox_locate.specs.Walk.{Emits};
 
 use crate::context::Context;
-use crate::lines::LineResolver;
 use crate::options::{locate_list, locate_options};
 use crate::ranges::{locate_names, locate_ranges};
 use protox_ast::ast::{Enum, EnumValue};
 use protox_descriptor::tag::enum_::{NAME, OPTIONS, RESERVED_NAME, RESERVED_RANGE, VALUE};
 use protox_descriptor::tag::enum_value as value_tag;
+use protox_places::lines::LineResolver;
 use std::alloc::{AllocError, Global};
 
 /// An enum, by its tag and its number.

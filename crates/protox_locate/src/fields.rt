@@ -6,17 +6,17 @@ ghost use Rattle.protox_ast.specs.Steps.{of_extend, of_field, of_kind};
 ghost use Rattle.protox_ast.specs.declared.ast.Field.{out-Field};
 ghost use Rattle.protox_locate.specs.Bounds.{greatest, place_reach, reach, reaches, total, weights};
 ghost use Rattle.protox_locate.specs.FieldLocations.{from_number, itself, label_locations, labelled, type_tag_of, typed};
-ghost use Rattle.protox_locate.specs.Lines.{numbers_at};
+ghost use Rattle.protox_places.specs.Lines.{numbers_at};
 ghost use Rattle.protox_locate.specs.LocationWords.{bare, nth, part};
 ghost use Rattle.protox_locate.specs.Locations.{location_steps};
 ghost use Rattle.protox_locate.specs.Walk.{Emits, Numbers};
 
 use crate::context::Context;
 use crate::defaults::{locate_default, locate_json_name, locate_others};
-use crate::lines::LineResolver;
 use protox_ast::ast::{Extend, Field, FieldKind, Ty, TypeName};
 use protox_descriptor::tag::field::{EXTENDEE, LABEL, NAME, NUMBER, TYPE, TYPE_NAME};
 use protox_descriptor::tag::message::FIELD;
+use protox_places::lines::LineResolver;
 use std::alloc::{AllocError, Global};
 
 /// Fields that stand one after another, the first of which has the number `first`. Answers that of

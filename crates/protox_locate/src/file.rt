@@ -3,9 +3,9 @@
 ghost use Rattle.std.specs.Prelude.{◌≡◌, ◌≤◌, length, IfOk, OnOk};
 ghost use Rattle.protox_ast.specs.Siblings.{FileStands};
 ghost use Rattle.protox_locate.specs.Bounds.{file_reach, file_weight, package_reach, syntax_reach};
-ghost use Rattle.protox_locate.specs.Lines.{numbers_at, span_numbers};
+ghost use Rattle.protox_places.specs.Lines.{numbers_at, span_numbers};
 ghost use Rattle.protox_locate.specs.Locations.{file_at, file_from_blocks, file_locations, package_locations, syntax_locations};
-ghost use Rattle.protox_locate.specs.Order.{AreByPath, InOrder, StartsBefore};
+ghost use Rattle.protox_places.specs.Order.{AreByPath, InOrder, StartsBefore};
 ghost use Rattle.protox_locate.specs.Walk.{Emits};
 
 use crate::context::Context;
@@ -13,12 +13,12 @@ use crate::declarations::{
     locate_blocks, locate_enums, locate_extensions, locate_messages, locate_services,
 };
 use crate::imports::{locate_imports, locate_public_words, locate_weak_words};
-use crate::lines::LineResolver;
 use crate::options::locate_options;
 use protox_ast::ast::{Comments, File, Opt, Package};
 use protox_descriptor::descriptor::SourceCodeInfo;
 use protox_descriptor::tag::file::{OPTIONS, PACKAGE, SYNTAX};
 use protox_fault::error::Span;
+use protox_places::lines::LineResolver;
 use std::alloc::{AllocError, Global};
 
 /// Where each part of the file stands in `source`, in the order of the paths. Or `AllocError`.

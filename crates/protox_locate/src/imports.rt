@@ -3,15 +3,15 @@
 ghost use Rattle.std.specs.Prelude.{◌≡◌, ◌≤◌, flat_map, length, map, OnOk};
 ghost use Rattle.protox_ast.specs.declared.ast.Import as import_type;
 ghost use Rattle.protox_locate.specs.Bounds.{greatest, import_reach};
-ghost use Rattle.protox_locate.specs.Lines.{numbers_at};
+ghost use Rattle.protox_places.specs.Lines.{numbers_at};
 ghost use Rattle.protox_locate.specs.LocationWords.{siblings_at};
 ghost use Rattle.protox_locate.specs.Locations.{import_locations, public_words, weak_words};
 ghost use Rattle.protox_locate.specs.Walk.{Emits};
 
 use crate::context::Context;
-use crate::lines::LineResolver;
 use protox_ast::ast::{Import, ImportKind};
 use protox_descriptor::tag::file::{DEPENDENCY, PUBLIC_DEPENDENCY, WEAK_DEPENDENCY};
+use protox_places::lines::LineResolver;
 use std::alloc::{AllocError, Global};
 
 /// The import statements.

@@ -3,7 +3,7 @@
 ghost use Rattle.std.specs.Prelude.{◌≡◌, ◌≤◌, ◌+◌, flat_map, map, IfOk, OnOk};
 ghost use Rattle.protox_ast.specs.Steps.{of_item, of_oneof};
 ghost use Rattle.protox_locate.specs.Bounds.{greatest, reaches, total, weights};
-ghost use Rattle.protox_locate.specs.Lines.{numbers_at};
+ghost use Rattle.protox_places.specs.Lines.{numbers_at};
 ghost use Rattle.protox_locate.specs.LocationWords.{each_at, nth, part};
 ghost use Rattle.protox_locate.specs.Locations.{all_of, location_steps};
 ghost use Rattle.protox_locate.specs.Walk.{Emits, Numbers};
@@ -11,11 +11,11 @@ ghost use Rattle.protox_locate.specs.Walk.{Emits, Numbers};
 use crate::context::Context;
 use crate::enums::enum_at;
 use crate::fields::{extensions_in, fields_in, locate_field};
-use crate::lines::LineResolver;
 use crate::options::locate_options;
 use protox_ast::ast::{MessageItem, Oneof};
 use protox_descriptor::tag::message::{ENUM_TYPE, EXTENSION, FIELD, ONEOF_DECL};
 use protox_descriptor::tag::oneof as oneof_tag;
+use protox_places::lines::LineResolver;
 use std::alloc::{AllocError, Global};
 
 /// The fields, those of oneofs among them.

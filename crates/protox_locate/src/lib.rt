@@ -1,17 +1,14 @@
-//! Where in the source each part of a file stands, and which of these locations have a path.
+//! Where in the source each part of a file stands.
 #![tactic(auto)]
 
-mod at;
 mod context;
 mod declarations;
 mod defaults;
 mod enums;
 mod fields;
 pub mod file;
-pub mod find;
 mod imports;
 mod items;
-pub mod lines;
 mod messages;
 mod options;
 mod ranges;

@@ -4,17 +4,17 @@ ghost use Rattle.std.specs.Prelude.{◌≡◌, ◌≤◌, ◌+◌, map, IfOk, On
 ghost use Rattle.protox_ast.specs.Steps.{of_body, of_field, of_item, of_message};
 ghost use Rattle.protox_ast.specs.declared.ast.MessageBody.{out-MessageBody};
 ghost use Rattle.protox_locate.specs.Bounds.{greatest, reaches, total, weights};
-ghost use Rattle.protox_locate.specs.Lines.{numbers_at};
+ghost use Rattle.protox_places.specs.Lines.{numbers_at};
 ghost use Rattle.protox_locate.specs.Locations.{all_of, from_blocks, location_steps, messages_of as all_messages};
 ghost use Rattle.protox_locate.specs.Walk.{Emits, Numbers};
 
 use crate::context::Context;
 use crate::items::{locate_blocks, locate_enums, locate_extensions, locate_fields, locate_oneofs};
-use crate::lines::LineResolver;
 use crate::options::locate_options;
 use crate::ranges::{locate_extension_ranges, locate_names, locate_ranges};
 use protox_ast::ast::{Field, FieldKind, Message, MessageBody, MessageItem};
 use protox_descriptor::tag::message::{NAME, NESTED_TYPE, OPTIONS, RESERVED_NAME, RESERVED_RANGE};
+use protox_places::lines::LineResolver;
 use std::alloc::{AllocError, Global};
 
 /// A message, whose path is the current one.

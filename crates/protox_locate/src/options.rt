@@ -3,14 +3,14 @@
 ghost use Rattle.std.specs.Prelude.{◌≡◌, ◌≤◌, ◌∷◌, map, length, OnOk};
 ghost use Rattle.protox_ast.specs.Options.{listed};
 ghost use Rattle.protox_locate.specs.Bounds.{body_reach, greatest, list_reach, list_weight, options_reach, reach};
-ghost use Rattle.protox_locate.specs.Lines.{numbers_at};
+ghost use Rattle.protox_places.specs.Lines.{numbers_at};
 ghost use Rattle.protox_locate.specs.LocationWords.{bare, each_at, option_body, option_list, option_place, option_statement, option_statements, part, siblings_at};
 ghost use Rattle.protox_locate.specs.Walk.{Emits};
 
 use crate::context::Context;
-use crate::lines::LineResolver;
 use protox_ast::ast::{Boxed, Opt, Option as OptionStatement, OptionBody, OptionList};
 use protox_descriptor::tag::UNINTERPRETED_OPTION;
+use protox_places::lines::LineResolver;
 use std::alloc::{AllocError, Global};
 
 /// Option statements, whose path is the current one and then the tag.

@@ -6,17 +6,17 @@ ghost use Rattle.protox_ast.specs.Ranges.{kind_names, kind_ranges};
 ghost use Rattle.protox_ast.specs.declared.ast.Extensions as extensions_type;
 ghost use Rattle.protox_ast.specs.declared.ast.Reserved as reserved_type;
 ghost use Rattle.protox_locate.specs.Bounds.{extensions_reach, extensions_weight, greatest, kind_reach, kind_weight, list_reach, list_weight, name_reach, range_reach, reserved_reach, reserved_weight, total};
-ghost use Rattle.protox_locate.specs.Lines.{numbers_at};
+ghost use Rattle.protox_places.specs.Lines.{numbers_at};
 ghost use Rattle.protox_locate.specs.LocationWords.{each_at, extension_range, extensions_statement, extensions_statements, name_statement, name_statements, nth, option_list, part, range_locations, range_statement, range_statements, reserved_name, siblings_at};
 ghost use Rattle.protox_locate.specs.Walk.{Emits, Numbers};
 
 use crate::context::Context;
-use crate::lines::LineResolver;
 use crate::options::locate_list;
 use protox_ast::ast::{Extensions, Ident, Reserved, ReservedKind, ReservedRange};
 use protox_descriptor::tag::message::EXTENSION_RANGE;
 use protox_descriptor::tag::message::extension_range::OPTIONS;
 use protox_descriptor::tag::message::reserved_range::{END, START};
+use protox_places::lines::LineResolver;
 use std::alloc::{AllocError, Global};
 
 fn locate_range(

@@ -2,18 +2,18 @@
 
 ghost use Rattle.std.specs.Prelude.{◌≡◌, ◌≤◌, map, OnOk};
 ghost use Rattle.protox_locate.specs.Bounds.{greatest, method_reach, method_weight, service_reach, service_weight, span_reach, total};
-ghost use Rattle.protox_locate.specs.Lines.{numbers_at};
+ghost use Rattle.protox_places.specs.Lines.{numbers_at};
 ghost use Rattle.protox_locate.specs.LocationWords.{part, siblings_at};
 ghost use Rattle.protox_locate.specs.ServiceLocations.{method_locations, service_locations, stream_locations};
 ghost use Rattle.protox_locate.specs.Walk.{Emits};
 
 use crate::context::Context;
-use crate::lines::LineResolver;
 use crate::options::locate_options;
 use protox_ast::ast::{Method, Opt, Service};
 use protox_descriptor::tag::method as method_tag;
 use protox_descriptor::tag::service::{METHOD, NAME, OPTIONS};
 use protox_fault::error::Span;
+use protox_places::lines::LineResolver;
 use std::alloc::{AllocError, Global};
 
 /// A service, whose path is the current one.

@@ -19,6 +19,7 @@ use Rattle.protox_grammar.specs.Rule as rule
 use Rattle.protox_grammar.specs.Rules as r
 use Rattle.protox_grammar.specs.Steps.{AnOpenBrace, ACloseBrace, star_trace}
 use Rattle.protox_grammar.specs.Told.{brace_notes}
+use Rattle.protox_grammar.specs.Token as token
 use Rattle.protox_grammar.proofs.Closed.{closed-read}
 use Rattle.protox_grammar.proofs.Shows.{as_is, seq-shows, right-shows, two, three}
 use Rattle.protox_grammar.proofs.Telling.{noting, plain-tells, seq_trace}
@@ -37,13 +38,13 @@ here = record { span = record { start = 0; end = 0 }; detached = []; leading = N
 unfoldable pub part : Silent r.part ast.part
 unfolding r.part
 part = renamed r.to_part (two _ _ (λ x. refl) (λ x. refl))
-    (choice words (seen name_part.Ident ident) (seen (λ x. name_part.Extension x.1.0.0 (ast.join x.0.span x.1.1.span)) (both (sign s.open_paren) (both typename (sign s.close_paren)))))
+    (choice words (seen name_part.Ident ident) (seen (λ (open_at, ((name, _), close_at)). name_part.Extension name (ast.join open_at.span close_at.span)) (both (sign s.open_paren) (both typename (sign s.close_paren)))))
 
 unfoldable pub more_part : Silent (rule.seq (r.sign s.dot) r.part) (λ y. ast.part y.1)
 more_part = seen (λ x. x.1) (both (sign s.dot) part)
 
-unfoldable pub name : Silent (rule.seq r.part (rule.times (only 42) (rule.seq (r.sign s.dot) r.part))) (list_view ast.part (λ y. ast.part y.1))
-name = list_of (only 42) part more_part
+unfoldable pub name : Silent (rule.seq r.part (rule.times (only token.dot) (rule.seq (r.sign s.dot) r.part))) (list_view ast.part (λ y. ast.part y.1))
+name = list_of (only token.dot) part more_part
 
 -- ---- constants
 
@@ -55,7 +56,7 @@ constant_seen (tree.float x) = unsigned.Float x.0 x.1.span
 unfoldable pub constant : Silent r.constant constant_seen
 unfolding r.constant
 constant = renamed r.to_constant (three _ _ (λ x. refl) (λ x. refl) (λ x. refl))
-    (choice words (seen unsigned.Ident ident) (choice (only 39) (seen (λ x. unsigned.Int x.0 x.1) integer) (seen (λ x. unsigned.Float x.0 x.1) float)))
+    (choice words (seen unsigned.Ident ident) (choice (only token.an_integer) (seen (λ x. unsigned.Int x.0 x.1) integer) (seen (λ x. unsigned.Float x.0 x.1) float)))
 
 -- with its sign
 abbrev pub signed_with : Option Span → unsigned_type.Unsigned → OptionValue
@@ -119,26 +120,26 @@ aggregate = seen (λ x. (x.1.0, ast.join x.0.span x.1.1.span)) (both opened note
 unfoldable pub value : Noting r.value ast.value
 unfolding r.value
 value = renamed r.to_value (three _ _ (λ x. signed_value-is x.0 x.1) (λ x. refl) (λ x. refl))
-    (choice (union words (among (39 ∷ 40 ∷ 43 ∷ []))) (seen (λ x. signed_with (ast.span_if_any x.0) x.1) (both (optional (only 43) (sign s.minus)) constant))
-    (choice (only 41) (seen (λ x. option_value.String (record { value = x.0; span = x.1 })) strings)
+    (choice (union words (among (token.an_integer ∷ token.a_float ∷ token.minus ∷ []))) (seen (λ x. signed_with (ast.span_if_any x.0) x.1) (both (optional (only token.minus) (sign s.minus)) constant))
+    (choice (only token.a_string) (seen (λ x. option_value.String (record { value = x.0; span = x.1 })) strings)
     (seen (λ x. option_value.Aggregate x.0 x.1) aggregate)))
 
 unfoldable pub body : Noting r.body ast.body
 unfolding r.body
-body = named _ (λ x. record { name = x.0; value = x.1.1 }) (λ x. refl) (list_then (only 42) part more_part (both (sign s.equals) value))
+body = named _ (λ x. record { name = x.0; value = x.1.1 }) (λ x. refl) (list_then (only token.dot) part more_part (both (sign s.equals) value))
 
 unfoldable pub more_body : Noting (rule.seq (r.sign s.comma) r.body) (λ y. ast.body y.1)
 more_body = seen (λ x. x.1) (both (sign s.comma) body)
 
-unfoldable pub bodies : Noting (rule.seq r.body (rule.times (only 53) (rule.seq (r.sign s.comma) r.body))) (list_view ast.body (λ y. ast.body y.1))
-bodies = list_of (only 53) body more_body
+unfoldable pub bodies : Noting (rule.seq r.body (rule.times (only token.comma) (rule.seq (r.sign s.comma) r.body))) (list_view ast.body (λ y. ast.body y.1))
+bodies = list_of (only token.comma) body more_body
 
 unfoldable pub list : Noting r.list ast.list
 unfolding r.list
-list = named _ (λ x. record { options = x.1.0; span = ast.join x.0.span x.1.1.span }) (λ x. refl) (both (sign s.open_bracket) (list_then (only 53) body more_body (sign s.close_bracket)))
+list = named _ (λ x. record { options = x.1.0; span = ast.join x.0.span x.1.1.span }) (λ x. refl) (both (sign s.open_bracket) (list_then (only token.comma) body more_body (sign s.close_bracket)))
 
-unfoldable pub list_if_any : Noting (rule.optional (only 49) r.list) (option_map ast.list)
-list_if_any = optional (only 49) list
+unfoldable pub list_if_any : Noting (rule.optional (only token.open_bracket) r.list) (option_map ast.list)
+list_if_any = optional (only token.open_bracket) list
 
 unfoldable pub option : Noting r.option ast.option
 unfolding r.option

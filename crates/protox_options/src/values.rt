@@ -5,6 +5,7 @@ ghost use Rattle.protox_ast.specs.Keywords.{is_significant};
 ghost use Rattle.protox_grammar.specs.Class.{among, in_set, union, words};
 ghost use Rattle.protox_grammar.specs.Reader.{head_in, fixed};
 ghost use Rattle.protox_grammar.specs.Told.{brace_notes, checked};
+ghost use Rattle.protox_grammar.specs.Token as token;
 ghost use Rattle.protox_lexeme.specs.Printed.{printed};
 ghost use Rattle.protox_lexeme.specs.Shapes.{Mark};
 ghost use Rattle.protox_lexeme.specs.Tokens.{shape_of};
@@ -265,7 +266,7 @@ fn aggregate(
 }
 
 fn sees_constant(rows: &Unread<'_, '_>) -> bool
-    ensures { result ≡ head_in (in_set (union words (among (39 ∷ 40 ∷ 43 ∷ [])))) rows.now }
+    ensures { result ≡ head_in (in_set (union words (among (token.an_integer ∷ token.a_float ∷ token.minus ∷ [])))) rows.now }
 {
     match rows.first() {
         Some(first) => {

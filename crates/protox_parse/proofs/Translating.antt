@@ -11,7 +11,7 @@ use Rattle.protox_descriptor.specs.declared.descriptor.FileDescriptorProto.{File
 use Rattle.protox_checks.specs.Faults.{IsFaultless, Wrong}
 use Rattle.protox_generate.specs.File.{file_descriptor}
 use Rattle.protox_lexeme.specs.Lexemes.{cut}
-use Rattle.protox_locate.specs.Lines.{span_numbers}
+use Rattle.protox_places.specs.Lines.{span_numbers}
 use Rattle.protox_parse.proofs.CommentedOnce.{commented-once}
 use Rattle.protox_parse.specs.Commented.{AreCommentedOnce}
 use Rattle.std.specs.Str.{IsUtf8}

@@ -1,17 +1,20 @@
 //! Why a source is refused.
 
-ghost use Rattle.std.specs.Prelude.{◌≡◌, ◌≢◌, ◌∷◌, [], ℕ, List, Some, option_and_then, length, Ok, Err, IfOk};
+ghost use Rattle.std.specs.Prelude.{◌≡◌, ◌≢◌, ◌∷◌, [], ℕ, List, Some, option_and_then, length, min, Ok, Err, IfOk};
 ghost use Rattle.protox_ast.specs.Accepted as accepted;
 ghost use Rattle.protox_ast.specs.Accepted.{Fits, FaultsLieIn};
 ghost use Rattle.protox_ast.specs.Keywords.{Each};
 ghost use Rattle.protox_ast.specs.declared.ast.File.{File};
 ghost use Rattle.protox_checks.specs.Faults.{AreWrong, IsFaultless};
 ghost use Rattle.protox_fault.specs.Faults.{LiesIn, span_of};
+ghost use Rattle.protox_places.specs.Faults.{first_place};
+ghost use Rattle.protox_places.specs.Lines.{line, column};
 ghost use Rattle.protox_parse.specs.FaultLists.{HasFaultsOf};
 ghost use Rattle.protox_parse.specs.Failures.{AreWrongOf, IsOutOfMemory, IsRefusalOf, first_of};
 
 use protox_descriptor::values::Text;
 use protox_lex::error::{ParseErrorKind, Span, SyntaxFailure};
+use protox_places::faults;
 use protox_shown::line::FaultLine;
 use std::alloc::{AllocError, Global};
 use std::fmt;
@@ -74,6 +77,30 @@ impl ParseError {
         ensures { option_and_then span_of (first_of self.now.errors) ≡ result }
     {
         self.kind().span()
+    }
+
+    /// The place of the first fault, in bytes: where it has two, the first of them, and for the end
+    /// of the file an empty one there. None for a file that is too large.
+    pub fn first_place(&self) -> Option<Span>
+        ensures { option_and_then (first_place self.now.source) (first_of self.now.errors) ≡ result }
+    {
+        faults::first_place(self.source(), self.kind())
+    }
+
+    /// Line and column of a byte offset in the source, both from 0, columns in bytes. Of an offset
+    /// behind the source they are those of its end. It reads the source up to there.
+    ///
+    /// ```
+    /// if let Some(place) = error.first_place() {
+    ///     let (line, column) = error.line_column(place.start);
+    ///     println!(rt; "{}:{}:{}: {error}", error.file(), line + 1, column + 1)?;
+    /// }
+    /// ```
+    pub fn line_column(&self, offset: usize) -> (usize, usize)
+        ensures line { result.0 ≡ line self.now.source (min offset (length self.now.source)) }
+        ensures column { result.1 ≡ column self.now.source (min offset (length self.now.source)) }
+    {
+        faults::line_column(self.source(), offset)
     }
 
     /// The faults.

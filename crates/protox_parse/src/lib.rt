@@ -9,6 +9,7 @@ ghost use Rattle.protox_ast.specs.Tree as tree;
 ghost use Rattle.protox_checks.specs.Faults.{IsFaultless};
 ghost use Rattle.protox_describe.specs.Oneofs.{HasRealFirst};
 ghost use Rattle.protox_generate.specs.File.{file_descriptor, AreLocated, AreSorted};
+ghost use Rattle.protox_generate.specs.NamePaths.{HasPlaces};
 ghost use Rattle.protox_generate.specs.Names.{HasNames};
 ghost use Rattle.protox_lexeme.specs.Lexemes.{cut};
 ghost use Rattle.protox_ast.specs.Places.{Place};
@@ -28,8 +29,8 @@ pub use protox_generate::generate;
 use protox_generate::generate::generate_file;
 pub use protox_lex::error::ParseErrorKind;
 pub use protox_lex::{comments, error, lex};
-pub use protox_locate::find;
-pub use protox_locate::find::locate;
+pub use protox_places::find;
+pub use protox_places::find::locate;
 pub use protox_syntax::parse as syntax;
 use protox_syntax::parse::parse_file;
 use std::alloc::Global;
@@ -56,6 +57,7 @@ fn translated(
     ensures sorted { IfOk result AreSorted }
     ensures oneofs { IfOk result HasRealFirst }
     ensures named { IfOk result (HasNames source.now) }
+    ensures placed { IfOk result HasPlaces }
     ensures refused { IfErr result (IsRefusalOf name.now source.now) }
     ensures wrong { IfErr result (AreWrongOf file) }
     ensures all { IfErr result (HasAllOf file) }
@@ -85,6 +87,8 @@ pub fn parse(alloc: Global, name: &str, source: &str) -> Result<FileDescriptorPr
     ensures oneofs { IfOk result HasRealFirst }
     // Where the path of a location leads to a name, the source has that name there.
     ensures named { IfOk result (HasNames source.now) }
+    // At the path of each name of the descriptor there is exactly one location.
+    ensures placed { IfOk result HasPlaces }
     // Each comment of the source stands in at most one field of one location.
     ensures commented_once { IfOk result (AreCommentedOnce (cut 0 source.now)) }
     // A refusal names its file and holds its source, and its faults lie in it.

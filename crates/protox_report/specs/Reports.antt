@@ -6,15 +6,12 @@ use Rattle.protox_fault.specs.Faults.{Span, span_from, span_of}
 use Rattle.protox_fault.specs.FaultTexts.{text_of}
 use Rattle.protox_fault.specs.declared.error.ParseErrorKind.{ParseErrorKind}
 use Rattle.protox_fault.specs.declared.error.ParseErrorKind.TheVariants.{DuplicatePackage, FileTooLarge, UnexpectedEof}
-use Rattle.protox_locate.specs.Lines.{line, column}
+use Rattle.protox_places.specs.Faults.{end_of}
+use Rattle.protox_places.specs.Lines.{line, column}
 use Rattle.protox_report.specs.Excerpts.{IsExcerpt}
 use Rattle.protox_report.specs.Shown.{shown, under}
 use Rattle.protox_report.specs.declared.excerpt.Excerpt.{Excerpt}
 use Rattle.protox_report.specs.declared.paint.Paint.{Paint}
-
--- where a source ends: at its last newline where it ends with one
-abbrev pub end_of : List ℕ → ℕ
-end_of source = if slice_index source (length source - 1) == 10 then length source - 1 else length source
 
 -- The offset at which a fault is reported: its place, the second where it has two, the end where the source ends too early. A fault of the whole
 -- source is reported at its start.

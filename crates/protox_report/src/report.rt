@@ -4,15 +4,16 @@ ghost use Rattle.std.specs.Prelude.{◌≡◌, ◌≤◌, ◌+◌, ◌++◌, min
 ghost use Rattle.std.specs.String.{string_bytes};
 ghost use Rattle.protox_fault.specs.FaultTexts.{text_of};
 ghost use Rattle.protox_report.specs.Shown.{shown};
-ghost use Rattle.protox_locate.specs.Lines.{line, column, starts};
+ghost use Rattle.protox_places.specs.Lines.{line, column, starts};
 ghost use Rattle.protox_report.specs.Excerpts.{IsExcerpt};
-ghost use Rattle.protox_report.specs.Reports.{behind_blank, below, below_dots, carets, dots, end_of, excerpt_line, excerpt_lines, excerpt_marks, help_if, help_line, help_text, number_of, numbered, position_text, first_place, has_place, label_text, place_in, place_text, title, AreTold, IsReported, Tells};
+ghost use Rattle.protox_report.specs.Reports.{behind_blank, below, below_dots, carets, dots, excerpt_line, excerpt_lines, excerpt_marks, help_if, help_line, help_text, number_of, numbered, position_text, first_place, has_place, label_text, place_in, place_text, title, AreTold, IsReported, Tells};
 
 use crate::excerpt::{Excerpt, excerpt_of};
 use crate::paint::Paint;
 use crate::shown::{push_shown, push_times, push_under};
 use protox_fault::error::{ParseErrorKind, Span};
-use protox_locate::lines::LineResolver;
+use protox_places::faults::end_of;
+use protox_places::lines::LineResolver;
 use std::alloc::{AllocError, Global};
 
 /// The least width of the column of line numbers.
@@ -29,16 +30,6 @@ pub struct Source<'a> {
     ghost resolves: { lines ≡ starts 0 text.now },
 }
 
-// Where the source ends: at its last newline, where it ends with one.
-fn end_at(source: &str) -> usize
-    ensures { result ≡ end_of source.now }
-{
-    match source.as_bytes() {
-        [front @ .., b'\n'] => front.len(),
-        whole => whole.len(),
-    }
-}
-
 /// The offset at which a fault is reported: its place, the second where it has two. For the end of
 /// the source that of its last newline, or of its end; for the whole source 0.
 pub fn place_of(source: &str, fault: &ParseErrorKind) -> usize
@@ -46,7 +37,7 @@ pub fn place_of(source: &str, fault: &ParseErrorKind) -> usize
 {
     match fault {
         ParseErrorKind::DuplicatePackage { second, .. } => second.start,
-        ParseErrorKind::UnexpectedEof { .. } => end_at(source),
+        ParseErrorKind::UnexpectedEof { .. } => end_of(source),
         fault => match fault.span() {
             Some(span) => span.start,
             None => 0,

@@ -1,4 +1,3 @@
 pub mod Turns
 pub mod PlacedRows
 pub mod Same
-pub mod Texts

@@ -16,6 +16,7 @@ use Rattle.protox_grammar.specs.Class.{only}
 use Rattle.protox_grammar.specs.Reader.{see_word, see_integer, see_float}
 use Rattle.protox_grammar.specs.Rule as rule
 use Rattle.protox_grammar.specs.Rules as r
+use Rattle.protox_grammar.specs.Token as token
 use Rattle.protox_grammar.proofs.Shows.{two, three}
 use Rattle.protox_grammar.proofs.Shown.{Silent, both, seen, named, renamed, choice, optional, list_of, the, sign, one}
 
@@ -29,7 +30,7 @@ more_part = seen (λ x. x.1) (both (sign s.dot) ident)
 
 unfoldable pub fullident : Silent r.fullident ast.fullident
 unfolding r.fullident
-fullident = renamed _ (λ x. refl) (list_of (only 42) ident more_part)
+fullident = renamed _ (λ x. refl) (list_of (only token.dot) ident more_part)
 
 -- from the dot or the first part to the last
 abbrev pub name_span : Option Span → List ident_type.Ident → Span
@@ -48,7 +49,7 @@ dotted-is (Some m) n = refl
 
 unfoldable pub typename : Silent r.typename name_and_span
 unfolding r.typename
-typename = named _ (λ x. dotted x.0 x.1) (λ x. dotted-is x.0 x.1) (both (optional (only 42) (sign s.dot)) fullident)
+typename = named _ (λ x. dotted x.0 x.1) (λ x. dotted-is x.0 x.1) (both (optional (only token.dot) (sign s.dot)) fullident)
 
 -- ---- numbers
 
@@ -70,7 +71,7 @@ signed-is (Some m) n = refl
 
 unfoldable pub int : Silent r.int ast.int
 unfolding r.int
-int = named _ (λ x. signed x.0 x.1) (λ x. signed-is x.0 x.1) (both (optional (only 43) (sign s.minus)) integer)
+int = named _ (λ x. signed x.0 x.1) (λ x. signed-is x.0 x.1) (both (optional (only token.minus) (sign s.minus)) integer)
 
 -- ---- types and labels
 
@@ -90,6 +91,6 @@ field_type = renamed r.to_type (two _ _ (λ x. refl) (λ x. refl)) (choice r.sca
 unfoldable pub label : Silent r.label ast.label
 unfolding r.label
 label = renamed r.to_label (three _ _ (λ x. refl) (λ x. refl) (λ x. refl))
-    (choice (only 13) (seen (λ (p : Place). (field_label.Optional, p.span)) (the (codes "optional")))
-    (choice (only 14) (seen (λ (p : Place). (field_label.Required, p.span)) (the (codes "required")))
+    (choice (only token.optional) (seen (λ (p : Place). (field_label.Optional, p.span)) (the (codes "optional")))
+    (choice (only token.required) (seen (λ (p : Place). (field_label.Required, p.span)) (the (codes "required")))
     (seen (λ (p : Place). (field_label.Repeated, p.span)) (the (codes "repeated")))))

@@ -12,6 +12,7 @@ use Rattle.protox_grammar.specs.Reader.{folded, see_text}
 use Rattle.protox_grammar.specs.Rules as r
 use Rattle.protox_grammar.specs.Steps.{ANode, Note}
 use Rattle.protox_grammar.specs.Told.{Notes, node_notes, told}
+use Rattle.protox_grammar.specs.Token as token
 use Rattle.protox_grammar.proofs.NotesLie.{run-lies}
 use Rattle.protox_grammar.proofs.Telling.{AllLie}
 use Rattle.protox_grammar.proofs.Shown.{Silent, Noting, both, seen, named, times, one, with_note}
@@ -39,7 +40,7 @@ strings-is x xs = strings-folded x.0 x.1.span x.1.span xs
 
 unfoldable pub strings : Silent r.strings joined
 unfolding r.strings
-strings = named _ (λ x. folded more_string x.0 x.1) (λ x. strings-is x.0 x.1) (both string (times (only 41) string))
+strings = named _ (λ x. folded more_string x.0 x.1) (λ x. strings-is x.0 x.1) (both string (times (only token.a_string) string))
 
 -- a run whose node is checked
 abbrev pub checked_strings : (node : tree.Strings Place → CheckedNode Place) (check : List ℕ × Span → Rows Place → Notes)

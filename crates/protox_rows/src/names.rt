@@ -7,6 +7,7 @@ ghost use Rattle.protox_ast.specs.declared.ast.Ident as ident_type;
 ghost use Rattle.protox_grammar.specs.Class.{in_set, only};
 ghost use Rattle.protox_grammar.specs.Reader.{fixed, mapped, optional};
 ghost use Rattle.protox_grammar.specs.Rules.{find_scalar, all_scalars};
+ghost use Rattle.protox_grammar.specs.Token as token;
 ghost use Rattle.protox_lexeme.specs.Shapes.{Mark};
 ghost use Rattle.protox_rows.specs.Outcome.{Gives};
 ghost use Rattle.protox_rows.specs.Names as rule;
@@ -95,7 +96,7 @@ fn name_span(dot: &Option<Span>, parts: &[Ident]) -> Span
 }
 
 fn dot_if_any(rows: &mut Unread<'_, '_>) -> Result<Option<Span>, Refused>
-    ensures { Gives (λ x. x) result rows.new (mapped span_if_any (optional (in_set (only 42)) (fixed (Mark dot))) rows.old) }
+    ensures { Gives (λ x. x) result rows.new (mapped span_if_any (optional (in_set (only token.dot)) (fixed (Mark dot))) rows.old) }
 {
     if sees(rows, DOT) {
         let dot = expect_mark(rows, b'.', Expected::Dot)?;
@@ -164,7 +165,7 @@ pub fn float(
 
 /// "-"?
 pub fn minus_if_any(rows: &mut Unread<'_, '_>) -> Result<Option<Span>, Refused>
-    ensures { Gives (λ x. x) result rows.new (mapped span_if_any (optional (in_set (only 43)) (fixed (Mark minus))) rows.old) }
+    ensures { Gives (λ x. x) result rows.new (mapped span_if_any (optional (in_set (only token.minus)) (fixed (Mark minus))) rows.old) }
 {
     if sees(rows, MINUS) {
         let minus = expect_mark(rows, b'-', Expected::Minus)?;

@@ -28,6 +28,7 @@ use Rattle.protox_grammar.specs.Class.{only}
 use Rattle.protox_grammar.specs.Told.{Notes, is_invalid}
 use Rattle.protox_grammar.specs.declared.note.Noted.{Noted}
 use Rattle.protox_grammar.specs.declared.note.Noted.TheVariants.{Fault, TextFormat}
+use Rattle.protox_grammar.specs.Token as token
 use Rattle.protox_options.specs.Options.{here}
 use Rattle.protox_syntax.specs.Judging.{IsWoven, Judges, JudgesFault, stopped, ended, recovered, finished, total_of}
 use Rattle.protox_syntax.specs.Recovery.{AreNotable, IsNotable, IsNotableNote}
@@ -256,7 +257,7 @@ module _ (source : List ℕ) where
   all-notable = subst (AreNotable rows) (file-told (placed t)) (told-notable rows None here (trace levels (placed t)) (placed t))
 
   front-notable : AreNotable rows (syntax_if_any.notes (placed t))
-  front-notable = subst (AreNotable rows) (syntax_if_any.tells.says None here (placed t)) (told-notable rows None here ((rule.optional (only 0) r.syntax).trace (placed t)) (placed t))
+  front-notable = subst (AreNotable rows) (syntax_if_any.tells.says None here (placed t)) (told-notable rows None here ((rule.optional (only token.syntax) r.syntax).trace (placed t)) (placed t))
 
   refusal-fine : (k i : ℕ) (text : List ℕ) (o : Option (Row Span)) → slice_get rows i ≡ o → AreFine k k (option_to_list (refusal text o))
   refusal-fine k i text None e = record { rise = le_refl k; all = ((λ lexical. absurd (cc)), tt) }

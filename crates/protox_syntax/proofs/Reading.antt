@@ -16,6 +16,7 @@ use Rattle.protox_grammar.specs.Rule as rule
 use Rattle.protox_grammar.specs.Rules as r
 use Rattle.protox_grammar.specs.Steps.{ANode, APackage, AKeyword, ADeepBody, ADeeperBody, AnOpenBrace, ACloseBrace, Token, Note, Steps, has_deep, star_trace, then_steps, tokens}
 use Rattle.protox_grammar.specs.Told.{behind, node_notes, first_behind, keyword_behind, past, told, then_notes}
+use Rattle.protox_grammar.specs.Token as token
 use Rattle.protox_grammar.proofs.FineNotes.{IsFaultless, faultless-last}
 use Rattle.protox_grammar.proofs.Kept as kept
 use Rattle.protox_grammar.proofs.Main as main
@@ -78,26 +79,26 @@ made-of size xs f e = ap (λ v. made size v (file_seen f)) ((main.accepts_iff he
 pub file-told : (xs : Rows Place) → told None here (trace levels xs) xs ≡ all_notes xs
 unfolding bodies.file all_notes
 file-told xs =
-    let a = rule.optional (only 0) r.syntax in
+    let a = rule.optional (only token.syntax) r.syntax in
     let u : Rows Place → Steps Place = λ ys. star_trace (in_set all) statement_rule.read statement_rule.trace (suc (length ys)) ys in
     told-append None here (a.trace xs) (then_steps (a.read xs) (λ x. u x.1)) xs
     ∙ ap (λ n. n ++ told (first_behind None (a.trace xs)) (keyword_behind here (a.trace xs)) (then_steps (a.read xs) (λ x. u x.1)) (past (a.trace xs) xs)) (syntax_if_any.tells.says None here xs)
     ∙ ap (λ n. syntax_if_any.notes xs ++ n) (rest (a.read xs) refl ∙ then-seen _ a.read syntax_if_any.code syntax_if_any.shows (notes_behind None) xs)
   where
-    rest : (q : Result (Option (tree.Syntax Place) × Rows Place) Refusal) → (rule.optional (only 0) r.syntax).read xs ≡ q
-        → told (first_behind None ((rule.optional (only 0) r.syntax).trace xs)) (keyword_behind here ((rule.optional (only 0) r.syntax).trace xs))
-        (then_steps q (λ x. star_trace (in_set all) statement_rule.read statement_rule.trace (suc (length x.1)) x.1)) (past ((rule.optional (only 0) r.syntax).trace xs) xs)
+    rest : (q : Result (Option (tree.Syntax Place) × Rows Place) Refusal) → (rule.optional (only token.syntax) r.syntax).read xs ≡ q
+        → told (first_behind None ((rule.optional (only token.syntax) r.syntax).trace xs)) (keyword_behind here ((rule.optional (only token.syntax) r.syntax).trace xs))
+        (then_steps q (λ x. star_trace (in_set all) statement_rule.read statement_rule.trace (suc (length x.1)) x.1)) (past ((rule.optional (only token.syntax) r.syntax).trace xs) xs)
         ≡ then_notes (notes_behind None) q
     rest (Ok x) e =
-        (λ i. told (kept.syntax-first here None xs x e i) (keyword_behind here ((rule.optional (only 0) r.syntax).trace xs)) (star_trace (in_set all) statement_rule.read statement_rule.trace (suc (length x.1)) x.1) (syntax_if_any.tells.left xs x e i))
-        ∙ all-says (in_set all) statement None (keyword_behind here ((rule.optional (only 0) r.syntax).trace xs)) x.1
+        (λ i. told (kept.syntax-first here None xs x e i) (keyword_behind here ((rule.optional (only token.syntax) r.syntax).trace xs)) (star_trace (in_set all) statement_rule.read statement_rule.trace (suc (length x.1)) x.1) (syntax_if_any.tells.left xs x e i))
+        ∙ all-says (in_set all) statement None (keyword_behind here ((rule.optional (only token.syntax) r.syntax).trace xs)) x.1
     rest (Err d) e = refl
 
 -- what is noted of rows lies in the source that they stand in
 pub notes-lie : (low high : ℕ) (xs : Rows Place) → Stand low high xs → AllLie high (all_notes xs)
 unfolding all_notes
 notes-lie low high xs h =
-    let a = rule.optional (only 0) r.syntax in
+    let a = rule.optional (only token.syntax) r.syntax in
     both-lie high (syntax_if_any.notes xs) (then_notes (notes_behind None) (syntax_if_any.code xs)) (syntax_if_any.tells.lies low high xs h)
     (subst (AllLie high) (then-seen _ a.read syntax_if_any.code syntax_if_any.shows (notes_behind None) xs)
     (then-lie _ a.read a.trace _ syntax_if_any.tells (notes_behind None) high (λ m ys k. all-lie (in_set all) statement None m high ys tt k) low xs h))

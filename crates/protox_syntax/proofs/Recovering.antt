@@ -30,6 +30,7 @@ use Rattle.protox_ast.specs.declared.ast.Comments.{Comments}
 use Rattle.protox_ast.specs.declared.ast.Syntax as syntax_type
 use Rattle.protox_grammar.specs.Rule as rule
 use Rattle.protox_grammar.specs.Rules as r
+use Rattle.protox_grammar.specs.Token as token
 use Rattle.protox_syntax.specs.Statements.{next_first, statement, statement_rule, statement_seen, syntax_if_any, syntax_seen}
 use Rattle.protox_syntax.specs.declared.statement_types.Statement as statement_type
 
@@ -256,7 +257,7 @@ further-lies all xs ys q x last lies e low size h =
 -- the rows behind the syntax statement
 pub behind-syntax : (xs rest : Rows Place) (s : Option (syntax_type.Syntax × (Span × Comments))) → syntax_if_any.code xs ≡ Ok (s, rest) → IsLastOf xs rest
 behind-syntax xs rest s e =
-    let a = rule.optional (only 0) r.syntax in
+    let a = rule.optional (only token.syntax) r.syntax in
     let p = bind_ok (a.read xs) (λ y. Ok (option_map syntax_seen y.0, y.1)) (s, rest) (sym (syntax_if_any.shows.same xs) ∙ e) in
     let same = ok_is (option_map syntax_seen p.0.0, p.0.1) (s, rest) p.2 in
     subst (IsLastOf xs) (syntax_if_any.tells.left xs p.0 p.1 ∙ ap (λ (v : Option (syntax_type.Syntax × (Span × Comments)) × Rows Place). v.1) same) (past-last (a.trace xs) xs)

@@ -7,6 +7,7 @@ use Rattle.protox_ast.specs.Places.{Place}
 use Rattle.protox_grammar.specs.Class.{only, in_set}
 use Rattle.protox_grammar.specs.Reader.{Refusal, fixed, head_in}
 use Rattle.protox_grammar.specs.Told.{Notes, checked, syntax_faults, syntax_notes, then_notes}
+use Rattle.protox_grammar.specs.Token as token
 use Rattle.protox_rows.specs.Strings.{strings}
 use Rattle.protox_syntax.specs.Statements.{syntax, syntax_if_any, syntax_value}
 use Rattle.protox_syntax.proofs.Modes.{AreFaults, cond-faults, noted-faults}
@@ -30,4 +31,4 @@ statement-faults xs =
 
 pub syntax-faults : (xs : Rows Place) → AreFaults (syntax_if_any.notes xs)
 unfolding syntax_if_any
-syntax-faults xs = cond-faults (head_in (in_set (only 0)) xs) (syntax.notes xs) [] (statement-faults xs) tt
+syntax-faults xs = cond-faults (head_in (in_set (only token.syntax)) xs) (syntax.notes xs) [] (statement-faults xs) tt

@@ -7,7 +7,9 @@ use Rattle.std.specs.Prelude.{min}
 use Rattle.std.specs.Char.{digit_char, digit_value}
 use Rattle.std.specs.Int.{is_in_range}
 use Rattle.std.specs.List.{prefix_len}
-use Rattle.protox_ast.specs.Printed.{octal, printed_byte}
+use Rattle.protox_descriptor.specs.Literal.{octal, printed_byte}
+use Rattle.protox_descriptor.specs.Printed.{value_text}
+use Rattle.protox_descriptor.specs.Printed as printed
 use Rattle.protox_ast.specs.Values.{token_string}
 use Rattle.protox_ast.specs.declared.ast.OptionValue.TheVariants as value
 use Rattle.protox_ast.specs.declared.ast.String.{String}
@@ -95,3 +97,9 @@ pub value_alone : (string : String) → AreBytes string.value
     × (cut 0 (token_string (value.String string))
     ≡ record { start = 0; stop = length (token_string (value.String string)); shape = Str string.value; borrowed = borrowed; faults = [] } ∷ [])
 value_alone string h = spelled_alone printed_byte value_spells string.value h
+
+pub option_alone : (bytes : List ℕ) → AreBytes bytes
+    → (borrowed : Bool)
+    × (cut 0 (value_text (printed.String bytes))
+    ≡ record { start = 0; stop = length (value_text (printed.String bytes)); shape = Str bytes; borrowed = borrowed; faults = [] } ∷ [])
+option_alone bytes h = spelled_alone printed_byte value_spells bytes h

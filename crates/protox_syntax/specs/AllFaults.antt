@@ -21,6 +21,7 @@ use Rattle.protox_grammar.specs.Reader.{Refusal, Unexpected, Deep, head_in}
 use Rattle.protox_grammar.specs.Rule.{Rule, optional}
 use Rattle.protox_grammar.specs.Rules.{syntax}
 use Rattle.protox_grammar.specs.Steps.{ANode, APackage, AKeyword, ADeepBody, ADeeperBody, AnOpenBrace, ACloseBrace, Token, Note, Steps}
+use Rattle.protox_grammar.specs.Token as token
 use Rattle.protox_grammar.specs.Told.{behind, first_behind, group_faults, ident_faults, is_invalid, path_faults, span_of, syntax_faults, text_faults}
 
 -- ---- reading rows
@@ -128,7 +129,7 @@ refused t left p = stopped_with (refusal [] (row_at t.rows left)) (read t left p
 
 -- the classes of the words that begin a statement
 abbrev pub statement_words : List ℕ
-statement_words = 5 ∷ 11 ∷ 2 ∷ 12 ∷ 6 ∷ 7 ∷ 1 ∷ []
+statement_words = token.enum ∷ token.extend ∷ token.«import» ∷ token.message ∷ token.option ∷ token.service ∷ token.«package» ∷ []
 
 -- from the next such word on
 abbrev pub from_statement : Rows Place → Rows Place
@@ -138,8 +139,8 @@ from_statement (r ∷ rs) = if in_set (among statement_words) r.shape then r ∷
 -- behind the `}` of a block, in which so many others are open
 abbrev pub behind_block : ℕ → Rows Place → Rows Place
 behind_block depth [] = []
-behind_block zero (r ∷ rs) = if class r.shape == 47 then behind_block 1 rs else if class r.shape == 48 then rs else behind_block 0 rs
-behind_block (suc depth) (r ∷ rs) = if class r.shape == 47 then behind_block (suc (suc depth)) rs else if class r.shape == 48 then behind_block depth rs else behind_block (suc depth) rs
+behind_block zero (r ∷ rs) = if class r.shape == token.open_brace then behind_block 1 rs else if class r.shape == token.close_brace then rs else behind_block 0 rs
+behind_block (suc depth) (r ∷ rs) = if class r.shape == token.open_brace then behind_block (suc (suc depth)) rs else if class r.shape == token.close_brace then behind_block depth rs else behind_block (suc depth) rs
 
 -- the last of these rows, so many of them
 abbrev pub last : ℕ → Rows Place → Rows Place

@@ -24,6 +24,7 @@ use Rattle.protox_grammar.specs.Rule as rule
 use Rattle.protox_grammar.specs.Rules as r
 use Rattle.protox_grammar.specs.Steps.{APackage}
 use Rattle.protox_grammar.specs.Told as told
+use Rattle.protox_grammar.specs.Token as token
 use Rattle.protox_grammar.proofs.Kept as kept
 use Rattle.protox_grammar.proofs.NotesLie.{import-lie, package-lies, syntax-lie}
 use Rattle.protox_grammar.proofs.Shows.{Shows, right-shows, shows-by, star-shows, two}
@@ -49,20 +50,20 @@ syntax_value = seen (λ x. ast.syntax_of x.0) (checked_strings ASyntax told.synt
 
 unfoldable pub syntax : Noting r.syntax syntax_seen
 unfolding r.syntax
-syntax = named _ (λ x. (x.1.1.0, (ast.join x.0.span x.1.1.1.span, ast.comments x.0 x.1.1.1))) (λ x. refl) (both (the (codes "syntax")) (both (sign s.equals) (both syntax_value (sign s.semicolon))))
+syntax = named _ (λ (keyword, (_, (value, end))). (value, (ast.join keyword.span end.span, ast.comments keyword end))) (λ x. refl) (both (the (codes "syntax")) (both (sign s.equals) (both syntax_value (sign s.semicolon))))
 
-unfoldable pub syntax_if_any : Noting (rule.optional (only 0) r.syntax) (option_map syntax_seen)
-syntax_if_any = optional (only 0) syntax
+unfoldable pub syntax_if_any : Noting (rule.optional (only token.syntax) r.syntax) (option_map syntax_seen)
+syntax_if_any = optional (only token.syntax) syntax
 
 -- ---- imports and packages
 
 unfoldable pub import_kind : Silent r.import_kind ast.import_kind
 unfolding r.import_kind
 import_kind = renamed r.to_import_kind (two _ _ (λ x. refl) (λ x. refl))
-    (choice (only 3) (seen (λ (p : Place). (import_kinds.Weak, p.span)) (the (codes "weak"))) (seen (λ (p : Place). (import_kinds.Public, p.span)) (the (codes "public"))))
+    (choice (only token.weak) (seen (λ (p : Place). (import_kinds.Weak, p.span)) (the (codes "weak"))) (seen (λ (p : Place). (import_kinds.Public, p.span)) (the (codes "public"))))
 
-unfoldable pub import_kind_if_any : Silent (rule.optional (among (3 ∷ 4 ∷ [])) r.import_kind) (option_map ast.import_kind)
-import_kind_if_any = optional (among (3 ∷ 4 ∷ [])) import_kind
+unfoldable pub import_kind_if_any : Silent (rule.optional (among (token.weak ∷ token.«public» ∷ [])) r.import_kind) (option_map ast.import_kind)
+import_kind_if_any = optional (among (token.weak ∷ token.«public» ∷ [])) import_kind
 
 -- a run of strings, as the path that it is
 abbrev pub path_seen : tree.Strings Place → List ℕ × Span
@@ -73,7 +74,7 @@ path = seen (λ x. (ast.text_of x.0, x.1)) (checked_strings AnImport told.import
 
 unfoldable pub import_ : Noting r.«import» ast.«import»
 unfolding r.«import»
-import_ = named _ (λ x. record { kind = x.1.0; value = x.1.1.0.0; value_span = x.1.1.0.1; comments = ast.comments x.0 x.1.1.1; span = ast.join x.0.span x.1.1.1.span }) (λ x. refl)
+import_ = named _ (λ (keyword, (kind, ((value, value_span), end))). record { kind = kind; value = value; value_span = value_span; comments = ast.comments keyword end; span = ast.join keyword.span end.span }) (λ x. refl)
     (both (the (codes "import")) (both import_kind_if_any (both path (sign s.semicolon))))
 
 unfoldable pub package_ : Silent r.«package» ast.«package»
@@ -127,27 +128,27 @@ item-is (inr (inr (inl x))) = refl
 item-is (inr (inr (inr x))) = refl
 
 abbrev pub item_rule : rule.Rule Place (tree.Extend Place ⊎ (tree.Message Place ⊎ (tree.Enum Place ⊎ tree.Service Place)))
-item_rule = rule.choice (only 11) extend_rule (rule.choice (only 12) message_rule (rule.choice (only 5) r.enum r.service))
+item_rule = rule.choice (only token.extend) extend_rule (rule.choice (only token.message) message_rule (rule.choice (only token.enum) r.enum r.service))
 
 -- extend | message | enum | service
 unfoldable pub item_ : Noting item_rule item_seen
-item_ = shown_by item-is (choice (only 11) (seen (λ x. statement_of.Item (item.Extend x)) (messages.extend levels (messages.mbody_at levels)))
-    (choice (only 12) (seen (λ x. statement_of.Item (item.Message x)) (messages.message levels (messages.mbody_at levels)))
-    (choice (only 5) (seen (λ x. statement_of.Item (item.Enum x)) enum_) (seen (λ x. statement_of.Item (item.Service x)) service))))
+item_ = shown_by item-is (choice (only token.extend) (seen (λ x. statement_of.Item (item.Extend x)) (messages.extend levels (messages.mbody_at levels)))
+    (choice (only token.message) (seen (λ x. statement_of.Item (item.Message x)) (messages.message levels (messages.mbody_at levels)))
+    (choice (only token.enum) (seen (λ x. statement_of.Item (item.Enum x)) enum_) (seen (λ x. statement_of.Item (item.Service x)) service))))
 
 pub item-first : KeepsFirst item_rule.read item_rule.trace
-item-first = kept.choice-first (only 11) _ _ _ _ (kept.extend-first here) (kept.choice-first (only 12) _ _ _ _ (kept.message-first here) (kept.choice-first (only 5) _ _ _ _ (kept.enum-first here) (kept.service-first here)))
+item-first = kept.choice-first (only token.extend) _ _ _ _ (kept.extend-first here) (kept.choice-first (only token.message) _ _ _ _ (kept.message-first here) (kept.choice-first (only token.enum) _ _ _ _ (kept.enum-first here) (kept.service-first here)))
 
 -- what is behind an empty statement, an import and a package
 abbrev pub declared_seen : tree.OptionStatement Place ⊎ (tree.Extend Place ⊎ (tree.Message Place ⊎ (tree.Enum Place ⊎ tree.Service Place))) → statement_type.Statement
 declared_seen (inl x) = statement_of.Option (ast.option x)
 declared_seen (inr x) = item_seen x
 
-unfoldable pub declared : Noting (rule.choice (only 6) r.option item_rule) declared_seen
-declared = shown_by (two _ _ (λ x. refl) (λ x. refl)) (choice (only 6) (seen statement_of.Option option) item_)
+unfoldable pub declared : Noting (rule.choice (only token.option) r.option item_rule) declared_seen
+declared = shown_by (two _ _ (λ x. refl) (λ x. refl)) (choice (only token.option) (seen statement_of.Option option) item_)
 
-pub declared-first : KeepsFirst (rule.choice (only 6) r.option item_rule).read (rule.choice (only 6) r.option item_rule).trace
-declared-first = kept.choice-first (only 6) _ _ _ _ (kept.option-first here) item-first
+pub declared-first : KeepsFirst (rule.choice (only token.option) r.option item_rule).read (rule.choice (only token.option) r.option item_rule).trace
+declared-first = kept.choice-first (only token.option) _ _ _ _ (kept.option-first here) item-first
 
 -- ";" | import | package | option | extend | message | enum | service
 abbrev pub statement_rule : rule.Rule Place (tree.Statement Place)
@@ -186,9 +187,9 @@ form-is (inr (inr x)) = statement-is x
 unfoldable pub statement : Stated statement_rule.read statement_rule.trace statement_seen next_first
 unfolding bodies.statement
 statement = stated_renamed bodies.to_statement statement_seen form-is
-    (stated_choice (only 56) (stated (seen (λ m. statement_of.Empty) (sign s.semicolon)) (kept.plain-first _) (λ q x. refl))
-    (stated_choice (only 2) (stated (seen statement_of.Import import_) (kept.import-first here) (λ q x. refl))
-    (stated_choice (only 1) package_statement (stated declared declared-first declared-next))))
+    (stated_choice (only token.semicolon) (stated (seen (λ m. statement_of.Empty) (sign s.semicolon)) (kept.plain-first _) (λ q x. refl))
+    (stated_choice (only token.«import») (stated (seen statement_of.Import import_) (kept.import-first here) (λ q x. refl))
+    (stated_choice (only token.«package») package_statement (stated declared declared-first declared-next))))
 
 -- ---- what statements give to a file
 

@@ -1,12 +1,13 @@
 //! How the nodes of a tree are printed.
 
-ghost use Rattle.std.specs.Prelude.{◌≡◌, ◌<◌, ◌∷◌, Some, flat_map};
-ghost use Rattle.std.specs.Char.{digit_char};
+ghost use Rattle.std.specs.Prelude.{Some, flat_map};
 ghost use Rattle.std.specs.Fmt.{DisplaysOnOk};
 ghost use Rattle.protox_ast.specs.Names.{dotted_part};
-ghost use Rattle.protox_ast.specs.Printed.{octal, printed_byte, quoted_byte};
+ghost use Rattle.protox_ast.specs.Printed.{quoted_byte};
+ghost use Rattle.protox_descriptor.specs.Literal.{printed_byte};
 
 use super::{Float, FullIdent, Ident, Int, OptionValue, String, Syntax, TypeName};
+use protox_descriptor::literal::{write_bytes, write_octal};
 use std::fmt;
 
 impl fmt::Display for Syntax {
@@ -98,55 +99,9 @@ impl fmt::Display for Float {
     }
 }
 
-fn octal_char(digit: u8) -> char
-    requires { digit < 8 }
-    ensures { result ≡ digit_char digit }
-{
-    char::from(b'0' + digit)
-}
-
-fn write_octal<W: fmt::Write>(byte: u8, f: &mut fmt::Formatter<W>) -> fmt::Result
-    ensures { DisplaysOnOk W.write_str_gives f.old result (Some (octal byte)) f.new }
-{
-    f.write_char(octal_char(byte / 64))?;
-    f.write_char(octal_char(byte / 8 % 8))?;
-    f.write_char(octal_char(byte % 8))
-}
-
-fn write_escaped<W: fmt::Write>(byte: u8, f: &mut fmt::Formatter<W>) -> fmt::Result
-    ensures { DisplaysOnOk W.write_str_gives f.old result (Some (92 ∷ octal byte)) f.new }
-{
-    f.write_str("\\")?;
-    write_octal(byte, f)
-}
-
-fn write_byte<W: fmt::Write>(byte: u8, f: &mut fmt::Formatter<W>) -> fmt::Result
-    ensures { DisplaysOnOk W.write_str_gives f.old result (Some (printed_byte byte)) f.new }
-{
-    match byte {
-        b'\t' => f.write_str("\\t"),
-        b'\r' => f.write_str("\\r"),
-        b'\n' => f.write_str("\\n"),
-        b'\\' => f.write_str("\\\\"),
-        b'\'' => f.write_str("\\'"),
-        b'"' => f.write_str("\\\""),
-        32..=126 => f.write_char(char::from(byte)),
-        _ => write_escaped(byte, f),
-    }
-}
-
-fn write_bytes<W: fmt::Write>(bytes: &[u8], f: &mut fmt::Formatter<W>) -> fmt::Result
-    ensures { DisplaysOnOk W.write_str_gives f.old result (Some (flat_map printed_byte bytes.now)) f.new }
-{
-    for byte in bytes {
-        write_byte(*byte, f)?;
-    }
-    Ok(())
-}
-
 impl fmt::Display for String {
     ghost use Rattle.std.specs.Prelude.{Some, flat_map};
-    ghost use Rattle.protox_ast.specs.Printed.{printed_byte};
+    ghost use Rattle.protox_descriptor.specs.Literal.{printed_byte};
 
     ghost output = { λ string. Some (flat_map printed_byte string.value) };
 

@@ -1,8 +1,10 @@
 //! The message `FieldDescriptorProto`.
 
 ghost use Rattle.std.specs.Prelude.{◌≡◌, None, IsOk, IsSome, IfOk, OnOk, OnErr};
-ghost use Rattle.std.specs.Option.{option_copied};
+ghost use Rattle.std.specs.Borrow.{sem};
+ghost use Rattle.std.specs.Option.{option_copied, option_copied_mut};
 ghost use Rattle.protox_descriptor.specs.HeldField.{rare_parts};
+ghost use Rattle.protox_descriptor.specs.LentOptions.{lends_options};
 ghost use Rattle.protox_descriptor.specs.SameFields.{options_eq, rare_eq, field_eq, field_per};
 
 use super::FieldOptions;
@@ -218,6 +220,24 @@ impl FieldDescriptorProto {
     {
         match &self.rest {
             Rest::Rare(parts) => parts.options.as_ref(),
+            Rest::Plain(_) => None,
+        }
+    }
+
+    /// The options of the field, to be changed. It takes no memory.
+    ///
+    /// ```
+    /// if let Some(options) = field.options_mut() {
+    ///     options.uninterpreted_option.truncate(0);
+    /// }
+    /// ```
+    pub fn options_mut(&mut self) -> Option<&mut FieldOptions>
+        // The field ends with what is left behind the reference, and else as it was.
+        ensures* writes_back { sem 𝓛 (lends_options self.entry result) }
+        ensures value { option_copied_mut result ≡ self.old.options }
+    {
+        match &mut self.rest {
+            Rest::Rare(parts) => parts.options.as_mut(),
             Rest::Plain(_) => None,
         }
     }

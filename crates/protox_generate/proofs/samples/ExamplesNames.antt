@@ -5,7 +5,7 @@ use Rattle.protox_descriptor.specs.declared.descriptor.EnumDescriptorProto.{Enum
 use Rattle.protox_generate.proofs.samples.Written.{made_oneof, no_field}
 use Rattle.protox_generate.specs.Names.{InSmallLetters, Lookup, Written, Writes, message_step, own}
 
-abbrev an_enum : EnumDescriptorProto
+abbrev pub an_enum : EnumDescriptorProto
 an_enum = record {
   name = Some (codes "E");
   value = record { name = Some (codes "V"); number = Some (pos 0); options = None } ∷ [];

@@ -12,7 +12,7 @@ abbrev field_of : ℕ → FieldDescriptorProto
 field_of index = record no_field { oneof_index = Some (pos index) }
 
 abbrev two : List FieldDescriptorProto → Own
-two fields = record { fields = fields; oneofs = made_oneof "a" ∷ made_oneof "b" ∷ [] }
+two fields = record { fields = fields; extensions = []; oneofs = made_oneof "a" ∷ made_oneof "b" ∷ [] }
 
 abbrev index_of : Option ℤ → ℕ
 index_of index = unwrap_or (option_map nat_abs index) 0
@@ -23,6 +23,7 @@ real-first = record {
   below = ((0, refl, omega arith), ((1, refl, omega arith), (tt, tt)));
   real = 1;
   indexed = ((0, refl, omega arith), (refl, (tt, refl)));
+  apart = tt;
 }
 
 -- the synthetic one before the real one
@@ -36,3 +37,7 @@ shared h = let e : 0 ≡ h.real + 1 = ap index_of h.indexed.1.0 in omega (arith,
 -- an index that is one too great
 past : RealFirst (two (field_of 2 ∷ [])) → ⊥
 past h = let k = h.below.0 in let e : 2 ≡ k.0 = ap nat_abs k.1 in omega (arith, e, k.2)
+
+-- an extension in a oneof
+extending : RealFirst (record { fields = []; extensions = field_of 0 ∷ []; oneofs = made_oneof "a" ∷ [] }) → ⊥
+extending h = let e : Some (pos 0) ≡ None = h.apart.0 in cc

@@ -14,7 +14,7 @@ use Rattle.std.specs.Str.{is_utf8, chars}
 use Rattle.std.specs.Char.{encode_utf8}
 use Rattle.std.specs.Str.Lossy.{utf8_valid_len}
 use Rattle.protox_describe.specs.File.{file_proto}
-use Rattle.protox_locate.specs.Lines.{span_numbers}
+use Rattle.protox_places.specs.Lines.{span_numbers}
 use Rattle.protox_locate.specs.Locations.{file_locations}
 use Rattle.protox_ast.specs.Options.{uninterpreted, default_of, json_name_of, options_left}
 use Rattle.protox_ast.specs.Spans.{body_span, parts_span}

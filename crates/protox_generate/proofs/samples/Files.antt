@@ -14,7 +14,7 @@ use Rattle.protox_describe.specs.Descriptor.{descriptor_steps}
 use Rattle.protox_describe.specs.File.{item_messages, item_extensions, file_proto}
 use Rattle.protox_ast.specs.declared.ast.Import.{Import}
 use Rattle.protox_checks.specs.Checks.{node_faults, file_faults}
-use Rattle.protox_locate.specs.Lines.{span_numbers}
+use Rattle.protox_places.specs.Lines.{span_numbers}
 use Rattle.protox_locate.specs.LocationWords.{Part, part, each_at, siblings_at, bare, option_statements}
 use Rattle.protox_locate.specs.Locations as locations
 use Rattle.protox_locate.specs.Locations.{location_steps, file_locations, item_enums, item_services, item_blocks, package_locations, import_locations, public_words, weak_words, syntax_locations}

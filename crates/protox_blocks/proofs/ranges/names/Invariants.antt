@@ -1,6 +1,7 @@
 use Rattle.std.proofs.Common.{◌≡◌, ◌++◌, length}
 use Rattle.protox_grammar.specs.Class.{only, in_set}
 use Rattle.protox_grammar.specs.Reader.{star, gathered}
+use Rattle.protox_grammar.specs.Token as token
 use Rattle.protox_grammar.proofs.Telling.{star_notes}
 use Rattle.protox_rows.specs.Reads.{push}
 use Rattle.protox_blocks.specs.Ranges as rule
@@ -8,8 +9,8 @@ use Rattle.protox_blocks.proofs.ranges.names.Given as goal
 
 abbrev pub invariant-more : goal.invariant-more
 invariant-more l = record {
-  read : gathered push l.names (star (in_set (only 53)) (rule.more_name).code l.rows) ≡ (rule.names).code l.fn.rows;
-  notes : l.notes.items ++ star_notes (in_set (only 53)) (rule.more_name).code (rule.more_name).notes l.rows ≡ l.fn.notes.items ++ (rule.names).notes l.fn.rows;
+  read : gathered push l.names (star (in_set (only token.comma)) (rule.more_name).code l.rows) ≡ (rule.names).code l.fn.rows;
+  notes : l.notes.items ++ star_notes (in_set (only token.comma)) (rule.more_name).code (rule.more_name).notes l.rows ≡ l.fn.notes.items ++ (rule.names).notes l.fn.rows;
 }
 
 abbrev pub decreases-more : goal.decreases-more

@@ -1,12 +1,13 @@
 use Rattle.std.proofs.Common.{◌≡◌, length}
 use Rattle.protox_grammar.specs.Class.{only, in_set}
 use Rattle.protox_grammar.specs.Reader.{star, gathered}
+use Rattle.protox_grammar.specs.Token as token
 use Rattle.protox_rows.specs.Reads.{push}
 use Rattle.protox_blocks.specs.Ranges as rule
 use Rattle.protox_blocks.proofs.ranges.ranges.Given as goal
 
 abbrev pub invariant-more : goal.invariant-more
-invariant-more l = gathered push l.ranges (star (in_set (only 53)) (rule.more_range).code l.rows) ≡ (rule.ranges).code l.fn.rows
+invariant-more l = gathered push l.ranges (star (in_set (only token.comma)) (rule.more_range).code l.rows) ≡ (rule.ranges).code l.fn.rows
 
 abbrev pub decreases-more : goal.decreases-more
 decreases-more l = length l.rows

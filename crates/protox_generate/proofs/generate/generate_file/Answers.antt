@@ -5,6 +5,7 @@ use Rattle.protox_checks.specs.Faults.{HasEachWrong}
 use Rattle.protox_fault.specs.Faults.{LiesIn}
 use Rattle.protox_generate.proofs.Outcomes.{none-found, empty-none, some-found}
 use Rattle.protox_generate.proofs.NamedFiles.{answer-named}
+use Rattle.protox_generate.proofs.PlacedFiles.{answer-placed}
 use Rattle.protox_generate.proofs.RealOneofs.{answer-first}
 use Rattle.protox_generate.proofs.Standing.{file-stands, width-fits, weight-fits, reach-fits}
 use Rattle.protox_generate.proofs.generate.generate_file.Goals as goal
@@ -43,3 +44,6 @@ returns-clause-oneofs c =
 pub returns-clause-named : goal.returns-clause-named
 returns-clause-named c =
     answer-named c.args.name.now c.args.source.now c.args.ast c.in_ok-described.field-0 c.utf8.source c.requires c.in_ok-described.ensures.found
+
+pub returns-clause-placed : goal.returns-clause-placed
+returns-clause-placed c = answer-placed c.args.name.now c.args.source.now c.args.ast c.in_ok-described.field-0 c.in_ok-described.ensures.found

@@ -3,7 +3,7 @@ use Rattle.std.specs.Prelude.{None}
 use Rattle.protox_ast.specs.Steps.{of_field}
 use Rattle.protox_descriptor.specs.declared.tag.message.TheConstants.{FIELD}
 use Rattle.protox_locate.specs.Bounds.{greatest, reaches, total, weights}
-use Rattle.protox_locate.specs.Lines.{numbers_at}
+use Rattle.protox_places.specs.Lines.{numbers_at}
 use Rattle.protox_locate.specs.FieldLocations.{OfField}
 use Rattle.protox_locate.specs.Locations.{location_steps}
 use Rattle.protox_locate.specs.Walk.{ToCome}

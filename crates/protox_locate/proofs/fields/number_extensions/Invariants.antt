@@ -2,7 +2,7 @@ use Rattle.std.proofs.Common.{◌≤◌, ◌+◌, map, drop}
 use Rattle.std.specs.Prelude.{Some}
 use Rattle.protox_ast.specs.Steps.{of_field}
 use Rattle.protox_locate.specs.Bounds.{greatest, reaches, total, weights}
-use Rattle.protox_locate.specs.Lines.{numbers_at}
+use Rattle.protox_places.specs.Lines.{numbers_at}
 use Rattle.protox_locate.specs.FieldLocations.{OfField}
 use Rattle.protox_locate.specs.Locations.{location_steps}
 use Rattle.protox_locate.specs.Walk.{ToCome}

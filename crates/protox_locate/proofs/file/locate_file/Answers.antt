@@ -1,10 +1,10 @@
 use Rattle.std.proofs.Common.{◌++◌, ap, sym, subst, ◌∙◌}
-use Rattle.protox_locate.specs.Lines.{numbers_at}
+use Rattle.protox_places.specs.Lines.{numbers_at}
 use Rattle.protox_locate.specs.Locations.{file_at, file_locations}
-use Rattle.protox_locate.specs.Order.{InOrder, StartsBefore}
+use Rattle.protox_places.specs.Order.{InOrder, StartsBefore}
 use Rattle.protox_locate.proofs.InOrder.{in-order}
-use Rattle.protox_locate.proofs.LineFacts.{numbers-are}
-use Rattle.protox_locate.proofs.SortedPaths.{sorted-by-path}
+use Rattle.protox_places.proofs.LineFacts.{numbers-are}
+use Rattle.protox_places.proofs.SortedPaths.{sorted-by-path}
 use Rattle.protox_locate.proofs.file.locate_file.Goals as goal
 
 pub returns-clause-located : goal.returns-clause-located

@@ -3,7 +3,7 @@ use Rattle.protox_ast.specs.Options.{OptionStatement}
 use Rattle.protox_ast.specs.declared.ast.FileItem.{FileItem}
 use Rattle.protox_ast.specs.declared.ast.Import.{Import}
 use Rattle.protox_descriptor.specs.declared.tag.file.TheConstants as tag
-use Rattle.protox_locate.specs.Lines.{numbers_at}
+use Rattle.protox_places.specs.Lines.{numbers_at}
 use Rattle.protox_locate.specs.LocationWords.{Path, part, each_at, siblings_at, option_statements}
 use Rattle.protox_locate.specs.Locations.{item_blocks, item_extensions, public_words, weak_words, syntax_locations}
 use Rattle.protox_locate.specs.Walk.{Emits}

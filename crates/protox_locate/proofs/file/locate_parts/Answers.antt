@@ -2,7 +2,7 @@ use Rattle.std.proofs.Common.{List, [], ◌∷◌, ◌++◌, map, flat_map, subs
 use Rattle.protox_ast.specs.declared.ast.FileItem.{FileItem}
 use Rattle.protox_ast.specs.declared.ast.Import.{Import}
 use Rattle.protox_descriptor.specs.declared.tag.file.TheConstants as tag
-use Rattle.protox_locate.specs.Lines.{numbers_at}
+use Rattle.protox_places.specs.Lines.{numbers_at}
 use Rattle.protox_locate.specs.LocationWords.{Path, siblings_at, bare}
 use Rattle.protox_locate.specs.Locations.{item_messages, item_enums, item_services, import_locations, package_locations, file_from_blocks}
 use Rattle.protox_locate.specs.Walk.{Emits}

@@ -7,7 +7,7 @@ use Rattle.protox_ast.specs.declared.ast.MessageItem.{MessageItem}
 use Rattle.protox_ast.specs.declared.ast.Reserved.{Reserved}
 use Rattle.protox_descriptor.specs.declared.tag.message.TheConstants.{EXTENSION, ONEOF_DECL, OPTIONS, RESERVED_NAME, RESERVED_RANGE}
 use Rattle.protox_fault.specs.Faults.{Span}
-use Rattle.protox_locate.specs.Lines.{numbers_at}
+use Rattle.protox_places.specs.Lines.{numbers_at}
 use Rattle.protox_locate.specs.LocationWords.{Part, each_at, name_statements, option_statements, part, range_statements}
 use Rattle.protox_locate.specs.Locations.{OfItem, all_of, from_blocks, location_steps}
 use Rattle.protox_locate.specs.Walk.{Emits}

@@ -1,6 +1,6 @@
 use Rattle.std.proofs.Common.{◌≤◌, map, drop}
 use Rattle.protox_locate.specs.Bounds.{options_reach}
-use Rattle.protox_locate.specs.Lines.{numbers_at}
+use Rattle.protox_places.specs.Lines.{numbers_at}
 use Rattle.protox_locate.specs.LocationWords.{option_place}
 use Rattle.protox_locate.specs.Walk.{ToAdd}
 use Rattle.protox_locate.proofs.options.add_statements.Given as goal

@@ -1,6 +1,7 @@
 use Rattle.std.proofs.Common.{◌≡◌, ◌++◌, length}
 use Rattle.protox_grammar.specs.Class.{only, in_set}
 use Rattle.protox_grammar.specs.Reader.{star, gathered}
+use Rattle.protox_grammar.specs.Token as token
 use Rattle.protox_grammar.proofs.Telling.{star_notes}
 use Rattle.protox_rows.specs.Reads.{push}
 use Rattle.protox_options.specs.Options.{more_body, bodies}
@@ -8,8 +9,8 @@ use Rattle.protox_options.proofs.options.bodies.Given as goal
 
 abbrev pub invariant-more : goal.invariant-more
 invariant-more l = record {
-  read : gathered push l.bodies (star (in_set (only 53)) (more_body).code l.rows) ≡ (bodies).code l.fn.rows;
-  notes : l.notes.items ++ star_notes (in_set (only 53)) (more_body).code (more_body).notes l.rows ≡ l.fn.notes.items ++ (bodies).notes l.fn.rows;
+  read : gathered push l.bodies (star (in_set (only token.comma)) (more_body).code l.rows) ≡ (bodies).code l.fn.rows;
+  notes : l.notes.items ++ star_notes (in_set (only token.comma)) (more_body).code (more_body).notes l.rows ≡ l.fn.notes.items ++ (bodies).notes l.fn.rows;
 }
 
 abbrev pub decreases-more : goal.decreases-more

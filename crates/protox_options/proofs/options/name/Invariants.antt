@@ -1,12 +1,13 @@
 use Rattle.std.proofs.Common.{◌≡◌, length}
 use Rattle.protox_grammar.specs.Class.{only, in_set}
 use Rattle.protox_grammar.specs.Reader.{star, gathered}
+use Rattle.protox_grammar.specs.Token as token
 use Rattle.protox_rows.specs.Reads.{push}
 use Rattle.protox_options.specs.Options.{more_part, name}
 use Rattle.protox_options.proofs.options.name.Given as goal
 
 abbrev pub invariant-more : goal.invariant-more
-invariant-more l = gathered push l.parts (star (in_set (only 42)) (more_part).code l.rows) ≡ (name).code l.fn.rows
+invariant-more l = gathered push l.parts (star (in_set (only token.dot)) (more_part).code l.rows) ≡ (name).code l.fn.rows
 
 abbrev pub decreases-more : goal.decreases-more
 decreases-more l = length l.rows

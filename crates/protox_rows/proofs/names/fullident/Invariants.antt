@@ -1,13 +1,14 @@
 use Rattle.std.proofs.Common.{◌≡◌, ◌<◌, length}
 use Rattle.protox_grammar.specs.Reader.{star, gathered}
 use Rattle.protox_grammar.specs.Class.{only, in_set}
+use Rattle.protox_grammar.specs.Token as token
 use Rattle.protox_rows.specs.Names.{more_part, fullident}
 use Rattle.protox_rows.specs.Reads.{push}
 use Rattle.protox_rows.proofs.names.fullident.Given as goal
 
 abbrev pub invariant-more : goal.invariant-more
 invariant-more l = record {
-  read : gathered push l.parts (star (in_set (only 42)) (more_part).code l.rows) ≡ (fullident).code l.fn.rows;
+  read : gathered push l.parts (star (in_set (only token.dot)) (more_part).code l.rows) ≡ (fullident).code l.fn.rows;
   some : 0 < length l.parts;
 }
 

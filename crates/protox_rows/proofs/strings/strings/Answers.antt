@@ -1,6 +1,7 @@
 use Rattle.std.proofs.Common.{sym, ◌∙◌}
 use Rattle.std.proofs.lemmas.Result.{err_from_is_err_and}
 use Rattle.protox_grammar.specs.Class.{only, in_set}
+use Rattle.protox_grammar.specs.Token as token
 use Rattle.protox_rows.specs.Strings.{more_string, string, strings}
 use Rattle.protox_rows.proofs.Same.{string-eats}
 use Rattle.protox_rows.proofs.Turns as turns
@@ -9,14 +10,14 @@ use Rattle.protox_rows.proofs.strings.strings.Goals as goal
 pub returns-in_err-more : goal.returns-in_err-more
 returns-in_err-more c =
     let p = err_from_is_err_and c.from_residual-in_err-more.result c.from_residual-in_err-more.ensures.1 in
-    rw (p.1, p.2) (turns.ends more_string (in_set (only 41)) (string).code string-eats ((strings).code c.args.rows.now) c.in_err-more.field-0.0 _ _ (sym c.sees.ensures ∙ c.more-test.true) c.in_err-more.ensures c.more.invariant)
+    rw (p.1, p.2) (turns.ends more_string (in_set (only token.a_string)) (string).code string-eats ((strings).code c.args.rows.now) c.in_err-more.field-0.0 _ _ (sym c.sees.ensures ∙ c.more-test.true) c.in_err-more.ensures c.more.invariant)
 
 pub more-smaller : goal.more-smaller
 more-smaller c = turns.shorter (string).code string-eats c.more.rows c.string-in-more.new.rows _ c.in_ok-more.ensures
 
 pub more-preserved : goal.more-preserved
 more-preserved c =
-    rw (c.in_ok-extend_from_slice.ensures.items, c.join-span.ensures) (turns.more more_string (in_set (only 41)) (string).code string-eats ((strings).code c.args.rows.now) _ _ _ _ (sym c.sees.ensures ∙ c.more-test.true) c.in_ok-more.ensures c.more.invariant)
+    rw (c.in_ok-extend_from_slice.ensures.items, c.join-span.ensures) (turns.more more_string (in_set (only token.a_string)) (string).code string-eats ((strings).code c.args.rows.now) _ _ _ _ (sym c.sees.ensures ∙ c.more-test.true) c.in_ok-more.ensures c.more.invariant)
 
 pub returns : goal.returns
-returns c = turns.done more_string (in_set (only 41)) (string).code string-eats ((strings).code c.args.rows.now) _ _ (sym c.sees.ensures ∙ c.more-test.false) c.more.invariant
+returns c = turns.done more_string (in_set (only token.a_string)) (string).code string-eats ((strings).code c.args.rows.now) _ _ (sym c.sees.ensures ∙ c.more-test.false) c.more.invariant

@@ -1,11 +1,12 @@
 use Rattle.std.proofs.Common.{◌≡◌, length}
 use Rattle.protox_grammar.specs.Class.{only, in_set}
 use Rattle.protox_grammar.specs.Reader.{star, gathered}
+use Rattle.protox_grammar.specs.Token as token
 use Rattle.protox_rows.specs.Strings.{more_string, string, strings}
 use Rattle.protox_rows.proofs.strings.strings.Given as goal
 
 abbrev pub invariant-more : goal.invariant-more
-invariant-more l = gathered more_string (l.value.items, l.span) (star (in_set (only 41)) (string).code l.rows) ≡ (strings).code l.fn.rows
+invariant-more l = gathered more_string (l.value.items, l.span) (star (in_set (only token.a_string)) (string).code l.rows) ≡ (strings).code l.fn.rows
 
 abbrev pub decreases-more : goal.decreases-more
 decreases-more l = length l.rows

@@ -1,6 +1,7 @@
 use Rattle.std.proofs.Common.{flat_map, take}
 use Rattle.std.specs.Fmt.{HasWritten, IsPlainFormatter}
-use Rattle.protox_ast.specs.Printed.{printed_byte, quoted_byte}
+use Rattle.protox_ast.specs.Printed.{quoted_byte}
+use Rattle.protox_descriptor.specs.Literal.{printed_byte}
 use Rattle.protox_ast.proofs.ast.printed.write_value.Given as goal
 
 abbrev pub invariant-loop-byte : goal.invariant-loop-byte

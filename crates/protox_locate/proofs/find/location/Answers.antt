@@ -1,7 +1,0 @@
-use Rattle.protox_locate.proofs.First.{first_of}
-use Rattle.protox_locate.proofs.find.location.Goals as goal
-
-pub returns : goal.returns
-returns c =
-    first_of _ _ _ _ _ c.locate-found.ensures.found c.locate-found.ensures.end
-    c.front.ensures.some c.front.ensures.none

@@ -1,0 +1,15 @@
+-- Where a fault stands in its source.
+use Rattle.std.specs.Prelude.{ℕ, ◌-◌, ◌==◌, if◌then◌else◌, List, length, slice_index, Option, Some, None}
+use Rattle.protox_fault.specs.Faults.{Span, span_from, span_of}
+use Rattle.protox_fault.specs.declared.error.ParseErrorKind.{ParseErrorKind}
+use Rattle.protox_fault.specs.declared.error.ParseErrorKind.TheVariants.{DuplicatePackage, UnexpectedEof}
+
+-- where a source ends: at its last newline, where it ends with one
+abbrev pub end_of : List ℕ → ℕ
+end_of source = if slice_index source (length source - 1) == 10 then length source - 1 else length source
+
+-- the place of a fault, the first where it has two, the end where the source ends too early; none of a fault of the whole source
+abbrev pub first_place : List ℕ → ParseErrorKind → Option Span
+first_place source (DuplicatePackage first second) = Some first
+first_place source (UnexpectedEof expected) = Some (span_from (end_of source) (end_of source))
+first_place source fault = span_of fault

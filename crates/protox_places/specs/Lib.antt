@@ -1,0 +1,6 @@
+pub mod Lines
+pub mod Order
+pub mod First
+pub mod Innermost
+pub mod Nearer
+pub mod Faults

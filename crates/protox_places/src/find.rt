@@ -1,0 +1,144 @@
+//! Finding locations: those with a path, and the one around a line and a column.
+
+ghost use Rattle.std.specs.Prelude.{◌≡◌, ◌<◌, ◌≤◌, None, length, slice_get};
+ghost use Rattle.std.specs.List.{AllWithin};
+ghost use Rattle.std.specs.Option.{option_copied};
+ghost use Rattle.protox_places.specs.First.{first_at, leading_of, trailing_of, detached_of};
+ghost use Rattle.protox_places.specs.Order.{AreByPath, AreThoseAt, ComesBefore};
+
+pub use crate::at::declaration_at;
+use protox_descriptor::descriptor::SourceCodeInfo;
+use protox_descriptor::descriptor::source_code_info::Location;
+use protox_descriptor::values::Text;
+use std::ops::Range;
+
+// How many locations have a smaller path, by binary search.
+fn count_before(locations: &[Location], path: &[i32]) -> usize
+    requires { AreByPath locations.now }
+    ensures bound { result ≤ length locations.now }
+    ensures before { AllWithin (λ l. ComesBefore l.path path.now) locations.now 0 result }
+    ensures from { AllWithin (λ l. ComesBefore l.path path.now → ⊥)
+        locations.now result (length locations.now) }
+{
+    locations.partition_point(|location| location.path.as_slice().cmp(&path).is_lt())
+}
+
+// How many locations have a smaller path or this one, by binary search.
+fn count_up_to(locations: &[Location], path: &[i32]) -> usize
+    requires { AreByPath locations.now }
+    ensures bound { result ≤ length locations.now }
+    ensures up_to { AllWithin (λ l. ComesBefore path.now l.path → ⊥) locations.now 0 result }
+    ensures behind { AllWithin (λ l. ComesBefore path.now l.path)
+        locations.now result (length locations.now) }
+{
+    locations.partition_point(|location| location.path.as_slice().cmp(&path).is_le())
+}
+
+/// The indices of the locations with this path, in `info.location`. Where none has it, the range is
+/// empty, and stands where such a location would stand.
+///
+/// It needs the locations sorted by path: number by number, and a path before those that begin with
+/// it. Those that `parse` answers are sorted so, and so is an empty list. It searches by halves,
+/// takes no memory, and has no error.
+///
+/// The field numbers of descriptor.proto make a path. `[4, 0, 2, 1, 1]` is that of the name (1) of
+/// the field (2) with index 1 in the message (4) with index 0:
+///
+/// ```
+/// if let Some(info) = &file.source_code_info {
+///     for location in &info.location.as_slice()[locate(info, &[4, 0, 2, 1, 1])] {
+///         println!(rt; "{:?}", location.span)?;
+///     }
+/// }
+/// ```
+pub fn locate(info: &SourceCodeInfo, path: &[i32]) -> Range<usize>
+    requires { AreByPath info.now.location }
+    ensures start { result.start ≤ result.end }
+    ensures end { result.end ≤ length info.now.location }
+    // An index lies in the range exactly if the location there has the path.
+    ensures found { AreThoseAt info.now.location path.now result.start result.end }
+    // All paths in front of the range are smaller, and all behind it greater.
+    ensures before { AllWithin (λ l. ComesBefore l.path path.now)
+        info.now.location 0 result.start }
+    ensures behind { AllWithin (λ l. ComesBefore path.now l.path)
+        info.now.location result.end (length info.now.location) }
+{
+    let locations = info.location.as_slice();
+    let start = count_before(locations, path);
+    let end = count_up_to(locations, path);
+    start..end
+}
+
+// The first of the locations between two indices.
+fn front(info: &SourceCodeInfo, start: usize, end: usize) -> Option<&Location>
+    ensures some { start < end → option_copied result ≡ slice_get info.now.location start }
+    ensures none { (start < end → ⊥) → option_copied result ≡ None }
+{
+    if start < end {
+        info.location.get(start)
+    } else {
+        None
+    }
+}
+
+// The comments of a location; none where there is no location.
+fn comments_of(location: Option<&Location>) -> LocationComments<'_>
+    ensures leading { option_copied result.leading ≡ leading_of (option_copied location.entry) }
+    ensures trailing { option_copied result.trailing ≡ trailing_of (option_copied location.entry) }
+    ensures detached { result.leading_detached.now ≡ detached_of (option_copied location.entry) }
+{
+    match location {
+        Some(location) => LocationComments {
+            leading: location.leading_comments(),
+            trailing: location.trailing_comments(),
+            leading_detached: location.leading_detached_comments(),
+        },
+        None => LocationComments {
+            leading: None,
+            trailing: None,
+            leading_detached: &[],
+        },
+    }
+}
+
+/// The first location with this path, or None where none has it. It needs what `locate` needs.
+///
+/// ```
+/// // The comment on the first field of the first message.
+/// let comment = location(info, &[4, 0, 2, 0]).and_then(|location| location.leading_comments());
+/// ```
+pub fn location<'a>(info: &'a SourceCodeInfo, path: &[i32]) -> Option<&'a Location>
+    requires { AreByPath info.now.location }
+    ensures { option_copied result ≡ first_at path.now info.now.location }
+{
+    let found = locate(info, path);
+    front(info, found.start, found.end)
+}
+
+/// The comments of a location, each as `SourceCodeInfo.Location` has it.
+#[derive(Clone, Copy, Debug)]
+pub struct LocationComments<'a> {
+    /// The comment that leads the declaration.
+    pub leading: Option<&'a Text>,
+    /// The comment that trails the declaration.
+    pub trailing: Option<&'a Text>,
+    /// The comments that stand apart before the declaration, in order.
+    pub leading_detached: &'a [Text],
+}
+
+/// The comments of the first location with this path; none where no location has it. It needs what
+/// `locate` needs.
+///
+/// ```
+/// if let Some(text) = comments(info, &[4, 0]).leading {
+///     println!(rt; "{text}")?;
+/// }
+/// ```
+pub fn comments<'a>(info: &'a SourceCodeInfo, path: &[i32]) -> LocationComments<'a>
+    requires { AreByPath info.now.location }
+    ensures leading { option_copied result.leading ≡ leading_of (first_at path.now info.now.location) }
+    ensures trailing { option_copied result.trailing ≡ trailing_of (first_at path.now info.now.location) }
+    ensures detached { result.leading_detached.now ≡ detached_of (first_at path.now info.now.location) }
+{
+    comments_of(location(info, path))
+}

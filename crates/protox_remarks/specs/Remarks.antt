@@ -1,0 +1,27 @@
+-- The comments of a source, each with its place.
+use Rattle.std.specs.Prelude.{ℕ, List, [], ◌∷◌, ◌++◌}
+use Rattle.std.specs.Cow.{cow_str_bytes}
+use Rattle.std.specs.declared.alloc.Global.{Global}
+use Rattle.std.specs.declared.borrow.CowStr.{CowStr}
+use Rattle.protox_fault.specs.Faults.{Span, span_from}
+use Rattle.protox_lexeme.specs.Lexemes.{Lexeme}
+use Rattle.protox_lexeme.specs.Shapes.{Shape, LineComment, BlockComment}
+use Rattle.protox_remarks.specs.declared.Remark.{Remark}
+
+-- the place and the text of a comment that is such a lexeme; none of another lexeme
+abbrev pub remark_of : ℕ → ℕ → Shape → List (Span × List ℕ)
+remark_of start stop (LineComment text) = (span_from start stop, text) ∷ []
+remark_of start stop (BlockComment text) = (span_from start stop, text) ∷ []
+remark_of start stop _ = []
+
+-- the comments among the lexemes, in their order
+abbrev pub remarks_of : List Lexeme → List (Span × List ℕ)
+remarks_of [] = []
+remarks_of (x ∷ xs) = remark_of x.start x.stop x.shape ++ remarks_of xs
+
+-- a text at a place
+abbrev pub placed : ℕ → ℕ → CowStr Global → Span × List ℕ
+placed start stop text = (span_from start stop, cow_str_bytes text)
+
+abbrev pub seen : Remark → Span × List ℕ
+seen remark = (remark.span, cow_str_bytes remark.text)

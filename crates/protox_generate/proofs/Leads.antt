@@ -1,7 +1,6 @@
 -- Locations whose paths lead to names: what is listed at a path, by what the rest of a path leads to there.
-use Rattle.std.proofs.Common.{◌≡◌, ℕ, ◌+◌, suc, zero, Bool, true, false, List, [], ◌∷◌, ◌++◌, map, flat_map, Option, Some, None, refl, sym, ap, ◌∙◌, subst, append_assoc, append-nil, arith}
-use Rattle.std.specs.Prelude.{ℤ, pos, if◌then◌else◌, option_and_then, slice_get}
-use Rattle.std.specs.Ordering.{int_eq}
+use Rattle.std.proofs.Common.{◌≡◌, ℕ, ◌+◌, suc, List, [], ◌∷◌, ◌++◌, map, flat_map, Option, Some, None, refl, sym, ap, ◌∙◌, subst, append_assoc, append-nil, arith}
+use Rattle.std.specs.Prelude.{ℤ, pos, option_and_then, slice_get}
 use Rattle.protox_ast.specs.Basics.{Each}
 use Rattle.protox_describe.specs.Siblings.{Given}
 use Rattle.protox_ast.specs.Options.{OptionStatement, listed}
@@ -16,12 +15,12 @@ use Rattle.protox_ast.specs.declared.ast.ReservedKind.{ReservedKind}
 use Rattle.protox_ast.specs.declared.ast.ReservedKind.TheVariants as reserved
 use Rattle.protox_ast.specs.declared.ast.ReservedRange.{ReservedRange}
 use Rattle.protox_descriptor.specs.declared.descriptor.source_code_info.Location.{Location}
-use Rattle.protox_fault.specs.Faults.{Span, span_from}
+use Rattle.protox_fault.specs.Faults.{Span}
 use Rattle.protox_generate.proofs.Spelled.{TextAt}
-use Rattle.protox_generate.specs.Names.{IsNamed, Lookup, Name, Written, Writes, at, own}
+use Rattle.protox_generate.specs.Names.{IsNamed, Lookup, Name, Writes, at}
 use Rattle.protox_ast.proofs.Keeps.{Pairs}
 use Rattle.protox_places.specs.Lines.{span_numbers}
-use Rattle.protox_locate.specs.LocationWords.{Path, Part, part, nth, each_at, numbered, siblings_at, commented, bare, extension_range, extensions_statements, name_statement, option_body, option_list, option_place, option_statement, option_statements, range_locations, range_statement, range_statements, reserved_name, name_statements}
+use Rattle.protox_locate.specs.LocationWords.{Path, Part, part, nth, each_at, numbered, commented, bare, extension_range, extensions_statements, name_statement, option_body, option_list, option_place, option_statement, option_statements, range_locations, range_statement, range_statements, reserved_name, name_statements}
 use Rattle.protox_ast.specs.Spans.{body_span, end_span, range_span, start_span}
 
 pub each-both : {A : Type 0} (P : A → Type 0) (xs ys : List A) → Each P xs → Each P ys → Each P (xs ++ ys)

@@ -1,31 +1,16 @@
 -- The locations of messages, and of a file: those that lead to a name stand at it.
-use Rattle.std.proofs.Common.{◌≡◌, ℕ, ◌+◌, Bool, true, false, List, [], ◌∷◌, ◌++◌, length, map, flat_map, Option, Some, None, refl, sym, ap, ◌∙◌, subst}
+use Rattle.std.proofs.Common.{◌≡◌, ℕ, false, List, [], ◌∷◌, ◌++◌, map, flat_map, Option, Some, None, refl, sym, ap, subst}
 use Rattle.std.specs.Prelude.{ℤ, pos, if◌then◌else◌}
-use Rattle.std.specs.List.{filter_map}
 use Rattle.std.specs.Ordering.{int_eq}
-use Rattle.std.specs.Str.{IsUtf8, str_to_ascii_lowercase}
-use Rattle.protox_ast.proofs.Levels.{body-gives, extend-gives, field-gives, item-enum, item-extend, item-field, item-message, item-oneof, kind-group, kind-map, kind-normal, message-gives, oneof-gives}
-use Rattle.protox_ast.proofs.SpansStand.{each-front, each-back}
-use Rattle.protox_ast.specs.Accepted.{IsFileOf}
-use Rattle.protox_ast.specs.Ast as ast
 use Rattle.protox_ast.specs.Basics.{Each}
-use Rattle.protox_describe.specs.Siblings.{Given}
 use Rattle.protox_ast.specs.Options.{OptionStatement}
-use Rattle.protox_ast.specs.Places.{Place}
-use Rattle.protox_ast.specs.Spelling as s
-use Rattle.protox_ast.specs.Steps.{Steps, of_extend, of_field, of_item, of_message, of_body, of_oneof}
-use Rattle.protox_ast.specs.Tree as t
 use Rattle.protox_ast.specs.declared.ast.Comments.{Comments}
 use Rattle.protox_ast.specs.declared.ast.Extensions.{Extensions}
-use Rattle.protox_ast.specs.declared.ast.Field.{Field}
-use Rattle.protox_ast.specs.declared.ast.File.{File}
 use Rattle.protox_ast.specs.declared.ast.Ident.{Ident}
-use Rattle.protox_ast.specs.declared.ast.MessageItem.{MessageItem}
-use Rattle.protox_ast.specs.declared.ast.MessageItem.TheVariants as item
 use Rattle.protox_ast.specs.declared.ast.Reserved.{Reserved}
 use Rattle.protox_ast.specs.declared.ast.Syntax.{Syntax}
 use Rattle.protox_ast.specs.declared.ast.TypeName.{TypeName}
-use Rattle.protox_describe.specs.Descriptor.{Gives, Item, OneofGives, all_oneofs, descriptor_steps, enums_of, extending, extensions_of, fields_of, in_oneof, is_oneof, nested_of, oneofs_of, synthetic_of}
+use Rattle.protox_describe.specs.Descriptor.{Gives, Item, OneofGives, descriptor_steps, enums_of, extensions_of, fields_of, is_oneof, nested_of, oneofs_of, synthetic_of}
 use Rattle.protox_describe.specs.Fields.{Parts, message_proto}
 use Rattle.protox_describe.specs.Siblings.{count, each_after}
 use Rattle.protox_descriptor.specs.declared.descriptor.DescriptorProto.{DescriptorProto}
@@ -34,14 +19,13 @@ use Rattle.protox_descriptor.specs.FieldDescriptorProto.{FieldDescriptorProto}
 use Rattle.protox_descriptor.specs.declared.descriptor.source_code_info.Location.{Location}
 use Rattle.protox_fault.specs.Faults.{Span}
 use Rattle.protox_generate.proofs.Leads.{Fits, Fronts, Leads, a-name, all-fronts, alone, apart, each-both, extensions-start, fronts, leaf, names-start, options-start, ranges-start, siblings}
-use Rattle.protox_generate.proofs.NamedParts.{Spelled, enum-fits, field-fits, not-group, own-none, service-fits}
-use Rattle.protox_generate.proofs.Spelled.{RowSpelled}
-use Rattle.protox_generate.specs.Names.{InSmallLetters, Lookup, Name, Written, in_enum, in_field, in_message, in_oneof as oneof_lookup, message_step, own}
+use Rattle.protox_generate.proofs.NamedParts.{Spelled}
+use Rattle.protox_generate.specs.Names.{Lookup, Written, in_enum, in_field, in_message, in_oneof as oneof_lookup, message_step}
 use Rattle.protox_ast.proofs.Keeps.{Pairs}
-use Rattle.protox_locate.specs.FieldLocations.{OfField, OfKind, brought, group_locations}
+use Rattle.protox_locate.specs.FieldLocations.{OfField, group_locations}
 use Rattle.protox_places.specs.Lines.{span_numbers}
-use Rattle.protox_locate.specs.LocationWords.{Path, Part, part, bare, commented, each_at, extensions_statements, option_statements, numbered}
-use Rattle.protox_locate.specs.Locations.{OfExtend, OfItem, OfOneof as LocatedOneof, from_blocks, location_steps, messages_of}
+use Rattle.protox_locate.specs.LocationWords.{Path, Part, part, each_at}
+use Rattle.protox_locate.specs.Locations.{OfExtend, OfItem, OfOneof as LocatedOneof, location_steps}
 
 -- ---- lists of pairs
 

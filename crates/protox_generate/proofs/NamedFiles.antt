@@ -1,6 +1,6 @@
 -- The locations of a file lead to its names.
-use Rattle.std.proofs.Common.{◌≡◌, ℕ, Bool, true, false, List, [], ◌∷◌, ◌++◌, length, map, flat_map, Option, Some, None, refl, sym, ap, ◌∙◌, subst}
-use Rattle.std.specs.Prelude.{ℤ, pos, if◌then◌else◌}
+use Rattle.std.proofs.Common.{◌≡◌, ℕ, List, [], ◌∷◌, flat_map, Option, Some, None, refl, sym, subst}
+use Rattle.std.specs.Prelude.{ℤ, pos}
 use Rattle.std.specs.List.{filter_map}
 use Rattle.std.specs.Str.{IsUtf8}
 use Rattle.protox_ast.proofs.SpansStand.{each-back, each-front}
@@ -14,7 +14,6 @@ use Rattle.protox_ast.specs.Tree as t
 use Rattle.protox_ast.specs.declared.ast.Comments.{Comments}
 use Rattle.protox_ast.specs.declared.ast.File.{File}
 use Rattle.protox_ast.specs.declared.ast.FileItem.{FileItem}
-use Rattle.protox_ast.specs.declared.ast.FileItem.TheVariants as item
 use Rattle.protox_ast.specs.declared.ast.Import.{Import}
 use Rattle.protox_ast.specs.declared.ast.ImportKind.{ImportKind}
 use Rattle.protox_ast.specs.declared.ast.ImportKind.TheVariants as import_kind
@@ -25,7 +24,7 @@ use Rattle.protox_describe.specs.File.{file_proto}
 use Rattle.protox_descriptor.specs.declared.descriptor.FileDescriptorProto.{FileDescriptorProto}
 use Rattle.protox_descriptor.specs.declared.descriptor.source_code_info.Location.{Location}
 use Rattle.protox_fault.specs.Faults.{Span}
-use Rattle.protox_generate.proofs.Leads.{Fits, From, Leads, Starts, all-fronts, alone, apart, bare-starts, commented-starts, each-both, each-flat, each-map, each-so, leaf, numbered-starts, options-start, siblings}
+use Rattle.protox_generate.proofs.Leads.{Fits, Leads, Starts, all-fronts, alone, apart, bare-starts, commented-starts, each-both, each-flat, each-map, each-so, leaf, numbered-starts, options-start, siblings}
 use Rattle.protox_generate.proofs.Named.{FieldAt, MessageAt, BlockAt, blocks-row, pairs-both}
 use Rattle.protox_generate.proofs.NamedParts.{enum-fits, service-fits}
 use Rattle.protox_generate.proofs.NamedTrees.{extend-has, message-has}
@@ -34,7 +33,7 @@ use Rattle.protox_generate.specs.File.{file_descriptor}
 use Rattle.protox_generate.specs.Names.{HasNames, IsNamed, Lookup, in_enum, in_field, in_file, in_message, in_service}
 use Rattle.protox_ast.proofs.Keeps.{Pairs}
 use Rattle.protox_places.specs.Lines.{span_numbers}
-use Rattle.protox_locate.specs.LocationWords.{Path, Part, part, each_at, commented, bare, option_statements, siblings_at}
+use Rattle.protox_locate.specs.LocationWords.{Path, part}
 use Rattle.protox_locate.specs.Locations as l
 use Rattle.protox_locate.specs.Locations.{file_at, file_from_blocks, file_locations, import_locations, package_locations, public_words, weak_words, syntax_locations}
 

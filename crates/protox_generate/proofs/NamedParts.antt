@@ -1,5 +1,5 @@
 -- Fields, oneofs, enums and services: their locations lead to their names.
-use Rattle.std.proofs.Common.{◌≡◌, ℕ, Bool, true, false, List, [], ◌∷◌, ◌++◌, map, Option, Some, None, refl, sym, ap, subst}
+use Rattle.std.proofs.Common.{◌≡◌, ℕ, false, List, [], ◌∷◌, ◌++◌, map, Option, Some, None, refl, ap}
 use Rattle.std.specs.Prelude.{ℤ, pos, if◌then◌else◌}
 use Rattle.std.specs.List.{filter_map}
 use Rattle.std.specs.Ordering.{int_eq}
@@ -33,12 +33,12 @@ use Rattle.protox_descriptor.specs.declared.descriptor.source_code_info.Location
 use Rattle.protox_fault.specs.Faults.{Span}
 use Rattle.protox_generate.proofs.Leads.{Fits, Leads, a-name, all-fronts, alone, apart, each-both, leaf, list-start, names-start, options-start, ranges-start, siblings}
 use Rattle.protox_generate.proofs.Spelled.{RowSpelled, TextAt}
-use Rattle.protox_generate.specs.Names.{InSmallLetters, Lookup, Name, Written, Writes, at, in_enum, in_method, in_service, in_value, is_group, own, written}
+use Rattle.protox_generate.specs.Names.{Lookup, Name, Written, Writes, at, in_enum, in_method, in_service, in_value, is_group, own, written}
 use Rattle.protox_ast.proofs.Keeps.{Pairs}
 use Rattle.protox_locate.specs.EnumLocations.{enum_locations, enum_value_locations}
 use Rattle.protox_locate.specs.FieldLocations.{OfKind, Normal, Group, Map, defaulted, extended, from_number, itself, json_named, label_locations, labelled, type_tag_of, typed}
 use Rattle.protox_places.specs.Lines.{span_numbers}
-use Rattle.protox_locate.specs.LocationWords.{Path, Part, part, bare, option_list}
+use Rattle.protox_locate.specs.LocationWords.{Path, part, bare, option_list}
 use Rattle.protox_locate.specs.ServiceLocations.{method_locations, service_locations, stream_locations}
 
 -- ---- types

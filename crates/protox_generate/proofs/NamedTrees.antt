@@ -1,6 +1,6 @@
 -- The locations of each tree whose rows are spelled lead to its names.
-use Rattle.std.proofs.Common.{◌≡◌, ℕ, Bool, true, false, List, [], ◌∷◌, ◌++◌, length, map, flat_map, Option, Some, None, refl, sym, ap, ◌∙◌, subst}
-use Rattle.std.specs.Prelude.{ℤ, pos, if◌then◌else◌, option_map}
+use Rattle.std.proofs.Common.{◌≡◌, ℕ, List, [], ◌∷◌, ◌++◌, map, flat_map, Option, Some, None, refl, sym, ap, ◌∙◌, subst}
+use Rattle.std.specs.Prelude.{pos, if◌then◌else◌, option_map}
 use Rattle.std.specs.Str.{str_to_ascii_lowercase}
 use Rattle.protox_ast.proofs.Levels.{body-gives, field-gives, item-enum, item-extend, item-field, item-message, item-oneof, kind-group, kind-map, kind-normal, message-gives}
 use Rattle.protox_ast.proofs.SpansStand.{each-front, each-back}
@@ -15,15 +15,14 @@ use Rattle.protox_ast.specs.declared.ast.Extend.{Extend, roll-Extend}
 use Rattle.protox_ast.specs.declared.ast.FieldKind.{FieldKind}
 use Rattle.protox_ast.specs.declared.ast.FieldKind.TheFolds.{fold-roll-Extend, fold-roll-Oneof}
 use Rattle.protox_ast.specs.declared.ast.FieldKind.TheOpen.{Extend-F, Oneof-F}
-use Rattle.protox_ast.specs.declared.ast.Ident.{Ident}
 use Rattle.protox_ast.specs.declared.ast.Message.{Message}
 use Rattle.protox_ast.specs.declared.ast.MessageBody.{MessageBody}
 use Rattle.protox_ast.specs.declared.ast.MessageItem.{MessageItem}
 use Rattle.protox_ast.specs.declared.ast.Oneof.{Oneof, roll-Oneof}
 use Rattle.protox_ast.specs.declared.ast.Syntax.{Syntax}
 use Rattle.protox_ast.specs.declared.ast.TypeName.{TypeName}
-use Rattle.protox_describe.specs.Descriptor.{Gives, Item, OfExtend as AnExtend, OfField as AField, OfOneof as AOneof, OneofGives, descriptor_steps, extending, in_oneof}
-use Rattle.protox_describe.specs.Fields.{Kind, Normal, Group, Map, Parts}
+use Rattle.protox_describe.specs.Descriptor.{Gives, Item, OfField as AField, OfOneof as AOneof, OneofGives, descriptor_steps, extending, in_oneof}
+use Rattle.protox_describe.specs.Fields.{Kind, Parts}
 use Rattle.protox_descriptor.specs.declared.descriptor.DescriptorProto.{DescriptorProto}
 use Rattle.protox_generate.proofs.Leads.{Fits, a-name, alone, apart, options-start}
 use Rattle.protox_generate.proofs.Named.{BodyFits, ExtendFits, FieldAt, FieldFits, ItemFits, MessageAt, OneofFits, body-fits, message-fits, pairs-both, pairs-flat, pairs-map}
@@ -35,7 +34,7 @@ use Rattle.protox_ast.proofs.Keeps.{Pairs}
 use Rattle.protox_locate.specs.FieldLocations as kinds
 use Rattle.protox_locate.specs.FieldLocations.{OfField, OfKind}
 use Rattle.protox_places.specs.Lines.{span_numbers}
-use Rattle.protox_locate.specs.LocationWords.{Path, Part, part}
+use Rattle.protox_locate.specs.LocationWords.{Part, part}
 use Rattle.protox_locate.specs.Locations.{OfExtend, OfItem, OfOneof, location_steps, messages_of}
 
 both : {B C : Type 0} (P : B → C → Type 0) {x x1 : B} {y y1 : C} → x ≡ x1 → y ≡ y1 → P x1 y1 → P x y

@@ -1,16 +1,15 @@
 -- In a file with which nothing is wrong the oneofs that are written come first, in each message: no field of a oneof has a label.
-use Rattle.std.proofs.Common.{◌≡◌, ℕ, Bool, true, false, List, [], ◌∷◌, ◌++◌, map, Option, Some, None, refl, ap, sym, ◌∙◌, subst}
-use Rattle.std.specs.Prelude.{ℤ, if◌then◌else◌}
+use Rattle.std.proofs.Common.{◌≡◌, ℕ, Bool, true, false, List, [], ◌∷◌, ◌++◌, map, Option, None, refl, ap, sym, ◌∙◌, subst}
+use Rattle.std.specs.Prelude.{if◌then◌else◌}
 use Rattle.std.specs.List.{flat_map}
 use Rattle.protox_ast.proofs.SpansStand.{each-front, each-back}
 use Rattle.protox_ast.specs.Basics.{Each}
 use Rattle.protox_ast.specs.Options.{bodies_of, json_name_of, options_left}
-use Rattle.protox_ast.specs.Steps.{of_extend, of_message}
+use Rattle.protox_ast.specs.Steps.{of_extend}
 use Rattle.protox_ast.specs.declared.ast.Extend.{Extend}
 use Rattle.protox_ast.specs.declared.ast.File.{File}
 use Rattle.protox_ast.specs.declared.ast.FileItem.{FileItem}
 use Rattle.protox_ast.specs.declared.ast.FileItem.TheVariants as item
-use Rattle.protox_ast.specs.declared.ast.Message.{Message}
 use Rattle.protox_ast.specs.declared.ast.OptionList.{OptionList}
 use Rattle.protox_ast.specs.declared.ast.Syntax.{Syntax}
 use Rattle.protox_ast.specs.declared.ast.Syntax.TheVariants.{Proto2, Proto3}
@@ -25,10 +24,10 @@ use Rattle.protox_checks.specs.Faults.{IsFaultless}
 use Rattle.protox_checks.specs.Nodes.{Node, empty_nodes, fields_nodes, item_nodes, json_name_nodes, node_steps, option_nodes}
 use Rattle.protox_describe.proofs.Oneofs.{extending-nested}
 use Rattle.protox_describe.proofs.RealFirst.{IsApart, IsPlain, ItemMade, Made, apart-fields, items-first, message-own, none, one}
-use Rattle.protox_describe.specs.Descriptor.{Gives, Item, OfField, OfOneof, OneofGives, descriptor_steps, extending, nested_of}
-use Rattle.protox_describe.specs.Fields.{Kind, Normal, Group, Map, Parts, entry_name, entry_parts, is_proto3_optional, message_proto, messages_of, optional_flag}
+use Rattle.protox_describe.specs.Descriptor.{Gives, Item, OneofGives, descriptor_steps, extending, nested_of}
+use Rattle.protox_describe.specs.Fields.{Kind, Parts, entry_name, entry_parts, is_proto3_optional, message_proto, messages_of, optional_flag}
 use Rattle.protox_describe.specs.File.{file_proto, item_extensions, item_messages}
-use Rattle.protox_describe.specs.Oneofs.{AreInNone, HasRealFirst, Own, RealFirst, each_own, is_optional}
+use Rattle.protox_describe.specs.Oneofs.{AreInNone, HasRealFirst, RealFirst, each_own, is_optional}
 use Rattle.protox_descriptor.specs.declared.descriptor.DescriptorProto.{DescriptorProto}
 use Rattle.protox_descriptor.specs.declared.descriptor.FileDescriptorProto.{FileDescriptorProto}
 use Rattle.protox_descriptor.specs.declared.descriptor.OneofDescriptorProto.{OneofDescriptorProto}

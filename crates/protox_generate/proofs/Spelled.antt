@@ -1,5 +1,5 @@
 -- The text of an identifier stands at its span in the source.
-use Rattle.std.proofs.Common.{◌≡◌, ℕ, ◌+◌, ◌-◌, ◌<◌, ◌≤◌, Bool, true, false, inl, inr, List, [], ◌∷◌, length, take, drop, refl, sym, ap, ◌∙◌, subst, length-drop, drop-drop, arith}
+use Rattle.std.proofs.Common.{◌≡◌, ℕ, ◌+◌, ◌-◌, ◌≤◌, Bool, true, false, inl, inr, List, [], ◌∷◌, length, take, drop, refl, sym, ap, ◌∙◌, subst, length-drop, drop-drop, arith}
 use Rattle.std.proofs.lemmas.Bool.{cases_Bool, false≢true}
 use Rattle.std.proofs.lemmas.Str.{IsUtf8-drop}
 use Rattle.std.specs.Str.{IsUtf8}
@@ -12,7 +12,7 @@ use Rattle.protox_lexeme.proofs.Extents.{lexeme_stands}
 use Rattle.protox_lexeme.proofs.Fitting.{fits_within}
 use Rattle.protox_lexeme.specs.declared.scan.Kind.{Kind}
 use Rattle.protox_lexeme.specs.declared.scan.Kind.TheVariants as kind
-use Rattle.protox_lexeme.specs.Lexemes.{Lexeme, IsCut, IsLexeme, blanks, cut, invalid, lexeme}
+use Rattle.protox_lexeme.specs.Lexemes.{Lexeme, IsCut, IsLexeme, blanks, cut, lexeme}
 use Rattle.protox_lexeme.specs.Lexicon.{pattern}
 use Rattle.protox_lexeme.specs.Shapes.{Shape, Ident, Row, Rows}
 use Rattle.protox_lexeme.specs.Table.{is_gap, rows_of, table_of}

@@ -1,5 +1,5 @@
 -- The syntax tree of a source stands in it, so its places and spans fit the numbers of a descriptor.
-use Rattle.std.proofs.Common.{◌≡◌, ◌≤◌, ℕ, max, List, [], ◌∷◌, length, sym, subst, arith}
+use Rattle.std.proofs.Common.{◌≤◌, ℕ, List, [], ◌∷◌, length, sym, subst, arith}
 use Rattle.std.specs.Str.{IsUtf8}
 use Rattle.protox_fault.specs.Faults.{Span}
 use Rattle.protox_lexeme.specs.Lexemes.{cut}
@@ -8,7 +8,7 @@ use Rattle.protox_lexeme.specs.Table.{table_of}
 use Rattle.protox_ast.proofs.FilesStand.{source-stands}
 use Rattle.protox_ast.proofs.Standing.{Stand, in-order, tokens-stand}
 use Rattle.protox_ast.specs.Accepted.{IsFileOf}
-use Rattle.protox_ast.specs.AstParts.{join, last_place, rows_span}
+use Rattle.protox_ast.specs.AstParts.{last_place, rows_span}
 use Rattle.protox_ast.specs.Places.{Place, placed}
 use Rattle.protox_ast.specs.Siblings.{FileStands}
 use Rattle.protox_ast.specs.declared.ast.File.{File}

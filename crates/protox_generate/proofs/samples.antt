@@ -11,3 +11,5 @@ pub mod ExamplesFaults
 pub mod ExamplesOneofs
 pub mod ExamplesNames
 pub mod ExamplesNamePaths
+pub mod ExamplesComments
+pub mod ExamplesAround

@@ -1,3 +1,4 @@
 pub mod File
 pub mod NamePaths
 pub mod Names
+pub mod Commented

@@ -1,6 +1,6 @@
 -- The names in a file's descriptor, by the paths of their locations. A path goes down the descriptor: a field's number in its message, then
 -- a place in that list. Behind it the number 1 stands for the name.
-use Rattle.std.specs.Prelude.{◌≡◌, ◌≤◌, ◌-◌, ℕ, Bool, true, false, if◌then◌else◌, List, [], ◌∷◌, length, take, drop, Option, Some, None, option_map, option_and_then, slice_get, ℤ, pos, negsuc}
+use Rattle.std.specs.Prelude.{◌≡◌, ◌≤◌, ◌-◌, ℕ, Bool, false, if◌then◌else◌, List, [], ◌∷◌, length, take, drop, Option, Some, None, option_map, option_and_then, slice_get, ℤ, pos, negsuc}
 use Rattle.std.specs.Ordering.{int_eq}
 use Rattle.std.specs.Str.{str_to_ascii_lowercase}
 use Rattle.protox_ast.specs.Basics.{Each}

@@ -6,6 +6,7 @@ ghost use Rattle.protox_ast.specs.Siblings.{FileStands};
 ghost use Rattle.protox_checks.specs.Faults.{AreWrong, HaveAll, IsFaultless};
 ghost use Rattle.protox_describe.specs.Oneofs.{HasRealFirst};
 ghost use Rattle.protox_describe.specs.Widths.{file_width};
+ghost use Rattle.protox_generate.specs.Commented.{AreCommentedOnce};
 ghost use Rattle.protox_generate.specs.File.{file_descriptor, AreLocated, AreListedAll, AreSorted};
 ghost use Rattle.protox_generate.specs.NamePaths.{HasPlaces};
 ghost use Rattle.protox_generate.specs.Names.{HasNames};
@@ -65,6 +66,8 @@ pub fn generate_file(
     ensures named { IfOk result (HasNames source.now) }
     // At the path of each name of the descriptor there is exactly one location.
     ensures placed { IfOk result HasPlaces }
+    // Each comment of the source stands in at most one field of one location, and around that.
+    ensures commented_once { IfOk result (AreCommentedOnce source.now) }
     // A refusal has faults. Each is wrong of the tree, each that is wrong is there, and they are in order.
     ensures wrong { IfErr result (AreWrong ast) }
     ensures all { IfErr result (HaveAll ast) }

@@ -1,15 +1,2 @@
 pub mod Translating
 pub mod Truths
-pub mod Taking
-pub mod PartsTaking
-pub mod BlocksTaking
-pub mod Bags
-pub mod FieldsTaking
-pub mod MessagesTaking
-pub mod FilesTaking
-pub mod GapsWeighed
-pub mod TextsNatural
-pub mod NumberedComments
-pub mod Once
-pub mod CommentedOnce
-pub mod ExamplesComments

@@ -10,11 +10,6 @@ use Rattle.protox_ast.specs.declared.ast.File.{File}
 use Rattle.protox_descriptor.specs.declared.descriptor.FileDescriptorProto.{FileDescriptorProto}
 use Rattle.protox_checks.specs.Faults.{IsFaultless, Wrong}
 use Rattle.protox_generate.specs.File.{file_descriptor}
-use Rattle.protox_lexeme.specs.Lexemes.{cut}
-use Rattle.protox_places.specs.Lines.{span_numbers}
-use Rattle.protox_parse.proofs.CommentedOnce.{commented-once}
-use Rattle.protox_parse.specs.Commented.{AreCommentedOnce}
-use Rattle.std.specs.Str.{IsUtf8}
 use Rattle.protox_fault.specs.declared.error.ParseErrorKind.{ParseErrorKind}
 use Rattle.protox_parse.specs.Failures.{AreWrongOf, IsOutOfMemory}
 use Rattle.protox_parse.specs.declared.failure.ParseFailure.{ParseFailure}
@@ -52,9 +47,3 @@ wrong-of file same r is h = subst (λ v. IfErr r (AreWrongOf v)) is h
 pub out-of-memory : (file : File) (e : ParseFailure) → IsOutOfMemory e → AreWrongOf file e
 out-of-memory file OutOfMemory h = tt
 out-of-memory file (Refused e) h = absurd h
-
--- The locations that are answered take each comment of the source once.
-pub commented : (name source : List ℕ) → IsUtf8 source → (r : Result FileDescriptorProto ParseFailure) → IfOk r (Found name source) → IfOk r (AreCommentedOnce (cut 0 source))
-unfolding file_descriptor
-commented name source u (Err e) h = tt
-commented name source u (Ok d) h = subst (AreCommentedOnce (cut 0 source)) (sym h.3) (commented-once source u (span_numbers source) h.0 h.1)

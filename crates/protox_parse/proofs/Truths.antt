@@ -21,7 +21,7 @@ use Rattle.protox_generate.specs.File.{AreListedAll}
 use Rattle.protox_descriptor.specs.declared.descriptor.FileDescriptorProto.{FileDescriptorProto}
 use Rattle.protox_checks.proofs.PlainFaults.{all-plain, plain-stand}
 use Rattle.protox_parse.specs.Failures.{AreWrongOf, IsOutOfMemory, IsRefusalOf}
-use Rattle.protox_parse.specs.FaultLists.{AreAllFound, AreLexicalAlone, AreListedOf, AreStanding, HasAllOf, HasFaultsOf}
+use Rattle.protox_parse.specs.FaultLists.{AreAllFound, AreLexicalAlone, AreListedOf, AreStanding, HasAllOf, HasFaultsOf, NoCheckIsLost}
 use Rattle.protox_parse.specs.Refusal.{Refusal}
 use Rattle.protox_parse.specs.Truth.{IsTightFirst, IsTightOfSource, IsTrueFirst, IsTrueOfSource}
 use Rattle.protox_parse.specs.declared.failure.ParseFailure.{ParseFailure}
@@ -29,6 +29,8 @@ use Rattle.protox_parse.specs.declared.failure.ParseFailure.TheVariants.{Refused
 use Rattle.protox_syntax.specs.AllFaults.{AreAllFaults}
 use Rattle.protox_syntax.specs.FirstFaults as syntax
 use Rattle.protox_syntax.specs.FoundFaults as found
+use Rattle.protox_syntax.specs.LostChecks as lost
+use Rattle.protox_syntax.specs.LostChecks.{NoneIsLost}
 use Rattle.protox_syntax.specs.LexicalFaults as lexical
 use Rattle.protox_syntax.specs.StandingFaults as standing
 
@@ -83,6 +85,11 @@ module _ (source : List ℕ) where
   read-all failure.OutOfMemory (Refused x) same h = absurd same
   read-all (failure.Faults v) (Refused x) same h = λ fits none. subst (AreAllFaults source) (sym same) h
 
+  pub read-lost : (e : SyntaxFailure) (r : ParseFailure) → HasFaultsOf e r → lost.NoCheckIsLost source e → NoCheckIsLost source r
+  read-lost e OutOfMemory same h = tt
+  read-lost failure.OutOfMemory (Refused x) same h = absurd same
+  read-lost (failure.Faults v) (Refused x) same h = λ fits none. subst (NoneIsLost (cut 0 source)) (sym same) h
+
   -- ---- those of the generator
 
   first-wrong : (file : File) (errors : List ParseErrorKind) → Each (Wrong file) errors → IfSome (first_of errors) (Wrong file)
@@ -118,6 +125,11 @@ module _ (source : List ℕ) where
   made-all file is (Err OutOfMemory) = tt
   made-all file is (Err (Refused e)) = λ fits none. absurd (none is.0 is.1)
 
+  pub made-lost : (file : File) → IsFileOf source file → (r : Result FileDescriptorProto ParseFailure) → IfErr r (NoCheckIsLost source)
+  made-lost file is (Ok d) = tt
+  made-lost file is (Err OutOfMemory) = tt
+  made-lost file is (Err (Refused e)) = λ fits none. absurd (none is.0 is.1)
+
   -- ---- that the source is too large
 
   module _ (name : List ℕ) (large : Fits source → ⊥) where
@@ -141,3 +153,7 @@ module _ (source : List ℕ) where
     pub large-all : (r : ParseFailure) → AreAllFound source r
     large-all OutOfMemory = tt
     large-all (Refused e) = λ fits none. absurd (large fits)
+
+    pub large-lost : (r : ParseFailure) → NoCheckIsLost source r
+    large-lost OutOfMemory = tt
+    large-lost (Refused e) = λ fits none. absurd (large fits)

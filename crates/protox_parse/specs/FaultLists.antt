@@ -19,6 +19,7 @@ use Rattle.protox_parse.specs.declared.failure.ParseFailure.{ParseFailure}
 use Rattle.protox_parse.specs.declared.failure.ParseFailure.TheVariants.{Refused, OutOfMemory}
 use Rattle.protox_syntax.specs.AllFaults.{AreAllFaults}
 use Rattle.protox_syntax.specs.LexicalFaults.{AreTokens}
+use Rattle.protox_syntax.specs.LostChecks.{NoneIsLost}
 
 -- The refusal has the faults of the failure; or memory ran out.
 abbrev pub HasFaultsOf : SyntaxFailure → ParseFailure → Type 0
@@ -44,6 +45,11 @@ AreLexicalAlone source (Refused e) =
 abbrev pub AreAllFound : List ℕ → ParseFailure → Type 0
 AreAllFound source OutOfMemory = Unit {0}
 AreAllFound source (Refused e) = Fits source → ((f : t.File Place) → IsAccepted source f → ⊥) → AreAllFaults source e.errors
+
+-- Where the source fits and the parser accepts no tree of it, no check that is made while it is read is lost; or memory ran out.
+abbrev pub NoCheckIsLost : List ℕ → ParseFailure → Type 0
+NoCheckIsLost source OutOfMemory = Unit {0}
+NoCheckIsLost source (Refused e) = Fits source → ((f : t.File Place) → IsAccepted source f → ⊥) → NoneIsLost (cut 0 source) e.errors
 
 -- Each fault that is wrong of the syntax tree is in the list; or memory ran out.
 abbrev pub HasAllOf : File → ParseFailure → Type 0

@@ -4,4 +4,3 @@ pub mod Failures
 pub mod Files
 pub mod Truth
 pub mod FaultLists
-pub mod Commented

@@ -8,14 +8,13 @@ ghost use Rattle.protox_ast.specs.Ast as ast_of;
 ghost use Rattle.protox_ast.specs.Tree as tree;
 ghost use Rattle.protox_checks.specs.Faults.{IsFaultless};
 ghost use Rattle.protox_describe.specs.Oneofs.{HasRealFirst};
+ghost use Rattle.protox_generate.specs.Commented.{AreCommentedOnce};
 ghost use Rattle.protox_generate.specs.File.{file_descriptor, AreLocated, AreSorted};
 ghost use Rattle.protox_generate.specs.NamePaths.{HasPlaces};
 ghost use Rattle.protox_generate.specs.Names.{HasNames};
-ghost use Rattle.protox_lexeme.specs.Lexemes.{cut};
 ghost use Rattle.protox_ast.specs.Places.{Place};
-ghost use Rattle.protox_parse.specs.Commented.{AreCommentedOnce};
 ghost use Rattle.protox_parse.specs.Failures.{AreWrongOf, IsOutOfMemory, IsRefusalOf};
-ghost use Rattle.protox_parse.specs.FaultLists.{AreAllFound, AreLexicalAlone, AreListedOf, AreStanding, HasAllOf};
+ghost use Rattle.protox_parse.specs.FaultLists.{AreAllFound, AreLexicalAlone, AreListedOf, AreStanding, HasAllOf, NoCheckIsLost};
 ghost use Rattle.protox_parse.specs.Truth.{IsTightFirst, IsTrueFirst};
 
 mod failure;
@@ -58,6 +57,7 @@ fn translated(
     ensures oneofs { IfOk result HasRealFirst }
     ensures named { IfOk result (HasNames source.now) }
     ensures placed { IfOk result HasPlaces }
+    ensures commented_once { IfOk result (AreCommentedOnce source.now) }
     ensures refused { IfErr result (IsRefusalOf name.now source.now) }
     ensures wrong { IfErr result (AreWrongOf file) }
     ensures all { IfErr result (HasAllOf file) }
@@ -89,8 +89,8 @@ pub fn parse(alloc: Global, name: &str, source: &str) -> Result<FileDescriptorPr
     ensures named { IfOk result (HasNames source.now) }
     // At the path of each name of the descriptor there is exactly one location.
     ensures placed { IfOk result HasPlaces }
-    // Each comment of the source stands in at most one field of one location.
-    ensures commented_once { IfOk result (AreCommentedOnce (cut 0 source.now)) }
+    // Each comment of the source stands in at most one field of one location, and around that.
+    ensures commented_once { IfOk result (AreCommentedOnce source.now) }
     // A refusal names its file and holds its source, and its faults lie in it.
     ensures refused { IfErr result (IsRefusalOf name.now source.now) }
     // Where the source's tokens spell a tree that is accepted, each fault is one of its syntax tree.
@@ -108,6 +108,8 @@ pub fn parse(alloc: Global, name: &str, source: &str) -> Result<FileDescriptorPr
     ensures lexical { IfErr result (AreLexicalAlone source.now) }
     // Where the parser refuses a source that fits, exactly these are its faults, in this order, but for the words of what was expected.
     ensures all_found { IfErr result (AreAllFound source.now) }
+    // Then each wrong node of a file that goes on from the tokens read is in the list, but for what is excepted by name.
+    ensures no_check_lost { IfErr result (NoCheckIsLost source.now) }
 {
     if !source_fits(source.len()) {
         return Err(too_large(alloc, name));

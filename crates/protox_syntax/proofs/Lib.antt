@@ -24,3 +24,8 @@ pub mod Alike
 pub mod Leading
 pub mod Invalid
 pub mod AllFound
+pub mod NodesTold
+pub mod NodesNoted
+pub mod SyntaxStops
+pub mod NoCheckLost
+pub mod samples

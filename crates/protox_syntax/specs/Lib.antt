@@ -11,3 +11,4 @@ pub mod LexicalFaults
 pub mod FirstFaults
 pub mod StandingFaults
 pub mod FoundFaults
+pub mod LostChecks

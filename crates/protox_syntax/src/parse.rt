@@ -10,6 +10,7 @@ ghost use Rattle.protox_syntax.specs.Aggregates.{AggregatesLexBack};
 ghost use Rattle.protox_syntax.specs.FirstFaults.{IsTightFirst, IsTrueFirst};
 ghost use Rattle.protox_syntax.specs.FoundFaults.{AreAllFound};
 ghost use Rattle.protox_syntax.specs.LexicalFaults.{AreLexicalAlone};
+ghost use Rattle.protox_syntax.specs.LostChecks.{NoCheckIsLost};
 ghost use Rattle.protox_syntax.specs.StandingFaults.{AreStanding};
 
 pub use crate::expected_token::ExpectedToken;
@@ -41,6 +42,8 @@ pub fn parse_file(alloc: Global, source: &str) -> Result<File, SyntaxFailure>
     ensures lexical { IfErr result (AreLexicalAlone source.now) }
     // These are all faults of the source, in their order, but for the words of what was expected.
     ensures all_found { IfErr result (AreAllFound source.now) }
+    // Each wrong node of a file that goes on from the tokens read is in the list, but for what is excepted by name.
+    ensures no_check_lost { IfErr result (NoCheckIsLost source.now) }
     // No tokens are the spelling of two trees, with their places or without.
     ensures one_tree { OneTree (Unit {0}) }
     ensures one_placed_tree { OneTree Place }

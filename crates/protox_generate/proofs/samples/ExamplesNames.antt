@@ -1,6 +1,6 @@
 -- To which names paths lead.
-use Rattle.std.proofs.Common.{◌≡◌, ℕ, List, [], ◌∷◌, Option, Some, None, refl, ap, arith, codes}
-use Rattle.std.specs.Prelude.{ℤ, pos, unwrap_or, slice_get}
+use Rattle.std.proofs.Common.{◌≡◌, ℕ, List, [], ◌∷◌, Some, None, refl, ap, arith, codes}
+use Rattle.std.specs.Prelude.{pos, unwrap_or, slice_get}
 use Rattle.protox_descriptor.specs.declared.descriptor.EnumDescriptorProto.{EnumDescriptorProto}
 use Rattle.protox_generate.proofs.samples.Written.{made_oneof, no_field}
 use Rattle.protox_generate.specs.Names.{InSmallLetters, Lookup, Written, Writes, message_step, own}

@@ -1,16 +1,13 @@
 use Rattle.std.proofs.Common.{IfErr, subst}
 use Rattle.std.specs.Prelude.{length}
 use Rattle.protox_ast.specs.Ast as ast_of
-use Rattle.protox_parse.proofs.Translating.{commented, found, only, wrong-of, out-of-memory}
+use Rattle.protox_parse.proofs.Translating.{found, only, wrong-of, out-of-memory}
 use Rattle.protox_parse.proofs.Truths as truths
 use Rattle.protox_parse.specs.FaultLists.{AreListedOf, HasAllOf}
 use Rattle.protox_parse.proofs.parse.Goals as goal
 
 pub returns-in-Ok-clause-found : goal.returns-in-Ok-clause-found
 returns-in-Ok-clause-found c = found c.args.name.now c.args.source.now c.in-Ok.file c.translated.result c.in-Ok.ensures.found c.translated.ensures.found
-
-pub returns-in-Ok-clause-commented_once : goal.returns-in-Ok-clause-commented_once
-returns-in-Ok-clause-commented_once c = commented c.args.name.now c.args.source.now c.utf8.source c.translated.result (returns-in-Ok-clause-found c)
 
 pub returns-in-Ok-clause-only : goal.returns-in-Ok-clause-only
 returns-in-Ok-clause-only c f accepted none = only c.args.name.now c.args.source.now c.in-Ok.file _ c.translated.result (c.in-Ok.ensures.only f accepted) none c.translated.ensures.only
@@ -53,6 +50,12 @@ returns-in-Ok-clause-all_found c = truths.made-all c.args.source.now c.in-Ok.fil
 
 pub returns-in-Err-clause-all_found : goal.returns-in-Err-clause-all_found
 returns-in-Err-clause-all_found c = truths.read-all c.args.source.now c.in-Err.failure c.refused.result c.refused.ensures.same c.in-Err.ensures.all_found
+
+pub returns-in-Ok-clause-no_check_lost : goal.returns-in-Ok-clause-no_check_lost
+returns-in-Ok-clause-no_check_lost c = truths.made-lost c.args.source.now c.in-Ok.file c.in-Ok.ensures.found c.translated.result
+
+pub returns-in-Err-clause-no_check_lost : goal.returns-in-Err-clause-no_check_lost
+returns-in-Err-clause-no_check_lost c = truths.read-lost c.args.source.now c.in-Err.failure c.refused.result c.refused.ensures.same c.in-Err.ensures.no_check_lost
 
 pub returns-in-Ok-clause-all : goal.returns-in-Ok-clause-all
 returns-in-Ok-clause-all c f accepted = subst (λ v. IfErr c.translated.result (HasAllOf v)) (c.in-Ok.ensures.only f accepted) c.translated.ensures.all

@@ -3,6 +3,7 @@ use Rattle.protox_ast.specs.Basics.{Each}
 use Rattle.protox_checks.proofs.FaultsLie.{listed-lie}
 use Rattle.protox_checks.specs.Faults.{HasEachWrong}
 use Rattle.protox_fault.specs.Faults.{LiesIn}
+use Rattle.protox_generate.proofs.CommentedOnce.{answer-commented}
 use Rattle.protox_generate.proofs.Outcomes.{none-found, empty-none, some-found}
 use Rattle.protox_generate.proofs.NamedFiles.{answer-named}
 use Rattle.protox_generate.proofs.PlacedFiles.{answer-placed}
@@ -47,3 +48,7 @@ returns-clause-named c =
 
 pub returns-clause-placed : goal.returns-clause-placed
 returns-clause-placed c = answer-placed c.args.name.now c.args.source.now c.args.ast c.in_ok-described.field-0 c.in_ok-described.ensures.found
+
+pub returns-clause-commented_once : goal.returns-clause-commented_once
+returns-clause-commented_once c =
+    answer-commented c.args.name.now c.args.source.now c.args.ast c.in_ok-described.field-0 c.utf8.source c.requires c.in_ok-described.ensures.found

@@ -7,6 +7,7 @@ use Rattle.protox_syntax.proofs.Aggregates.{aggregates-lex-back}
 use Rattle.protox_syntax.proofs.FaultsStand.{judged-stands-result}
 use Rattle.protox_syntax.proofs.JudgedFirst.{judged-found-all, judged-tight, judged-true}
 use Rattle.protox_syntax.proofs.LexicalAlone.{judged-result}
+use Rattle.protox_syntax.proofs.NoCheckLost.{judged-none-lost}
 use Rattle.protox_syntax.proofs.parse.parse_file.Goals as goal
 
 pub returns-clause-found : goal.returns-clause-found
@@ -43,6 +44,11 @@ pub returns-clause-all_found : goal.returns-clause-all_found
 returns-clause-all_found c =
     let judged = subst (λ t. Judges t (length c.args.source.now) c.judge.result) c.in_ok-table.ensures c.judge.ensures in
     judged-found-all c.args.source.now c.judge.result judged
+
+pub returns-clause-no_check_lost : goal.returns-clause-no_check_lost
+returns-clause-no_check_lost c =
+    let judged = subst (λ t. Judges t (length c.args.source.now) c.judge.result) c.in_ok-table.ensures c.judge.ensures in
+    judged-none-lost c.args.source.now c.judge.result judged
 
 pub returns-in_err-table-clause-one_tree : goal.returns-in_err-table-clause-one_tree
 returns-in_err-table-clause-one_tree c = main.one_tree tt

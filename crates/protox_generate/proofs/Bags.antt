@@ -1,9 +1,10 @@
 -- The lists of parts that the elements of a body bring, one for each kind, and that all of them together take comments of the elements' rows.
-use Rattle.std.proofs.Common.{◌+◌, ◌≤◌, List, [], ◌++◌, arith}
+use Rattle.std.proofs.Common.{◌+◌, ◌≤◌, List, [], ◌++◌, ℤ, arith}
+use Rattle.protox_fault.specs.Faults.{Span}
 use Rattle.protox_lexeme.specs.Shapes.{Rows}
 use Rattle.protox_ast.specs.Places.{Place}
 use Rattle.protox_locate.specs.LocationWords.{Part}
-use Rattle.protox_parse.proofs.Taking.{Weights, Cost, free, weigh, weigh-append, Parts, parts-none, parts-append}
+use Rattle.protox_generate.proofs.Taking.{Weights, Cost, free, weigh, weigh-append, Parts, parts-none, parts-append}
 
 -- In a file the imports stand in place of the fields, the services in place of the oneofs, and the package in place of the extensions statements.
 pub record Lists : Type 0 where
@@ -32,7 +33,7 @@ joined a b = record {
   names = a.names ++ b.names;
 }
 
-pub record Bag (rows : Rows Place) (l : Lists) : Type 0 where
+pub record Bag (numbers : Span → List ℤ) (rows : Rows Place) (l : Lists) : Type 0 where
   pub fields : Cost
   pub messages : Cost
   pub enums : Cost
@@ -43,25 +44,25 @@ pub record Bag (rows : Rows Place) (l : Lists) : Type 0 where
   pub statements : Cost
   pub ranges : Cost
   pub names : Cost
-  pub field_parts : Parts l.fields fields
-  pub message_parts : Parts l.messages messages
-  pub enum_parts : Parts l.enums enums
-  pub block_parts : Parts l.blocks blocks
-  pub extension_parts : Parts l.extensions extensions
-  pub oneof_parts : Parts l.oneofs oneofs
-  pub option_parts : Parts l.options options
-  pub statement_parts : Parts l.statements statements
-  pub range_parts : Parts l.ranges ranges
-  pub name_parts : Parts l.names names
+  pub field_parts : Parts numbers l.fields fields
+  pub message_parts : Parts numbers l.messages messages
+  pub enum_parts : Parts numbers l.enums enums
+  pub block_parts : Parts numbers l.blocks blocks
+  pub extension_parts : Parts numbers l.extensions extensions
+  pub oneof_parts : Parts numbers l.oneofs oneofs
+  pub option_parts : Parts numbers l.options options
+  pub statement_parts : Parts numbers l.statements statements
+  pub range_parts : Parts numbers l.ranges ranges
+  pub name_parts : Parts numbers l.names names
   pub within : (w : Weights) → fields w + messages w + enums w + blocks w + extensions w + oneofs w + options w + statements w + ranges w + names w ≤ weigh w rows
 
-pub no : Parts [] free
+pub no : {numbers : Span → List ℤ} → Parts numbers [] free
 no = parts-none free
 
-module _ {l : Lists} {f m e b x o p t r n : Cost} where
+module _ {numbers : Span → List ℤ} {l : Lists} {f m e b x o p t r n : Cost} where
   -- of the parts of each kind
-  pub bag-of : (rows : Rows Place) → Parts l.fields f → Parts l.messages m → Parts l.enums e → Parts l.blocks b → Parts l.extensions x → Parts l.oneofs o → Parts l.options p → Parts l.statements t → Parts l.ranges r → Parts l.names n
-      → ((w : Weights) → f w + m w + e w + b w + x w + o w + p w + t w + r w + n w ≤ weigh w rows) → Bag rows l
+  pub bag-of : (rows : Rows Place) → Parts numbers l.fields f → Parts numbers l.messages m → Parts numbers l.enums e → Parts numbers l.blocks b → Parts numbers l.extensions x → Parts numbers l.oneofs o → Parts numbers l.options p → Parts numbers l.statements t → Parts numbers l.ranges r → Parts numbers l.names n
+      → ((w : Weights) → f w + m w + e w + b w + x w + o w + p w + t w + r w + n w ≤ weigh w rows) → Bag numbers rows l
   bag-of rows pf pm pe pb px po pp pt pr pn h = record {
     fields = f;
     messages = m;
@@ -89,14 +90,14 @@ module _ {l : Lists} {f m e b x o p t r n : Cost} where
 abbrev pub empty : Lists
 empty = record { fields = []; messages = []; enums = []; blocks = []; extensions = []; oneofs = []; options = []; statements = []; ranges = []; names = [] }
 
-pub bag-none : (rows : Rows Place) → Bag rows empty
+pub bag-none : {numbers : Span → List ℤ} (rows : Rows Place) → Bag numbers rows empty
 bag-none rows = bag-of rows no no no no no no no no no no (λ w. omega arith)
 
-pub bag-more : (a rows : Rows Place) {l : Lists} → Bag a l → ((w : Weights) → weigh w a ≤ weigh w rows) → Bag rows l
+pub bag-more : {numbers : Span → List ℤ} (a rows : Rows Place) {l : Lists} → Bag numbers a l → ((w : Weights) → weigh w a ≤ weigh w rows) → Bag numbers rows l
 bag-more a rows g more = bag-of rows g.field_parts g.message_parts g.enum_parts g.block_parts g.extension_parts g.oneof_parts g.option_parts g.statement_parts g.range_parts g.name_parts
     (λ w. omega (arith, g.within w, more w))
 
-pub bag-append : (a b : Rows Place) {l m : Lists} → Bag a l → Bag b m → Bag (a ++ b) (joined l m)
+pub bag-append : {numbers : Span → List ℤ} (a b : Rows Place) {l m : Lists} → Bag numbers a l → Bag numbers b m → Bag numbers (a ++ b) (joined l m)
 bag-append a b g h = bag-of (a ++ b)
     (parts-append g.field_parts h.field_parts) (parts-append g.message_parts h.message_parts) (parts-append g.enum_parts h.enum_parts) (parts-append g.block_parts h.block_parts)
     (parts-append g.extension_parts h.extension_parts) (parts-append g.oneof_parts h.oneof_parts) (parts-append g.option_parts h.option_parts) (parts-append g.statement_parts h.statement_parts)

@@ -5,8 +5,8 @@ use Rattle.protox_lexeme.specs.Gaps.{Item, block, blank, begins_line, joined, it
 use Rattle.protox_lexeme.specs.Lexemes.{Lexeme}
 use Rattle.protox_lexeme.specs.Shapes.{Shape, LineComment, BlockComment, Newline, Rows}
 use Rattle.protox_lexeme.specs.Table.{in_front, gaps_of, is_gap}
-use Rattle.protox_ast.specs.Places.{next_gap, later_gaps, next_shape, placed_from}
-use Rattle.protox_parse.proofs.Taking.{Weights, weigh}
+use Rattle.protox_ast.specs.Places.{next_gap, later_gaps, next_shape, place_of, placed_from}
+use Rattle.protox_generate.proofs.Taking.{Weights, weigh, behind-zero}
 
 module _ (e : List ℕ → ℕ) where
   abbrev pub of_text : Option (List ℕ) → ℕ
@@ -44,7 +44,7 @@ module _ (e : List ℕ → ℕ) where
 
   -- of the comments before a row, and of the one behind it
   abbrev pub weights : Weights
-  weights = record { first = λ p. of_text p.leading + of_texts p.detached; last = λ p. of_text p.trailing }
+  weights = record { first = λ p. of_text p.leading + of_texts p.detached; last = λ p. of_text p.trailing; mark = λ s p. 0; both = λ p q. 0 }
 
   -- ---- among the items
 
@@ -117,7 +117,13 @@ module _ (e : List ℕ → ℕ) where
     rows-within : (first : Bool) (rows : Rows Span) (gaps : List (List Shape))
         → of_text (attribution (next_gap gaps) first (next_shape rows)).trailing + weigh weights (placed_from first rows gaps) ≤ of_gaps gaps
     rows-within first [] gaps = omega (arith, attribution-within (next_gap gaps) first None, gaps-split gaps)
-    rows-within first (row ∷ rows) gaps = omega (arith, attribution-within (next_gap gaps) first (Some row.shape), gaps-split gaps, rows-within false rows (later_gaps gaps))
+    rows-within first (row ∷ rows) gaps = omega (
+      arith,
+      attribution-within (next_gap gaps) first (Some row.shape),
+      gaps-split gaps,
+      behind-zero weights (λ p q. omega arith) (place_of first row (next_gap gaps) (later_gaps gaps) rows) (placed_from false rows (later_gaps gaps)),
+      rows-within false rows (later_gaps gaps),
+    )
 
     in_front-within : (x : Shape) (gaps : List (List Shape)) → of_gaps (in_front (x ∷ []) gaps) ≤ of_shape x + of_gaps gaps
     in_front-within x [] = omega arith

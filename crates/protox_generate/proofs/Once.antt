@@ -11,10 +11,10 @@ use Rattle.protox_lexeme.specs.Table.{table_of, rows_of, gaps_of}
 use Rattle.protox_ast.proofs.Standing.{Stand}
 use Rattle.protox_ast.specs.Keywords.{Each}
 use Rattle.protox_ast.specs.Places.{Place, placed, placed_from}
-use Rattle.protox_parse.proofs.Taking.{Weights, weigh}
-use Rattle.protox_parse.proofs.GapsWeighed.{weights}
-use Rattle.protox_parse.proofs.TextsNatural.{made_place, made_row, placed-made}
-use Rattle.protox_parse.proofs.NumberedComments.{numbered, from-start, made, made-joins, gaps-made}
+use Rattle.protox_generate.proofs.Taking.{Weights, weigh, behind-zero}
+use Rattle.protox_generate.proofs.GapsWeighed.{weights}
+use Rattle.protox_generate.proofs.TextsNatural.{made_place, made_row, placed-made}
+use Rattle.protox_generate.proofs.NumberedComments.{numbered, from-start, made, made-joins, gaps-made}
 
 -- ---- texts that are the same
 
@@ -43,35 +43,36 @@ same-one : (xs : List (List ℕ)) → same xs xs ≡ true
 same-one [] = refl
 same-one (x ∷ xs) = ap (λ b. if b then same xs xs else false) ((bytes_eq-Decides x x).1 refl) ∙ same-one xs
 
--- ---- places by where their rows start
+-- ---- rows by where they start
 
-abbrev no_place : Place
-no_place = record { span = record { start = 0; end = 0 }; detached = []; leading = None; trailing = None }
+abbrev pub row_at : Rows Place → ℕ → Option (Row Place)
+row_at [] start = None
+row_at (r ∷ rows) start = if r.at.span.start == start then Some r else row_at rows start
 
-abbrev place_at : Rows Place → ℕ → Place
-place_at [] start = no_place
-place_at (r ∷ rows) start = if r.at.span.start == start then r.at else place_at rows start
+abbrev pub place_in : Option (Row Place) → Place
+place_in None = record { span = record { start = 0; end = 0 }; detached = []; leading = None; trailing = None }
+place_in (Some r) = r.at
 
 abbrev pub IsFound : Rows Place → Row Place → Type 0
-IsFound rows r = place_at rows r.at.span.start ≡ r.at
+IsFound rows r = row_at rows r.at.span.start ≡ Some r
 
-if-false : (b : Bool) (x y : Place) → b ≡ false → (if b then x else y) ≡ y
+if-false : (b : Bool) (x y : Option (Row Place)) → b ≡ false → (if b then x else y) ≡ y
 if-false b x y h = ap (λ c. if c then x else y) h
 
-if-true : (b : Bool) (x y : Place) → b ≡ true → (if b then x else y) ≡ x
+if-true : (b : Bool) (x y : Option (Row Place)) → b ≡ true → (if b then x else y) ≡ x
 if-true b x y h = ap (λ c. if c then x else y) h
 
 found-behind : (r : Row Place) (all rows : Rows Place) (low high : ℕ) → Stand low high rows → r.at.span.start < low → Each (IsFound all) rows → Each (IsFound (r ∷ all)) rows
 found-behind r all [] low high h l k = tt
 found-behind r all (x ∷ rows) low high h l k = (
-  if-false (r.at.span.start == x.at.span.start) r.at (place_at all x.at.span.start) (ne_eqb r.at.span.start x.at.span.start (λ e. omega (arith, e, l, h.0))) ∙ k.0,
+  if-false (r.at.span.start == x.at.span.start) (Some r) (row_at all x.at.span.start) (ne_eqb r.at.span.start x.at.span.start (λ e. omega (arith, e, l, h.0))) ∙ k.0,
   found-behind r all rows x.at.span.end high h.2 (omega (arith, l, h.0, h.1)) k.1,
 )
 
 pub found : (low high : ℕ) (rows : Rows Place) → Stand low high rows → Each (IsFound rows) rows
 found low high [] h = tt
 found low high (r ∷ rows) h = (
-  if-true (r.at.span.start == r.at.span.start) r.at (place_at rows r.at.span.start) ((Decides-eqb r.at.span.start r.at.span.start).1 refl),
+  if-true (r.at.span.start == r.at.span.start) (Some r) (row_at rows r.at.span.start) ((Decides-eqb r.at.span.start r.at.span.start).1 refl),
   found-behind r rows rows r.at.span.end high h.2 h.1 (found r.at.span.end high rows h.2),
 )
 
@@ -86,19 +87,26 @@ module _ (lexemes : List Lexeme) where
 
   -- the numbers at a place
   abbrev pub numbers_at : Place → Place
-  numbers_at p = place_at with_numbers p.span.start
+  numbers_at p = place_in (row_at with_numbers p.span.start)
 
   pub rows-made : placed (table_of lexemes) ≡ map (made_row make) with_numbers
   rows-made = ap (placed_from true (rows_of lexemes)) (gaps-made lexemes 0 lexemes (from-start lexemes)) ∙ placed-made make (made-joins lexemes) true (rows_of lexemes) (gaps_of (numbered 0 lexemes))
 
   -- weights of the numbers at a place
   abbrev pub by_numbers : (List ℕ → ℕ) → Weights
-  by_numbers e = record { first = λ p. (weights e).first (numbers_at p); last = λ p. (weights e).last (numbers_at p) }
+  by_numbers e = record { first = λ p. (weights e).first (numbers_at p); last = λ p. (weights e).last (numbers_at p); mark = λ s p. 0; both = λ p q. 0 }
 
   pub weigh-numbers : (e : List ℕ → ℕ) (rows : Rows Place) → Each (IsFound with_numbers) rows → weigh (by_numbers e) (map (made_row make) rows) ≡ weigh (weights e) rows
   weigh-numbers e [] h = refl
-  weigh-numbers e (r ∷ rows) h = let k : weigh (by_numbers e) (map (made_row make) (r ∷ [])) ≡ weigh (weights e) (r ∷ []) = ap (λ p. (weights e).first p + (weights e).last p + 0) h.0 in
-      omega (arith, k, weigh-numbers e rows h.1)
+  weigh-numbers e (r ∷ rows) h =
+      let k : weigh (by_numbers e) (map (made_row make) (r ∷ [])) ≡ weigh (weights e) (r ∷ []) = ap (λ o. (weights e).first (place_in o) + (weights e).last (place_in o) + 0 + 0 + 0) h.0 in
+      omega (
+        arith,
+        k,
+        behind-zero (by_numbers e) (λ p q. omega arith) (made_place make r.at) (map (made_row make) rows),
+        behind-zero (weights e) (λ p q. omega arith) r.at rows,
+        weigh-numbers e rows h.1,
+      )
 
   -- ---- texts that are not made of their numbers
 
@@ -113,6 +121,8 @@ module _ (lexemes : List Lexeme) where
   false_texts = record {
     first = λ p. differ (map make (listed (numbers_at p).leading)) (listed p.leading) + differ (map make (numbers_at p).detached) p.detached;
     last = λ p. differ (map make (listed (numbers_at p).trailing)) (listed p.trailing);
+    mark = λ s p. 0;
+    both = λ p q. 0;
   }
 
   if-zero : (b : Bool) → (if b then 0 else 1) ≤ 0 → b ≡ true
@@ -136,7 +146,8 @@ module _ (lexemes : List Lexeme) where
       omega (
         arith,
         none-false rows h.1,
-        differ-same (map make (listed (numbers_at p).leading)) (listed p.leading) (ap (λ q. map make (listed q.leading)) h.0 ∙ listed-made r.at.leading),
-        differ-same (map make (numbers_at p).detached) p.detached (ap (λ q. map make q.detached) h.0),
-        differ-same (map make (listed (numbers_at p).trailing)) (listed p.trailing) (ap (λ q. map make (listed q.trailing)) h.0 ∙ listed-made r.at.trailing),
+        behind-zero false_texts (λ p q. omega arith) p (map (made_row make) rows),
+        differ-same (map make (listed (numbers_at p).leading)) (listed p.leading) (ap (λ o. map make (listed (place_in o).leading)) h.0 ∙ listed-made r.at.leading),
+        differ-same (map make (numbers_at p).detached) p.detached (ap (λ o. map make (place_in o).detached) h.0),
+        differ-same (map make (listed (numbers_at p).trailing)) (listed p.trailing) (ap (λ o. map make (listed (place_in o).trailing)) h.0 ∙ listed-made r.at.trailing),
       )

@@ -1,4 +1,4 @@
--- Locations that take a comment once, and locations that the definition refuses: two of them would take the same one.
+-- Locations that the definition refuses: two of them would take the same comment.
 use Rattle.std.proofs.Common.{◌≡◌, ◌≢◌, ℕ, zero, suc, List, [], ◌∷◌, ◌++◌, flat_map, Option, Some, None, true, refl, subst}
 use Rattle.std.specs.Prelude.{codes}
 use Rattle.protox_lexeme.specs.Lexemes.{Lexeme}
@@ -6,7 +6,7 @@ use Rattle.protox_lexeme.specs.Shapes.{LineComment}
 use Rattle.protox_ast.proofs.SpansStand.{each-back, each-front}
 use Rattle.protox_ast.specs.Keywords.{Each}
 use Rattle.protox_descriptor.specs.declared.descriptor.source_code_info.Location.{Location}
-use Rattle.protox_parse.specs.Commented.{AreText, CommentedOnce, NoneTwice, Sources, numbers_of}
+use Rattle.protox_generate.specs.Commented.{AreText, CommentedOnce, NoneTwice, Sources, numbers_of}
 
 -- `// a`
 abbrev comments : List Lexeme
@@ -20,17 +20,6 @@ leads = record bare { leading_comments = Some (codes " a") }
 
 abbrev trails : Location
 trails = record bare { trailing_comments = Some (codes " a") }
-
-abbrev of_none : Sources
-of_none = record { leading = []; trailing = []; detached = [] }
-
--- One location has the comment, and one has none.
-once : CommentedOnce comments (leads ∷ bare ∷ [])
-once = (
-  record of_none { leading = 0 ∷ [] } ∷ of_none ∷ [],
-  (record { leading = refl; trailing = refl; detached = tt }, (record { leading = refl; trailing = refl; detached = tt }, tt)),
-  (tt, tt),
-)
 
 none-is-some : (text : List ℕ) → None ≡ Some text → ⊥
 none-is-some text e = subst (λ (o : Option (List ℕ)). elim o as (λ _. Type 0) [ None ↦ Unit {0} | Some t ↦ ⊥ ]) e tt
@@ -53,10 +42,10 @@ no-second s r a d e f h =
     (subst (λ l. Each (λ m. m ≢ 0) (l ++ detached)) f trailing).0 refl
 
 -- One has it as a leading comment and the other as a trailing one.
-twice : CommentedOnce comments (leads ∷ trails ∷ []) → ⊥
+twice : CommentedOnce (codes "// a") comments (leads ∷ trails ∷ []) → ⊥
 twice ([], are, h) = absurd are
-twice (s ∷ [], are, h) = absurd are.1
+twice (s ∷ [], are, h) = absurd are.2
 twice (s ∷ (r ∷ []), are, h) =
     let a = first-is-zero s.leading (codes " a") are.0.leading in
-    let d = first-is-zero r.trailing (codes " a") are.1.0.trailing in no-second s r a.0 d.0 a.1 d.1 h
-twice (s ∷ (r ∷ (q ∷ more)), are, h) = absurd are.1.1
+    let d = first-is-zero r.trailing (codes " a") are.2.0.trailing in no-second s r a.0 d.0 a.1 d.1 h
+twice (s ∷ (r ∷ (q ∷ more)), are, h) = absurd are.2.2

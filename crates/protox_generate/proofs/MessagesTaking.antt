@@ -23,11 +23,11 @@ use Rattle.protox_descriptor.specs.declared.tag.oneof.TheConstants as oneof_tag
 use Rattle.protox_locate.specs.FieldLocations.{OfField, OfKind}
 use Rattle.protox_locate.specs.LocationWords.{Path, Part, part, option_statement, range_statement, name_statement, extensions_statement}
 use Rattle.protox_locate.specs.Locations.{OfItem, OfOneof, OfExtend, location_steps, messages_of}
-use Rattle.protox_parse.proofs.Taking.{Weights, Cost, free, weigh, weigh-append, Take, take-none, take-more, take-bare, take-commented, take-append, Parts, parts-first, parts-one, parts-append}
-use Rattle.protox_parse.proofs.PartsTaking.{options-take, option-takes, ranges-take, names-take, reserved-takes, extensions-take, extensions_statement-takes}
-use Rattle.protox_parse.proofs.BlocksTaking.{enum-takes}
-use Rattle.protox_parse.proofs.Bags.{Lists, Bag, no, bag-of, empty, bag-none, bag-more, bag-append}
-use Rattle.protox_parse.proofs.FieldsTaking.{FieldTakes, BodyTakes, normal-takes, map-takes, group-takes, FieldsTake, fields-none, fields-more, fields-first}
+use Rattle.protox_generate.proofs.Taking.{Weights, Cost, free, open_brace, behind-append, weigh, weigh-append, Take, take-none, take-more, take-bare, take-opening, take-append, Parts, parts-first, parts-one, parts-append}
+use Rattle.protox_generate.proofs.PartsTaking.{options-take, option-takes, ranges-take, names-take, reserved-takes, extensions-take, extensions_statement-takes}
+use Rattle.protox_generate.proofs.BlocksTaking.{enum-takes}
+use Rattle.protox_generate.proofs.Bags.{Lists, Bag, no, bag-of, empty, bag-none, bag-more, bag-append}
+use Rattle.protox_generate.proofs.FieldsTaking.{FieldTakes, BodyTakes, normal-takes, map-takes, group-takes, FieldsTake, fields-none, fields-more, fields-first}
 
 -- what an item brings
 abbrev pub item_lists : OfItem → Lists
@@ -53,38 +53,38 @@ module _ (numbers : Span → List ℤ) where
   }
 
   -- an item
-  item-bag : (rows : Rows Place) (x : MessageItem) (node : OfItem) → of_item (location_steps numbers) x ≡ node → Bag rows (item_lists node) → Bag rows (item_lists (of_item (location_steps numbers) x))
-  item-bag rows x node is g = subst (λ n. Bag rows (item_lists n)) (sym is) g
+  item-bag : (rows : Rows Place) (x : MessageItem) (node : OfItem) → of_item (location_steps numbers) x ≡ node → Bag numbers rows (item_lists node) → Bag numbers rows (item_lists (of_item (location_steps numbers) x))
+  item-bag rows x node is g = subst (λ n. Bag numbers rows (item_lists n)) (sym is) g
 
   -- what stands in a oneof: options and fields
   record OneofTakes (es : t.OneofElements Place) : Type 0 where
     options : Cost
     own : Cost
     messages : Cost
-    option_parts : Parts (map (option_statement numbers) (ast.oneof_options es)) options
-    own_parts : Parts (map (λ (f : OfField). f.own None) (map (of_field (location_steps numbers)) (ast.oneof_fields es))) own
-    message_parts : Parts (messages_of (map (of_field (location_steps numbers)) (ast.oneof_fields es))) messages
+    option_parts : Parts numbers (map (option_statement numbers) (ast.oneof_options es)) options
+    own_parts : Parts numbers (map (λ (f : OfField). f.own None) (map (of_field (location_steps numbers)) (ast.oneof_fields es))) own
+    message_parts : Parts numbers (messages_of (map (of_field (location_steps numbers)) (ast.oneof_fields es))) messages
     within : (w : Weights) → options w + own w + messages w ≤ weigh w (s.oneof_elements es)
 
   -- a oneof and an extend, by what they give
-  oneof-bag : (rows : Rows Place) (o : OfOneof) {c d m : Cost} → ((path : Path) → Take (o.own path) c) → Parts (map (λ (f : OfField). f.own None) o.fields) d → Parts (messages_of o.fields) m
-      → ((w : Weights) → c w + d w + m w ≤ weigh w rows) → Bag rows (record empty { fields = map (λ (f : OfField). f.own None) o.fields; messages = messages_of o.fields; oneofs = o.own ∷ [] })
+  oneof-bag : (rows : Rows Place) (o : OfOneof) {c d m : Cost} → ((path : Path) → Take numbers (o.own path) c) → Parts numbers (map (λ (f : OfField). f.own None) o.fields) d → Parts numbers (messages_of o.fields) m
+      → ((w : Weights) → c w + d w + m w ≤ weigh w rows) → Bag numbers rows (record empty { fields = map (λ (f : OfField). f.own None) o.fields; messages = messages_of o.fields; oneofs = o.own ∷ [] })
   oneof-bag rows o own fields messages h = bag-of rows fields messages no no no (parts-one own) no no no no (λ w. omega (arith, h w))
 
   pub record ExtendTakes (rows : Rows Place) (e : OfExtend) : Type 0 where
     pub own : Cost
     pub extensions : Cost
     pub messages : Cost
-    pub block : (path : Path) → Take (e.block path) own
-    pub extension_parts : Parts e.extensions extensions
-    pub message_parts : Parts e.messages messages
+    pub block : (path : Path) → Take numbers (e.block path) own
+    pub extension_parts : Parts numbers e.extensions extensions
+    pub message_parts : Parts numbers e.messages messages
     pub within : (w : Weights) → own w + extensions w + messages w ≤ weigh w rows
 
-  extend-bag : (rows : Rows Place) (e : OfExtend) → ExtendTakes rows e → Bag rows (record empty { messages = e.messages; blocks = e.block ∷ []; extensions = e.extensions })
+  extend-bag : (rows : Rows Place) (e : OfExtend) → ExtendTakes rows e → Bag numbers rows (record empty { messages = e.messages; blocks = e.block ∷ []; extensions = e.extensions })
   extend-bag rows e h = bag-of rows no h.message_parts no (parts-one h.block) h.extension_parts no no no no no (λ w. omega (arith, h.within w))
 
   abbrev OneofBag : Rows Place → OfOneof → Type 0
-  OneofBag rows o = Bag rows (record empty { fields = map (λ (f : OfField). f.own None) o.fields; messages = messages_of o.fields; oneofs = o.own ∷ [] })
+  OneofBag rows o = Bag numbers rows (record empty { fields = map (λ (f : OfField). f.own None) o.fields; messages = messages_of o.fields; oneofs = o.own ∷ [] })
 
   abbrev Layer : (Type 0 → Type 0 → Type 0 → Type 0 → Type 0 → Type 0 → Type 0 → Type 0) → Type 0
   Layer F = F FieldKind MessageItem Extend Field Message MessageBody Oneof
@@ -101,11 +101,11 @@ module _ (numbers : Span → List ℤ) where
       fold-roll-Extend OfKind OfItem OfExtend OfField Part Part OfOneof steps.kind steps.item steps.extend steps.field steps.message steps.body steps.oneof x
 
   mutual
-    pub message-takes : (x : t.Message Place) (path : Path) → Take (of_message (location_steps numbers) (ast.message x) path) (λ w. weigh w (s.message x))
+    pub message-takes : (x : t.Message Place) (path : Path) → Take numbers (of_message (location_steps numbers) (ast.message x) path) (λ w. weigh w (s.message x))
     message-takes (t.message_of k n b) path =
         let body = body-takes b in
-        subst (λ (p : Part). Take (p path) (λ w. weigh w (s.message (t.message_of k n b)))) (sym (message-gives (location_steps numbers) (ast.message (t.message_of k n b))))
-        (take-commented k (ast.body_open b) (refl, refl, refl) (take-bare (refl, refl, refl) (body.takes path)) (λ w. omega (arith, body.within w)))
+        subst (λ (p : Part). Take numbers (p path) (λ w. weigh w (s.message (t.message_of k n b)))) (sym (message-gives (location_steps numbers) (ast.message (t.message_of k n b))))
+        (take-opening k (ast.body_open b) (ast.body_close b) (refl, refl, refl, refl) (take-bare (refl, refl, refl) (body.takes path)) (λ w. omega (arith, body.within w, body.opens w k)))
 
     body-takes : (b : t.Mbody Place) → BodyTakes numbers b
     body-takes (t.mbody_of o es c) =
@@ -114,16 +114,17 @@ module _ (numbers : Span → List ℤ) where
         record {
           inside = λ w. weigh w (s.elements es);
           takes = λ path.
-              subst (λ (p : Part). Take (p path) (λ w. weigh w (s.elements es))) (sym (body-gives (location_steps numbers) x))
+              subst (λ (p : Part). Take numbers (p path) (λ w. weigh w (s.elements es))) (sym (body-gives (location_steps numbers) x))
               (take-more (take-append (g.field_parts.numbered path _ 0) (take-append (g.message_parts.numbered path _ 0) (take-append (g.enum_parts.numbered path _ 0)
               (take-append (extensions-take numbers path (ast.extensions_in es) g.statement_parts) (take-append (g.block_parts.at _) (take-append (g.extension_parts.numbered path _ 0)
               (take-append (options-take numbers _ (ast.options_in es) g.option_parts) (take-append (g.oneof_parts.numbered path _ 0)
               (take-append (ranges-take numbers path _ (ast.reserved_in es) g.range_parts) (names-take numbers path _ (ast.reserved_in es) g.name_parts))))))))))
               (λ w. omega (arith, g.within w)));
-          within = λ w. omega (arith, weigh-append w (s.elements es) (s.sign s.close_brace c));
+          within = λ w. omega (arith, weigh-append w (s.elements es) (s.sign s.close_brace c), behind-append w o (s.elements es) (s.sign s.close_brace c));
+          opens = λ w p. omega arith;
         }
 
-    elements-take : (es : t.Elements Place) → Bag (s.elements es) (lists_in es)
+    elements-take : (es : t.Elements Place) → Bag numbers (s.elements es) (lists_in es)
     elements-take t.no_elements = bag-none []
     elements-take (t.elements (t.field x) es) =
         let f = field-takes x in
@@ -162,8 +163,8 @@ module _ (numbers : Span → List ℤ) where
         let e = oneof_elements-take es in
         let rows = s.oneof (t.oneof_of k n o es c) in
         subst (OneofBag rows) (sym (oneof-made (record { name = ast.ident n; options = ast.oneof_options es; fields = ast.oneof_fields es; comments = ast.comments k o; span = ast.join k.span c.span })))
-        (oneof-bag rows _ {c = λ w. w.first k + w.last o + e.options w} (λ path. take-commented k o (refl, refl, refl) (take-bare (refl, refl, refl) (options-take numbers (part path oneof_tag.OPTIONS) (ast.oneof_options es) e.option_parts)) (λ w. omega arith))
-        e.own_parts e.message_parts (λ w. omega (arith, e.within w, weigh-append w (s.oneof_elements es) (s.sign s.close_brace c))))
+        (oneof-bag rows _ {c = λ w. w.first k + w.last o + w.mark open_brace o + w.both k o + w.both o c + e.options w} (λ path. take-opening k o c (refl, refl, refl, refl) (take-bare (refl, refl, refl) (options-take numbers (part path oneof_tag.OPTIONS) (ast.oneof_options es) e.option_parts)) (λ w. omega arith))
+        e.own_parts e.message_parts (λ w. omega (arith, e.within w, weigh-append w (s.oneof_elements es) (s.sign s.close_brace c), behind-append w o (s.oneof_elements es) (s.sign s.close_brace c))))
 
     oneof_elements-take : (es : t.OneofElements Place) → OneofTakes es
     oneof_elements-take t.no_oneof_elements = record { options = free; own = free; messages = free; option_parts = no; own_parts = no; message_parts = no; within = λ w. omega arith }
@@ -200,13 +201,21 @@ module _ (numbers : Span → List ℤ) where
         let x = ast.extend (t.extend_of k n o es c) in
         subst (ExtendTakes (s.extend (t.extend_of k n o es c))) (sym (extend-made (record { extendee = ast.typename n; fields = ast.extend_fields es; comments = ast.comments k o; span = ast.join k.span c.span })))
         (record {
-          own = λ w. w.first k + w.last o;
+          own = λ w. w.first k + w.last o + w.mark open_brace o + w.both k o + w.both o c;
           extensions = f.own;
           messages = f.messages;
-          block = λ path. take-commented k o (refl, refl, refl) (take-none free) (λ w. omega arith);
+          block = λ path. take-opening k o c (refl, refl, refl, refl) (take-none free) (λ w. omega arith);
           extension_parts = f.own_parts (Some (ast.typename n));
           message_parts = f.message_parts;
-          within = λ w. omega (arith, f.within w, weigh-append w (s.typename n) (s.sign s.open_brace o ++ (s.extend_elements es ++ s.sign s.close_brace c)), weigh-append w (s.extend_elements es) (s.sign s.close_brace c));
+          within = λ w.
+              omega (
+                arith,
+                f.within w,
+                weigh-append w (s.typename n) (s.sign s.open_brace o ++ (s.extend_elements es ++ s.sign s.close_brace c)),
+                weigh-append w (s.extend_elements es) (s.sign s.close_brace c),
+                behind-append w k (s.typename n) (s.sign s.open_brace o ++ (s.extend_elements es ++ s.sign s.close_brace c)),
+                behind-append w o (s.extend_elements es) (s.sign s.close_brace c),
+              );
         })
 
     extend_fields-take : (es : t.ExtendElements Place) → FieldsTake numbers (s.extend_elements es) (map (of_field (location_steps numbers)) (ast.extend_fields es))

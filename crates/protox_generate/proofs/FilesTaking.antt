@@ -15,11 +15,11 @@ use Rattle.protox_locate.specs.EnumLocations.{enum_locations}
 use Rattle.protox_locate.specs.ServiceLocations.{service_locations}
 use Rattle.protox_locate.specs.LocationWords.{Path, Part, option_statement}
 use Rattle.protox_locate.specs.Locations.{item_messages, item_enums, item_services, item_blocks, item_extensions, syntax_locations, package_locations, import_locations, public_words, weak_words, file_locations}
-use Rattle.protox_parse.proofs.Taking.{Cost, free, weigh, weigh-append, Take, take-none, take-more, take-bare, take-commented, take-append, bare-then, Parts, parts-none, parts-one, parts-flat}
-use Rattle.protox_parse.proofs.PartsTaking.{options-take, option-takes}
-use Rattle.protox_parse.proofs.BlocksTaking.{enum-takes, service-takes}
-use Rattle.protox_parse.proofs.Bags.{Lists, Bag, no, bag-of, empty, bag-none, bag-more, bag-append}
-use Rattle.protox_parse.proofs.MessagesTaking.{message-takes, extend-takes}
+use Rattle.protox_generate.proofs.Taking.{Cost, free, behind-append, weigh, weigh-append, Take, take-none, take-more, take-bare, take-ending, take-append, bare-then, Parts, parts-none, parts-one, parts-flat}
+use Rattle.protox_generate.proofs.PartsTaking.{options-take, option-takes}
+use Rattle.protox_generate.proofs.BlocksTaking.{enum-takes, service-takes}
+use Rattle.protox_generate.proofs.Bags.{Lists, Bag, no, bag-of, empty, bag-none, bag-more, bag-append}
+use Rattle.protox_generate.proofs.MessagesTaking.{message-takes, extend-takes}
 
 module _ (numbers : Span → List ℤ) where
   abbrev package_parts : Option Package → List Part
@@ -41,14 +41,21 @@ module _ (numbers : Span → List ℤ) where
     names = [];
   }
 
-  import-takes : (x : t.Import Place) (path : Path) → Take (import_locations numbers (ast.«import» x) path) (λ w. weigh w (s.«import» x))
-  import-takes x path = take-commented x.keyword x.end (refl, refl, refl) (take-none free)
-      (λ w. omega (arith, weigh-append w (s.maybe s.import_kind x.kind) (s.strings x.value ++ s.sign s.semicolon x.end), weigh-append w (s.strings x.value) (s.sign s.semicolon x.end)))
+  import-takes : (x : t.Import Place) (path : Path) → Take numbers (import_locations numbers (ast.«import» x) path) (λ w. weigh w (s.«import» x))
+  import-takes x path = take-ending x.keyword x.end (refl, refl, refl, refl) (take-none free)
+      (λ w. omega (
+        arith,
+        weigh-append w (s.maybe s.import_kind x.kind) (s.strings x.value ++ s.sign s.semicolon x.end),
+        weigh-append w (s.strings x.value) (s.sign s.semicolon x.end),
+        behind-append w x.keyword (s.maybe s.import_kind x.kind) (s.strings x.value ++ s.sign s.semicolon x.end),
+        behind-append w x.keyword (s.strings x.value) (s.sign s.semicolon x.end),
+      ))
 
-  package-takes : (x : t.Package Place) (path : Path) → Take (package_locations numbers path (Some (ast.«package» x))) (λ w. weigh w (s.«package» x))
-  package-takes x path = take-commented x.keyword x.end (refl, refl, refl) (take-none free) (λ w. omega (arith, weigh-append w (s.fullident x.name) (s.sign s.semicolon x.end)))
+  package-takes : (x : t.Package Place) (path : Path) → Take numbers (package_locations numbers path (Some (ast.«package» x))) (λ w. weigh w (s.«package» x))
+  package-takes x path = take-ending x.keyword x.end (refl, refl, refl, refl) (take-none free)
+      (λ w. omega (arith, weigh-append w (s.fullident x.name) (s.sign s.semicolon x.end), behind-append w x.keyword (s.fullident x.name) (s.sign s.semicolon x.end)))
 
-  statements-take : (xs : List (t.Statement Place)) → Bag (s.many s.statement xs) (lists_in xs)
+  statements-take : (xs : List (t.Statement Place)) → Bag numbers (s.many s.statement xs) (lists_in xs)
   statements-take [] = bag-none []
   statements-take (t.an_empty m ∷ xs) = bag-more (s.many s.statement xs) (s.sign s.semicolon m ++ s.many s.statement xs) (statements-take xs) (λ w. omega arith)
   statements-take (t.an_import x ∷ xs) =
@@ -73,25 +80,26 @@ module _ (numbers : Span → List ℤ) where
 
   -- ---- the head
 
-  public-free : (x : Option (ImportKind × Span)) → Parts (public_words numbers x) free
+  public-free : (x : Option (ImportKind × Span)) → Parts numbers (public_words numbers x) free
   public-free None = parts-none free
   public-free (Some (import_kind.Public, span)) = parts-one (λ path. take-bare (refl, refl, refl) (take-none free))
   public-free (Some (import_kind.Weak, span)) = parts-none free
 
-  weak-free : (x : Option (ImportKind × Span)) → Parts (weak_words numbers x) free
+  weak-free : (x : Option (ImportKind × Span)) → Parts numbers (weak_words numbers x) free
   weak-free None = parts-none free
   weak-free (Some (import_kind.Public, span)) = parts-none free
   weak-free (Some (import_kind.Weak, span)) = parts-one (λ path. take-bare (refl, refl, refl) (take-none free))
 
-  syntax-takes : (path : Path) (x : Option (t.Syntax Place)) → Take (syntax_locations numbers path (option_map ast.syntax_place x)) (λ w. weigh w (s.maybe s.syntax x))
+  syntax-takes : (path : Path) (x : Option (t.Syntax Place)) → Take numbers (syntax_locations numbers path (option_map ast.syntax_place x)) (λ w. weigh w (s.maybe s.syntax x))
   syntax-takes path None = take-none (λ w. weigh w [])
-  syntax-takes path (Some x) = take-commented x.keyword x.end (refl, refl, refl) (take-none free) (λ w. omega (arith, weigh-append w (s.strings x.value) (s.sign s.semicolon x.end)))
+  syntax-takes path (Some x) = take-ending x.keyword x.end (refl, refl, refl, refl) (take-none free)
+      (λ w. omega (arith, weigh-append w (s.strings x.value) (s.sign s.semicolon x.end), behind-append w x.keyword (s.strings x.value) (s.sign s.semicolon x.end)))
 
-  package-take : (path : Path) (x : Option Package) {c : Cost} → Parts (package_parts x) c → Take (package_locations numbers path x) c
+  package-take : (path : Path) (x : Option Package) {c : Cost} → Parts numbers (package_parts x) c → Take numbers (package_locations numbers path x) c
   package-take path None p = take-none _
   package-take path (Some x) p = p.at path
 
-  pub file-takes : (size : ℕ) (x : t.File Place) → Take (file_locations numbers (ast.file size x)) (λ w. weigh w (s.spell x))
+  pub file-takes : (size : ℕ) (x : t.File Place) → Take numbers (file_locations numbers (ast.file size x)) (λ w. weigh w (s.spell x))
   file-takes size x =
       let g = statements-take x.statements in
       let f = ast.file size x in

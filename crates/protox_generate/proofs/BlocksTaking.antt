@@ -11,26 +11,32 @@ use Rattle.protox_ast.specs.declared.ast.Reserved.{Reserved}
 use Rattle.protox_locate.specs.LocationWords.{Path, option_statement, range_statement, name_statement}
 use Rattle.protox_locate.specs.EnumLocations.{enum_value_locations, enum_locations}
 use Rattle.protox_locate.specs.ServiceLocations.{stream_locations, method_locations, service_locations}
-use Rattle.protox_parse.proofs.Taking.{Weights, Cost, free, weigh, weigh-append, Take, take-none, take-bare, take-commented, take-append, bare-then, then-bare, Parts, parts-none, parts-more, parts-first, parts-append}
-use Rattle.protox_parse.proofs.PartsTaking.{list-free, options-take, option-takes, ranges-take, names-take, reserved-takes}
+use Rattle.protox_generate.proofs.Taking.{Weights, Cost, free, behind, behind-append, weigh, weigh-append, Take, take-none, take-bare, take-ending, take-opening, take-append, bare-then, then-bare, Parts, parts-none, parts-more, parts-first, parts-append}
+use Rattle.protox_generate.proofs.PartsTaking.{list-free, options-take, option-takes, ranges-take, names-take, reserved-takes}
 
 module _ (numbers : Span → List ℤ) where
   -- ---- enums
 
-  evalue-takes : (x : t.Evalue Place) (path : Path) → Take (enum_value_locations numbers (ast.evalue x) path) (λ w. weigh w (s.evalue x))
+  evalue-takes : (x : t.Evalue Place) (path : Path) → Take numbers (enum_value_locations numbers (ast.evalue x) path) (λ w. weigh w (s.evalue x))
   evalue-takes x path =
-      take-commented x.name.1 x.end (refl, refl, refl) (take-bare (refl, refl, refl) (take-bare (refl, refl, refl) (list-free numbers _ (ast.evalue x).options (listed (ast.evalue x).options))))
-      (λ w. omega (arith, weigh-append w (s.int x.number) (s.maybe s.list x.options ++ s.sign s.semicolon x.end), weigh-append w (s.maybe s.list x.options) (s.sign s.semicolon x.end)))
+      take-ending x.name.1 x.end (refl, refl, refl, refl) (take-bare (refl, refl, refl) (take-bare (refl, refl, refl) (list-free numbers _ (ast.evalue x).options (listed (ast.evalue x).options))))
+      (λ w. omega (
+        arith,
+        weigh-append w (s.int x.number) (s.maybe s.list x.options ++ s.sign s.semicolon x.end),
+        weigh-append w (s.maybe s.list x.options) (s.sign s.semicolon x.end),
+        behind-append w x.name.1 (s.int x.number) (s.maybe s.list x.options ++ s.sign s.semicolon x.end),
+        behind-append w x.name.1 (s.maybe s.list x.options) (s.sign s.semicolon x.end),
+      ))
 
   record EnumTakes (es : List (t.EnumElement Place)) : Type 0 where
     values : Cost
     options : Cost
     ranges : Cost
     names : Cost
-    value_parts : Parts (map (enum_value_locations numbers) (filter_map ast.enum_value es)) values
-    option_parts : Parts (map (option_statement numbers) (filter_map ast.enum_option es)) options
-    range_parts : Parts (flat_map (λ (x : Reserved). range_statement numbers x x.kind) (filter_map ast.enum_reserved es)) ranges
-    name_parts : Parts (flat_map (λ (x : Reserved). name_statement numbers x x.kind) (filter_map ast.enum_reserved es)) names
+    value_parts : Parts numbers (map (enum_value_locations numbers) (filter_map ast.enum_value es)) values
+    option_parts : Parts numbers (map (option_statement numbers) (filter_map ast.enum_option es)) options
+    range_parts : Parts numbers (flat_map (λ (x : Reserved). range_statement numbers x x.kind) (filter_map ast.enum_reserved es)) ranges
+    name_parts : Parts numbers (flat_map (λ (x : Reserved). name_statement numbers x x.kind) (filter_map ast.enum_reserved es)) names
     within : (w : Weights) → values w + options w + ranges w + names w ≤ weigh w (s.many s.enum_element es)
 
   enum-elements : (es : List (t.EnumElement Place)) → EnumTakes es
@@ -99,53 +105,63 @@ module _ (numbers : Span → List ℤ) where
         within = λ w. omega (arith, r.within w, weigh-append w (s.evalue x) (s.many s.enum_element es));
       }
 
-  pub enum-takes : (x : t.Enum Place) (path : Path) → Take (enum_locations numbers (ast.enum x) path) (λ w. weigh w (s.enum x))
+  pub enum-takes : (x : t.Enum Place) (path : Path) → Take numbers (enum_locations numbers (ast.enum x) path) (λ w. weigh w (s.enum x))
   enum-takes x path =
       let e = enum-elements x.elements in
-      take-commented x.keyword x.open_at (refl, refl, refl)
+      take-opening x.keyword x.open_at x.close_at (refl, refl, refl, refl)
       (take-bare (refl, refl, refl) (take-append (e.value_parts.numbered path _ 0) (take-append (options-take numbers _ (ast.enum x).options e.option_parts)
       (take-append (ranges-take numbers path _ (ast.enum x).reserved e.range_parts) (names-take numbers path _ (ast.enum x).reserved e.name_parts)))))
-      (λ w. omega (arith, e.within w, weigh-append w (s.many s.enum_element x.elements) (s.sign s.close_brace x.close_at)))
+      (λ w. omega (arith, e.within w, weigh-append w (s.many s.enum_element x.elements) (s.sign s.close_brace x.close_at), behind-append w x.open_at (s.many s.enum_element x.elements) (s.sign s.close_brace x.close_at)))
 
   -- ---- services
 
-  stream-free : (path : Path) (x : Option Span) → Take (stream_locations numbers path x) free
+  stream-free : (path : Path) (x : Option Span) → Take numbers (stream_locations numbers path x) free
   stream-free path None = take-none free
   stream-free path (Some span) = take-bare (refl, refl, refl) (take-none free)
 
-  rpc-options : (xs : List (t.RpcElement Place)) → Parts (map (option_statement numbers) (filter_map ast.rpc_option xs)) (λ w. weigh w (s.many s.rpc_element xs))
+  rpc-options : (xs : List (t.RpcElement Place)) → Parts numbers (map (option_statement numbers) (filter_map ast.rpc_option xs)) (λ w. weigh w (s.many s.rpc_element xs))
   rpc-options [] = parts-none (λ w. weigh w [])
   rpc-options (t.rpc_empty m ∷ xs) = parts-more (rpc-options xs) (λ w. omega arith)
   rpc-options (t.rpc_option x ∷ xs) = parts-more (parts-append (option-takes numbers x) (rpc-options xs)) (λ w. omega (arith, weigh-append w (s.option x) (s.many s.rpc_element xs)))
 
   record RpcTakes (x : t.RpcEnd Place) : Type 0 where
     options : Cost
-    option_parts : Parts (map (option_statement numbers) (ast.rpc_options x)) options
+    option_parts : Parts numbers (map (option_statement numbers) (ast.rpc_options x)) options
     within : (w : Weights) → w.last (ast.rpc_last x) + options w ≤ weigh w (s.rpc_end x)
+    ends : (w : Weights) (p : Place) → w.both p (ast.rpc_last x) ≤ behind w p (s.rpc_end x)
 
   rpc_end-takes : (x : t.RpcEnd Place) → RpcTakes x
-  rpc_end-takes (t.rpc_semicolon m) = record { options = free; option_parts = parts-none free; within = λ w. omega arith }
+  rpc_end-takes (t.rpc_semicolon m) = record { options = free; option_parts = parts-none free; within = λ w. omega arith; ends = λ w p. omega arith }
   rpc_end-takes (t.rpc_braces o xs c) = record {
     options = λ w. weigh w (s.many s.rpc_element xs);
     option_parts = rpc-options xs;
     within = λ w. omega (arith, weigh-append w (s.many s.rpc_element xs) (s.sign s.close_brace c));
+    ends = λ w p. omega (arith, behind-append w p (s.many s.rpc_element xs) (s.sign s.close_brace c));
   }
 
-  rpc-takes : (x : t.Rpc Place) (path : Path) → Take (method_locations numbers (ast.rpc x) path) (λ w. weigh w (s.rpc x))
+  rpc-takes : (x : t.Rpc Place) (path : Path) → Take numbers (method_locations numbers (ast.rpc x) path) (λ w. weigh w (s.rpc x))
   rpc-takes x path =
       let e = rpc_end-takes x.end in
       let answered = s.rpc_type x.output ++ (s.sign s.close_paren x.output_close ++ s.rpc_end x.end) in
-      let behind = s.sign s.close_paren x.input_close ++ (s.keyword (codes "returns") x.returns_at ++ (s.sign s.open_paren x.output_open ++ answered)) in
-      take-commented x.keyword (ast.rpc_last x.end) (refl, refl, refl)
+      let returned = s.sign s.close_paren x.input_close ++ (s.keyword (codes "returns") x.returns_at ++ (s.sign s.open_paren x.output_open ++ answered)) in
+      take-ending x.keyword (ast.rpc_last x.end) (refl, refl, refl, refl)
       (take-bare (refl, refl, refl) (take-bare (refl, refl, refl) (take-bare (refl, refl, refl)
       (then-bare (options-take numbers _ (ast.rpc_options x.end) e.option_parts) (bare-then (stream-free _ (ast.rpc x).client_streaming) (stream-free _ (ast.rpc x).server_streaming))))))
-      (λ w. omega (arith, e.within w, weigh-append w (s.rpc_type x.input) behind, weigh-append w (s.rpc_type x.output) (s.sign s.close_paren x.output_close ++ s.rpc_end x.end)))
+      (λ w. omega (
+        arith,
+        e.within w,
+        e.ends w x.keyword,
+        weigh-append w (s.rpc_type x.input) returned,
+        weigh-append w (s.rpc_type x.output) (s.sign s.close_paren x.output_close ++ s.rpc_end x.end),
+        behind-append w x.keyword (s.rpc_type x.input) returned,
+        behind-append w x.keyword (s.rpc_type x.output) (s.sign s.close_paren x.output_close ++ s.rpc_end x.end),
+      ))
 
   record ServiceTakes (es : List (t.ServiceElement Place)) : Type 0 where
     methods : Cost
     options : Cost
-    method_parts : Parts (map (method_locations numbers) (filter_map ast.service_rpc es)) methods
-    option_parts : Parts (map (option_statement numbers) (filter_map ast.service_option es)) options
+    method_parts : Parts numbers (map (method_locations numbers) (filter_map ast.service_rpc es)) methods
+    option_parts : Parts numbers (map (option_statement numbers) (filter_map ast.service_option es)) options
     within : (w : Weights) → methods w + options w ≤ weigh w (s.many s.service_element es)
 
   service-elements : (es : List (t.ServiceElement Place)) → ServiceTakes es
@@ -172,9 +188,14 @@ module _ (numbers : Span → List ℤ) where
         within = λ w. omega (arith, r.within w, weigh-append w (s.rpc x) (s.many s.service_element es));
       }
 
-  pub service-takes : (x : t.Service Place) (path : Path) → Take (service_locations numbers (ast.service x) path) (λ w. weigh w (s.service x))
+  pub service-takes : (x : t.Service Place) (path : Path) → Take numbers (service_locations numbers (ast.service x) path) (λ w. weigh w (s.service x))
   service-takes x path =
       let e = service-elements x.elements in
-      take-commented x.keyword x.open_at (refl, refl, refl)
+      take-opening x.keyword x.open_at x.close_at (refl, refl, refl, refl)
       (take-bare (refl, refl, refl) (take-append (e.method_parts.numbered path _ 0) (options-take numbers _ (ast.service x).options e.option_parts)))
-      (λ w. omega (arith, e.within w, weigh-append w (s.many s.service_element x.elements) (s.sign s.close_brace x.close_at)))
+      (λ w. omega (
+        arith,
+        e.within w,
+        weigh-append w (s.many s.service_element x.elements) (s.sign s.close_brace x.close_at),
+        behind-append w x.open_at (s.many s.service_element x.elements) (s.sign s.close_brace x.close_at),
+      ))

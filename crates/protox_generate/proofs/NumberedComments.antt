@@ -6,9 +6,9 @@ use Rattle.std.proofs.lemmas.List.{append-nil}
 use Rattle.protox_lexeme.specs.Lexemes.{Lexeme}
 use Rattle.protox_lexeme.specs.Shapes.{Shape, LineComment, BlockComment, Newline}
 use Rattle.protox_lexeme.specs.Table.{in_front, gaps_of, is_gap}
-use Rattle.protox_parse.specs.Commented.{text_of, text_at}
-use Rattle.protox_parse.proofs.GapsWeighed.{of_shape, of_lexemes}
-use Rattle.protox_parse.proofs.TextsNatural.{made_shape}
+use Rattle.protox_generate.specs.Commented.{text_of, text_at}
+use Rattle.protox_generate.proofs.GapsWeighed.{of_shape, of_lexemes}
+use Rattle.protox_generate.proofs.TextsNatural.{made_shape}
 
 abbrev pub with_number : ℕ → Shape → Shape
 with_number k (LineComment text) = LineComment (k ∷ [])

@@ -1,6 +1,6 @@
-//! `bytecases FILE..` prints the bytes of each file's descriptor in hex, and then those of the set
-//! of all files: as one, file by file, and each file's own from a buffer that is used again. So a
-//! case is a file in `data/` and its lines in `stdout`, which come from protobuf.
+//! `bytecases FILE..` prints bytes in hex: those of each file's descriptor; those of the set of all
+//! files at once and file by file; and those of each file from a buffer that is used again. A case
+//! is a file in `data/` and its lines in `stdout`, which come from protobuf.
 #![tactic(auto)]
 
 use protox_bytes::parse_to_bytes;

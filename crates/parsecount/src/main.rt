@@ -1,7 +1,7 @@
-//! `parsecount FILE [TURNS]` parses a file as often as is asked for, and prints how many locations it
-//! has. It is here to measure the parser alone, with dropping what it answers: `protoscan` prints too.
-//! `parsecount FILE TURNS table` makes the file's token table alone, and prints how many rows that has.
-//! Of several turns all but the first find memory that was used before.
+//! `parsecount FILE [TURNS]` parses a file TURNS times and prints how many locations it has. It
+//! measures the parser alone, with the time to drop the descriptor; `protoscan` prints too.
+//! `parsecount FILE TURNS table` only makes the file's token table and prints how many rows it has.
+//! After the first turn the program uses memory that was used before.
 #![tactic(auto)]
 
 use protox_parse::lex::TokenTable;
@@ -11,7 +11,7 @@ use std::io::{self, Write};
 use std::process::ExitCode;
 use std::{env, fs};
 
-// How many locations the file has, which is parsed as often as is asked for.
+// How many locations the file has. It is parsed `turns` times.
 fn locations(alloc: Global, name: &str, source: &str, turns: u32) -> Result<usize, ParseFailure> {
     let mut count = 0;
     for _ in 0..turns {
@@ -24,7 +24,7 @@ fn locations(alloc: Global, name: &str, source: &str, turns: u32) -> Result<usiz
     Ok(count)
 }
 
-// How many rows the table has, which is made as often as is asked for.
+// How many rows the token table has. It is made `turns` times.
 fn rows(alloc: Global, source: &str, turns: u32) -> Result<usize, AllocError> {
     let mut rows = 0;
     for _ in 0..turns {

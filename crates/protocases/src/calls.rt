@@ -1,5 +1,5 @@
-//! Calls that take memory, and what each answers. In a run in which memory is refused a call answers
-//! that it is out of memory, or what it answers else.
+//! Prints calls that take memory, and the answer of each. If memory is refused, a call answers that
+//! it is out of memory, or what it would answer otherwise.
 
 use crate::states::{comments_stay, lexer_stays};
 use protox_parse::ast::{Boxed, FullIdent, Ident, Int, OptionValue, Ty, TypeName};
@@ -118,7 +118,7 @@ fn tables(alloc: Global) -> Result<String, AllocError> {
     format!(in alloc; "{} {faults:?} {comments:?}", table.rows())
 }
 
-// A line: the call, and its answer.
+// A line with the call and its answer.
 fn write_answer<W: Write>(
     out: &mut W,
     call: &str,
@@ -130,7 +130,7 @@ fn write_answer<W: Write>(
     }
 }
 
-/// A line for each call.
+/// Writes a line for each call.
 pub fn write_calls<W: Write>(alloc: Global, out: &mut W) -> io::Result<()> {
     writeln!(out, "== --calls")?;
     write_answer(out, "names", &names(alloc))?;

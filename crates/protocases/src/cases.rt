@@ -7,7 +7,7 @@ use protox_text::descriptors::write_file;
 use std::alloc::Global;
 use std::io::{self, Write};
 
-// A fault as it is, and on lines of their own its text, its labels and its help.
+// A fault's debug form, and on lines of their own its text, its labels and its help.
 fn write_fault<W: Write>(alloc: Global, out: &mut W, fault: &ParseErrorKind) -> io::Result<()> {
     writeln!(out, "{fault:?}")?;
     writeln!(out, "  text: {fault}")?;
@@ -32,7 +32,7 @@ fn write_refusal<W: Write>(alloc: Global, out: &mut W, error: &ParseError) -> io
     Ok(())
 }
 
-/// The name, and what the parser answers of these bytes under that name.
+/// Writes the name, and what the parser answers for these bytes under that name.
 pub fn write_case<W: Write>(
     alloc: Global,
     out: &mut W,

@@ -1,11 +1,11 @@
-//! What the parser answers of each front of a file.
+//! What the parser answers for each front of a file.
 
 use protox_parse::error::ParseErrorKind;
 use protox_parse::{ParseFailure, parse};
 use std::alloc::Global;
 use std::io::{self, Write};
 
-// Whether the places of the fault lie in the first so many bytes.
+// Whether the spans of the fault lie in the first `len` bytes.
 fn lies_in(fault: &ParseErrorKind, len: usize) -> bool {
     let first = match fault.span() {
         Some(span) => span.start <= span.end && span.end <= len,
@@ -17,7 +17,7 @@ fn lies_in(fault: &ParseErrorKind, len: usize) -> bool {
     }
 }
 
-// How many of the faults don't.
+// How many of the faults don't lie there.
 fn outside(faults: &[ParseErrorKind], len: usize) -> usize {
     let mut count: usize = 0;
     for fault in faults {
@@ -28,7 +28,7 @@ fn outside(faults: &[ParseErrorKind], len: usize) -> usize {
     count
 }
 
-// A line: how long the front is, and whether it is accepted.
+// A line with the length of the front, and whether it is accepted.
 fn write_front<W: Write>(alloc: Global, out: &mut W, name: &str, front: &str) -> io::Result<()> {
     let len = front.len();
     match parse(alloc, name, front) {
@@ -41,7 +41,7 @@ fn write_front<W: Write>(alloc: Global, out: &mut W, name: &str, front: &str) ->
     }
 }
 
-/// The name, and a line for each front of the bytes, from the empty one to the whole.
+/// Writes the name, and a line for each front of the bytes, from the empty one to the whole.
 pub fn write_fronts<W: Write>(
     alloc: Global,
     out: &mut W,

@@ -1,4 +1,4 @@
-//! What the parser answers of sources that are deep or long.
+//! What the parser answers for sources that are deep or long.
 
 use protox_parse::descriptor::FileDescriptorProto;
 use protox_parse::error::ParseErrorKind;
@@ -6,7 +6,7 @@ use protox_parse::{ParseFailure, parse};
 use std::alloc::{AllocError, Global};
 use std::io::{self, Write};
 
-// The first text so many times, and then the second as often, between two others.
+// `front`, then `open` and `close`, each `times` times, then `back`.
 fn nested(
     alloc: Global,
     front: &str,
@@ -64,7 +64,7 @@ fn write_faults<W: Write>(out: &mut W, faults: &[ParseErrorKind]) -> io::Result<
     writeln!(out)
 }
 
-// A line: what the source is, and the answer.
+// A line with the kind of source and the answer.
 fn write_answer<W: Write>(
     alloc: Global,
     out: &mut W,
@@ -80,7 +80,7 @@ fn write_answer<W: Write>(
     }
 }
 
-// A line for each kind of source, with so many levels, and ten times as many letters in the name.
+// A line for each kind of source with this many levels, and ten times as many letters in the name.
 fn write_level<W: Write>(alloc: Global, out: &mut W, times: usize) -> io::Result<()> {
     for (what, front, open, close, back) in [
         ("openers of comments", "", "/*", "", ""),
@@ -100,7 +100,7 @@ fn write_level<W: Write>(alloc: Global, out: &mut W, times: usize) -> io::Result
     Ok(())
 }
 
-/// A line for each kind of source that is deep or long, at 100,000 levels and at a million.
+/// Writes a line for each kind of source that is deep or long, at 100,000 levels and at a million.
 pub fn write_large<W: Write>(alloc: Global, out: &mut W) -> io::Result<()> {
     writeln!(out, "== --large")?;
     write_level(alloc, out, 100_000)?;

@@ -1,4 +1,4 @@
-//! What the lexer makes of a file.
+//! What the lexer gives for a file.
 
 use crate::shown::{show_faults, show_lexeme};
 use crate::table::show_table;
@@ -12,7 +12,7 @@ fn lexer(alloc: Global, source: &str, text_format: bool) -> Lexer<'_> {
     lexer
 }
 
-// A line of the next lexeme. Answers whether there was one.
+// Writes a line for the next lexeme. Answers whether there was one.
 fn show_next<W: Write>(lexer: &mut Lexer<'_>, out: &mut W) -> io::Result<bool> {
     let Some(token) = lexer.next()? else {
         return Ok(false);
@@ -24,7 +24,7 @@ fn show_next<W: Write>(lexer: &mut Lexer<'_>, out: &mut W) -> io::Result<bool> {
     Ok(true)
 }
 
-// The lexemes in a mode, and then their faults.
+// Writes the lexemes in a mode, and then their faults.
 fn show_all<W: Write>(
     alloc: Global,
     source: &str,
@@ -51,7 +51,7 @@ fn count_faults(alloc: Global, source: &str, text_format: bool) -> Result<usize,
     Ok(lexer.errors().len())
 }
 
-// The lexemes and faults of a source, and once more in text format where that makes a difference.
+// Writes the lexemes and faults of a source; once more in text format if that makes a difference.
 fn show_lexer<W: Write>(alloc: Global, source: &str, out: &mut W) -> io::Result<()> {
     show_all(alloc, source, false, out)?;
     if count_faults(alloc, source, true)? == count_faults(alloc, source, false)? {
@@ -61,7 +61,7 @@ fn show_lexer<W: Write>(alloc: Global, source: &str, out: &mut W) -> io::Result<
     show_all(alloc, source, true, out)
 }
 
-/// The name, and what the lexer and the table make of these bytes.
+/// Writes the name, and what the lexer and the table give for these bytes.
 pub fn write_lexemes<W: Write>(
     alloc: Global,
     out: &mut W,

@@ -1,4 +1,4 @@
-//! The lines of locations.
+//! Locations as lines.
 
 use protoscan_run::{LastPrinted, push_location};
 use protox_parse::descriptor::FileDescriptorProto;
@@ -20,7 +20,7 @@ fn write_comment<W: Write>(
     }
 }
 
-// Its line, and a line for each of its comments.
+// The line of a location, and a line for each of its comments.
 fn write_commented<W: Write>(alloc: Global, out: &mut W, location: &Location) -> io::Result<()> {
     let mut line = Vec::new(alloc);
     push_location(&mut LastPrinted::new(alloc), &mut line, location)?;
@@ -39,7 +39,7 @@ fn write_commented<W: Write>(alloc: Global, out: &mut W, location: &Location) ->
     Ok(())
 }
 
-/// A line for each location, and below it a line for each of its comments.
+/// Writes a line for each location, and below it a line for each of its comments.
 pub fn write_locations<W: Write>(
     alloc: Global,
     out: &mut W,

@@ -1,15 +1,16 @@
-//! `protocases [FILE..] [--lexemes FILE..] [--fronts FILE..] [--returns FILE..] [--large] [--calls]`
-//! prints what the parser answers of each file: its descriptor, in the text format of Protocol Buffers,
-//! and a line for each location with its comments, or what is wrong with the file. So a case is a file in
-//! `data/` and its lines in `stdout`. The words between change what is printed of the files behind them:
+//! `protocases [FILE..] [--lexemes FILE..] [--fronts FILE..] [--returns FILE..] [--large]
+//! [--calls]` prints what the parser answers for each file: its descriptor in text format, and a
+//! line for each location with its comments; or what is wrong with the file. A case is a file in
+//! `data/` and its lines in `stdout`. The words between the files change what is printed for the
+//! files behind them:
 //!
-//! - `--lexemes`: what the lexer makes of the file: the lexemes and faults as the lexer gives them, and the
-//!   rows, gaps, comments and faults as the table does
+//! - `--lexemes`: the lexemes and faults that the lexer gives, and the rows, gaps, comments and
+//!   faults of the table
 //! - `--fronts`: whether each front of the file is accepted
 //! - `--returns`: whether the answer is the same when the lines end with `\r\n`
 //!
-//! `--large` prints the answers of sources that are deep or long, and `--calls` what calls answer that
-//! take memory.
+//! `--large` prints the answers for sources that are deep or long. `--calls` prints what calls that
+//! take memory answer.
 #![tactic(auto)]
 
 mod calls;
@@ -34,7 +35,7 @@ use std::io::{self, BufWriter, Write};
 use std::process::ExitCode;
 use std::{env, fs};
 
-// What is printed of a file.
+// What is printed for a file.
 #[derive(Clone, Copy)]
 enum Mode {
     Case,
@@ -91,7 +92,8 @@ fn write_words(rt: &HostRuntime) -> io::Result<()> {
     out.flush()
 }
 
-// Says where memory ran out, for which no memory is asked. Where that can't be said, nothing is.
+// Says where memory ran out, without asking for memory. If the line can't be written, nothing is
+// said.
 fn failed(rt: &HostRuntime, error: &io::Error) -> u8 {
     if error.kind() == io::ErrorKind::OutOfMemory {
         let _said = rt.stderr().write_all(b"protocases: out of memory\n");

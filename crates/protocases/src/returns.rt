@@ -1,10 +1,10 @@
-//! What the parser answers of a file when its lines end with `\r\n`.
+//! What the parser answers for a file when its lines end with `\r\n`.
 
 use protox_parse::parse;
 use std::alloc::{AllocError, Global};
 use std::io::{self, Write};
 
-// The text with `\r\n` for each newline. In a source that is accepted none stands in a string.
+// The text with `\r\n` for each newline. An accepted source has no newline in a string.
 fn with_returns(alloc: Global, source: &str) -> Result<String, AllocError> {
     let mut text = String::new(alloc);
     for character in source.chars() {
@@ -16,7 +16,7 @@ fn with_returns(alloc: Global, source: &str) -> Result<String, AllocError> {
     Ok(text)
 }
 
-// Whether both texts are accepted, with the same descriptor, comments and spans included.
+// Whether both texts are accepted with the same descriptor, comments and spans included.
 fn are_alike(alloc: Global, name: &str, first: &str, second: &str) -> bool {
     match parse(alloc, name, first) {
         Ok(file) => parse(alloc, name, second).is_ok_and(|other| other == file),
@@ -24,8 +24,8 @@ fn are_alike(alloc: Global, name: &str, first: &str, second: &str) -> bool {
     }
 }
 
-/// The name, and whether the bytes are accepted with the same answer when each newline of theirs is
-/// `\r\n`: spans too, as they are in lines and columns, and no line becomes longer in front of a token.
+/// Writes the name, and whether the bytes are accepted with the same answer when each newline is
+/// `\r\n`. Spans stay too: they are in lines and columns, and no token moves in its line.
 pub fn write_returns<W: Write>(
     alloc: Global,
     out: &mut W,

@@ -5,7 +5,7 @@ use protox_parse::lex::Token;
 use std::alloc::Global;
 use std::io::{self, Write};
 
-// The text of a comment is quoted, since lines end in it.
+// The text of a comment is quoted, since it may end in a newline.
 fn show_token<W: Write>(token: &Token<'_>, out: &mut W) -> io::Result<()> {
     match token {
         Token::LineComment(text) => write!(out, "// {:?}", text.as_str()),
@@ -15,7 +15,7 @@ fn show_token<W: Write>(token: &Token<'_>, out: &mut W) -> io::Result<()> {
     }
 }
 
-/// A token, or at None an invalid character.
+/// A token; None is an invalid character.
 pub fn show_lexeme<W: Write>(token: Option<&Token<'_>>, out: &mut W) -> io::Result<()> {
     match token {
         Some(token) => show_token(token, out),
@@ -36,7 +36,7 @@ pub fn show_gap<W: Write>(gap: &[Token<'_>], out: &mut W) -> io::Result<()> {
     writeln!(out)
 }
 
-// Where a fault is, what is wrong, and what is noted beside it.
+// Where a fault is, what is wrong, and the notes beside it.
 fn show_fault<W: Write>(alloc: Global, fault: &ParseErrorKind, out: &mut W) -> io::Result<()> {
     match fault.span() {
         Some(span) => write!(out, "fault {}..{}: {fault}", span.start, span.end)?,
@@ -51,7 +51,7 @@ fn show_fault<W: Write>(alloc: Global, fault: &ParseErrorKind, out: &mut W) -> i
     writeln!(out)
 }
 
-/// A line for each fault.
+/// Writes a line for each fault.
 pub fn show_faults<W: Write>(
     alloc: Global,
     faults: &[ParseErrorKind],

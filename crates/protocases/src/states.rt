@@ -1,4 +1,4 @@
-//! What is left of a state where memory was refused to a call.
+//! What remains of a state after memory was refused to a call.
 
 use protox_parse::comments::Comments;
 use protox_parse::lex::{Lexer, Token};
@@ -6,7 +6,7 @@ use protox_parse::values::{Items, Text};
 use std::alloc::{AllocError, Global};
 use std::borrow::CowStr;
 
-// Each call is made once more where memory was refused.
+// Makes each call once more if memory was refused.
 fn add_line(comments: &mut Comments, text: &str) -> Result<(), AllocError> {
     if comments.line_comment(CowStr::Borrowed(text)).is_err() {
         comments.line_comment(CowStr::Borrowed(text))?;
@@ -38,7 +38,7 @@ fn fill(comments: &mut Comments) -> Result<(), AllocError> {
     add_line(comments, " d\n")
 }
 
-// `<` before the comment that trails, `=` before each detached one, `>` before the one that leads.
+// Marks comments: `<` the one that trails, `=` each detached one, `>` the one that leads.
 fn push_marked(out: &mut String, mark: &str, text: &Option<Text>) -> Result<(), AllocError> {
     if let Some(text) = text {
         out.push_str(mark)?;
@@ -63,8 +63,8 @@ fn push_all(out: &mut String, comments: &mut Comments) -> Result<(), AllocError>
     push_marked(out, ">", &leading)
 }
 
-/// The comments that a state hands out. A call to which memory was refused has changed nothing: made once
-/// more, it gives what it would have.
+/// Writes the comments that a state hands out. A call to which memory was refused has changed
+/// nothing: made once more, it gives what it would have given.
 pub fn comments_stay(alloc: Global) -> Result<String, AllocError> {
     let mut comments = Comments::new(alloc);
     fill(&mut comments)?;
@@ -73,13 +73,14 @@ pub fn comments_stay(alloc: Global) -> Result<String, AllocError> {
     format!(in alloc; "{out:?}")
 }
 
-// Whether a lexer that said that memory was refused says so again, with the same faults.
+// Whether a lexer that was refused memory says so again, with the same faults.
 fn says_so_again(lexer: &mut Lexer<'_>, faults: usize) -> bool {
     let again = lexer.next().is_err();
     again && lexer.next().is_err() && lexer.errors().len() == faults
 }
 
-// Takes all lexemes. None where memory was refused, and then whether the lexer stays so.
+// Takes all lexemes, and counts them. If memory was refused: whether the lexer says so again, with
+// the same faults.
 fn drained(lexer: &mut Lexer<'_>) -> Result<usize, bool> {
     let mut count: usize = 0;
     for _ in 0..u64::MAX {
@@ -93,8 +94,8 @@ fn drained(lexer: &mut Lexer<'_>) -> Result<usize, bool> {
     Ok(count)
 }
 
-/// How many lexemes and faults there are; each of these lexemes takes memory. Where memory was refused, the
-/// lexer says so from there on, and its faults stay.
+/// How many lexemes and faults there are; each of these lexemes takes memory. If memory was
+/// refused, the lexer keeps saying so, and its faults stay.
 pub fn lexer_stays(alloc: Global) -> Result<String, AllocError> {
     let mut lexer = Token::lexer(alloc, "'a\\n' 10f 0x1g /* a\nb */ // c\r\n");
     match drained(&mut lexer) {

@@ -1,4 +1,4 @@
-//! What the table answers.
+//! What the token table answers.
 
 use crate::shown::{show_faults, show_gap, show_lexeme};
 use protox_parse::comments::{GapComments, gap_comments};
@@ -27,7 +27,7 @@ fn show_attributed<W: Write>(comments: &GapComments, out: &mut W) -> io::Result<
     show_comment("leading", &comments.leading, out)
 }
 
-// The token of row `k`, unless that is invalid or there is none.
+// The token of row `k`, unless it is invalid or there is none.
 fn token_at<'t, 'a>(table: &'t TokenTable<'a>, k: usize) -> Option<&'t Token<'a>> {
     match table.row(k) {
         Some(Ok(token)) => Some(token),
@@ -50,7 +50,7 @@ fn show_comments<W: Write>(
     show_attributed(&comments, out)
 }
 
-// The faults that stand at row `k`, and once more in text format where that makes a difference.
+// The faults at row `k`; once more in text format if that makes a difference.
 fn show_released<W: Write>(
     alloc: Global,
     table: &TokenTable<'_>,
@@ -78,7 +78,8 @@ fn show_row<W: Write>(table: &TokenTable<'_>, k: usize, out: &mut W) -> io::Resu
     writeln!(out)
 }
 
-/// The rows of a source's table, and before each its gap, the comments there, and the faults of both.
+/// Writes the rows of a source's table, and before each its gap, the comments there, and the faults
+/// of both.
 pub fn show_table<W: Write>(alloc: Global, source: &str, out: &mut W) -> io::Result<()> {
     let table = TokenTable::new(alloc, source)?;
     writeln!(out, "-- table")?;

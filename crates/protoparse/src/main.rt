@@ -3,7 +3,7 @@
 #![tactic(auto)]
 
 use protoparse_run::{Host, broken, run, wordless};
-use std::io::{self, BufWriter, Read, Write};
+use std::io::{self, BufWriter, IsTerminal, Read, Write};
 use std::process::ExitCode;
 use std::{env, fs};
 
@@ -44,7 +44,9 @@ fn words(rt: &HostRuntime) -> io::Result<Vec<String>> {
 fn status(rt: &HostRuntime, words: &[String]) -> io::Result<u8> {
     let mut out = BufWriter::new(rt.alloc(), rt.stdout())?;
     let machine = Machine { rt };
-    let status = run(rt.alloc(), &machine, words, &mut out, &mut rt.stderr());
+    let mut err = rt.stderr();
+    let to_terminal = err.is_terminal();
+    let status = run(rt.alloc(), &machine, words, &mut out, &mut err, to_terminal);
     out.flush()?;
     Ok(status)
 }

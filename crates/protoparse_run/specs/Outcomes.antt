@@ -1,14 +1,12 @@
 -- When what is said of a file is right, and what is counted.
-use Rattle.std.specs.Prelude.{ℕ, ◌≡◌, ◌≢◌, List, map, slice_index}
+use Rattle.std.specs.Prelude.{ℕ, ◌≡◌, List}
 use Rattle.std.specs.declared.alloc.Global.{Global}
 use Rattle.std.specs.declared.string.String.{String}
 use Rattle.std.specs.String.{string_bytes}
 use Rattle.protox_parse.specs.Files.{IsFile}
 use Rattle.protoparse_run.specs.declared.tally.Outcome.{Outcome}
 use Rattle.protoparse_run.specs.declared.tally.Tally.{Tally}
-use Rattle.protoparse_run.specs.declared.words.Asked.{Asked}
-use Rattle.protoparse_run.specs.declared.words.Asked.TheVariants.{Help, Version, Work, Nothing, Unknown}
-use Rattle.protoparse_run.specs.declared.words.Task.{Task}
+use Rattle.protoparse_words.specs.declared.Task.{Task}
 use Rattle.protoparse_run.specs.declared.tally.Outcome.TheVariants.{Accepted, Refused, Failed}
 
 -- A source is accepted only if it is a file, and refused only if it is none.
@@ -25,26 +23,11 @@ IsRightAbout Holds Failed = Unit {0}
 
 -- A file is accepted: what was read under its name is a file.
 abbrev pub IsAccepted : {H : Type 0} → (H → List ℕ → List ℕ → Type 0) → H → Task → Type 0
-IsAccepted holds host task = (source : List ℕ) × holds host task.name.now source × IsFile source
-
--- A word is a file's name, and no option: it doesn't begin with a hyphen.
-abbrev pub IsName : String Global → Type 0
-IsName word = slice_index (string_bytes word) 0 ≢ 45
+IsAccepted holds host task = (source : List ℕ) × holds host task.path.now source × IsFile source
 
 -- What was read under the name that a word spells is a file.
 abbrev pub IsFileNamed : {H : Type 0} → (H → List ℕ → List ℕ → Type 0) → H → String Global → Type 0
 IsFileNamed holds host word = (source : List ℕ) × holds host (string_bytes word) source × IsFile source
-
-abbrev pub name_of : Task → List ℕ
-name_of task = task.name.now
-
--- Nothing is asked for but work on the files that the words name, in their order.
-abbrev pub IsWorkOn : List (String Global) → Asked → Type 0
-IsWorkOn words (Work tasks set) = map name_of tasks.items ≡ map string_bytes words
-IsWorkOn words Nothing = Unit {0}
-IsWorkOn words Help = ⊥
-IsWorkOn words Version = ⊥
-IsWorkOn words (Unknown word) = ⊥
 
 -- The tally counts an outcome: a file that was refused or failed stays counted.
 pub record Counts (old : Tally) (outcome : Outcome) (new : Tally) : Type 0 where

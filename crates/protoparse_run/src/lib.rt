@@ -3,34 +3,36 @@
 #![tactic(auto)]
 
 ghost use Rattle.std.specs.Prelude.{◌≡◌, ◌≤◌, ℕ, List, All, IfOk, length};
-ghost use Rattle.protoparse_run.specs.declared.tally.Outcome.TheVariants.{Failed};
-ghost use Rattle.protoparse_run.specs.Outcomes.{IsAccepted, IsFileNamed, IsName, IsRightOf, IsRightAbout};
+ghost use Rattle.protoparse_run.specs.Outcomes.{IsAccepted, IsFileNamed, IsRightOf, IsRightAbout};
+ghost use Rattle.protoparse_words.specs.Asking.{IsName};
 
+mod complaints;
+mod floats;
+mod progress;
+pub mod set;
 pub mod tally;
-mod words;
 
-use protox_encode::{EncodeError, encode_entry};
+use complaints::{OUT_OF_MEMORY, complain, misused, say, unread};
+pub use complaints::{broken, wordless};
+use progress::Progress;
+use protoparse_words::{Asked, Mode, Task, Work, asked_by};
 use protox_outline::write_outline;
 use protox_parse::descriptor::FileDescriptorProto;
 use protox_parse::{ParseError, ParseFailure, parse};
 use protox_report::paint::Paint;
 use protox_report::report::Source;
-use protox_report::shown::push_shown;
 use protox_text::descriptors::write_file;
-use std::alloc::{AllocError, Global};
+use set::add_to_set;
+use std::alloc::Global;
 use std::io::{self, Write};
 use tally::{Outcome, Tally};
-use words::{Asked, How, Mode, Task, asked_by};
-
-/// The line that says that memory ran out.
-const OUT_OF_MEMORY: &str = "protoparse: out of memory\n";
 
 const VERSION: &str = "protoparse 0.10.0\n";
 
 const HELP: &str = "usage: protoparse [OPTIONS] FILE..
 
 Checks Protocol Buffers source files (proto2, proto3), and prints what is wrong with them.
-The file - is standard input. An option holds for the files behind it.
+The file - is standard input. An option holds for the files behind it, but -I for all files.
 
   --check           print only what is wrong (the default)
   --outline         print the declarations: place, kind, full name, first line of the comment
@@ -38,6 +40,9 @@ The file - is standard input. An option holds for the files behind it.
   --descriptor-set-out=FILE
                     write the descriptors to FILE, as one FileDescriptorSet, if all files are
                     accepted
+  -I DIR, --proto_path=DIR
+                    name the files in their descriptors as they are called in DIR. With several
+                    folders the first that holds the file counts; each file has to lie in one
   --no-source-info  leave the locations out of the descriptor
   --color           print faults in colour
   --                each word behind it is a file
@@ -47,6 +52,10 @@ The file - is standard input. An option holds for the files behind it.
 Status: 0 where all files are accepted, 1 where one is refused, 2 where one can't be read, memory
 runs out, nothing can be written, or the options are wrong.
 ";
+
+const NO_FOLDER: &str = "it names no folder (the current one is .)";
+
+const OUTSIDE: &str = "it lies in no folder that -I or --proto_path names";
 
 /// Where files are read.
 pub trait Host {
@@ -61,94 +70,22 @@ pub trait Host {
     fn write(&self, name: &str, bytes: &[u8]) -> io::Result<()>;
 }
 
-// A line in one piece, which shows the file's name.
-fn push_complaint(
-    alloc: Global,
-    line: &mut String,
-    name: &str,
-    why: &str,
-) -> Result<(), AllocError> {
-    line.push_str("protoparse: ")?;
-    push_shown(alloc, line, name)?;
-    line.push_str(": ")?;
-    push_shown(alloc, line, why)?;
-    line.push_str("\n")
-}
-
-// Writes a text where errors go. Where that can't be written, nothing more is.
-fn say<E: Write>(err: &mut E, text: &str) {
-    match err.write_all(text.as_bytes()) {
-        Ok(()) => (),
-        Err(_) => (),
-    }
-}
-
-// Says why nothing comes of a file.
-fn complain<E: Write>(alloc: Global, err: &mut E, name: &str, why: &str) -> Outcome
-    ensures { result ≡ Failed }
-{
-    let mut line = String::new(alloc);
-    match push_complaint(alloc, &mut line, name, why) {
-        Ok(()) => say(err, line.as_str()),
-        Err(_) => say(err, OUT_OF_MEMORY),
-    }
-    Outcome::Failed
-}
-
-// Says why a file can't be read.
-fn unread<E: Write>(alloc: Global, err: &mut E, name: &str, error: &io::Error) -> Outcome
-    ensures { result ≡ Failed }
-{
-    if error.kind() == io::ErrorKind::OutOfMemory {
-        return complain(alloc, err, name, "out of memory");
-    }
-    match format!(in alloc; "cannot be read: {error}") {
-        Ok(why) => complain(alloc, err, name, why.as_str()),
-        Err(_) => complain(alloc, err, name, "out of memory"),
-    }
-}
-
-/// Says why nothing more is written, and answers the status.
-pub fn broken<E: Write>(err: &mut E, error: &io::Error) -> u8
-    ensures { result ≡ 2 }
-{
-    if error.kind() == io::ErrorKind::OutOfMemory {
-        say(err, OUT_OF_MEMORY);
-        return 2;
-    }
-    match writeln!(err, "protoparse: cannot write: {error}") {
-        Ok(()) => 2,
-        Err(_) => 2,
-    }
-}
-
-/// Says why the words can't be read, and answers the status.
-pub fn wordless<E: Write>(err: &mut E, error: &io::Error) -> u8
-    ensures { result ≡ 2 }
-{
-    if error.kind() == io::ErrorKind::OutOfMemory {
-        say(err, OUT_OF_MEMORY);
-        return 2;
-    }
-    say(err, "protoparse: a word is not UTF-8\n");
-    2
-}
-
-// The name under which a file is parsed and reported.
-fn shown_name(name: &str) -> &str {
-    if name == "-" { "<stdin>" } else { name }
+// What people are told of a file is told under this name.
+fn shown_path(path: &str) -> &str {
+    if path == "-" { "<stdin>" } else { path }
 }
 
 // A report for each fault.
 fn write_faults<W: Write>(
     alloc: Global,
     out: &mut W,
+    path: &str,
     error: &ParseError,
     paint: Paint,
 ) -> io::Result<()>
     requires { length error.now.source ≤ 2147483647 }
 {
-    let source = Source::new(alloc, error.file(), error.source(), paint)?;
+    let source = Source::new(alloc, path, error.source(), paint)?;
     let mut text = String::new(alloc);
     for fault in error.errors() {
         text.clear();
@@ -158,45 +95,26 @@ fn write_faults<W: Write>(
     Ok(())
 }
 
-// The bytes of a set of this one file. A text that is no float stands in no file that is parsed.
-fn bytes_of(alloc: Global, file: &FileDescriptorProto) -> io::Result<Vec<u8>> {
-    match encode_entry(alloc, file) {
-        Ok(bytes) => Ok(bytes),
-        Err(EncodeError::TooLarge) => Err(io::Error::other("a descriptor takes 2 GiB or more")),
-        Err(EncodeError::NotAFloat) => Err(io::Error::other("a double is no number")),
-        Err(EncodeError::OutOfMemory) => Err(io::Error::from(io::ErrorKind::OutOfMemory)),
-    }
-}
-
-// Adds a file to a set. Sets stand one behind the other.
-fn add_to_set(
-    alloc: Global,
-    set: &mut Vec<u8>,
-    source_info: bool,
-    mut file: FileDescriptorProto,
-) -> io::Result<()> {
-    if !source_info {
-        file.source_code_info = None;
-    }
-    let bytes = bytes_of(alloc, &file)?;
-    set.extend_from_slice(bytes.as_slice())?;
-    Ok(())
-}
-
-// What is asked for of a file that is accepted.
-fn write_answer<W: Write>(
+// Gives what is asked for of a file that is accepted: whether it is given.
+fn write_answer<W: Write, E: Write>(
     alloc: Global,
     out: &mut W,
+    err: &mut E,
     set: &mut Vec<u8>,
-    name: &str,
-    how: How,
-    file: FileDescriptorProto,
-) -> io::Result<()> {
-    match how.mode {
-        Mode::Check => Ok(()),
-        Mode::Outline => write_outline(alloc, out, name, &file),
-        Mode::Text => write_file(alloc, out, &file, how.source_info),
-        Mode::Set => add_to_set(alloc, set, how.source_info, file),
+    task: &Task<'_>,
+    mut file: FileDescriptorProto,
+) -> io::Result<bool> {
+    let path = shown_path(task.path);
+    match task.how.mode {
+        Mode::Check => Ok(true),
+        Mode::Outline => write_outline(alloc, out, path, &file).map(|_| true),
+        Mode::Text => write_file(alloc, out, &file, task.how.source_info).map(|_| true),
+        Mode::Set => {
+            if !task.how.source_info {
+                file.source_code_info = None;
+            }
+            Ok(add_to_set(alloc, err, set, task.path, &file))
+        }
     }
 }
 
@@ -205,19 +123,20 @@ fn write_refusal<W: Write, E: Write>(
     alloc: Global,
     out: &mut W,
     err: &mut E,
-    how: How,
+    task: &Task<'_>,
     error: &ParseError,
 ) -> io::Result<()>
     requires { length error.now.source ≤ 2147483647 }
 {
-    let paint = if how.color {
+    let path = shown_path(task.path);
+    let paint = if task.how.color {
         Paint::TERMINAL
     } else {
         Paint::NONE
     };
-    match how.mode {
-        Mode::Check => write_faults(alloc, out, error, paint),
-        _ => write_faults(alloc, err, error, paint),
+    match task.how.mode {
+        Mode::Check => write_faults(alloc, out, path, error, paint),
+        _ => write_faults(alloc, err, path, error, paint),
     }
 }
 
@@ -228,22 +147,30 @@ fn handle<W: Write, E: Write>(
     out: &mut W,
     err: &mut E,
     set: &mut Vec<u8>,
-    task: Task<'_>,
+    task: &Task<'_>,
+    progress: Progress,
     source: &str,
 ) -> io::Result<Outcome>
     ensures { IfOk result (IsRightOf source.now) }
 {
-    let name = shown_name(task.name);
-    match parse(alloc, name, source) {
+    match parse(alloc, task.name.as_str(), source) {
         Ok(file) => {
-            write_answer(alloc, out, set, name, task.how, file)?;
-            Ok(Outcome::Accepted)
+            progress.clear(err);
+            if write_answer(alloc, out, err, set, task, file)? {
+                Ok(Outcome::Accepted)
+            } else {
+                Ok(Outcome::Failed)
+            }
         }
         Err(ParseFailure::Refused(error)) => {
-            write_refusal(alloc, out, err, task.how, &error)?;
+            progress.clear(err);
+            write_refusal(alloc, out, err, task, &error)?;
             Ok(Outcome::Refused(error.errors().len()))
         }
-        Err(ParseFailure::OutOfMemory) => Ok(complain(alloc, err, task.name, "out of memory")),
+        Err(ParseFailure::OutOfMemory) => {
+            progress.clear(err);
+            Ok(complain(alloc, err, task.path, "out of memory"))
+        }
     }
 }
 
@@ -254,17 +181,24 @@ fn handle_file<H: Host, W: Write, E: Write>(
     out: &mut W,
     err: &mut E,
     set: &mut Vec<u8>,
-    task: Task<'_>,
+    task: &Task<'_>,
+    progress: Progress,
 ) -> io::Result<Outcome>
-    ensures { IfOk result (IsRightAbout (H.holds host.now task.entry.name.now)) }
+    ensures { IfOk result (IsRightAbout (H.holds host.now task.now.path.now)) }
 {
-    let bytes = match host.read(task.name) {
+    let bytes = match host.read(task.path) {
         Ok(bytes) => bytes,
-        Err(error) => return Ok(unread(alloc, err, task.name, &error)),
+        Err(error) => {
+            progress.clear(err);
+            return Ok(unread(alloc, err, task.path, &error));
+        }
     };
     match str::from_utf8(bytes.as_slice()) {
-        Ok(source) => handle(alloc, out, err, set, task, source),
-        Err(_) => Ok(complain(alloc, err, task.name, "not UTF-8")),
+        Ok(source) => handle(alloc, out, err, set, task, progress, source),
+        Err(_) => {
+            progress.clear(err);
+            Ok(complain(alloc, err, task.path, "not UTF-8"))
+        }
     }
 }
 
@@ -304,22 +238,25 @@ fn handle_all<H: Host, W: Write, E: Write>(
     host: &H,
     out: &mut W,
     err: &mut E,
-    tasks: &[Task<'_>],
-    set: Option<&str>,
+    work: &Work<'_>,
+    to_terminal: bool,
 ) -> io::Result<u8>
     ensures status { IfOk result (λ status. status ≤ 2) }
-    ensures accepted { IfOk result (λ status. status ≡ 0 → All (IsAccepted H.holds host.now) tasks.now) }
+    ensures accepted { IfOk result (λ status. status ≡ 0 → All (IsAccepted H.holds host.now) work.now.tasks.items) }
 {
+    let tasks = work.tasks.as_slice();
     let mut tally = Tally::NONE;
     let mut bytes = Vec::new(alloc);
+    let mut progress = Progress::new(tasks.len(), to_terminal);
     for task in tasks {
-        tally.add(handle_file(alloc, host, out, err, &mut bytes, *task)?);
+        progress.advance(err);
+        tally.add(handle_file(alloc, host, out, err, &mut bytes, task, progress)?);
     }
     if has_check(tasks) {
         tally.write_summary(out)?;
     }
     let status = tally.status();
-    if let Some(name) = set {
+    if let Some(name) = work.set {
         write_set(alloc, host, out, err, name, bytes.as_slice(), status)?;
     }
     Ok(status)
@@ -335,14 +272,34 @@ fn tell<W: Write, E: Write>(out: &mut W, err: &mut E, text: &str) -> u8
     }
 }
 
+// Does the work on files, and answers the status.
+fn worked<H: Host, W: Write, E: Write>(
+    alloc: Global,
+    host: &H,
+    out: &mut W,
+    err: &mut E,
+    work: &Work<'_>,
+    to_terminal: bool,
+) -> u8
+    ensures status { result ≤ 2 }
+    ensures accepted { result ≡ 0 → All (IsAccepted H.holds host.now) work.now.tasks.items }
+{
+    match handle_all(alloc, host, out, err, work, to_terminal) {
+        Ok(status) => status,
+        Err(error) => broken(err, &error),
+    }
+}
+
 /// Does what the words ask for: checks files, and prints what is wrong with them or what is asked for
-/// of them. The answer is the status.
+/// of them. With many files it shows how far it has come, if errors go to a terminal. The answer is
+/// the status.
 pub fn run<H: Host, W: Write, E: Write>(
     alloc: Global,
     host: &H,
     words: &[String],
     out: &mut W,
     err: &mut E,
+    to_terminal: bool,
 ) -> u8
     ensures status { result ≤ 2 }
     ensures no_word { length words.now ≡ 0 → result ≡ 2 }
@@ -352,12 +309,7 @@ pub fn run<H: Host, W: Write, E: Write>(
     match asked_by(alloc, words) {
         Ok(Asked::Help) => tell(out, err, HELP),
         Ok(Asked::Version) => tell(out, err, VERSION),
-        Ok(Asked::Work(tasks, set)) => {
-            match handle_all(alloc, host, out, err, tasks.as_slice(), set) {
-                Ok(status) => status,
-                Err(error) => broken(err, &error),
-            }
-        }
+        Ok(Asked::Work(work)) => worked(alloc, host, out, err, &work, to_terminal),
         Ok(Asked::Nothing) => {
             say(
                 err,
@@ -365,10 +317,9 @@ pub fn run<H: Host, W: Write, E: Write>(
             );
             2
         }
-        Ok(Asked::Unknown(word)) => {
-            let _ = complain(alloc, err, word, "no such option (--help says more)");
-            2
-        }
+        Ok(Asked::NoFolder(word)) => misused(alloc, err, word, NO_FOLDER),
+        Ok(Asked::Outside(path)) => misused(alloc, err, path, OUTSIDE),
+        Ok(Asked::Unknown(word)) => misused(alloc, err, word, "no such option (--help says more)"),
         Err(_) => {
             say(err, OUT_OF_MEMORY);
             2

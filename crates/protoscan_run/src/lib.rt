@@ -1,5 +1,5 @@
-//! The work of the program `protoscan`, over what it is given and two writers: so that it has a contract, and
-//! tests.
+//! The work of the program `protoscan`, over its words, its file's bytes and two writers. So it has
+//! a contract and tests.
 #![tactic(auto)]
 
 ghost use Rattle.std.specs.Prelude.{◌≡◌, ◌<◌, ◌≤◌, length, None, IfOk, IfSome, IsSome};
@@ -13,20 +13,21 @@ use protox_shown::shown::Shown;
 use std::alloc::{AllocError, Global};
 use std::io::{self, Write};
 
-/// The status where a file is read and its locations are printed.
+/// The status if the file was accepted and its locations are printed.
 const PRINTED: u8 = 0;
-/// The status where a file is refused.
+/// The status if the file was refused.
 const REFUSED: u8 = 1;
-/// The status where the words don't fit, there is no file, no text or no memory, or a write failed.
+/// The status if the words don't fit, if there is no file, no text or no memory, or if a write
+/// failed.
 pub const FAILED: u8 = 2;
 
 /// The line that says that memory ran out.
 const OUT_OF_MEMORY: &str = "protoscan: out of memory\n";
 
-/// How many bytes of lines are written at a time, but for those of one line more.
+/// How many bytes are written at a time. The last line may go beyond.
 const AT_ONCE: usize = 16384;
 
-// A number in decimal and the mark behind it.
+// Adds a number in decimal and then the mark.
 fn push_number(text: &mut Vec<u8>, number: i32, mark: u8) -> Result<(), AllocError> {
     if number < 0 {
         text.push(b'-')?;
@@ -51,7 +52,7 @@ fn push_number(text: &mut Vec<u8>, number: i32, mark: u8) -> Result<(), AllocErr
     text.extend_from_slice(&digits[start..])
 }
 
-// The numbers with a mark between each two, and another behind the last.
+// Adds the numbers with `between` between each two, and the other mark at the end.
 fn push_numbers(
     text: &mut Vec<u8>,
     numbers: &[i32],
@@ -69,21 +70,21 @@ fn push_numbers(
     Ok(())
 }
 
-/// The path and the line of a source that were printed last: a location often begins as the one before it, and then
-/// their text is copied.
+/// The path and the line of a source that were printed last. A location often begins as the one
+/// before it; then their text is copied.
 #[derive(Drop)]
 pub struct LastPrinted {
-    // Each number of the path, and where its text ends.
+    // Each number of the path, with the offset where its text ends.
     path: Vec<(i32, usize)>,
-    // The numbers of the path, each with a dot behind it.
+    // The numbers of the path, each with a dot after it.
     path_text: Vec<u8>,
     line: Option<i32>,
-    // The line's number with a comma behind it.
+    // The line's number with a comma after it.
     line_text: Vec<u8>,
 }
 
 impl LastPrinted {
-    /// Nothing is printed yet. It takes no memory: `alloc` serves later growths.
+    /// Nothing is printed yet. It takes no memory: `alloc` serves what is printed later.
     pub fn new(alloc: Global) -> LastPrinted {
         LastPrinted {
             path: Vec::new(alloc),
@@ -93,7 +94,7 @@ impl LastPrinted {
         }
     }
 
-    // Forgets the path but for its first numbers.
+    // Keeps only the first numbers of the path.
     fn keep(&mut self, numbers: usize) {
         self.path.truncate(numbers);
         let end = match self.path.last() {
@@ -103,7 +104,7 @@ impl LastPrinted {
         self.path_text.truncate(end);
     }
 
-    // Has this path, of which the numbers that it begins with as the last one are there.
+    // Changes to this path. The numbers at its beginning that it shares with the last one stay.
     fn turn_to(&mut self, path: &[i32]) -> Result<(), AllocError> {
         let mut shared = true;
         for (index, number) in path.iter().enumerate() {
@@ -124,7 +125,7 @@ impl LastPrinted {
         Ok(())
     }
 
-    // Adds the path with dots and a blank behind it, or one dot for that of the file.
+    // Adds the path with dots and then a blank; for the path of the file, a dot and a blank.
     fn push_path(&mut self, text: &mut Vec<u8>, path: &[i32]) -> Result<(), AllocError> {
         if path.is_empty() {
             return text.extend_from_slice(b". ");
@@ -137,7 +138,7 @@ impl LastPrinted {
         Ok(())
     }
 
-    // Adds the line with a comma behind it.
+    // Adds the line's number with a comma after it.
     fn push_line(&mut self, text: &mut Vec<u8>, line: i32) -> Result<(), AllocError> {
         if self.line != Some(line) {
             self.line = None;
@@ -149,8 +150,8 @@ impl LastPrinted {
     }
 }
 
-/// Adds a line to a text: the path of a location with dots, one dot for that of the file, and its span
-/// with commas.
+/// Adds a line to `text`: the path of a location with dots (one dot for the path of the file), a
+/// blank, and its span with commas. `AllocError` if memory runs out.
 pub fn push_location(
     last: &mut LastPrinted,
     text: &mut Vec<u8>,
@@ -164,7 +165,7 @@ pub fn push_location(
     Ok(())
 }
 
-// The locations of a file, or those with the path where there is one.
+// The locations of a file; only those with the path if one is given.
 fn chosen<'a>(file: &'a FileDescriptorProto, path: Option<&[i32]>) -> &'a [Location]
     requires { AreSorted file.now }
 {
@@ -178,7 +179,8 @@ fn chosen<'a>(file: &'a FileDescriptorProto, path: Option<&[i32]>) -> &'a [Locat
     }
 }
 
-// Formatting straight into the writer would cost more than the parse: so it gets many lines at a time.
+// Many lines are collected before they are written: one write a line would take longer than the
+// parse.
 fn write_locations<W: Write>(alloc: Global, out: &mut W, locations: &[Location]) -> io::Result<()> {
     let mut last = LastPrinted::new(alloc);
     let mut lines = Vec::new(alloc);
@@ -192,8 +194,8 @@ fn write_locations<W: Write>(alloc: Global, out: &mut W, locations: &[Location])
     out.write_all(lines.as_slice())
 }
 
-// Parses the file, and writes what is wrong with it, or its locations: those with the path where
-// there is one.
+// Parses the file and writes its locations, only those with the path if one is given; or writes
+// what is wrong.
 fn scan<W: Write, E: Write>(
     alloc: Global,
     name: &str,
@@ -219,7 +221,7 @@ fn scan<W: Write, E: Write>(
     }
 }
 
-// Says why nothing is printed, in a line for which no memory is asked. Where that can't be written,
+// Says in a line why nothing is printed, without asking for memory. If the line can't be written,
 // nothing more is.
 fn failed<E: Write>(err: &mut E, before: &str, name: &str, behind: &str) -> u8
     ensures { result ≡ 2 }
@@ -231,7 +233,8 @@ fn failed<E: Write>(err: &mut E, before: &str, name: &str, behind: &str) -> u8
     }
 }
 
-/// The status where reading or writing failed. Where memory ran out, this is said; of a failed write nothing is.
+/// The status `FAILED` after an error of reading or writing. If memory ran out, a line says so; a
+/// failed write is not reported.
 pub fn broken<E: Write>(err: &mut E, error: &io::Error) -> u8
     ensures { result ≡ 2 }
 {
@@ -241,8 +244,8 @@ pub fn broken<E: Write>(err: &mut E, error: &io::Error) -> u8
     FAILED
 }
 
-/// The status where the program's words can't be had. A line says why: one of them is not UTF-8, or memory
-/// ran out.
+/// The status `FAILED` if the program's words can't be had. A line says why: a word is not UTF-8,
+/// or memory ran out.
 pub fn without_words<E: Write>(err: &mut E, error: &io::Error) -> u8
     ensures { result ≡ 2 }
 {
@@ -267,8 +270,8 @@ fn number_of(digits: &[u8]) -> Option<i32> {
     Some(number)
 }
 
-// The path that a word spells: one dot for that of the file, or numbers with a dot between each
-// two. None where it spells no path.
+// The path that a word spells: one dot for the path of the file, or numbers with dots between them.
+// None if it spells no path.
 fn path_of(alloc: Global, word: &str) -> Result<Option<Vec<i32>>, AllocError> {
     let mut path = Vec::new(alloc);
     if word == "." {
@@ -296,8 +299,8 @@ fn is_path(word: &str) -> bool {
     true
 }
 
-/// The name of the file that is to be read: the first of `words`, where it is the only one or there
-/// is one more, which spells a path. None where nothing is to be read.
+/// The name of the file to read: the first of `words`. There may be one more word, which must spell
+/// a path. Otherwise None: nothing is to be read.
 pub fn file_name(words: &[String]) -> Option<&str>
     ensures no_word { length words.now ≡ 0 → result ≡ None }
     ensures one_word { length words.now ≡ 1 → IsSome result }
@@ -310,7 +313,7 @@ pub fn file_name(words: &[String]) -> Option<&str>
     }
 }
 
-// What `run` does where the words fit: there is a file's name, and maybe a path.
+// The work of `run` if the words fit: a file's name, and maybe a path.
 fn scan_file<W: Write, E: Write>(
     alloc: Global,
     name: &str,
@@ -336,16 +339,16 @@ fn scan_file<W: Write, E: Write>(
     }
 }
 
-/// Parses `file` under the name that is the first of `words`, and writes its locations to `out`, or
-/// what is wrong with it to `err`. Where there is a second word, it is a path, and only the
-/// locations with that path are written: one dot is the path of the whole file, and any other is
-/// spelled by decimal numbers up to 2147483647 with a dot between each two.
+/// Parses `file` and writes its locations to `out`, or what is wrong with it to `err`. Its name is
+/// the first of `words`. A second word is a path; then only the locations with that path are
+/// written. One dot is the path of the file; any other path is numbers up to 2147483647 with dots
+/// between them.
 ///
-/// The answer is the status: 0 where the file was accepted, 1 where it was refused, and 2 where
-/// there is nothing to parse. Then a line to `err` says why: there is no word or more than two, the
-/// second spells no path, there is no file (`None`: it could not be read), its text is no UTF-8, or
-/// memory ran out. The status is 2 too where a write failed, and then nothing more is written.
-/// Whatever of names and sources is written to `err` is shown as Debug of a `ParseError` shows it.
+/// Answers the status: 0 if the file was accepted, 1 if it was refused, and 2 if nothing was parsed
+/// or a write failed. If nothing was parsed, a line to `err` says why: there is no word or more
+/// than two, the second spells no path, there is no file (`None`: it could not be read), its text
+/// is not UTF-8, or memory ran out. After a failed write nothing more is written. What is written
+/// to `err` of names and sources is shown as `Debug` of a `ParseError` shows it.
 pub fn run<W: Write, E: Write>(
     alloc: Global,
     words: &[String],

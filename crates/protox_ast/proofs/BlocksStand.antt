@@ -1,4 +1,4 @@
--- Where enums, services and fields without a body stand, of rows that spell them.
+-- Where enums, services and fields without a body stand, given the rows that spell them.
 use Rattle.std.proofs.Common.{◌≡◌, List, [], ◌∷◌, ◌++◌, map, flat_map, codes, Option, Some, None, sym, ap, subst, append_assoc, ◌∙◌}
 use Rattle.std.specs.Prelude.{option_map}
 use Rattle.std.specs.List.{filter_map, cons_option}
@@ -15,7 +15,7 @@ use Rattle.protox_ast.specs.Siblings.{Siblings, siblings, span_if_any, place_if_
 use Rattle.protox_ast.proofs.SpansStand.{Hold, Begin, End, IsNode, begin-first, end-last, end-back, none, nothing, one, past, token, both, before, after, whole, last-list, more-lists, lists-node}
 use Rattle.protox_ast.proofs.PartsStand.{typename-hold, int-node, list-hold, option-node, reserved-node, reserved-lists, type-node}
 
--- ---- those of some kind
+-- ---- declarations of one kind
 
 abbrev pub span_of_some : {B : Type 0} → (B → Span) → Option B → List Span
 span_of_some span None = []
@@ -34,7 +34,7 @@ module _ {A B : Type 0} (spell : A → Rows Place) (f : A → Option B) (span : 
   chosen [] = none
   chosen (x ∷ xs) = chosen-step (spell x) (s.many spell xs) (f x) (filter_map f xs) (h x) (chosen xs)
 
--- parts of those that are chosen
+-- The parts of those that are chosen.
 module _ {A B : Type 0} (spell : A → Rows Place) (f : A → Option B) (parts : B → List Span) (h : (x : A) → Hold (spell x) (flat_map parts (cons_option (f x) [])) []) where
   chosen_parts-step : (a b : Rows Place) (x : Option B) (ys : List B) → Hold a (flat_map parts (cons_option x [])) [] → Hold b (flat_map parts ys) [] → Hold (a ++ b) (flat_map parts (cons_option x ys)) []
   chosen_parts-step a b None ys f g = both a b f g
@@ -175,6 +175,6 @@ pub map_type-node : (x : t.Map Place) → IsNode (map_rows x) (ast.join x.keywor
 map_type-node x = whole (ast.join x.keyword.span x.close_at.span) (begin-first _ _) (end-back (_ ∷ _ ∷ []) _ (end-back (s.type x.key) _ (end-back (_ ∷ []) _ (end-back (s.type x.value) _ (end-last _)))))
     (past _ (past _ (both (s.type x.key) _ (type-node x.key).hold (past _ (after (s.type x.value) _ (type-node x.value).hold)))))
 
--- a field's rows behind its type
+-- The rows of a field after its type.
 pub tail-end : (name : t.Word Place) (e : Place) (n : t.Int Place) (l : Option (t.OptionList Place)) (end : Place) → End (s.ident name ++ (s.sign s.equals e ++ (s.int n ++ (s.maybe s.list l ++ s.sign s.semicolon end)))) end.span.end
 tail-end name e n l end = end-back (_ ∷ _ ∷ []) _ (end-back (s.int n) _ (end-back (s.maybe s.list l) _ (end-last _)))

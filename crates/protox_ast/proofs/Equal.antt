@@ -1,4 +1,4 @@
--- The parts of a tree that hold no message are equal exactly where they are the same.
+-- Two parts of a tree that hold no message are equal exactly when they are the same.
 use Rattle.std.proofs.Common.{◌≡◌, Bool, true, ◌&&◌, ◌==◌, List, ℕ, refl, ap}
 use Rattle.std.proofs.lemmas.Bool.{false≢true}
 use Rattle.protox_descriptor.proofs.Sameness.{Tells, same, itself, tells-bool, tells-both, tells-if, tells-list, tells-option, tells-parts, tells-text, tells-unsigned}

@@ -1,4 +1,4 @@
--- Trees are equal exactly where they are the same.
+-- Two trees are equal exactly when they are the same.
 use Rattle.std.proofs.Common.{◌≡◌, Bool, true, false, ◌&&◌, ◌==◌, ◌⊎◌, refl, sym, ap, subst, ◌∙◌}
 use mathlib.Core.Logic.{inl, inr}
 use Rattle.std.proofs.lemmas.Bool.{false≢true}
@@ -43,7 +43,7 @@ use Rattle.protox_ast.specs.declared.ast.Ty.{Ty}
 use denote.Enum.Compared.{by}
 use denote.Enum.Declared.{Choice}
 
--- a value, and that E tells it
+-- A value, with the proof that E holds only for equal values.
 abbrev Told : {K : Type 0} → (K → K → Bool) → Type 0
 Told {K} E = (x : K) × Tells E x
 
@@ -53,7 +53,7 @@ value_of e = e.0
 abbrev span_eq : Span → Span → Bool
 span_eq x y = (x.start == y.start) && (x.end == y.end)
 
--- a layer of a tree: as it is, and with the proof beside each part that may hold messages
+-- One layer of a tree: as it is, and with such a proof for each part that may hold messages.
 abbrev Plain : (Type 0 → Type 0 → Type 0 → Type 0 → Type 0 → Type 0 → Type 0 → Type 0) → Type 0
 Plain F = F FieldKind MessageItem Extend Field Message MessageBody Oneof
 

@@ -1,4 +1,5 @@
--- Where a file's declarations stand, with all that is in them: in the source, like siblings one behind the other.
+-- Where the declarations of a file stand, with all that is in them: in the source, one after
+-- another.
 use Rattle.std.proofs.Common.{◌≡◌, ◌⊎◌, inl, inr, ℕ, ◌≤◌, List, [], ◌∷◌, ◌++◌, length, map, Option, Some, None, sym, refl, subst, arith}
 use Rattle.std.specs.Prelude.{option_map}
 use Rattle.std.specs.List.{filter_map}
@@ -65,7 +66,7 @@ options-hold (t.a_message x) = nothing _
 options-hold (t.an_enum x) = nothing _
 options-hold (t.a_service x) = nothing _
 
--- of several packages the first
+-- Of several package statements the first one.
 packages-hold : (xs : List (t.Statement Place)) → Hold (s.many s.statement xs) (package_span (ast.first_of (filter_map ast.packaged xs))) (package_siblings (ast.first_of (filter_map ast.packaged xs)))
 packages-hold [] = none
 packages-hold (t.a_package x ∷ xs) = after (s.«package» x) (s.many s.statement xs) (package-node x).hold
@@ -95,7 +96,7 @@ lists-stand size {rows} {xss} {i} f h =
     let n = f.stand 0 size h in
     each-append (SiblingsStand 0 size) (map (siblings (span_from 0 size)) xss) i (lists-within (span_from 0 size) 0 size xss (omega arith) (omega arith) n.0) n.1
 
--- Of rows that stand in a source, and spell a tree, all of its syntax tree stands there.
+-- If rows stand in a source and spell a tree, all of its syntax tree stands there.
 pub file-stands : (size : ℕ) (x : t.File Place) → Stand 0 size (s.spell x) → FileStands size (ast.file size x)
 file-stands size x h =
     let front = s.maybe s.syntax x.syntax in
@@ -111,7 +112,7 @@ file-stands size x h =
     in
     lists-stand size lists h
 
--- The same of the tree that a source's tokens spell.
+-- The same for the tree that the tokens of a source spell.
 pub source-stands : (source : List ℕ) → IsUtf8 source → (x : t.File Place) → placed (table_of (cut 0 source)) ≡ s.spell x → FileStands (length source) (ast.file (length source) x)
 source-stands source u x e = file-stands (length source) x (subst (Stand 0 (length source)) e (tokens-stand source u))
 
@@ -130,7 +131,7 @@ rows-lie size (x ∷ a) h l =
     let k = last-reach x.at.span.end size x.at.span a (omega arith) (in-order x.at.span.end size a h.2) h.2 in
     (omega (arith, h.1, k.0), k.1)
 
--- A file that has a row lies in the source.
+-- A file with at least one row lies in the source.
 pub file-lies : (size : ℕ) (x : t.File Place) → Stand 0 size (s.spell x) → 1 ≤ length (s.spell x) → SpanLiesIn size (ast.file size x).span
 file-lies size x h l = rows-lie size (s.spell x) h l
 
@@ -138,7 +139,7 @@ rows-own : (size : ℕ) (rows : Rows Place) → Stand 0 size rows → SpanLiesIn
 rows-own size [] h = inr refl
 rows-own size (x ∷ a) h = inl (rows-lie size (x ∷ a) h (omega arith))
 
--- A file's own span lies in the source, or goes from the source's end to 0 where it has no row.
+-- The span of a file lies in the source. Without a row it goes from the end of the source to 0.
 pub file-own : (size : ℕ) (x : t.File Place) → Stand 0 size (s.spell x) → SpanLiesIn size (ast.file size x).span ⊎ ((ast.file size x).span ≡ span_from size 0)
 file-own size x h = rows-own size (s.spell x) h
 
@@ -149,10 +150,10 @@ rows-reach size (x ∷ a) h = let k = rows-lie size (x ∷ a) h (omega arith) in
 pub file-reach : (size : ℕ) (x : t.File Place) → Stand 0 size (s.spell x) → ((ast.file size x).span.start ≤ size) × ((ast.file size x).span.end ≤ size)
 file-reach size x h = rows-reach size (s.spell x) h
 
--- All spans of the tree but the file's own lie in the source.
+-- All spans of the tree, except that of the file, lie in the source.
 pub spans-lie : (size : ℕ) (x : t.File Place) → Stand 0 size (s.spell x) → Each (SpanLiesIn size) (spans_in size (ast.file size x))
 spans-lie size x h = all-lie size (file_siblings size (ast.file size x)) (file-stands size x h)
 
--- The same of the file that a source gives.
+-- The same for the file that a source gives.
 pub accepted-stands : (source : List ℕ) → IsUtf8 source → (file : File) → IsFileOf source file → FileStands (length source) file
 accepted-stands source u file h = subst (FileStands (length source)) (sym h.2) (source-stands source u h.0 h.1.spells.0)

@@ -1,4 +1,4 @@
--- What the steps of two functions of trees keep together, the functions have together of each tree.
+-- If the steps of two functions on trees keep a relation, the functions keep it for each tree.
 use Rattle.std.proofs.Common.{◌≡◌, List, [], ◌∷◌, map, subst, sym}
 use Rattle.protox_ast.specs.Steps.{Steps, of_message, of_body, of_item, of_field, of_kind, of_oneof, of_extend}
 use Rattle.protox_ast.specs.declared.ast.Extend.{Extend, roll-Extend}
@@ -11,7 +11,7 @@ use Rattle.protox_ast.specs.declared.ast.MessageBody.{MessageBody, roll-MessageB
 use Rattle.protox_ast.specs.declared.ast.MessageItem.{MessageItem, roll-MessageItem}
 use Rattle.protox_ast.specs.declared.ast.Oneof.{Oneof, roll-Oneof}
 
--- P holds of what stands at the same place of both lists
+-- P holds for the elements at the same index of both lists.
 abbrev pub Pairs : {A B : Type 0} → (A → B → Type 0) → List A → List B → Type 0
 Pairs P [] [] = Unit {0}
 Pairs P [] (y ∷ ys) = ⊥
@@ -66,7 +66,7 @@ module _ {K I E F M B O K' I' E' F' M' B' O' : Type 0} (PK : K → K' → Type 0
     abbrev QO : Oneof → Type 0
     QO x = PO (of_oneof s x) (of_oneof s' x)
 
-    -- a layer whose parts have it
+    -- a layer for whose parts it holds
     abbrev Layer : (Type 0 → Type 0 → Type 0 → Type 0 → Type 0 → Type 0 → Type 0 → Type 0) → Type 0
     Layer G = G ((x : FieldKind) × QK x) ((x : MessageItem) × QI x) ((x : Extend) × QE x) ((x : Field) × QF x) ((x : Message) × QM x) ((x : MessageBody) × QB x) ((x : Oneof) × QO x)
 

@@ -1,4 +1,4 @@
--- What one level of a tree gives, of what the levels in it give.
+-- The result of one level of a tree, given the results of the levels in it.
 use Rattle.std.specs.Prelude.{◌≡◌, map}
 use Rattle.std.proofs.Common.{ap, sym, ◌∙◌}
 use Rattle.protox_fault.specs.Faults.{Span}

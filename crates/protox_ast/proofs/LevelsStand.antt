@@ -16,7 +16,7 @@ use Rattle.protox_ast.proofs.SpansStand.{each-front, each-back}
 abbrev pub body_items : MessageBody → List Node
 body_items b = map (of_item nodes) (out-MessageBody b).items
 
--- in a message or group of this span
+-- In a message or group with this span.
 pub record BodyStands (low high : ℕ) (whole : Span) (b : MessageBody) : Type 0 where
   pub like : (kind : SiblingKind) → SpansStand whole.start whole.end (brought kind (body_items b))
   pub items : SpansStand whole.start whole.end (node_spans (body_items b))
@@ -75,7 +75,7 @@ message-stands low high x given =
     let h = subst (λ (n : Node). Each (SiblingsStand low high) n.inside) (message-gives nodes x) given in
     record { name = h.0.parts; body = body-stands low high (out-Message x).span (out-Message x).body h.1 }
 
--- a field's own parts, what stands in its kind and in its options
+-- The parts of a field, of its kind and of its options.
 pub record FieldStands (low high : ℕ) (x : Field) : Type 0 where
   pub parts : SpansStand (out-Field x).span.start (out-Field x).span.end (place_if_any (out-Field x).label ++ ((of_kind nodes (out-Field x).kind).type ∷ ((out-Field x).name.span ∷ ((out-Field x).number.span ∷ list_span (out-Field x).options))))
   pub in_kind : Each (SiblingsStand low high) ((of_kind nodes (out-Field x).kind).inside (out-Field x).span)
@@ -121,7 +121,7 @@ extend-stands low high x given =
 abbrev pub items_of_file : File → List Node
 items_of_file x = map file_node x.items
 
--- in a source of so many bytes
+-- In a source of `size` bytes.
 pub record DeclarationsStand (size : ℕ) (x : File) : Type 0 where
   pub like : (kind : SiblingKind) → SpansStand 0 size (brought kind (items_of_file x))
   pub syntax : SpansStand 0 size (syntax_span x.syntax_span)

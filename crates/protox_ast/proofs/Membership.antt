@@ -1,4 +1,4 @@
--- Elements of lists by recursion on the list.
+-- Elements of lists, by recursion on the list.
 use Rattle.std.proofs.Common.{◌≡◌, ℕ, zero, suc, ◌<◌, ◌⊎◌, inl, inr, List, [], ◌∷◌, ◌++◌, length, flat_map, Any, Contains, slice_index_or, refl, sym, subst, not-suc-le-zero, le_of_suc-le-suc, suc-le-suc, zero-lt-suc}
 
 abbrev pub Among : {A : Type 0} → List A → A → Type 0
@@ -9,7 +9,7 @@ abbrev pub Somewhere : {A : Type 0} → (A → Type 0) → List A → Type 0
 Somewhere P [] = ⊥
 Somewhere P (y ∷ ys) = P y ⊎ Somewhere P ys
 
--- ---- the words by index, and these
+-- ---- how these definitions relate to those by index
 
 pub somewhere-at : {A : Type 0} (P : A → Type 0) (xs : List A) (k : ℕ) (x : A) → k < length xs → slice_index_or xs k x ≡ x → P x → Somewhere P xs
 somewhere-at P [] k x l e p = absurd (not-suc-le-zero l)
@@ -67,7 +67,7 @@ among-cases [] ys x h = inr h
 among-cases (y ∷ xs) ys x (inl e) = inl (inl e)
 among-cases (y ∷ xs) ys x (inr h) = elim (among-cases xs ys x h) as (λ _. Among (y ∷ xs) x ⊎ Among ys x) [ inl a ↦ inl (inr a) | inr b ↦ inr b ]
 
--- of elements of which P says that f gives x
+-- For elements for which P says that f gives x.
 pub among-flat : {A B : Type 0} (P : A → Type 0) (f : A → List B) (x : B) → ((a : A) → P a → Among (f a) x) → (all : List A) → Somewhere P all → Among (flat_map f all) x
 among-flat P f x each [] h = absurd h
 among-flat P f x each (a ∷ rest) (inl p) = among-left (f a) (flat_map f rest) x (each a p)

@@ -1,4 +1,5 @@
--- Where messages, groups, oneofs and extends stand, with all that is in them, of rows that spell them.
+-- Where messages, groups, oneofs and extends stand, with all that is in them, given the rows that
+-- spell them.
 use Rattle.std.proofs.Common.{◌≡◌, ℕ, ◌≤◌, List, [], ◌∷◌, ◌++◌, map, flat_map, Option, sym, ap, subst, ◌∙◌, arith}
 use Rattle.std.proofs.lemmas.List.{append-nil}
 use Rattle.protox_fault.specs.Faults.{Span}
@@ -28,7 +29,7 @@ use Rattle.protox_ast.proofs.SpansStand.{each-append, each-so, siblings-wider, H
 use Rattle.protox_ast.proofs.PartsStand.{typename-hold, option-node, reserved-node, reserved-lists, extensions-node, extension_ranges-hold, type-node}
 use Rattle.protox_ast.proofs.BlocksStand.{tail-hold, enum-node, service-node, label-hold, field-begin, type-begin, map_rows, map_tail, map-parts, map_type-node, tail-end}
 
--- The rows are the node, and hold those of each kind that it brings.
+-- The rows are the node, and hold what it adds of each kind.
 pub record Is (rows : Rows Place) (x : Node) : Type 0 where
   pub node : IsNode rows x.span x.inside
   pub bring : (kind : SiblingKind) → Hold rows (x.brings kind) []
@@ -36,7 +37,7 @@ pub record Is (rows : Rows Place) (x : Node) : Type 0 where
 pub all-both : (a b : Rows Place) {x : Node} {nodes : List Node} → Is a x → HoldAll b nodes → HoldAll (a ++ b) (x ∷ nodes)
 all-both a b f g = record { hold = both a b f.node.hold g.hold; bring = λ kind. both a b (f.bring kind) (g.bring kind) }
 
--- ---- what is in a body, whose rows stand in a node
+-- ---- what is in a body whose rows stand in a node
 
 pub record InBody (rows : Rows Place) (inside : Span → List Siblings) : Type 0 where
   pub at : (span : Span) (low high : ℕ) → Stand span.start span.end rows → low ≤ span.start → span.end ≤ high → Each (SiblingsStand low high) (inside span)
@@ -87,7 +88,7 @@ lists-body {rows} {xss} {i} f = record {
 
 -- ---- fields
 
--- of a field whose kind is this
+-- For a field of this kind.
 abbrev field_node : field_type.Field → OfKind → Node
 field_node x kind = let y = field_type.out-Field x in record {
   span = y.span;
@@ -168,7 +169,7 @@ oneof_options-hold t.no_oneof_elements = none
 oneof_options-hold (t.oneof_elements (t.oneof_option x) es) = both (s.option x) (s.oneof_elements es) (option-node x).hold (oneof_options-hold es)
 oneof_options-hold (t.oneof_elements e es) = before (s.oneof_element e) (s.oneof_elements es) (oneof_options-hold es)
 
--- ---- what the items bring
+-- ---- what the items add
 
 item-first : (a b : Rows Place) (x : MessageItem) (xs : List MessageItem) (node : Node) → of_item nodes x ≡ node → Is a node → HoldAll b (map (of_item nodes) xs) → HoldAll (a ++ b) (map (of_item nodes) (x ∷ xs))
 item-first a b x xs node e n f = all-both a b (subst (Is a) (sym e) n) f
@@ -212,7 +213,7 @@ extend-of f g = record { node = f; bring = extend-bring f.hold g }
 abbrev Layer : (Type 0 → Type 0 → Type 0 → Type 0 → Type 0 → Type 0 → Type 0 → Type 0) → Type 0
 Layer F = F FieldKind MessageItem extend_type.Extend field_type.Field Message MessageBody oneof_type.Oneof
 
--- the node of a oneof and of an extend, by their parts
+-- The node of a oneof and of an extend, by their parts.
 oneof-made : (x : Layer Oneof-F) → of_oneof nodes (oneof_type.roll-Oneof x) ≡ nodes.oneof (record { name = x.name; options = x.options; fields = map (of_field nodes) x.fields; comments = x.comments; span = x.span })
 oneof-made x = fold-roll-Oneof OfKind Node Node Node Node (Span → List Siblings) Node nodes.kind nodes.item nodes.extend nodes.field nodes.message nodes.body nodes.oneof x
 

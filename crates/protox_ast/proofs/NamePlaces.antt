@@ -1,4 +1,4 @@
--- The place of a name of several parts, by its first and its last.
+-- The span of a name with several parts, by its first and its last part.
 use Rattle.std.proofs.Common.{◌≡◌, ◌-◌, ◌≤◌, List, [], ◌∷◌, map, length, get_or, refl, ap, ◌∙◌, arith}
 use Rattle.protox_fault.specs.Faults.{Span}
 use Rattle.protox_ast.specs.declared.ast.Ident.{Ident}
@@ -29,7 +29,7 @@ pub between_parts : (parts : List OptionNamePart) (first last : OptionNamePart) 
 between_parts [] first last some is_first is_last = absurd (omega arith)
 between_parts (part ∷ others) first last some is_first is_last = ends part_span part others first last is_first is_last
 
--- the last of what others give
+-- The last of the values that others give.
 pub last-mapped : {A B : Type 0} (f : A → B) (place : B → Span) (span : Span) (xs : List A) → last_place place span (map f xs) ≡ last_place (λ x. place (f x)) span xs
 last-mapped f place span [] = refl
 last-mapped f place span (x ∷ xs) = last-mapped f place (place (f x)) xs

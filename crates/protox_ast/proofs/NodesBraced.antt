@@ -1,14 +1,14 @@
--- The aggregates of a file are those of the walk over the types of its tree.
+-- The aggregates of a file are those that the walk over its tree collects.
 use Rattle.std.proofs.Common.{◌≡◌, ℕ, suc, List, [], ◌∷◌, ◌++◌, map, Option, Some, None, refl, ◌∙◌}
 use Rattle.std.proofs.lemmas.Grind.{flat_map-append}
 use Rattle.std.specs.List.{flat_map}
-use Rattle.protox_ast.specs.AggregateWalk as a
-use Rattle.protox_ast.specs.AggregateWalk.{Braces}
+use Rattle.protox_ast.specs.inner.AggregateWalk as a
+use Rattle.protox_ast.specs.inner.AggregateWalk.{Braces}
 use Rattle.protox_ast.specs.Fronts.{braces_of, aggregates}
 use Rattle.protox_ast.specs.Nodes.{Node, AReservedName, AChecked, AValue, list_nodes, reserved_nodes, enum_element_nodes, rpc_element_nodes, rpc_end_nodes, service_element_nodes, body_nodes, elements_nodes, element_nodes, field_nodes, oneof_nodes, extend_nodes, statement_nodes, syntax_nodes}
 use Rattle.protox_ast.specs.Tree as t
 
--- the braces among these nodes
+-- The braces of these nodes.
 abbrev braces : {M : Type 0} → List (Node M) → Braces M
 braces xs = flat_map braces_of xs
 

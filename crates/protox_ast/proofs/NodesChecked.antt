@@ -1,13 +1,13 @@
--- The checked nodes of a file are those of the walk over the types of its tree.
+-- The checked nodes of a file are those that the walk over its tree collects.
 use Rattle.std.proofs.Common.{◌≡◌, ℕ, suc, List, [], ◌∷◌, ◌++◌, map, Option, Some, None, refl, ap, ◌∙◌, append_assoc}
 use Rattle.std.proofs.lemmas.Grind.{flat_map-append}
 use Rattle.std.specs.List.{flat_map}
 use Rattle.protox_ast.specs.CheckedNodes.{CheckedNode, AReservedName, AGroupName, checked_of, packages_in, package_nodes, checked_nodes}
-use Rattle.protox_ast.specs.CheckWalk as c
+use Rattle.protox_ast.specs.inner.CheckWalk as c
 use Rattle.protox_ast.specs.Nodes.{Node, AChecked, AValue, list_nodes, reserved_nodes, enum_element_nodes, rpc_element_nodes, rpc_end_nodes, service_element_nodes, body_nodes, elements_nodes, element_nodes, field_nodes, oneof_nodes, extend_nodes, statement_nodes, syntax_nodes}
 use Rattle.protox_ast.specs.Tree as t
 
--- what is checked of these nodes
+-- What is checked of these nodes.
 abbrev checks : {M : Type 0} → List (Node M) → List (CheckedNode M)
 checks xs = flat_map checked_of xs
 
@@ -18,7 +18,7 @@ check-many : {M A : Type 0} (f : A → List (Node M)) (g : A → List (CheckedNo
 check-many f g h [] = refl
 check-many f g h (x ∷ xs) = check-both (f x) (flat_map f xs) (g x) (flat_map g xs) (h x) (check-many f g h xs)
 
--- where nothing is checked in each of them, nothing is in all
+-- If nothing is checked in each of them, nothing is checked in all of them.
 check-none : {M A : Type 0} (f : A → List (Node M)) → ((x : A) → checks (f x) ≡ []) → (xs : List A) → checks (flat_map f xs) ≡ []
 check-none f h [] = refl
 check-none f h (x ∷ xs) = check-both (f x) (flat_map f xs) [] [] (h x) (check-none f h xs)

@@ -1,4 +1,4 @@
--- The depth of a file is that of the walk over the types of its tree.
+-- The depth of a file is that which the walk over its tree computes.
 use Rattle.std.proofs.Common.{◌≡◌, ◌<◌, ◌+◌, ◌⊎◌, ℕ, suc, List, [], ◌∷◌, ◌++◌, map, Option, Some, None, refl, ap, subst, sym, ◌∙◌, inl, inr, arith}
 use Rattle.std.specs.Prelude.{max}
 use Rattle.std.specs.List.{flat_map}
@@ -14,7 +14,8 @@ deepest-append : {M : Type 0} (xs ys : List (Node M)) → deepest (xs ++ ys) ≡
 deepest-append [] ys = omega arith
 deepest-append (x ∷ xs) ys = ap (λ u. max (level_of x) u) (deepest-append xs ys) ∙ max-three (level_of x) (deepest xs) (deepest ys)
 
--- The highest level where bodies stand so many levels deep, the outermost at this one; none is 0.
+-- The highest level, if the outermost body has this level and bodies are nested this deep. Without
+-- bodies it is 0.
 abbrev Highest : ℕ → ℕ → ℕ → Type 0
 Highest level deep most = ((deep ≡ 0) × (most ≡ 0)) ⊎ ((0 < deep) × (suc most ≡ level + deep))
 
@@ -24,7 +25,7 @@ highest-both level m n x y (inl f) (inr g) = inr (omega (arith, g.0), omega (ari
 highest-both level m n x y (inr f) (inl g) = inr (omega (arith, f.0), omega (arith, f.1, g.0, g.1))
 highest-both level m n x y (inr f) (inr g) = inr (omega (arith, f.0), omega (arith, f.1, g.1))
 
--- a body at a level, and what stands in it at the next
+-- A body at a level, and what stands in it at the next level.
 highest-in : (level m x : ℕ) → Highest (suc level) m x → Highest level (suc m) (max level x)
 highest-in level m x (inl f) = inr (omega arith, omega (arith, f.0, f.1))
 highest-in level m x (inr f) = inr (omega arith, omega (arith, f.0, f.1))
@@ -33,7 +34,7 @@ highest-same : (m x : ℕ) → Highest 1 m x → x ≡ m
 highest-same m x (inl f) = omega (arith, f.0, f.1)
 highest-same m x (inr f) = omega (arith, f.1)
 
--- bodies stand so deep among these nodes
+-- How deep bodies are nested among these nodes.
 abbrev Deep : {M : Type 0} → ℕ → List (Node M) → ℕ → Type 0
 Deep level xs n = Highest level n (deepest xs)
 
@@ -43,11 +44,11 @@ deep-none level xs e = inl (refl, e)
 deep-both : {M : Type 0} (level : ℕ) (xs ys : List (Node M)) (m n : ℕ) → Deep level xs m → Deep level ys n → Deep level (xs ++ ys) (max m n)
 deep-both level xs ys m n f g = subst (λ u. Highest level (max m n) u) (sym (deepest-append xs ys)) (highest-both level m n (deepest xs) (deepest ys) f g)
 
--- behind a node that is no body
+-- After a node that is no body.
 highest-past : (level n x : ℕ) → Highest level n x → Highest level n (max 0 x)
 highest-past level n x h = subst (λ u. Highest level n u) (omega arith) h
 
--- and behind more of them
+-- After several of them.
 deep-behind : {M : Type 0} (level : ℕ) (xs ys : List (Node M)) (n : ℕ) → deepest xs ≡ 0 → Deep level ys n → Deep level (xs ++ ys) n
 deep-behind level xs ys n e f = subst (λ u. Highest level n u) (omega (arith, e, deepest-append xs ys)) f
 
@@ -56,7 +57,7 @@ flat-many f h [] = refl
 flat-many f h (x ∷ xs) = omega (arith, deepest-append (f x) (flat_map f xs), h x, flat-many f h xs)
 
 module _ {M : Type 0} where
-  -- ---- where no body is
+  -- ---- without bodies
 
   bodies-flat : (xs : List (M × t.Body M)) → deepest (map (λ y. AValue y.1.value) xs) ≡ 0
   bodies-flat [] = refl

@@ -1,4 +1,4 @@
--- A file keeps the keyword rules as Keywords says of its nodes exactly where it does by the walk over the types of its tree.
+-- The nodes of a file keep the keyword rules exactly when the walk over its tree finds them kept.
 use Rattle.std.proofs.Common.{◌↔◌, ℕ, suc, List, [], ◌∷◌, ◌++◌, map, Option, Some, None}
 use Rattle.std.specs.List.{flat_map}
 use Rattle.protox_ast.specs.KeywordWalk as k
@@ -7,7 +7,7 @@ use Rattle.protox_ast.specs.Keywords.{Each, KeepsRule, KeepsKeywords}
 use Rattle.protox_ast.specs.Nodes.{Node, AReservedName, AChecked, ANormal, AMap, AnEvalue, AValue, list_nodes, reserved_nodes, enum_element_nodes, rpc_element_nodes, rpc_end_nodes, service_element_nodes, body_nodes, elements_nodes, element_nodes, field_nodes, oneof_nodes, extend_nodes, statement_nodes, syntax_nodes}
 use Rattle.protox_ast.specs.Tree as t
 
--- these nodes keep their rules exactly where Q holds
+-- These nodes keep their rules exactly when Q holds.
 abbrev Keep : {M : Type 0} → List (Node M) → Type 0 → Type 0
 Keep xs Q = Each KeepsRule xs ↔ Q
 
@@ -55,7 +55,7 @@ module _ {M : Type 0} where
   reserved-keeps (t.ranges x) = alike
   reserved-keeps (t.names x) = let r = names-keep x.others in (λ h. tt, λ h. (tt, r.1 h))
 
-  -- a node of its own and its options
+  -- a node of its own, and its options
   with-options : (x : Node M) (o : Option (t.OptionList M)) → Keep (x ∷ list_nodes o) (KeepsRule x × Given k.KeepsList o)
   with-options x o = let r = list-keeps o in (λ h. (h.0, r.0 h.1), λ h. (h.0, r.1 h.1))
 

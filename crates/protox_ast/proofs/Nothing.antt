@@ -1,4 +1,5 @@
--- Nothing is wrong with a file that is checked while it is read exactly where each of its checked nodes is fine.
+-- A file has no fault that is found while it is read exactly when each of its checked nodes is
+-- fine.
 use Rattle.std.proofs.Common.{◌≡◌, ◌↔◌, inl, inr, true, false, Bool, List, [], ◌∷◌, refl, sym, ◌∙◌, true≢false}
 use Rattle.protox_fault.specs.Faults.{Span}
 use Rattle.protox_fault.specs.declared.error.ParseErrorKind.{ParseErrorKind}
@@ -6,7 +7,7 @@ use Rattle.protox_fault.specs.declared.error.ParseErrorKind.TheVariants as fault
 use Rattle.protox_ast.specs.AstParts.{run_span, strings_value, text_of}
 use Rattle.protox_ast.specs.CheckedNodes.{CheckedNode, ASyntax, AnImport, AReservedName, AGroupName, APackageAgain, ATooDeep, checked_nodes}
 use Rattle.protox_ast.specs.Checks.{is_group_name, is_ident, is_known_syntax, is_text, is_import_path, package_span, WrongCheckedNode, NothingWrong}
-use Rattle.protox_ast.specs.Fine.{IsFine}
+use Rattle.protox_ast.specs.inner.Fine.{IsFine}
 use Rattle.protox_ast.specs.Keywords.{Each}
 use Rattle.protox_ast.specs.Places.{Place}
 use Rattle.protox_ast.specs.Tree as t
@@ -31,7 +32,7 @@ module _ {M : Type 0} (span : M → Span) where
   fine-faultless (APackageAgain first again) h wrong w = h
   fine-faultless (ATooDeep keyword open_at) h wrong w = h
 
-  -- and one that has none is fine
+  -- a node without a fault is fine
   pub faultless-fine : (node : CheckedNode M) → ((wrong : ParseErrorKind) → WrongCheckedNode span node wrong → ⊥) → IsFine node
   faultless-fine (ASyntax x) none = true-or (is_known_syntax (strings_value x)) (λ e. none (fault.UnknownSyntax (run_span span x) (text_of (strings_value x))) (e, refl))
   faultless-fine (AnImport x) none = (

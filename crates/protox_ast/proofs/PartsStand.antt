@@ -1,4 +1,4 @@
--- Where names, numbers, strings and options stand, of rows that spell them.
+-- Where names, numbers, strings and options stand, given the rows that spell them.
 use Rattle.std.proofs.Common.{◌≡◌, List, [], ◌∷◌, ◌++◌, map, flat_map, Option, Some, None, refl, sym, subst, append_assoc}
 use Rattle.std.specs.Prelude.{option_map}
 use Rattle.std.proofs.lemmas.List.{append-nil}
@@ -18,7 +18,7 @@ use Rattle.protox_ast.proofs.SpansStand.{Hold, Begin, End, IsNode, begin-first, 
 
 -- ---- lists
 
--- nodes behind a mark each, as `("," x)*`
+-- Nodes with a mark before each, as in `("," x)*`.
 module _ {A B : Type 0} (spell : A → Rows Place) (f : A → B) (span : B → Span) (inside : B → List Siblings) (h : (x : A) → IsNode (spell x) (span (f x)) (inside (f x))) where
   pub listed : (separator : Place → Row Place) (xs : List (Place × A)) → Hold (s.many (λ (y : Place × A). separator y.0 ∷ spell y.1) xs) (map span (map (λ (y : Place × A). f y.1) xs)) (flat_map inside (map (λ (y : Place × A). f y.1) xs))
   listed separator [] = none
@@ -161,7 +161,7 @@ pub extensions-node : (x : t.Extensions Place) → IsNode (s.extensions x) (ast.
 extensions-node x = whole (ast.extensions x).span (begin-first _ _) (end-back (_ ∷ []) _ (end-back (s.ranges x.ranges) _ (end-back (s.maybe s.list x.options) _ (end-last _))))
     (past _ (both (s.ranges x.ranges) _ (ranges-hold x.ranges) (after (s.maybe s.list x.options) _ (list-hold x.options))))
 
--- the ranges of an extensions statement, and what a reserved one holds
+-- The ranges of an extensions statement, and what a reserved statement holds.
 pub extension_ranges-hold : (x : t.Extensions Place) → Hold (s.extensions x) (extension_ranges (ast.extensions x)) []
 extension_ranges-hold x = past _ (after (s.ranges x.ranges) _ (spans-only (ranges-hold x.ranges)))
 
@@ -193,7 +193,7 @@ reserved_names-hold x = of x.keyword x.kind x.end
     of k (t.ranges y) e = nothing _
     of k (t.names y) e = past _ (after (s.names y) _ (both (s.strings y.first) _ (strings-node y.first).hold (names-hold y.others)))
 
--- the lists of some reserved statements, of rows that hold what each of them does
+-- The lists of reserved statements, given rows that hold what each statement does.
 pub reserved-lists : (rows : Rows Place) (xs : List Reserved) {i : List Siblings} → ((f : Reserved → List Span) → ((x : t.Reserved Place) → Hold (s.reserved x) (f (ast.reserved x)) []) → Hold rows (flat_map f xs) []) → Hold rows (map (λ (x : Reserved). x.span) xs) i
     → Lists rows (flat_map range_statement xs ∷ (flat_map reserved_ranges xs ∷ (flat_map name_statement xs ∷ (flat_map reserved_names xs ∷ (map (λ (x : Reserved). x.span) xs ∷ []))))) i
 reserved-lists rows xs f g = more-lists (f range_statement range_statement-hold) (more-lists (f reserved_ranges reserved_ranges-hold) (more-lists (f name_statement name_statement-hold) (more-lists (f reserved_names reserved_names-hold) (last-list g))))

@@ -1,4 +1,5 @@
--- What follows of parts that stand in a source: they lie in it, start one behind the other, and are no more than its bytes.
+-- Parts that stand in a source lie in it and start one after another. There are no more of them
+-- than bytes.
 use Rattle.std.proofs.Common.{ℕ, ◌<◌, ◌≤◌, ◌+◌, List, [], ◌∷◌, ◌++◌, length, map, flat_map, arith}
 use Rattle.protox_fault.specs.Faults.{Span, SpanLiesIn}
 use Rattle.protox_lexeme.specs.Shapes.{Rows}
@@ -11,7 +12,7 @@ use Rattle.protox_ast.specs.Spans.{part_span, value_span, body_span, parts_span}
 use Rattle.protox_ast.proofs.Standing.{Stand}
 use Rattle.protox_ast.proofs.SpansStand.{IsNode, each-append, spans-order, spans-append, spans-wider}
 
--- Each starts before those behind it.
+-- Each starts before those after it.
 abbrev pub StartsRise : List Span → Type 0
 StartsRise [] = Unit {0}
 StartsRise (x ∷ xs) = Each (λ (y : Span). x.start < y.start) xs × StartsRise xs
@@ -28,12 +29,12 @@ starts-behind : (n low high : ℕ) (xs : List Span) → n < low → SpansStand l
 starts-behind n low high [] l h = tt
 starts-behind n low high (x ∷ xs) l h = (omega (arith, l, h.0), starts-behind n x.end high xs (omega (arith, l, h.0, h.1)) h.2)
 
--- Parts that stand one behind the other start one behind the other.
+-- Parts that stand one after another start one after another.
 pub starts-rise : (low high : ℕ) (xs : List Span) → SpansStand low high xs → StartsRise xs
 starts-rise low high [] h = tt
 starts-rise low high (x ∷ xs) h = (starts-behind x.start x.end high xs h.1 h.2, starts-rise x.end high xs h.2)
 
--- Each has a byte, so there are no more of them than bytes.
+-- Each has at least one byte, so there are no more parts than bytes.
 pub spans-few : (low high : ℕ) (xs : List Span) → SpansStand low high xs → low + length xs ≤ high
 spans-few low high [] h = omega (arith, h)
 spans-few low high (x ∷ xs) h = omega (arith, h.0, h.1, spans-few x.end high xs h.2)
@@ -41,7 +42,8 @@ spans-few low high (x ∷ xs) h = omega (arith, h.0, h.1, spans-few x.end high x
 pub siblings-few : (low high : ℕ) (x : Siblings) → SiblingsStand low high x → low + length x.children ≤ high
 siblings-few low high x h = omega (arith, h.from, h.to, spans-few x.parent.start x.parent.end x.children h.parts)
 
--- Parts of those that stand one behind the other, as the fields of a message and of its oneofs.
+-- If nodes stand one after another, so do all their parts, such as the fields of a message and of
+-- its oneofs.
 pub spans-flat : {A : Type 0} (span : A → Span) (parts : A → List Span) (low high : ℕ) (xs : List A)
     → SpansStand low high (map span xs) → Each (λ x. SpansStand (span x).start (span x).end (parts x)) xs → SpansStand low high (flat_map parts xs)
 spans-flat span parts low high [] h k = h
@@ -49,7 +51,7 @@ spans-flat span parts low high (x ∷ xs) h k =
     spans-append low (span x).end high (parts x) (flat_map parts xs) (spans-wider (span x).start (span x).end low (span x).end (parts x) h.0 (omega arith) k.0)
     (spans-flat span parts (span x).end high xs h.2 k.1)
 
--- A node of rows that stand in a source lies in it.
+-- A node lies in the source in which its rows stand.
 pub node-lies : {rows : Rows Place} {span : Span} {i : List Siblings} (low high : ℕ) → IsNode rows span i → Stand low high rows → SpanLiesIn high span
 node-lies low high f h = let k = (f.hold.stand low high h).spans in (omega (arith, k.1), k.2)
 
@@ -60,6 +62,7 @@ value-behind low high (x ∷ y ∷ parts) value l h =
     let k = value-behind (part_span x).end high (y ∷ parts) value (omega arith) h.2 in
     omega (arith, h.1, h.2.0, k)
 
--- An option begins before its value, as `json_name` does, whose two locations have one path.
+-- An option begins before its value. `json_name` is such an option: its two locations have the same
+-- path.
 pub option-first : (low high : ℕ) (x : OptionBody) → 1 ≤ length x.name → SiblingsStand low high (siblings (body_span x) (map part_span x.name ++ value_span x.value ∷ [])) → (body_span x).start < (value_span x.value).start
 option-first low high x l h = value-behind (body_span x).start (body_span x).end x.name (value_span x.value) l h.parts

@@ -1,4 +1,4 @@
--- Spans that stand one behind the other, and the parts of a tree that some rows spell.
+-- Spans that stand one after another, and the parts of a tree that some rows spell.
 use Rattle.std.proofs.Common.{ℕ, ◌<◌, ◌≤◌, List, [], ◌∷◌, ◌++◌, map, sym, subst, append_assoc, arith}
 use Rattle.std.proofs.lemmas.List.{append-nil}
 use Rattle.protox_fault.specs.Faults.{Span}
@@ -48,7 +48,7 @@ siblings-wider low high low' high' x l m h = record { from = omega (arith, l, h.
 
 -- ---- rows that spell some nodes
 
--- the spans of some nodes stand between two offsets, and all in them
+-- The spans of some nodes stand between two offsets, with all that is in the nodes.
 pub record NodesStand (low high : ℕ) (xs : List Span) (inside : List Siblings) : Type 0 where
   pub spans : SpansStand low high xs
   pub within : Each (SiblingsStand low high) inside
@@ -90,7 +90,7 @@ pub record Begin (rows : Rows Place) (n : ℕ) : Type 0 where
 pub record End (rows : Rows Place) (n : ℕ) : Type 0 where
   pub at : (low high : ℕ) → Stand low high rows → (n ≤ high) × Stand low n rows
 
--- The rows are a node of this span, with all that is in it.
+-- The rows are a node with this span, with all that is in it.
 pub record IsNode (rows : Rows Place) (span : Span) (inside : List Siblings) : Type 0 where
   pub begin : Begin rows span.start
   pub end : End rows span.end
@@ -118,7 +118,7 @@ end-back a b {n} f = record {
       (q.0, stand-join low p.0 n a b p.1 q.1);
 }
 
--- at the last of some
+-- At the last of several.
 pub end-many : {A : Type 0} (place : A → Span) (spell : A → Rows Place) → ((x : A) → End (spell x) (place x).end)
     → (rows : Rows Place) (span : Span) → End rows span.end → (xs : List A) → End (rows ++ s.many spell xs) (last_place place span xs).end
 end-many place spell f rows span h [] = subst (λ u. End u span.end) (sym (append-nil rows)) h
@@ -135,7 +135,7 @@ none = record { stand = λ low high h. record { spans = h; within = tt } }
 pub nothing : (rows : Rows Place) → Hold rows [] []
 nothing rows = record { stand = λ low high h. record { spans = in-order low high rows h; within = tt } }
 
--- a token that is a part, and one that is none, with what comes behind
+-- A token that is a part, and one that isn't, with what follows.
 pub one : (r : Row Place) → Hold (r ∷ []) (r.at.span ∷ []) []
 one r = record { stand = λ low high h. record { spans = h; within = tt } }
 
@@ -160,7 +160,7 @@ before a b f = both a b (nothing a) f
 pub after : (a b : Rows Place) {xs : List Span} {i : List Siblings} → Hold a xs i → Hold (a ++ b) xs i
 after a b {xs} {i} f = subst (λ ys. Hold (a ++ b) ys i) (append-nil xs) (subst (λ j. Hold (a ++ b) (xs ++ []) j) (append-nil i) (both a b f (nothing b)))
 
--- Rows from the start of a span to its end are a node of it.
+-- Rows from the start of a span to its end are a node with this span.
 pub leaf : {rows : Rows Place} (span : Span) → Begin rows span.start → End rows span.end → IsNode rows span []
 leaf {rows} span f g = record {
   begin = f;
@@ -212,11 +212,11 @@ pub lists-within : (span : Span) (low high : ℕ) (xss : List (List Span)) → l
 lists-within span low high [] l m h = tt
 lists-within span low high (xs ∷ xss) l m h = (record { from = l; parts = h.0; to = m }, lists-within span low high xss l m h.1)
 
--- what is in them left out
+-- The same without what is in them.
 pub spans-only : {rows : Rows Place} {xs : List Span} {i : List Siblings} → Hold rows xs i → Hold rows xs []
 spans-only {rows} {xs} {i} f = record { stand = λ low high h. record { spans = (f.stand low high h).spans; within = tt } }
 
--- rows that hold some nodes and those of each kind that they bring
+-- The rows hold some nodes, and what these add of each kind.
 pub record HoldAll (rows : Rows Place) (nodes : List Node) : Type 0 where
   pub hold : Hold rows (node_spans nodes) (inside_all nodes)
   pub bring : (kind : SiblingKind) → Hold rows (brought kind nodes) []
@@ -237,7 +237,7 @@ all-before a b f = record { hold = before a b f.hold; bring = λ kind. before a 
 pub all-after : (a b : Rows Place) {nodes : List Node} → HoldAll a nodes → HoldAll (a ++ b) nodes
 all-after a b f = record { hold = after a b f.hold; bring = λ kind. after a b (f.bring kind) }
 
--- the lists of a node of this span
+-- The lists of a node with this span.
 pub lists-node : {rows : Rows Place} {xss : List (List Span)} {i : List Siblings} (span : Span) → Begin rows span.start → End rows span.end → Lists rows xss i → IsNode rows span (map (siblings span) xss ++ i)
 lists-node {rows} {xss} {i} span f g k = record {
   begin = f;

@@ -1,4 +1,4 @@
--- Rows with their places that stand between two offsets of a source, one behind the other.
+-- Rows with places that stand between two offsets of a source, one after another.
 use Rattle.std.proofs.Common.{◌≡◌, ℕ, suc, ◌≤◌, ◌+◌, Bool, true, false, List, [], ◌∷◌, ◌++◌, length, refl, sym, ap, subst, arith}
 use Rattle.std.specs.Str.{IsUtf8}
 use Rattle.protox_fault.specs.Faults.{Span}
@@ -32,7 +32,7 @@ pub in-order : (low high : ℕ) (a : Rows Place) → Stand low high a → low �
 in-order low high [] h = h
 in-order low high (x ∷ a) h = omega (arith, h.0, h.1, in-order x.at.span.end high a h.2)
 
--- The second rows stand behind the first.
+-- The second rows stand after the first.
 pub stand-after : (low high : ℕ) (a b : Rows Place) → Stand low high (a ++ b) → (m : ℕ) × (low ≤ m) × Stand m high b
 stand-after low high [] b h = (low, omega arith, h)
 stand-after low high (x ∷ a) b h =
@@ -44,7 +44,7 @@ pub stand-front : (low high : ℕ) (a b : Rows Place) → Stand low high (a ++ b
 stand-front low high [] b h = in-order low high b h
 stand-front low high (x ∷ a) b h = (h.0, h.1, stand-front x.at.span.end high a b h.2)
 
--- Each row has a byte of its own.
+-- Each row has at least one byte.
 pub count-fits : (low high : ℕ) (rows : Rows Place) → Stand low high rows → low + length rows ≤ high
 count-fits low high [] h = omega arith
 count-fits low high (x ∷ a) h = omega (arith, h.0, h.1, count-fits x.at.span.end high a h.2)

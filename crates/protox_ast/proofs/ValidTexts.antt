@@ -1,4 +1,4 @@
--- What the test of a text answers.
+-- What the test for UTF-8 answers.
 use Rattle.std.proofs.Common.{◌≡◌, ℕ, true, List, length}
 use Rattle.std.specs.Str.{IsUtf8}
 use Rattle.std.specs.Str.Lossy.{utf8_valid_len}

@@ -15,12 +15,12 @@ use Rattle.protox_ast.specs.Fronts.{AreClean}
 use Rattle.protox_ast.specs.Ast as ast
 use Rattle.protox_ast.specs.declared.ast.File as file_type
 
--- how many bytes a source may have
+-- The source is not too long: at most 2147483647 bytes.
 abbrev pub Fits : List ℕ → Type 0
 Fits source = length source ≤ 2147483647
 
--- The source fits the length limit, its lexemes are clean, and its tokens spell the tree, which is at most 31 levels deep; and nothing is wrong with
--- it that is checked while it is read.
+-- The source is accepted, with this tree. It is not too long, its lexemes are clean, and its tokens
+-- spell the tree. Messages are nested at most 31 levels deep, and no node of the tree has a fault.
 pub record IsAccepted (source : List ℕ) (f : t.File Place) : Type 0 where
   pub fits : Fits source
   pub spells : Spells (placed (table_of (cut 0 source))) f
@@ -28,16 +28,16 @@ pub record IsAccepted (source : List ℕ) (f : t.File Place) : Type 0 where
   pub levels : depth f ≤ 31
   pub nothing_wrong : NothingWrong f
 
--- the faults of a failure lie in the source, and there are some; or memory ran out
+-- The failure has at least one fault, and all faults lie in the source; or memory ran out.
 abbrev pub FaultsLieIn : List ℕ → SyntaxFailure → Type 0
 FaultsLieIn source OutOfMemory = Unit {0}
 FaultsLieIn source (Faults v) = Fits source × (v.items ≢ []) × Each (LiesIn (length source)) v.items
 
--- the syntax tree is that of a tree which the source's tokens spell
+-- The source is accepted with some tree, and this file is its syntax tree.
 abbrev pub IsFileOf : List ℕ → file_type.File → Type 0
 IsFileOf source file = (f : t.File Place) × IsAccepted source f × (file ≡ ast.file (length source) f)
 
--- memory ran out
+-- Memory ran out.
 abbrev pub IsOutOfMemory : SyntaxFailure → Type 0
 IsOutOfMemory OutOfMemory = Unit {0}
 IsOutOfMemory (Faults v) = ⊥

@@ -1,5 +1,5 @@
--- MACHINERY. How deep messages and groups stand in each type of the tree, by a walk of its own. The proofs rest on it; that it is the highest level
--- of the file's nodes is proved.
+-- How deep messages and groups are nested in each type of the tree. The proofs use
+-- these. The depth is proved to be the highest level of the file's nodes.
 use Rattle.std.specs.Prelude.{ℕ, suc, List, [], ◌∷◌, max}
 pub use Rattle.protox_ast.specs.Nodes.{depth}
 use Rattle.protox_ast.specs.Tree as t
@@ -69,5 +69,6 @@ abbrev pub statements_depth : {M : Type 0} → List (t.Statement M) → ℕ
 statements_depth [] = 0
 statements_depth (x ∷ xs) = max (statement_depth x) (statements_depth xs)
 
+-- The depth of a file.
 abbrev pub walked_depth : {M : Type 0} → t.File M → ℕ
 walked_depth x = statements_depth x.statements

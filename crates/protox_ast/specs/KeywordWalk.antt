@@ -1,11 +1,11 @@
--- MACHINERY. The keyword rules as conditions on each type of the tree, by a walk of their own. The proofs rest on these; that a file keeps its
--- rules so is proved to be what Keywords says of its nodes.
+-- The keyword rules as conditions on each type of the tree. The proofs use these. A file
+-- is proved to keep them just when its nodes keep the rules of Keywords.
 use Rattle.std.specs.Prelude.{◌≡◌, true, codes, [], ◌∷◌, Option, Some, None}
 use Rattle.protox_lexeme.specs.Shapes.{Row}
 pub use Rattle.protox_ast.specs.Keywords.{BracesMatch, Each, NameBeginsWithNone, NoneOf, TypeBeginsWithNone, Undotted, UnlabelledBeginsWithNone, Unstreamed, how_many, in_message, is_close_brace, is_open_brace, is_significant, labels, scalars, KeepsKeywords}
 use Rattle.protox_ast.specs.Tree as t
 
--- P holds of what is given
+-- P holds of the value, if there is one.
 abbrev pub Given : {A : Type 0} → (A → Type 0) → Option A → Type 0
 Given P None = Unit {0}
 Given P (Some x) = P x
@@ -14,32 +14,39 @@ Given P (Some x) = P x
 abbrev pub BeginsWithNoLabel : {M : Type 0} → t.Field M → Type 0
 BeginsWithNoLabel x = UnlabelledBeginsWithNone labels x
 
--- No normal field's type begins with `map`, `group` or a scalar word, unless it is that scalar alone.
+-- The type of a normal field doesn't begin with `map`, `group` or a scalar word, unless it is that
+-- scalar word alone.
 abbrev pub BeginsWithNoKindOrScalar : {M : Type 0} → t.Normal M → Type 0
 BeginsWithNoKindOrScalar x = TypeBeginsWithNone (codes "map" ∷ codes "group" ∷ scalars) x.type
 
--- In a message body the type of an unlabelled normal field doesn't begin with `oneof`, `enum`, `message`, `extend`, `option`, `reserved` or `extensions`.
+-- In a message body the type of an unlabelled normal field doesn't begin with `oneof`, `enum`,
+-- `message`, `extend`, `option`, `reserved` or `extensions`.
 abbrev pub BeginsWithNoElement : {M : Type 0} → t.Field M → Type 0
 BeginsWithNoElement x = UnlabelledBeginsWithNone in_message x
 
--- In a oneof body it doesn't begin with `option`. In an extend body every other word is a type.
+-- In a oneof body it doesn't begin with `option`. In an extend body it may begin with any other
+-- word.
 abbrev pub BeginsWithNoOption : {M : Type 0} → t.Field M → Type 0
 BeginsWithNoOption x = UnlabelledBeginsWithNone (codes "option" ∷ []) x
 
--- A map's key or value type doesn't begin with a scalar word, unless it is that scalar alone; it may begin with `map` or `group`.
+-- The key and value types of a map don't begin with a scalar word, unless they are that word alone.
+-- They may begin with `map` or `group`.
 abbrev pub KeyAndValueBeginWithNoScalar : {M : Type 0} → t.Map M → Type 0
 KeyAndValueBeginWithNoScalar x = TypeBeginsWithNone scalars x.key × TypeBeginsWithNone scalars x.value
 
--- An enum value's name isn't `option` or `reserved`.
+-- The name of an enum value isn't `option` or `reserved`.
 abbrev pub NameIsNoElement : {M : Type 0} → t.Evalue M → Type 0
 NameIsNoElement x = NoneOf (codes "option" ∷ codes "reserved" ∷ []) x.name.0
 
+-- A type in an rpc without `stream` before it doesn't begin with `stream`.
 abbrev pub BeginsWithNoStream : {M : Type 0} → t.RpcType M → Type 0
 BeginsWithNoStream x = Unstreamed x.stream x.name
 
+-- The row is no comment, no newline and nothing invalid.
 abbrev pub IsSignificant : {M : Type 0} → Row M → Type 0
 IsSignificant r = is_significant r.shape ≡ true
 
+-- The tokens of an aggregate are significant, and their braces match.
 abbrev pub KeepsValue : {M : Type 0} → t.Value M → Type 0
 KeepsValue (t.aggregate o inside c) = BracesMatch inside × Each IsSignificant inside
 KeepsValue _ = Unit {0}
@@ -159,5 +166,6 @@ KeepsStatement (t.a_message x) = KeepsMessage x
 KeepsStatement (t.an_enum x) = KeepsEnum x
 KeepsStatement (t.a_service x) = KeepsService x
 
+-- The file keeps all keyword rules.
 abbrev pub KeepsFile : {M : Type 0} → t.File M → Type 0
 KeepsFile x = Each KeepsStatement x.statements

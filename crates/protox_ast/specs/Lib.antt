@@ -1,6 +1,5 @@
 pub mod Basics
 pub mod Comments
-pub mod HeldComments
 pub mod Names
 pub mod Numbers
 pub mod Printed
@@ -17,10 +16,7 @@ pub mod Places
 pub mod AstParts
 pub mod Ast
 pub mod CheckedNodes
-pub mod CheckWalk
 pub mod Checks
-pub mod Fine
-pub mod AggregateWalk
 pub mod Fronts
 pub mod Truth
 pub mod FirstFault
@@ -33,3 +29,4 @@ pub mod Values
 pub mod Options
 pub mod Ranges
 pub mod formers
+pub mod inner

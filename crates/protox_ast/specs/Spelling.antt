@@ -1,17 +1,18 @@
--- The rows of a tree: one equation a rule of the grammar, each the rows of its parts in their order.
+-- The rows of a tree: one equation for each rule of the grammar. It lists the rows of the parts, in
+-- order.
 use Rattle.std.specs.Prelude.{ℕ, List, [], ◌∷◌, ◌++◌, Option, Some, None, codes}
 use Rattle.protox_lexeme.specs.Shapes as shape
 use Rattle.protox_lexeme.specs.Shapes.{Shape, Ident, Str, Mark, Row, Rows}
 use Rattle.protox_ast.specs.Tree as t
 
--- one after another, bracketed to the right
+-- One list after the other, bracketed to the right.
 infixr 10 ◌⌢◌
 abbrev pub ◌⌢◌ : {M : Type 0} → Rows M → Rows M → Rows M
 xs ⌢ ys = xs ++ ys
 
 -- ---- single tokens, `?` and `*`
 
--- marks by their bytes
+-- The bytes of the marks.
 abbrev pub dot : ℕ
 dot = 46
 
@@ -51,38 +52,45 @@ equals = 61
 abbrev pub semicolon : ℕ
 semicolon = 59
 
+-- One token with its tag.
 abbrev pub token : {M : Type 0} → Shape → M → Rows M
 token s m = record { shape = s; at = m } ∷ []
 
+-- A keyword.
 abbrev pub keyword : {M : Type 0} → List ℕ → M → Rows M
 keyword w m = token (Ident w) m
 
+-- A mark.
 abbrev pub sign : {M : Type 0} → ℕ → M → Rows M
 sign byte m = token (Mark byte) m
 
+-- An identifier.
 abbrev pub ident : {M : Type 0} → t.Word M → Rows M
 ident x = token (Ident x.0) x.1
 
+-- An integer.
 abbrev pub integer : {M : Type 0} → t.Number M → Rows M
 integer x = token (shape.Int x.0) x.1
 
+-- A float.
 abbrev pub float : {M : Type 0} → t.Float M → Rows M
 float x = token (shape.Float x.0) x.1
 
+-- A string.
 abbrev pub string : {M : Type 0} → t.Text M → Rows M
 string x = token (Str x.0) x.1
 
--- `?`
+-- `?`: nothing, or one of these.
 abbrev pub maybe : {M A : Type 0} → (A → Rows M) → Option A → Rows M
 maybe spell None = []
 maybe spell (Some x) = spell x
 
--- `*`
+-- `*`: any number of these.
 abbrev pub many : {M A : Type 0} → (A → Rows M) → List A → Rows M
 many spell [] = []
 many spell (x ∷ xs) = spell x ⌢ many spell xs
 
--- a mark, and behind it what is spelled so
+-- A mark, and one of these after it.
 abbrev pub behind : {M A : Type 0} → ℕ → (A → Rows M) → M × A → Rows M
 behind mark spell x = sign mark x.0 ⌢ spell x.1
 
@@ -137,6 +145,7 @@ list x = sign open_bracket x.open_at ⌢ body x.first ⌢ many (behind comma bod
 abbrev pub int : {M : Type 0} → t.Int M → Rows M
 int x = maybe (sign minus) x.sign ⌢ integer x.number
 
+-- The word of a scalar type.
 abbrev pub scalar_word : t.Scalar → List ℕ
 scalar_word t.double = codes "double"
 scalar_word t.float_type = codes "float"
@@ -296,6 +305,6 @@ statement (t.a_message x) = message x
 statement (t.an_enum x) = enum x
 statement (t.a_service x) = service x
 
--- the rows of a file
+-- The rows of a file.
 abbrev pub spell : {M : Type 0} → t.File M → Rows M
 spell x = maybe syntax x.syntax ⌢ many statement x.statements

@@ -1,6 +1,8 @@
--- A file as data: a type for each rule of the grammar, a field for each part of the rule in its order, and a mark M at each token, its place
--- or nothing. A rule stands behind the rules that it names. The grammar is that of the Protocol Buffers language specifications of proto2
--- and proto3 in one. Nothing is dropped: each string of a run, each token of an aggregate and each empty statement is kept.
+-- A file as data. Each rule of the grammar has a type, with a field for each part of the rule, in
+-- order. Each token has a tag M: its place, its number or nothing. A rule stands after the rules
+-- that it names. The grammar is that of the Protocol Buffers language specifications of proto2 and
+-- proto3, in one. Nothing is dropped: each string of a run, each token of an aggregate and each
+-- empty statement is kept.
 use Rattle.std.specs.Prelude.{ℕ, List, Option}
 use Rattle.protox_lexeme.specs.Shapes.{Rows}
 
@@ -234,7 +236,8 @@ pub data RpcEnd (M : Type 0) : Type 0 where
   rpc_semicolon : M → RpcEnd M
   rpc_braces : (open_at : M) (elements : List (RpcElement M)) (close_at : M) → RpcEnd M
 
--- rpc = "rpc" ident "(" "stream"? typename ")" "returns" "(" "stream"? typename ")" (";" | "{" (";" | option)* "}")
+-- rpc = "rpc" ident "(" "stream"? typename ")" "returns" "(" "stream"? typename ")"
+--       (";" | "{" (";" | option)* "}")
 pub record Rpc (M : Type 0) : Type 0 where
   pub keyword : M
   pub name : Word M
@@ -268,14 +271,17 @@ mutual
   pub data Message (M : Type 0) : Type 0 where
     message_of : (keyword : M) (name : Word M) (body : Mbody M) → Message M
 
-  -- mbody = "{" (";" | field | oneof | enum | message | extend | option | reserved | extensions)* "}"
+  -- mbody = "{" (";" | field | oneof | enum | message | extend | option | reserved
+  --       | extensions)* "}"
   pub data Mbody (M : Type 0) : Type 0 where
     mbody_of : (open_at : M) (inside : Elements M) (close_at : M) → Mbody M
 
+  -- the elements of a message body, in order
   pub data Elements (M : Type 0) : Type 0 where
     no_elements : Elements M
     elements : Element M → Elements M → Elements M
 
+  -- ";" | field | oneof | enum | message | extend | option | reserved | extensions
   pub data Element (M : Type 0) : Type 0 where
     empty : M → Element M
     field : Field M → Element M
@@ -291,6 +297,7 @@ mutual
   pub data Field (M : Type 0) : Type 0 where
     field_of : (label : Option (Label M)) (kind : FieldKind M) → Field M
 
+  -- normal | map | group
   pub data FieldKind (M : Type 0) : Type 0 where
     normal : Normal M → FieldKind M
     map : Map M → FieldKind M
@@ -304,10 +311,12 @@ mutual
   pub data Oneof (M : Type 0) : Type 0 where
     oneof_of : (keyword : M) (name : Word M) (open_at : M) (inside : OneofElements M) (close_at : M) → Oneof M
 
+  -- the elements of a oneof body, in order
   pub data OneofElements (M : Type 0) : Type 0 where
     no_oneof_elements : OneofElements M
     oneof_elements : OneofElement M → OneofElements M → OneofElements M
 
+  -- ";" | option | field
   pub data OneofElement (M : Type 0) : Type 0 where
     oneof_empty : M → OneofElement M
     oneof_option : OptionStatement M → OneofElement M
@@ -317,10 +326,12 @@ mutual
   pub data Extend (M : Type 0) : Type 0 where
     extend_of : (keyword : M) (extendee : TypeName M) (open_at : M) (inside : ExtendElements M) (close_at : M) → Extend M
 
+  -- the elements of an extend body, in order
   pub data ExtendElements (M : Type 0) : Type 0 where
     no_extend_elements : ExtendElements M
     extend_elements : ExtendElement M → ExtendElements M → ExtendElements M
 
+  -- ";" | field
   pub data ExtendElement (M : Type 0) : Type 0 where
     extend_empty : M → ExtendElement M
     extend_field : Field M → ExtendElement M

@@ -1,5 +1,5 @@
--- When a fault is true of a source, by its kind: the faults of lexemes, of tokens that no file has there, and of what is checked while a
--- file is read. Those of the generator stand elsewhere.
+-- When a fault is true of a source, for each kind of fault: of lexemes, of unexpected tokens, and
+-- of nodes that are checked while a file is read. Faults of the generator are defined elsewhere.
 use Rattle.std.specs.Prelude.{◌≡◌, ℕ, suc, Bool, true, false, ◌||◌, ◌⊎◌, List, ◌∷◌, ◌++◌, length, Some, Any, codes}
 use Rattle.std.specs.Str.{bytes_eq}
 use Rattle.protox_fault.specs.Faults.{Span, span_from}
@@ -19,15 +19,15 @@ use Rattle.protox_ast.specs.Tree as t
 
 -- ---- lexemes
 
--- an invalid character stands there
+-- An invalid lexeme stands at this span.
 abbrev pub IsInvalidThere : List Lexeme → Span → Type 0
 IsInvalidThere lexemes span = Any (λ x. (x.shape ≡ Invalid) × (span ≡ span_from x.start x.stop)) lexemes
 
--- it is the first fault of a lexeme
+-- The fault is the first one of some lexeme.
 abbrev pub IsFirstOfLexeme : List Lexeme → ParseErrorKind → Type 0
 IsFirstOfLexeme lexemes wrong = Any (λ x. first_of x.faults ≡ Some wrong) lexemes
 
--- It is the first fault of a lexeme, and no file goes on there inside an aggregate.
+-- The fault is the first one of some lexeme, and that lexeme can't be inside an aggregate.
 pub record IsFirstOutside (lexemes : List Lexeme) (wrong : ParseErrorKind) : Type 0 where
   pub before : List Lexeme
   pub here : Lexeme
@@ -38,21 +38,21 @@ pub record IsFirstOutside (lexemes : List Lexeme) (wrong : ParseErrorKind) : Typ
 
 -- ---- tokens
 
--- row n of a source
+-- Row n of a source.
 abbrev pub source_row : Rows Span → ℕ → Row Span
 source_row = row_at (span_from 0 0)
 
--- A token of this place and this text is unexpected. An invalid character is no token.
+-- A token with this span and this text is unexpected. An invalid lexeme is no token.
 abbrev pub IsUnexpectedThere : List Lexeme → Span → List ℕ → Type 0
 IsUnexpectedThere lexemes span text =
     (n : ℕ) × IsUnexpected (shapes (rows_of lexemes)) n
     × (span ≡ (source_row (rows_of lexemes) n).at) × (text ≡ printed (source_row (rows_of lexemes) n).shape) × (is_significant (source_row (rows_of lexemes) n).shape ≡ true)
 
--- what a string or a comment lacks that doesn't end
+-- Whether the text names the missing end of a string or a comment.
 abbrev pub is_terminator : List ℕ → Bool
 is_terminator expected = bytes_eq expected (codes "string terminator") || bytes_eq expected (codes "comment terminator")
 
--- A string or a comment lacks its end; or the tokens begin a file and are none.
+-- A string or a comment lacks its end; or the tokens end too soon.
 abbrev pub IsEndThere : List Lexeme → List ℕ → Type 0
 IsEndThere lexemes expected =
     ((is_terminator expected ≡ true) × IsFirstOfLexeme lexemes (fault.UnexpectedEof expected))
@@ -60,31 +60,35 @@ IsEndThere lexemes expected =
 
 -- ---- nodes that are checked
 
--- the span of token n
+-- The span of token n.
 abbrev pub token_span : Rows Span → ℕ → Span
 token_span rows n = (source_row rows n).at
 
+-- Whether the node is a run of strings.
 abbrev pub is_run : {M : Type 0} → CheckedNode M → Bool
 is_run (ASyntax x) = true
 is_run (AnImport x) = true
 is_run (AReservedName x) = true
 is_run _ = false
 
--- The node ends with token n - 1, and the fault is its. A run of strings is taken whole: no string follows it.
+-- The node ends with token n - 1, and the fault is a fault of this node. If the node is a run of
+-- strings, token n is no string, so that the run is whole.
 abbrev pub IsWrongBefore : List Lexeme → ℕ → ParseErrorKind → CheckedNode ℕ → Type 0
 IsWrongBefore lexemes n wrong node =
     (suc (node_end node) ≡ n) × (is_run node ≡ true → is_string (source_row (rows_of lexemes) n).shape ≡ false) × WrongCheckedNode (token_span (rows_of lexemes)) node wrong
 
--- Some file that goes on behind the first n tokens has a node that ends with the last of them, and the fault is that node's.
+-- Some file begins with the first n tokens and has a node that ends with the last of them. The
+-- fault is a fault of that node.
 abbrev pub IsWrongBehind : List Lexeme → ℕ → ParseErrorKind → Type 0
 IsWrongBehind lexemes n wrong = (f : t.File ℕ) × GoesOn (shapes (rows_of lexemes)) n f × Any (IsWrongBefore lexemes n wrong) (checked_nodes f)
 
+-- The fault is one of a node of some file that begins as the source does.
 abbrev pub IsOfNode : List Lexeme → ParseErrorKind → Type 0
 IsOfNode lexemes wrong = (n : ℕ) × IsWrongBehind lexemes n wrong
 
 -- ---- by kinds
 
--- The fault is true of the source with these lexemes.
+-- The fault is true of the source with these lexemes. Faults of other kinds are never true here.
 abbrev pub IsTrueOf : List Lexeme → ParseErrorKind → Type 0
 IsTrueOf lexemes (fault.InvalidToken span) = IsInvalidThere lexemes span
 IsTrueOf lexemes (fault.IntegerOutOfRange span) = IsFirstOfLexeme lexemes (fault.IntegerOutOfRange span)

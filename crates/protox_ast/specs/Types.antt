@@ -1,4 +1,4 @@
--- What a field's type is in descriptor.proto.
+-- The type of a field in descriptor.proto.
 use Rattle.std.specs.Prelude.{ℕ, List, Option, Some, None}
 use Rattle.protox_ast.specs.declared.ast.Ty.{Ty}
 use Rattle.protox_ast.specs.declared.ast.Ty.TheVariants as ty
@@ -6,7 +6,7 @@ use Rattle.protox_ast.specs.Names.{type_name_text}
 use Rattle.protox_descriptor.specs.declared.descriptor.field_descriptor_proto.FieldType.{FieldType}
 use Rattle.protox_descriptor.specs.declared.descriptor.field_descriptor_proto.FieldType.TheVariants as field_type
 
--- the number of a scalar type; what a named one is stands elsewhere
+-- The scalar type of a field. None for a named type.
 abbrev pub scalar_type : Ty → Option FieldType
 scalar_type ty.Double = Some field_type.Double
 scalar_type ty.Float = Some field_type.Float
@@ -25,7 +25,7 @@ scalar_type ty.String = Some field_type.String
 scalar_type ty.Bytes = Some field_type.Bytes
 scalar_type (ty.Named name) = None
 
--- the text of a named type
+-- The name of a named type. None for a scalar type.
 abbrev pub named_type : Ty → Option (List ℕ)
 named_type (ty.Named name) = Some (type_name_text name)
 named_type _ = None

@@ -1,6 +1,7 @@
-//! The syntax tree: what a source says, part by part, each with its place. Its types are named after
-//! the constructs of the Protocol Buffers language, so `Option` and `String` are types of this module
-//! and `Opt` is the standard optional. A span begins at a part's first token and ends with its last.
+//! The syntax tree: all declarations of a source, each with its span. The types are named after the
+//! constructs of the Protocol Buffers language. So `Option` and `String` are types of this module,
+//! and `Opt` is the standard `Option`. A span goes from the first token of a part to its last, in
+//! byte offsets.
 
 pub use crate::held::Boxed;
 use protox_descriptor::values::{Items, Text};
@@ -18,10 +19,10 @@ mod spans;
 mod strings;
 mod types;
 
-/// The standard optional.
+/// The standard `Option`.
 pub type Opt<T> = std::option::Option<T>;
 
-/// The syntax that a file is written in. Without a syntax statement it is proto2.
+/// The syntax in which a file is written. Without a syntax statement it is proto2.
 #[derive(Clone, Copy, Default, PartialEq, Debug)]
 pub enum Syntax {
     /// `syntax = "proto2"`, or no syntax statement.
@@ -34,11 +35,12 @@ pub enum Syntax {
 /// A source file.
 #[derive(PartialEq, Debug, Drop)]
 pub struct File {
-    /// From the first token to the last, in bytes. Of a file without tokens: from its length to 0.
+    /// Its span in byte offsets: from its first token to its last. A file without tokens has the
+    /// span from its length to 0.
     pub span: Span,
-    /// The syntax that the file is written in.
+    /// The syntax in which the file is written.
     pub syntax: Syntax,
-    /// The syntax statement, if there is one.
+    /// The span and the comments of the syntax statement, if there is one.
     pub syntax_span: Opt<(Span, Comments)>,
     /// The package statement, if there is one.
     pub package: Opt<Package>,
@@ -50,7 +52,7 @@ pub struct File {
     pub items: Items<FileItem>,
 }
 
-/// A declaration that stands in a file.
+/// A declaration of a file.
 #[derive(PartialEq, Debug, Drop)]
 pub enum FileItem {
     /// An enum.
@@ -63,7 +65,7 @@ pub enum FileItem {
     Service(Service),
 }
 
-// The comments of a declaration that has some.
+// The comments of a declaration. There is at least one.
 #[derive(Drop)]
 struct HeldComments {
     detached: Items<Text>,
@@ -71,14 +73,14 @@ struct HeldComments {
     trailing: Opt<Text>,
 }
 
-/// The comments that belong to a declaration. Most have none, so there is room for them only where there is
-/// one, and functions read them.
+/// The comments of a declaration. Most declarations have none, so that comments are held in a box,
+/// and only if there are some. Functions read them.
 #[derive(Drop)]
 pub struct Comments {
     held: Opt<Box<HeldComments>>,
 }
 
-// Each declaration has this, most of them with no comment.
+// The size counts: each declaration has such a value, mostly without a comment.
 const _: () = prove!(size_of::<Comments>() == 16);
 
 impl Model for Comments {
@@ -86,7 +88,7 @@ impl Model for Comments {
 
     ghost Value = { seen.Comments };
 
-    ghost use Rattle.protox_ast.specs.HeldComments.{comments_of};
+    ghost use Rattle.protox_ast.specs.inner.HeldComments.{comments_of};
 
     ghost view = { comments_of };
 }
@@ -96,12 +98,11 @@ impl Model for Comments {
 pub struct Ident {
     /// Its text.
     pub value: Text,
-    /// From its first token to its last, in bytes.
+    /// Its span in byte offsets: from its first token to its last.
     pub span: Span,
 }
 
-/// Identifiers with dots between them. Contracts see the list of its parts, of which there is at
-/// least one.
+/// Identifiers with dots between them. Contracts see the list of the parts, which has at least one.
 #[derive(PartialEq, Debug, Drop)]
 pub struct FullIdent {
     /// The identifiers, in order.
@@ -121,48 +122,48 @@ impl Model for FullIdent {
     ghost inverse = { λ parts. record { parts = parts } };
 }
 
-/// The name of a type, with a leading dot where it is a whole path.
+/// The name of a type. A leading dot says that it is a full path.
 #[derive(PartialEq, Debug, Drop)]
 pub struct TypeName {
-    /// The place of the leading dot, if there is one.
+    /// The span of the leading dot, if there is one.
     pub leading_dot: Opt<Span>,
-    /// The name behind it.
+    /// The name, after the dot.
     pub name: FullIdent,
 }
 
-/// An integer literal and its sign.
+/// An integer literal with its sign.
 #[derive(PartialEq, Debug, Drop)]
 pub struct Int {
     /// Whether a minus sign stands before it.
     pub negative: bool,
     /// Its value without the sign.
     pub value: u64,
-    /// From its first token to its last, in bytes.
+    /// Its span in byte offsets: from its first token to its last.
     pub span: Span,
 }
 
-/// A float literal: its text, with its sign.
+/// A float literal with its sign.
 #[derive(PartialEq, Debug, Drop)]
 pub struct Float {
-    /// The text.
+    /// The text, with the sign.
     pub value: Text,
-    /// From its first token to its last, in bytes.
+    /// Its span in byte offsets: from its first token to its last.
     pub span: Span,
 }
 
-/// A string: the bytes of its literals together.
+/// A string: the joined bytes of its literals.
 #[derive(PartialEq, Drop)]
 pub struct String {
     /// The bytes.
     pub value: Items<u8>,
-    /// From its first token to its last, in bytes.
+    /// Its span in byte offsets: from its first token to its last.
     pub span: Span,
 }
 
 /// The value of an option.
 #[derive(PartialEq, Debug, Drop)]
 pub enum OptionValue {
-    /// A word, negated where a minus sign stands before it.
+    /// An identifier, with a minus sign if `negative`. The span includes the sign.
     Ident {
         negative: bool,
         ident: Ident,
@@ -174,22 +175,23 @@ pub enum OptionValue {
     Float(Float),
     /// A string.
     String(String),
-    /// The text between braces: its tokens, with a space between each two.
+    /// The text between braces: its tokens, with a space between each two. The span includes the
+    /// braces.
     Aggregate(Text, Span),
 }
 
 /// An import.
 #[derive(PartialEq, Debug, Drop)]
 pub struct Import {
-    /// The word `weak` or `public` and its place, if it stands there.
+    /// The word `weak` or `public` and its span, if there is one.
     pub kind: Opt<(ImportKind, Span)>,
     /// The name of the imported file.
     pub value: Text,
-    /// The place of the name, from the first literal to the last.
+    /// The span of the name, from its first literal to its last.
     pub value_span: Span,
     /// The comments that belong to it.
     pub comments: Comments,
-    /// From its first token to its last, in bytes.
+    /// Its span in byte offsets: from its first token to its last.
     pub span: Span,
 }
 
@@ -209,7 +211,7 @@ pub struct Package {
     pub name: FullIdent,
     /// The comments that belong to it.
     pub comments: Comments,
-    /// From its first token to its last, in bytes.
+    /// Its span in byte offsets: from its first token to its last.
     pub span: Span,
 }
 
@@ -220,20 +222,20 @@ pub struct Option {
     pub body: OptionBody,
     /// The comments that belong to it.
     pub comments: Comments,
-    /// From its first token to its last, in bytes.
+    /// Its span in byte offsets: from its first token to its last.
     pub span: Span,
 }
 
-/// A part of an option's name; an extension stands in parentheses, which its span includes.
+/// A part of an option's name.
 #[derive(PartialEq, Debug, Drop)]
 pub enum OptionNamePart {
     /// A plain part.
     Ident(Ident),
-    /// The name of an extension.
+    /// The name of an extension. The span includes its parentheses.
     Extension(TypeName, Span),
 }
 
-/// An option's name and value.
+/// The name and the value of an option.
 #[derive(PartialEq, Debug, Drop)]
 pub struct OptionBody {
     /// The parts of the name. There is at least one.
@@ -242,12 +244,12 @@ pub struct OptionBody {
     pub value: OptionValue,
 }
 
-/// Options in brackets, which the span includes.
+/// Options in brackets. The span includes the brackets.
 #[derive(PartialEq, Debug, Drop)]
 pub struct OptionList {
     /// The options, in order. There is at least one.
     pub options: Items<OptionBody>,
-    /// From its first token to its last, in bytes.
+    /// Its span in byte offsets: from its first token to its last.
     pub span: Span,
 }
 
@@ -261,12 +263,13 @@ pub struct Message {
     pub body: MessageBody,
     /// The comments that belong to it.
     pub comments: Comments,
-    /// From its first token to its last, in bytes.
+    /// Its span in byte offsets: from its first token to its last.
     pub span: Span,
 }
 
-/// What stands between the braces of a message or a group. Drop, `==` and Debug go down level by level: at most
-/// 31 in what comes from a source (see `Boxed`), and as deep as a caller nested it else.
+/// The part of a message or a group between its braces. Drop, `==` and Debug call themselves for
+/// each level. A tree from a source has at most 31 levels (see `Boxed`). A deeper one can only be
+/// made by hand.
 #[cycle(ast)]
 #[derive(PartialEq, Debug, Drop)]
 pub struct MessageBody {
@@ -280,7 +283,7 @@ pub struct MessageBody {
     pub reserved: Items<Reserved>,
 }
 
-/// A declaration that stands in a message.
+/// A declaration of a message.
 #[cycle(ast)]
 #[derive(PartialEq, Debug, Drop)]
 pub enum MessageItem {
@@ -300,7 +303,7 @@ pub enum MessageItem {
 #[cycle(ast)]
 #[derive(PartialEq, Debug, Drop)]
 pub struct Field {
-    /// The label and its place, if there is one.
+    /// The label and its span, if there is one.
     pub label: Opt<(FieldLabel, Span)>,
     /// The name.
     pub name: Ident,
@@ -312,11 +315,11 @@ pub struct Field {
     pub options: Opt<Boxed<OptionList>>,
     /// The comments that belong to it.
     pub comments: Comments,
-    /// From its first token to its last, in bytes.
+    /// Its span in byte offsets: from its first token to its last.
     pub span: Span,
 }
 
-/// The word before a field's type. `as i32` gives its number in descriptor.proto.
+/// The label of a field. `as i32` gives its number in descriptor.proto.
 #[derive(Clone, Copy, PartialEq, Debug)]
 pub enum FieldLabel {
     /// `optional`
@@ -327,12 +330,12 @@ pub enum FieldLabel {
     Repeated = 3,
 }
 
-/// What a field is, with the places of its types; that of a group is the word `group`, and that of a
-/// map goes from `map` to `>`.
+/// The kind of a field, with the spans of its types. The span of a group's type is the word
+/// `group`. The span of a map's type goes from `map` to `>`.
 #[cycle(ast)]
 #[derive(PartialEq, Debug, Drop)]
 pub enum FieldKind {
-    /// A field of a scalar or a named type.
+    /// A field of a scalar type or a named type.
     Normal {
         ty: Ty,
         ty_span: Span,
@@ -352,7 +355,7 @@ pub enum FieldKind {
     },
 }
 
-/// The type of a field: a scalar type or a named one.
+/// The type of a field: a scalar type or a named type.
 #[derive(PartialEq, Debug, Drop)]
 pub enum Ty {
     /// `double`
@@ -385,7 +388,7 @@ pub enum Ty {
     String,
     /// `bytes`
     Bytes,
-    /// A type by its name.
+    /// A type with a name.
     Named(TypeName),
 }
 
@@ -401,7 +404,7 @@ pub struct Oneof {
     pub fields: Items<Field>,
     /// The comments that belong to it.
     pub comments: Comments,
-    /// From its first token to its last, in bytes.
+    /// Its span in byte offsets: from its first token to its last.
     pub span: Span,
 }
 
@@ -415,7 +418,7 @@ pub struct Extend {
     pub fields: Items<Field>,
     /// The comments that belong to it.
     pub comments: Comments,
-    /// From its first token to its last, in bytes.
+    /// Its span in byte offsets: from its first token to its last.
     pub span: Span,
 }
 
@@ -426,11 +429,11 @@ pub struct Reserved {
     pub kind: ReservedKind,
     /// The comments that belong to it.
     pub comments: Comments,
-    /// From its first token to its last, in bytes.
+    /// Its span in byte offsets: from its first token to its last.
     pub span: Span,
 }
 
-/// What a reserved statement sets aside.
+/// What a reserved statement reserves.
 #[derive(PartialEq, Debug, Drop)]
 pub enum ReservedKind {
     /// Numbers, in order.
@@ -448,7 +451,7 @@ pub struct Extensions {
     pub options: Opt<Boxed<OptionList>>,
     /// The comments that belong to it.
     pub comments: Comments,
-    /// From its first token to its last, in bytes.
+    /// Its span in byte offsets: from its first token to its last.
     pub span: Span,
 }
 
@@ -461,14 +464,14 @@ pub struct ReservedRange {
     pub end: ReservedRangeEnd,
 }
 
-/// The end of a range: none where it is a single number, and `Max` for the word `max`.
+/// The end of a range.
 #[derive(PartialEq, Debug, Drop)]
 pub enum ReservedRangeEnd {
-    /// It is a single number.
+    /// There is no end: the range is a single number.
     None,
     /// The last number.
     Int(Int),
-    /// The word `max`.
+    /// The word `max`, with its span.
     Max(Span),
 }
 
@@ -485,7 +488,7 @@ pub struct Enum {
     pub reserved: Items<Reserved>,
     /// The comments that belong to it.
     pub comments: Comments,
-    /// From its first token to its last, in bytes.
+    /// Its span in byte offsets: from its first token to its last.
     pub span: Span,
 }
 
@@ -500,7 +503,7 @@ pub struct EnumValue {
     pub options: Opt<Boxed<OptionList>>,
     /// The comments that belong to it.
     pub comments: Comments,
-    /// From its first token to its last, in bytes.
+    /// Its span in byte offsets: from its first token to its last.
     pub span: Span,
 }
 
@@ -515,27 +518,27 @@ pub struct Service {
     pub methods: Items<Method>,
     /// The comments that belong to it.
     pub comments: Comments,
-    /// From its first token to its last, in bytes.
+    /// Its span in byte offsets: from its first token to its last.
     pub span: Span,
 }
 
-/// A method of a service. The places of the words `stream` are those that it is written with.
+/// A method of a service.
 #[derive(PartialEq, Debug, Drop)]
 pub struct Method {
     /// The name.
     pub name: Ident,
-    /// The type of what is sent.
+    /// The type of the request.
     pub input_ty: TypeName,
-    /// The type of what is answered.
+    /// The type of the response.
     pub output_ty: TypeName,
     /// The option statements, in order.
     pub options: Items<Option>,
-    /// The word `stream` before the first type, if it stands there.
+    /// The span of `stream` before the request type, if it stands there.
     pub client_streaming: Opt<Span>,
-    /// The word `stream` before the second type, if it stands there.
+    /// The span of `stream` before the response type, if it stands there.
     pub server_streaming: Opt<Span>,
     /// The comments that belong to it.
     pub comments: Comments,
-    /// From its first token to its last, in bytes.
+    /// Its span in byte offsets: from its first token to its last.
     pub span: Span,
 }

@@ -1,4 +1,4 @@
-//! What lies in a block of its own.
+//! A value in a box.
 
 ghost use Rattle.std.specs.Prelude.{◌≡◌, IfOk};
 
@@ -7,12 +7,13 @@ use std::boxed::Box;
 use std::fmt;
 use std::marker::Model;
 
-/// A value in a block of its own, so that it takes the room of an address where it stands. Contracts see it as
-/// the value.
+/// A value in a box, so that it takes only the room of a pointer where it stands. Contracts see the
+/// value itself.
 ///
-/// Drop, `==` and Debug go down into the value, level by level. What comes from a source has at most 31 levels
-/// of messages and groups: `levels` of `IsAccepted`, in the clause `found` of `parse_file`. A value that a
-/// caller nested deeper may take more stack than there is.
+/// Drop, `==` and Debug call themselves for each level of the value. A tree from a source has at
+/// most 31 levels of messages and groups: contracts say so by `levels` of `IsAccepted`, in the
+/// clause `found` of `parse_file`. A value that is nested deeper by hand may need more stack than
+/// there is.
 #[derive(Drop)]
 pub struct Boxed<T> {
     held: Box<T>,
@@ -27,7 +28,7 @@ impl<T> Model for Boxed<T> {
 }
 
 impl<T: Drop> Boxed<T> {
-    /// This value, or `AllocError`.
+    /// Puts the value into a box, or fails with `AllocError`.
     pub fn new(alloc: Global, value: T) -> Result<Boxed<T>, AllocError>
         ensures { IfOk result (λ made. made ≡ value) }
     {
@@ -38,14 +39,14 @@ impl<T: Drop> Boxed<T> {
 }
 
 impl<T> Boxed<T> {
-    /// The value, lent.
+    /// The value, borrowed.
     pub fn get(&self) -> &T
         ensures { result.now ≡ self.now }
     {
         &self.held
     }
 
-    /// The value itself.
+    /// Takes the value out of the box.
     pub fn into_inner(self) -> T
         ensures { result ≡ self }
     {

@@ -1,4 +1,4 @@
--- What stands in a list or between braces takes a row each.
+-- Each part of a list, or between braces, takes a row.
 use Rattle.std.proofs.Common.{refl}
 use Rattle.protox_ast.specs.Spelling as s
 use Rattle.protox_grammar.specs.Reader.{Consumes}
@@ -8,10 +8,10 @@ use Rattle.protox_grammar.proofs.Forms.{mark-laws, seq-laws}
 use Rattle.protox_grammar.proofs.Ranges as ranges
 use Rattle.protox_grammar.proofs.Services as services
 use Rattle.protox_grammar.proofs.Shows.{shows-eats}
-use Rattle.protox_options.specs.Options.{here}
-use Rattle.protox_blocks.specs.Enums.{enum_element}
-use Rattle.protox_blocks.specs.Ranges.{more_range, more_name}
-use Rattle.protox_blocks.specs.Services.{rpc_element, service_element}
+use Rattle.protox_options.specs.inner.Options.{here}
+use Rattle.protox_blocks.specs.inner.Enums.{enum_element}
+use Rattle.protox_blocks.specs.inner.Ranges.{more_range, more_name}
+use Rattle.protox_blocks.specs.inner.Services.{rpc_element, service_element}
 
 pub more_range-eats : Consumes (more_range).code
 more_range-eats = shows-eats (seq-laws (mark-laws here s.comma) (ranges.range-laws here) refl) (more_range).shows

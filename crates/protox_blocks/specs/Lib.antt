@@ -1,3 +1,1 @@
-pub mod Ranges
-pub mod Enums
-pub mod Services
+pub mod inner

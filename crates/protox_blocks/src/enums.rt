@@ -1,9 +1,9 @@
-//! Enums.
+//! Reads enums.
 
 ghost use Rattle.std.specs.Prelude.{◌≡◌, OnOk};
-ghost use Rattle.protox_rows.specs.Outcome.{Gives};
-ghost use Rattle.protox_rows.specs.Notes.{Adds};
-ghost use Rattle.protox_blocks.specs.Enums as rule;
+ghost use Rattle.protox_rows.specs.inner.Outcome.{Gives};
+ghost use Rattle.protox_rows.specs.inner.Notes.{Adds};
+ghost use Rattle.protox_blocks.specs.inner.Enums as rule;
 
 use crate::ranges::reserved;
 use protox_ast::ast::{Enum, EnumValue, Option as OptionStatement, Reserved};
@@ -27,7 +27,7 @@ pub(crate) enum EnumElement {
     Value(EnumValue),
 }
 
-/// What stands in an enum, by kinds.
+/// The declarations in an enum, by kinds.
 #[derive(Drop)]
 pub(crate) struct EnumParts {
     options: Items<OptionStatement>,
@@ -36,7 +36,7 @@ pub(crate) struct EnumParts {
 }
 
 /// evalue = ident "=" int list? ";"
-#[tactic(auto, unfolding(crate::specs::Enums::evalue))]
+#[tactic(auto, unfolding(crate::specs::inner::Enums::evalue))]
 fn evalue(
     alloc: Global,
     notes: &mut Vec<Note>,
@@ -63,7 +63,7 @@ fn evalue(
 }
 
 /// ";" | option | reserved | evalue
-#[tactic(auto, unfolding(crate::specs::Enums::enum_element))]
+#[tactic(auto, unfolding(crate::specs::inner::Enums::enum_element))]
 fn enum_element(
     alloc: Global,
     notes: &mut Vec<Note>,
@@ -99,7 +99,7 @@ fn put(parts: &mut EnumParts, element: EnumElement) -> Result<(), AllocError>
     }
 }
 
-#[tactic(auto, unfolding(crate::specs::Enums::enum_elements))]
+#[tactic(auto, unfolding(crate::specs::inner::Enums::enum_elements))]
 fn enum_elements(
     alloc: Global,
     notes: &mut Vec<Note>,
@@ -121,7 +121,7 @@ fn enum_elements(
 }
 
 /// enum = "enum" ident "{" (";" | option | reserved | evalue)* "}"
-#[tactic(auto, unfolding(crate::specs::Enums::enum_))]
+#[tactic(auto, unfolding(crate::specs::inner::Enums::enum_))]
 pub fn enum_(
     alloc: Global,
     notes: &mut Vec<Note>,

@@ -1,4 +1,5 @@
-//! Reads what stands in messages and files and holds no message: ranges, reserved and extensions statements, enums and services.
+//! Reads declarations that hold no message: ranges, reserved and extensions statements, enums and
+//! services.
 #![tactic(auto)]
 
 pub mod enums;

@@ -1,11 +1,11 @@
-//! Ranges, reserved and extensions statements.
+//! Reads ranges, and reserved and extensions statements.
 
 ghost use Rattle.std.specs.Prelude.{◌≡◌, ◌++◌, IfOk, OnOk};
 ghost use Rattle.protox_ast.specs.Ast.{text_of};
 ghost use Rattle.protox_grammar.specs.Told.{name_notes};
-ghost use Rattle.protox_rows.specs.Outcome.{Gives};
-ghost use Rattle.protox_rows.specs.Notes.{Adds};
-ghost use Rattle.protox_blocks.specs.Ranges as rule;
+ghost use Rattle.protox_rows.specs.inner.Outcome.{Gives};
+ghost use Rattle.protox_rows.specs.inner.Notes.{Adds};
+ghost use Rattle.protox_blocks.specs.inner.Ranges as rule;
 
 use protox_ast::ast::{
     Boxed, Extensions, Ident, OptionList, Reserved, ReservedKind, ReservedRange, ReservedRangeEnd,
@@ -25,7 +25,7 @@ use protox_rows::strings::{strings, text_of};
 use std::alloc::{AllocError, Global};
 
 // "to" (int | "max")
-#[tactic(auto, unfolding(crate::specs::Ranges::range_end))]
+#[tactic(auto, unfolding(crate::specs::inner::Ranges::range_end))]
 fn range_end(rows: &mut Unread<'_, '_>) -> Result<ReservedRangeEnd, Refused>
     ensures { Gives (λ x. x) result rows.new ((rule.range_end).code rows.old) }
 {
@@ -39,7 +39,7 @@ fn range_end(rows: &mut Unread<'_, '_>) -> Result<ReservedRangeEnd, Refused>
 }
 
 // ("to" (int | "max"))?
-#[tactic(auto, unfolding(crate::specs::Ranges::stop))]
+#[tactic(auto, unfolding(crate::specs::inner::Ranges::stop))]
 fn stop(rows: &mut Unread<'_, '_>) -> Result<ReservedRangeEnd, Refused>
     ensures { Gives (λ x. x) result rows.new ((rule.stop).code rows.old) }
 {
@@ -50,7 +50,7 @@ fn stop(rows: &mut Unread<'_, '_>) -> Result<ReservedRangeEnd, Refused>
 }
 
 /// range = int ("to" (int | "max"))?
-#[tactic(auto, unfolding(crate::specs::Ranges::range))]
+#[tactic(auto, unfolding(crate::specs::inner::Ranges::range))]
 fn range(rows: &mut Unread<'_, '_>) -> Result<ReservedRange, Refused>
     ensures { Gives (λ x. x) result rows.new ((rule.range).code rows.old) }
 {
@@ -59,7 +59,7 @@ fn range(rows: &mut Unread<'_, '_>) -> Result<ReservedRange, Refused>
     Ok(ReservedRange { start, end })
 }
 
-#[tactic(auto, unfolding(crate::specs::Ranges::more_range))]
+#[tactic(auto, unfolding(crate::specs::inner::Ranges::more_range))]
 fn more_range(rows: &mut Unread<'_, '_>) -> Result<ReservedRange, Refused>
     ensures { Gives (λ x. x) result rows.new ((rule.more_range).code rows.old) }
 {
@@ -68,7 +68,7 @@ fn more_range(rows: &mut Unread<'_, '_>) -> Result<ReservedRange, Refused>
 }
 
 /// range ("," range)*
-#[tactic(auto, unfolding(crate::specs::Ranges::ranges))]
+#[tactic(auto, unfolding(crate::specs::inner::Ranges::ranges))]
 fn ranges(alloc: Global, rows: &mut Unread<'_, '_>) -> Result<Items<ReservedRange>, Refused>
     ensures { Gives (λ x. x) result rows.new ((rule.ranges).code rows.old) }
 {
@@ -82,7 +82,7 @@ fn ranges(alloc: Global, rows: &mut Unread<'_, '_>) -> Result<Items<ReservedRang
     Ok(ranges)
 }
 
-// What is expected behind ranges: behind the start of the last one, or behind its end.
+// What may follow ranges: it depends on whether the last one has an end.
 fn behind_ranges(
     ranges: &[ReservedRange],
     behind_start: Expected,
@@ -94,7 +94,7 @@ fn behind_ranges(
     }
 }
 
-// The text of a name, which is checked.
+// Checks the text of a reserved name.
 fn checked_name(
     alloc: Global,
     notes: &mut Vec<Note>,
@@ -111,8 +111,8 @@ fn checked_name(
     Ok(text)
 }
 
-/// string+, as the name that it is.
-#[tactic(auto, unfolding(crate::specs::Ranges::reserved_name))]
+/// string+ , read as a reserved name
+#[tactic(auto, unfolding(crate::specs::inner::Ranges::reserved_name))]
 fn reserved_name(
     alloc: Global,
     notes: &mut Vec<Note>,
@@ -127,7 +127,7 @@ fn reserved_name(
     Ok(Ident { value, span })
 }
 
-#[tactic(auto, unfolding(crate::specs::Ranges::more_name))]
+#[tactic(auto, unfolding(crate::specs::inner::Ranges::more_name))]
 fn more_name(
     alloc: Global,
     notes: &mut Vec<Note>,
@@ -141,7 +141,7 @@ fn more_name(
 }
 
 /// string+ ("," string+)*
-#[tactic(auto, unfolding(crate::specs::Ranges::names))]
+#[tactic(auto, unfolding(crate::specs::inner::Ranges::names))]
 fn names(
     alloc: Global,
     notes: &mut Vec<Note>,
@@ -160,7 +160,7 @@ fn names(
     Ok(names)
 }
 
-#[tactic(auto, unfolding(crate::specs::Ranges::reserved_kind))]
+#[tactic(auto, unfolding(crate::specs::inner::Ranges::reserved_kind))]
 fn reserved_kind(
     alloc: Global,
     notes: &mut Vec<Note>,
@@ -189,7 +189,7 @@ fn behind_reserved(kind: &ReservedKind) -> Expected {
 }
 
 /// reserved = "reserved" (range ("," range)* | string+ ("," string+)*) ";"
-#[tactic(auto, unfolding(crate::specs::Ranges::reserved))]
+#[tactic(auto, unfolding(crate::specs::inner::Ranges::reserved))]
 pub fn reserved(
     alloc: Global,
     notes: &mut Vec<Note>,
@@ -211,7 +211,7 @@ pub fn reserved(
     })
 }
 
-// Behind ranges without a list, one may stand.
+// What may follow the ranges of an extensions statement: a list of options, if there is none yet.
 fn behind_extensions(ranges: &[ReservedRange], options: &Option<Boxed<OptionList>>) -> Expected {
     match options {
         Some(_) => Expected::Semicolon,
@@ -224,7 +224,7 @@ fn behind_extensions(ranges: &[ReservedRange], options: &Option<Boxed<OptionList
 }
 
 /// extensions = "extensions" range ("," range)* list? ";"
-#[tactic(auto, unfolding(crate::specs::Ranges::extensions))]
+#[tactic(auto, unfolding(crate::specs::inner::Ranges::extensions))]
 pub fn extensions(
     alloc: Global,
     notes: &mut Vec<Note>,

@@ -1,9 +1,9 @@
-//! Services and their methods.
+//! Reads services and their methods.
 
 ghost use Rattle.std.specs.Prelude.{◌≡◌, OnOk};
-ghost use Rattle.protox_rows.specs.Outcome.{Gives};
-ghost use Rattle.protox_rows.specs.Notes.{Adds};
-ghost use Rattle.protox_blocks.specs.Services as rule;
+ghost use Rattle.protox_rows.specs.inner.Outcome.{Gives};
+ghost use Rattle.protox_rows.specs.inner.Notes.{Adds};
+ghost use Rattle.protox_blocks.specs.inner.Services as rule;
 
 use protox_ast::ast::{Method, Option as OptionStatement, Service, TypeName};
 use protox_descriptor::values::Items;
@@ -26,7 +26,7 @@ pub(crate) enum ServiceElement {
     Rpc(Method),
 }
 
-/// What stands in a service, by kinds.
+/// The declarations in a service, by kinds.
 #[derive(Drop)]
 pub(crate) struct ServiceParts {
     options: Items<OptionStatement>,
@@ -34,7 +34,7 @@ pub(crate) struct ServiceParts {
 }
 
 /// "stream"? typename
-#[tactic(auto, unfolding(crate::specs::Services::rpc_type))]
+#[tactic(auto, unfolding(crate::specs::inner::Services::rpc_type))]
 fn rpc_type(alloc: Global, rows: &mut Unread<'_, '_>) -> Result<(Option<Span>, TypeName), Refused>
     ensures { Gives (λ x. x) result rows.new ((rule.rpc_type).code rows.old) }
 {
@@ -48,7 +48,7 @@ fn rpc_type(alloc: Global, rows: &mut Unread<'_, '_>) -> Result<(Option<Span>, T
 }
 
 /// ";" | option
-#[tactic(auto, unfolding(crate::specs::Services::rpc_element))]
+#[tactic(auto, unfolding(crate::specs::inner::Services::rpc_element))]
 fn rpc_element(
     alloc: Global,
     notes: &mut Vec<Note>,
@@ -77,7 +77,7 @@ fn put_option(
     }
 }
 
-#[tactic(auto, unfolding(crate::specs::Services::rpc_elements))]
+#[tactic(auto, unfolding(crate::specs::inner::Services::rpc_elements))]
 fn rpc_elements(
     alloc: Global,
     notes: &mut Vec<Note>,
@@ -95,7 +95,7 @@ fn rpc_elements(
 }
 
 /// ";" | "{" (";" | option)* "}"
-#[tactic(auto, unfolding(crate::specs::Services::rpc_end))]
+#[tactic(auto, unfolding(crate::specs::inner::Services::rpc_end))]
 fn rpc_end<'t, 'a>(
     alloc: Global,
     notes: &mut Vec<Note>,
@@ -115,7 +115,7 @@ fn rpc_end<'t, 'a>(
 }
 
 /// "returns" "(" "stream"? typename ")" (";" | "{" (";" | option)* "}")
-#[tactic(auto, unfolding(crate::specs::Services::output))]
+#[tactic(auto, unfolding(crate::specs::inner::Services::output))]
 fn output<'t, 'a>(
     alloc: Global,
     notes: &mut Vec<Note>,
@@ -138,8 +138,9 @@ fn output<'t, 'a>(
     Ok((ty, end))
 }
 
-/// rpc = "rpc" ident "(" "stream"? typename ")" "returns" "(" "stream"? typename ")" (";" | "{" (";" | option)* "}")
-#[tactic(auto, unfolding(crate::specs::Services::rpc))]
+/// rpc = "rpc" ident "(" "stream"? typename ")" "returns" "(" "stream"? typename ")"
+///     (";" | "{" (";" | option)* "}")
+#[tactic(auto, unfolding(crate::specs::inner::Services::rpc))]
 fn rpc(alloc: Global, notes: &mut Vec<Note>, rows: &mut Unread<'_, '_>) -> Result<Method, Refused>
     ensures read { Gives (λ x. x) result rows.new ((rule.rpc).code rows.old) }
     ensures notes { Adds result notes.old.items ((rule.rpc).notes rows.old) notes.new.items }
@@ -165,7 +166,7 @@ fn rpc(alloc: Global, notes: &mut Vec<Note>, rows: &mut Unread<'_, '_>) -> Resul
 }
 
 /// ";" | option | rpc
-#[tactic(auto, unfolding(crate::specs::Services::service_element))]
+#[tactic(auto, unfolding(crate::specs::inner::Services::service_element))]
 fn service_element(
     alloc: Global,
     notes: &mut Vec<Note>,
@@ -196,7 +197,7 @@ fn put(parts: &mut ServiceParts, element: ServiceElement) -> Result<(), AllocErr
     }
 }
 
-#[tactic(auto, unfolding(crate::specs::Services::service_elements))]
+#[tactic(auto, unfolding(crate::specs::inner::Services::service_elements))]
 fn service_elements(
     alloc: Global,
     notes: &mut Vec<Note>,
@@ -217,7 +218,7 @@ fn service_elements(
 }
 
 /// service = "service" ident "{" (";" | option | rpc)* "}"
-#[tactic(auto, unfolding(crate::specs::Services::service))]
+#[tactic(auto, unfolding(crate::specs::inner::Services::service))]
 pub fn service(
     alloc: Global,
     notes: &mut Vec<Note>,

@@ -1,4 +1,4 @@
--- What stands between the braces of a body takes a row each.
+-- Each declaration between the braces of a body takes a row.
 use Rattle.std.proofs.Common.{◌≡◌, ◌-◌, ℕ, zero, suc, List, [], ◌∷◌, Option, Some, None, Result, Ok, Err, length, ap, refl, arith}
 use Rattle.protox_fault.specs.Faults.{Span}
 use Rattle.protox_lexeme.specs.Shapes.{Row, Rows}
@@ -13,10 +13,10 @@ use Rattle.protox_grammar.proofs.Takes.{bind_ok, ok_is}
 use Rattle.protox_grammar.proofs.Depths as depths
 use Rattle.protox_grammar.proofs.Messages as rules
 use Rattle.protox_grammar.proofs.Shows.{shows-eats}
-use Rattle.protox_options.specs.Options.{here}
+use Rattle.protox_options.specs.inner.Options.{here}
 use Rattle.protox_ast.specs.declared.ast.Ident as ident_type
-use Rattle.protox_rows.specs.Names.{ident}
-use Rattle.protox_bodies.specs.Bodies as messages
+use Rattle.protox_rows.specs.inner.Names.{ident}
+use Rattle.protox_bodies.specs.inner.Bodies as messages
 
 pub element-eats : (n : ℕ) → Consumes (messages.element_at n)
 element-eats n = shows-eats (rules.element-laws here k.KeepsMbody (bodies.FitsMbody n) (bodies.unsealed n).read (bodies.unsealed n).steps (bodies.unsealed n).trace (depths.body-laws here n)) (messages.element n (messages.mbody_at n)).shows

@@ -5,10 +5,10 @@ ghost use Rattle.std.specs.Prelude.{◌≡◌};
 ghost use Rattle.protox_grammar.proofs.Opened.{sunk_notes};
 ghost use Rattle.protox_grammar.specs.Bodies.{deep_read};
 ghost use Rattle.protox_ast.specs.Places.{Place};
-ghost use Rattle.protox_rows.specs.Outcome.{Fails, Gives};
-ghost use Rattle.protox_rows.specs.Notes.{Adds, AddsTo};
-ghost use Rattle.protox_bodies.specs.Bodies as rule;
-ghost use Rattle.protox_bodies.specs.Fields.{first_span};
+ghost use Rattle.protox_rows.specs.inner.Outcome.{Fails, Gives};
+ghost use Rattle.protox_rows.specs.inner.Notes.{Adds, AddsTo};
+ghost use Rattle.protox_bodies.specs.inner.Bodies as rule;
+ghost use Rattle.protox_bodies.specs.inner.Fields.{first_span};
 
 use crate::parts::Element;
 use protox_ast::ast::{Boxed, OptionList};
@@ -34,7 +34,7 @@ pub(crate) fn first_span(rows: &Unread<'_, '_>) -> Span
     }
 }
 
-/// Behind a group's number its body or a list may stand.
+/// What may follow a group's number: its body or a list of options.
 pub(crate) fn before_body(options: &Option<Boxed<OptionList>>) -> Expected {
     match options {
         Some(_) => Expected::LeftBrace,
@@ -43,14 +43,14 @@ pub(crate) fn before_body(options: &Option<Boxed<OptionList>>) -> Expected {
 }
 
 /// option | reserved | extensions
-#[tactic(auto, unfolding(crate::specs::Bodies::plain))]
-pub(crate) fn plain(
+#[tactic(auto, unfolding(crate::specs::inner::Bodies::bodiless_element))]
+pub(crate) fn bodiless_element(
     alloc: Global,
     notes: &mut Vec<Note>,
     rows: &mut Unread<'_, '_>,
 ) -> Result<Element, Refused>
-    ensures read { Gives (λ x. x) result rows.new ((rule.plain).code rows.old) }
-    ensures notes { Adds result notes.old.items ((rule.plain).notes rows.old) notes.new.items }
+    ensures read { Gives (λ x. x) result rows.new ((rule.bodiless_element).code rows.old) }
+    ensures notes { Adds result notes.old.items ((rule.bodiless_element).notes rows.old) notes.new.items }
 {
     if sees(rows, OPTION) {
         let option = option(alloc, notes, rows, Expected::MessageBody)?;
@@ -64,9 +64,9 @@ pub(crate) fn plain(
     Ok(Element::Extensions(extensions))
 }
 
-/// What opens here is too deep: it is noted, and not read.
+/// Notes that the body that opens here is too deep. It is not read.
 #[tactic(auto, unfolding(protox_grammar::specs::Reader::too_deep, protox_grammar::specs::Bodies::deep_read))]
-pub(crate) fn sunk(
+pub(crate) fn refuse_deep_body(
     notes: &mut Vec<Note>,
     rows: &Unread<'_, '_>,
     word: &Span,

@@ -1,13 +1,15 @@
-//! Fields with groups, oneofs, extends, messages and their bodies. `level` says how many levels of bodies may still be opened.
+//! Reads fields with groups, oneofs, extends, messages and their bodies. `level` says how many more
+//! levels of bodies may be opened.
 
-ghost use Rattle.protox_rows.specs.Outcome.{Gives};
-ghost use Rattle.protox_rows.specs.Notes.{Adds};
-ghost use Rattle.protox_bodies.specs.Bodies as rule;
+ghost use Rattle.protox_rows.specs.inner.Outcome.{Gives};
+ghost use Rattle.protox_rows.specs.inner.Notes.{Adds};
+ghost use Rattle.protox_bodies.specs.inner.Bodies as rule;
 
-use crate::around::{before_body, first_span, plain, sunk};
+use crate::around::{before_body, bodiless_element, first_span, refuse_deep_body};
 use crate::fields::{group_name, map_field, normal};
 use crate::parts::{
-    Element, FieldParts, Inside, OneofElement, OneofInside, put, put_in_extend, put_in_oneof,
+    Element, ElementsByKind, FieldParts, OneofElement, OneofElementsByKind, add_element,
+    add_extend_element, add_oneof_element,
 };
 use protox_ast::ast::{
     Boxed, Extend, Field, FieldKind, FieldLabel, Int, Message, MessageBody, MessageItem, Oneof,
@@ -31,8 +33,8 @@ use std::alloc::Global;
 
 /// "=" int list? mbody
 #[cycle(bodies)]
-#[tactic(auto, unfolding(crate::specs::Bodies::numbered))]
-fn numbered<'t, 'a>(
+#[tactic(auto, unfolding(crate::specs::inner::Bodies::number_and_body))]
+fn number_and_body<'t, 'a>(
     alloc: Global,
     notes: &mut Vec<Note>,
     rows: &mut Unread<'t, 'a>,
@@ -46,8 +48,8 @@ fn numbered<'t, 'a>(
     ),
     Refused,
 >
-    ensures read { Gives (λ x. (x.0, (x.1, (x.2.0, (x.2.1.0.at, x.2.1.1.at))))) result rows.new (rule.numbered_at level rows.old) }
-    ensures notes { Adds result notes.old.items (rule.numbered_notes level word.now rows.old) notes.new.items }
+    ensures read { Gives (λ x. (x.0, (x.1, (x.2.0, (x.2.1.0.at, x.2.1.1.at))))) result rows.new (rule.number_and_body_at level rows.old) }
+    ensures notes { Adds result notes.old.items (rule.number_and_body_notes level word.now rows.old) notes.new.items }
 {
     expect_mark(rows, b'=', Expected::Equals)?;
     let number = int(rows)?;
@@ -58,7 +60,7 @@ fn numbered<'t, 'a>(
 
 /// group = "group" ident "=" int list? mbody
 #[cycle(bodies)]
-#[tactic(auto, unfolding(crate::specs::Bodies::group))]
+#[tactic(auto, unfolding(crate::specs::inner::Bodies::group))]
 fn group<'t, 'a>(
     alloc: Global,
     notes: &mut Vec<Note>,
@@ -71,7 +73,7 @@ fn group<'t, 'a>(
     let start = expect_word(rows, "group", Expected::Type)?;
     let ty_span = start.span();
     let name = group_name(alloc, notes, rows)?;
-    let (number, options, (body, braces)) = numbered(alloc, notes, rows, level, &ty_span)?;
+    let (number, options, (body, braces)) = number_and_body(alloc, notes, rows, level, &ty_span)?;
     let body = Boxed::new(alloc, body)?;
     let parts = FieldParts {
         name,
@@ -84,7 +86,7 @@ fn group<'t, 'a>(
 
 /// map | group | normal
 #[cycle(bodies)]
-#[tactic(auto, unfolding(crate::specs::Bodies::field_kind))]
+#[tactic(auto, unfolding(crate::specs::inner::Bodies::field_kind))]
 fn field_kind<'t, 'a>(
     alloc: Global,
     notes: &mut Vec<Note>,
@@ -104,9 +106,9 @@ fn field_kind<'t, 'a>(
     group(alloc, notes, rows, level)
 }
 
-// A label, if there is one, and the field behind it.
+// A label, if there is one, and then a field.
 #[cycle(bodies)]
-#[tactic(auto, unfolding(crate::specs::Bodies::labelled_kind))]
+#[tactic(auto, unfolding(crate::specs::inner::Bodies::labelled_kind))]
 fn labelled_kind<'t, 'a>(
     alloc: Global,
     notes: &mut Vec<Note>,
@@ -134,7 +136,7 @@ fn labelled_kind<'t, 'a>(
 
 /// field = label? (map | group | normal)
 #[cycle(bodies)]
-#[tactic(auto, unfolding(crate::specs::Bodies::field))]
+#[tactic(auto, unfolding(crate::specs::inner::Bodies::field))]
 fn field(
     alloc: Global,
     notes: &mut Vec<Note>,
@@ -169,7 +171,7 @@ fn field(
 
 /// ";" | option | field
 #[cycle(bodies)]
-#[tactic(auto, unfolding(crate::specs::Bodies::oneof_element))]
+#[tactic(auto, unfolding(crate::specs::inner::Bodies::oneof_element))]
 fn oneof_element(
     alloc: Global,
     notes: &mut Vec<Note>,
@@ -192,30 +194,30 @@ fn oneof_element(
 }
 
 #[cycle(bodies)]
-#[tactic(auto, unfolding(crate::specs::Bodies::oneof_elements))]
+#[tactic(auto, unfolding(crate::specs::inner::Bodies::oneof_elements))]
 fn oneof_elements(
     alloc: Global,
     notes: &mut Vec<Note>,
     rows: &mut Unread<'_, '_>,
     level: usize,
-) -> Result<OneofInside, Refused>
+) -> Result<OneofElementsByKind, Refused>
     ensures read { Gives (λ x. x) result rows.new (rule.oneof_elements_at level rows.old) }
     ensures notes { Adds result notes.old.items (rule.oneof_elements_notes level rows.old) notes.new.items }
 {
-    let mut inside = OneofInside {
+    let mut inside = OneofElementsByKind {
         options: Items::new(alloc),
         fields: Items::new(alloc),
     };
     'oneof: while sees_other(rows, RIGHT_BRACE) {
         let element = oneof_element(alloc, notes, rows, level)?;
-        put_in_oneof(&mut inside, element)?;
+        add_oneof_element(&mut inside, element)?;
     }
     Ok(inside)
 }
 
 /// oneof = "oneof" ident "{" (";" | option | field)* "}"
 #[cycle(bodies)]
-#[tactic(auto, unfolding(crate::specs::Bodies::oneof))]
+#[tactic(auto, unfolding(crate::specs::inner::Bodies::oneof))]
 fn oneof(
     alloc: Global,
     notes: &mut Vec<Note>,
@@ -232,7 +234,7 @@ fn oneof(
     let close = expect_mark(rows, b'}', Expected::OneofBody)?;
     let comments = comments_between(alloc, &start, &open)?;
     let span = span_between(&start, &close);
-    let OneofInside { options, fields } = inside;
+    let OneofElementsByKind { options, fields } = inside;
     Ok(Oneof {
         name,
         options,
@@ -244,7 +246,7 @@ fn oneof(
 
 /// ";" | field
 #[cycle(bodies)]
-#[tactic(auto, unfolding(crate::specs::Bodies::extend_element))]
+#[tactic(auto, unfolding(crate::specs::inner::Bodies::extend_element))]
 fn extend_element(
     alloc: Global,
     notes: &mut Vec<Note>,
@@ -263,7 +265,7 @@ fn extend_element(
 }
 
 #[cycle(bodies)]
-#[tactic(auto, unfolding(crate::specs::Bodies::extend_elements))]
+#[tactic(auto, unfolding(crate::specs::inner::Bodies::extend_elements))]
 fn extend_elements(
     alloc: Global,
     notes: &mut Vec<Note>,
@@ -276,14 +278,14 @@ fn extend_elements(
     let mut fields = Items::new(alloc);
     'extend: while sees_other(rows, RIGHT_BRACE) {
         let element = extend_element(alloc, notes, rows, level)?;
-        put_in_extend(&mut fields, element)?;
+        add_extend_element(&mut fields, element)?;
     }
     Ok(fields)
 }
 
 /// extend = "extend" typename "{" (";" | field)* "}"
 #[cycle(bodies)]
-#[tactic(auto, unfolding(crate::specs::Bodies::extend))]
+#[tactic(auto, unfolding(crate::specs::inner::Bodies::extend))]
 pub fn extend(
     alloc: Global,
     notes: &mut Vec<Note>,
@@ -310,7 +312,7 @@ pub fn extend(
 
 /// message = "message" ident mbody
 #[cycle(bodies)]
-#[tactic(auto, unfolding(crate::specs::Bodies::message))]
+#[tactic(auto, unfolding(crate::specs::inner::Bodies::message))]
 pub fn message(
     alloc: Global,
     notes: &mut Vec<Note>,
@@ -336,15 +338,15 @@ pub fn message(
 
 /// oneof | enum | message | extend | option | reserved | extensions
 #[cycle(bodies)]
-#[tactic(auto, unfolding(crate::specs::Bodies::special))]
-fn special(
+#[tactic(auto, unfolding(crate::specs::inner::Bodies::keyword_element))]
+fn keyword_element(
     alloc: Global,
     notes: &mut Vec<Note>,
     rows: &mut Unread<'_, '_>,
     level: usize,
 ) -> Result<Element, Refused>
-    ensures read { Gives (λ x. x) result rows.new (rule.special_at level rows.old) }
-    ensures notes { Adds result notes.old.items (rule.special_notes level rows.old) notes.new.items }
+    ensures read { Gives (λ x. x) result rows.new (rule.keyword_element_at level rows.old) }
+    ensures notes { Adds result notes.old.items (rule.keyword_element_notes level rows.old) notes.new.items }
 {
     if sees(rows, ONEOF) {
         let oneof = oneof(alloc, notes, rows, level)?;
@@ -362,12 +364,12 @@ fn special(
         let extend = extend(alloc, notes, rows, level)?;
         return Ok(Element::Item(MessageItem::Extend(extend)));
     }
-    plain(alloc, notes, rows)
+    bodiless_element(alloc, notes, rows)
 }
 
 /// ";" | field | oneof | enum | message | extend | option | reserved | extensions
 #[cycle(bodies)]
-#[tactic(auto, unfolding(crate::specs::Bodies::element))]
+#[tactic(auto, unfolding(crate::specs::inner::Bodies::element))]
 fn element(
     alloc: Global,
     notes: &mut Vec<Note>,
@@ -385,24 +387,24 @@ fn element(
         rows,
         &[ONEOF, ENUM, MESSAGE, EXTEND, OPTION, RESERVED, EXTENSIONS],
     ) {
-        return special(alloc, notes, rows, level);
+        return keyword_element(alloc, notes, rows, level);
     }
     let field = field(alloc, notes, rows, level, Expected::MessageBody)?;
     Ok(Element::Item(MessageItem::Field(field)))
 }
 
 #[cycle(bodies)]
-#[tactic(auto, unfolding(crate::specs::Bodies::elements))]
+#[tactic(auto, unfolding(crate::specs::inner::Bodies::elements))]
 fn elements(
     alloc: Global,
     notes: &mut Vec<Note>,
     rows: &mut Unread<'_, '_>,
     level: usize,
-) -> Result<Inside, Refused>
+) -> Result<ElementsByKind, Refused>
     ensures read { Gives (λ x. x) result rows.new (rule.elements_at level rows.old) }
     ensures notes { Adds result notes.old.items (rule.elements_notes level rows.old) notes.new.items }
 {
-    let mut inside = Inside {
+    let mut inside = ElementsByKind {
         items: Items::new(alloc),
         extensions: Items::new(alloc),
         options: Items::new(alloc),
@@ -410,14 +412,15 @@ fn elements(
     };
     'more: while sees_other(rows, RIGHT_BRACE) {
         let element = element(alloc, notes, rows, level)?;
-        put(&mut inside, element)?;
+        add_element(&mut inside, element)?;
     }
     Ok(inside)
 }
 
-/// mbody = "{" (";" | field | oneof | enum | message | extend | option | reserved | extensions)* "}"
+/// mbody =
+///     "{" (";" | field | oneof | enum | message | extend | option | reserved | extensions)* "}"
 #[cycle(bodies)]
-#[tactic(auto, unfolding(crate::specs::Bodies::mbody))]
+#[tactic(auto, unfolding(crate::specs::inner::Bodies::mbody))]
 fn braces<'t, 'a>(
     alloc: Global,
     notes: &mut Vec<Note>,
@@ -431,7 +434,7 @@ fn braces<'t, 'a>(
     let open = expect_mark(rows, b'{', expected)?;
     let inside = elements(alloc, notes, rows, level)?;
     let close = expect_mark(rows, b'}', Expected::MessageBody)?;
-    let Inside {
+    let ElementsByKind {
         items,
         extensions,
         options,
@@ -446,9 +449,9 @@ fn braces<'t, 'a>(
     Ok((body, (open, close)))
 }
 
-/// A body behind its word, of as many levels as are left.
+/// A body after its word. `level` says how many more levels may be opened.
 #[cycle(bodies)]
-#[tactic(auto, unfolding(crate::specs::Bodies::mbody_at))]
+#[tactic(auto, unfolding(crate::specs::inner::Bodies::mbody_at))]
 fn mbody<'t, 'a>(
     alloc: Global,
     notes: &mut Vec<Note>,
@@ -461,7 +464,7 @@ fn mbody<'t, 'a>(
     ensures notes { Adds result notes.old.items ((rule.mbody_at level).notes word.now rows.old) notes.new.items }
 {
     if level == 0 {
-        return Err(sunk(notes, rows, word, expected));
+        return Err(refuse_deep_body(notes, rows, word, expected));
     }
     braces(alloc, notes, rows, level - 1, expected)
 }

@@ -1,10 +1,10 @@
-//! The kinds of fields that hold no body, and the names of groups.
+//! Reads the kinds of fields without a body, and the names of groups.
 
 ghost use Rattle.std.specs.Prelude.{◌≡◌, ◌++◌, OnOk, suc, length};
 ghost use Rattle.protox_grammar.specs.Told.{group_notes};
-ghost use Rattle.protox_rows.specs.Outcome.{Gives};
-ghost use Rattle.protox_rows.specs.Notes.{Adds};
-ghost use Rattle.protox_bodies.specs.Fields as rule;
+ghost use Rattle.protox_rows.specs.inner.Outcome.{Gives};
+ghost use Rattle.protox_rows.specs.inner.Notes.{Adds};
+ghost use Rattle.protox_bodies.specs.inner.Fields as rule;
 
 use crate::parts::FieldParts;
 use protox_ast::ast::{Boxed, FieldKind, Ident, Int, OptionList, Ty};
@@ -19,7 +19,7 @@ use protox_rows::refused::Refused;
 use protox_rows::rows::{RowAt, Unread, span_between};
 use std::alloc::{AllocError, Global};
 
-// Behind a named type the name may go on with a dot.
+// What may follow a named type: a dot goes on with it.
 fn after_type(ty: &Ty, named: Expected, scalar: Expected) -> Expected {
     match ty {
         Ty::Named(_) => named,
@@ -28,15 +28,15 @@ fn after_type(ty: &Ty, named: Expected, scalar: Expected) -> Expected {
 }
 
 /// ident "=" int list? ";"
-#[tactic(auto, unfolding(crate::specs::Fields::numbered))]
-fn numbered<'t, 'a>(
+#[tactic(auto, unfolding(crate::specs::inner::Fields::name_and_number))]
+fn name_and_number<'t, 'a>(
     alloc: Global,
     notes: &mut Vec<Note>,
     rows: &mut Unread<'t, 'a>,
     expected: Expected,
 ) -> Result<(Ident, Int, Option<Boxed<OptionList>>, RowAt<'t, 'a>), Refused>
-    ensures read { Gives (λ x. (x.0, (x.1, (x.2, x.3.at)))) result rows.new ((rule.numbered).code rows.old) }
-    ensures notes { Adds result notes.old.items ((rule.numbered).notes rows.old) notes.new.items }
+    ensures read { Gives (λ x. (x.0, (x.1, (x.2, x.3.at)))) result rows.new ((rule.name_and_number).code rows.old) }
+    ensures notes { Adds result notes.old.items ((rule.name_and_number).notes rows.old) notes.new.items }
 {
     let name = ident(alloc, rows, expected)?;
     expect_mark(rows, b'=', Expected::Equals)?;
@@ -47,7 +47,7 @@ fn numbered<'t, 'a>(
 }
 
 /// normal = type ident "=" int list? ";"
-#[tactic(auto, unfolding(crate::specs::Fields::normal))]
+#[tactic(auto, unfolding(crate::specs::inner::Fields::normal))]
 pub(crate) fn normal<'t, 'a>(
     alloc: Global,
     notes: &mut Vec<Note>,
@@ -59,7 +59,7 @@ pub(crate) fn normal<'t, 'a>(
 {
     let (ty, ty_span) = field_type(alloc, rows, expected)?;
     let behind = after_type(&ty, Expected::DotOrIdent, Expected::Ident);
-    let (name, number, options, end) = numbered(alloc, notes, rows, behind)?;
+    let (name, number, options, end) = name_and_number(alloc, notes, rows, behind)?;
     let last = end.again();
     let parts = FieldParts {
         name,
@@ -71,7 +71,7 @@ pub(crate) fn normal<'t, 'a>(
 }
 
 /// map = "map" "<" type "," type ">" ident "=" int list? ";"
-#[tactic(auto, unfolding(crate::specs::Fields::map_field))]
+#[tactic(auto, unfolding(crate::specs::inner::Fields::map_field))]
 pub(crate) fn map_field<'t, 'a>(
     alloc: Global,
     notes: &mut Vec<Note>,
@@ -92,7 +92,7 @@ pub(crate) fn map_field<'t, 'a>(
         Expected::RightAngleBracket,
     );
     let close = expect_mark(rows, b'>', angle)?;
-    let (name, number, options, end) = numbered(alloc, notes, rows, Expected::Ident)?;
+    let (name, number, options, end) = name_and_number(alloc, notes, rows, Expected::Ident)?;
     let last = end.again();
     let kind = FieldKind::Map {
         ty_span: span_between(&start, &close),
@@ -110,7 +110,7 @@ pub(crate) fn map_field<'t, 'a>(
     Ok((parts, (end, last)))
 }
 
-// Whether a group's name, before which so many rows are left, begins with a capital.
+// Whether the group's name at which `left` rows are left begins with a capital.
 fn check_group_name(
     notes: &mut Vec<Note>,
     left: usize,
@@ -132,8 +132,8 @@ fn check_group_name(
     Ok(())
 }
 
-/// ident, as the name of a group, which is checked before the row behind it is read.
-#[tactic(auto, unfolding(crate::specs::Fields::group_name))]
+/// ident , the name of a group. It is checked before the row behind it is read.
+#[tactic(auto, unfolding(crate::specs::inner::Fields::group_name))]
 pub(crate) fn group_name(
     alloc: Global,
     notes: &mut Vec<Note>,

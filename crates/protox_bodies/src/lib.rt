@@ -1,4 +1,4 @@
-//! Reads what recurses: fields, groups, oneofs, extends and messages, at most so many levels deep.
+//! Reads what recurses: fields, groups, oneofs, extends and messages, up to a limit of levels.
 #![tactic(auto)]
 
 mod around;

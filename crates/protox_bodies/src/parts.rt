@@ -1,7 +1,7 @@
-//! What is read on the way to the syntax tree.
+//! The parts that are read before a syntax tree is built of them.
 
 ghost use Rattle.std.specs.Prelude.{◌≡◌, OnOk};
-ghost use Rattle.protox_bodies.specs.Bodies as rule;
+ghost use Rattle.protox_bodies.specs.inner.Bodies as rule;
 
 use protox_ast::ast::{
     Boxed, Extensions, Field, FieldKind, Ident, Int, MessageItem, Opt, Option as OptionStatement,
@@ -29,9 +29,9 @@ pub(crate) enum Element {
     Extensions(Extensions),
 }
 
-/// What stands in a message, by kinds.
+/// The declarations in a message, by kinds.
 #[derive(Drop)]
-pub(crate) struct Inside {
+pub(crate) struct ElementsByKind {
     pub items: Items<MessageItem>,
     pub extensions: Items<Extensions>,
     pub options: Items<OptionStatement>,
@@ -46,19 +46,19 @@ pub(crate) enum OneofElement {
     Field(Field),
 }
 
-/// What stands in a oneof, by kinds.
+/// The declarations in a oneof, by kinds.
 #[derive(Drop)]
-pub(crate) struct OneofInside {
+pub(crate) struct OneofElementsByKind {
     pub options: Items<OptionStatement>,
     pub fields: Items<Field>,
 }
 
-/// Adds what stands next in a oneof.
-pub(crate) fn put_in_oneof(
-    inside: &mut OneofInside,
+/// Adds the next declaration of a oneof.
+pub(crate) fn add_oneof_element(
+    inside: &mut OneofElementsByKind,
     element: OneofElement,
 ) -> Result<(), AllocError>
-    ensures { OnOk result (inside.new ≡ rule.add_oneof inside.old element) }
+    ensures { OnOk result (inside.new ≡ rule.add_oneof_element inside.old element) }
 {
     match element {
         OneofElement::Empty => Ok(()),
@@ -67,12 +67,12 @@ pub(crate) fn put_in_oneof(
     }
 }
 
-/// Adds what stands next in an extend block.
-pub(crate) fn put_in_extend(
+/// Adds the next declaration of an `extend`.
+pub(crate) fn add_extend_element(
     fields: &mut Items<Field>,
     element: Option<Field>,
 ) -> Result<(), AllocError>
-    ensures { OnOk result (fields.new ≡ rule.add_field fields.old element) }
+    ensures { OnOk result (fields.new ≡ rule.add_extend_element fields.old element) }
 {
     match element {
         None => Ok(()),
@@ -80,8 +80,8 @@ pub(crate) fn put_in_extend(
     }
 }
 
-/// Adds what stands next in a message.
-pub(crate) fn put(inside: &mut Inside, element: Element) -> Result<(), AllocError>
+/// Adds the next declaration of a message.
+pub(crate) fn add_element(inside: &mut ElementsByKind, element: Element) -> Result<(), AllocError>
     ensures { OnOk result (inside.new ≡ rule.add_element inside.old element) }
 {
     match element {

@@ -1,37 +1,25 @@
--- What is said of a descriptor's bytes is said of the tree that it is of.
-use Rattle.std.proofs.Common.{◌≡◌, ◌≤◌, ◌^◌, ℕ, false, List, Result, Ok, Err, IfOk, MatchResult, refl, ap, subst, ◌∙◌}
+-- What is said of a descriptor's bytes is said of the source that it is the translation of.
+use Rattle.std.proofs.Common.{◌≡◌, ◌≤◌, ◌^◌, ℕ, false, List, Result, Ok, Err, IfOk, MatchResult, refl, subst}
 use Rattle.std.specs.Prelude.{length, IsErrOf}
-use Rattle.protox_ast.specs.Accepted.{IsAccepted}
-use Rattle.protox_ast.specs.Ast as ast_of
-use Rattle.protox_ast.specs.Places.{Place}
-use Rattle.protox_ast.specs.Tree as tree
 use Rattle.protox_bytes.specs.Failures.{IfNotParsed, IsParsed, IsWithout}
 use Rattle.protox_bytes.specs.declared.BytesFailure.{BytesFailure}
 use Rattle.protox_bytes.specs.declared.BytesFailure.TheVariants.{NotParsed, NotEncoded}
-use Rattle.protox_checks.specs.Faults.{IsFaultless}
 use Rattle.protox_descriptor.specs.declared.descriptor.FileDescriptorProto.{FileDescriptorProto}
 use Rattle.protox_encode.specs.Floats.{has_floats}
 use Rattle.protox_encode.specs.Messages as words
 use Rattle.protox_encode.specs.Wire.{message}
 use Rattle.protox_encode.specs.declared.fault.EncodeError.{EncodeError}
 use Rattle.protox_encode.specs.declared.fault.EncodeError.TheVariants.{TooLarge, NotAFloat, OutOfMemory}
-use Rattle.protox_generate.specs.File.{file_descriptor}
+use Rattle.protox_parse.specs.Files.{IsTranslation}
 use Rattle.protox_parse.specs.declared.failure.ParseFailure.{ParseFailure}
 
-abbrev Found : List ℕ → List ℕ → FileDescriptorProto → Type 0
-Found name source d = (f : tree.File Place) × IsAccepted source f
-    × IsFaultless (ast_of.file (length source) f)
-    × (d ≡ file_descriptor name source (ast_of.file (length source) f))
-
 abbrev Spelled : List ℕ → List ℕ → List ℕ → Type 0
-Spelled name source bytes = (f : tree.File Place) × IsAccepted source f
-    × IsFaultless (ast_of.file (length source) f)
-    × (bytes ≡ message (words.file_descriptor (file_descriptor name source (ast_of.file (length source) f))))
+Spelled name source bytes = (d : FileDescriptorProto) × IsTranslation name source d × (bytes ≡ message (words.file_descriptor d))
 
-pub found : {V : Type 0} (name source : List ℕ) (d : FileDescriptorProto) (r : Result V BytesFailure) (items : V → List ℕ) → Found name source d
+pub found : {V : Type 0} (name source : List ℕ) (d : FileDescriptorProto) (r : Result V BytesFailure) (items : V → List ℕ) → IsTranslation name source d
     → IfOk r (λ v. items v ≡ message (words.file_descriptor d)) → IfOk r (λ v. Spelled name source (items v))
 found {V} name source d (Err e) items is h = tt
-found {V} name source d (Ok v) items is h = (is.0, is.1, is.2, h ∙ ap (λ (e : FileDescriptorProto). message (words.file_descriptor e)) is.3)
+found {V} name source d (Ok v) items is h = (d, is, h)
 
 pub only : {V : Type 0} (d e : FileDescriptorProto) (r : Result V BytesFailure) (items : V → List ℕ) → d ≡ e
     → MatchResult r (λ v. items v ≡ message (words.file_descriptor d)) (IsWithout d)

@@ -10,17 +10,18 @@ use Rattle.protox_parse.specs.Failures as parsed
 use Rattle.protox_bytes.specs.declared.BytesFailure.{BytesFailure}
 use Rattle.protox_bytes.specs.declared.BytesFailure.TheVariants.{NotParsed, NotEncoded}
 
--- If the source was not parsed, P holds of why.
+-- If the source was not parsed, P holds of the reason.
 abbrev pub IfNotParsed : {T : Type 0} → Result T BytesFailure → (ParseFailure → Type 0) → Type 0
 IfNotParsed (Err (NotParsed failure)) P = P failure
 IfNotParsed _ P = Unit {0}
 
--- If there is a failure, the source was parsed.
+-- If there are no bytes, the source was parsed.
 abbrev pub IsParsed : {T : Type 0} → Result T BytesFailure → Type 0
 IsParsed (Err (NotParsed failure)) = ⊥
 IsParsed _ = Unit {0}
 
--- A descriptor has no bytes to give: memory ran out, or they are 2 GiB or more, or a double in it is the text of no float.
+-- The descriptor has no bytes: memory ran out, or they would be 2 GiB or more, or a double in it is
+-- the text of no float.
 abbrev pub IsWithout : FileDescriptorProto → BytesFailure → Type 0
 IsWithout descriptor (NotParsed failure) = parsed.IsOutOfMemory failure
 IsWithout descriptor (NotEncoded OutOfMemory) = Unit {0}

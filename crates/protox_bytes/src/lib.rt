@@ -2,31 +2,27 @@
 #![tactic(auto)]
 
 ghost use Rattle.std.specs.Prelude.{◌≡◌, ◌<◌, ◌^◌, IfOk, MatchResult, length};
-ghost use Rattle.protox_ast.specs.Accepted.{IsAccepted};
-ghost use Rattle.protox_ast.specs.Ast as ast_of;
-ghost use Rattle.protox_ast.specs.Places.{Place};
-ghost use Rattle.protox_ast.specs.Tree as tree;
 ghost use Rattle.protox_bytes.specs.Failures.{IfNotParsed, IsParsed, IsWithout};
-ghost use Rattle.protox_checks.specs.Faults.{IsFaultless};
+ghost use Rattle.protox_descriptor.specs.declared.descriptor.FileDescriptorProto as descriptor;
 ghost use Rattle.protox_encode.specs.Messages as encoded;
 ghost use Rattle.protox_encode.specs.Wire.{message};
-ghost use Rattle.protox_generate.specs.File.{file_descriptor};
 ghost use Rattle.protox_parse.specs.Failures.{IsRefusalOf};
-ghost use Rattle.protox_parse.specs.Truth.{IsTightFirst, IsTrueFirst};
+ghost use Rattle.protox_parse.specs.Files.{IsTranslation};
+ghost use Rattle.protox_parse.specs.FirstFault.{BeginsWithFirst};
 
 use protox_descriptor::descriptor::FileDescriptorProto;
 use protox_encode::{EncodeError, encode};
 use protox_parse::{ParseFailure, parse};
 use std::alloc::Global;
 
-/// Why a source has no bytes: it is refused, its descriptor has none, or memory ran out.
+/// Why there are no bytes: the source was not parsed, or its descriptor was not encoded.
 #[derive(Drop)]
 pub enum BytesFailure {
     NotParsed(ParseFailure),
     NotEncoded(EncodeError),
 }
 
-// The bytes of a descriptor, with the errors of `parse_to_bytes`.
+// The bytes of a descriptor. It fails as `parse_to_bytes` does.
 fn encoded_file(alloc: Global, file: &FileDescriptorProto) -> Result<Vec<u8>, BytesFailure>
     ensures exact { IfOk result (λ bytes. bytes.items ≡ message (encoded.file_descriptor file.now)) }
     ensures fits { IfOk result (λ bytes. length bytes.items < 2 ^ 31) }
@@ -39,31 +35,25 @@ fn encoded_file(alloc: Global, file: &FileDescriptorProto) -> Result<Vec<u8>, By
     }
 }
 
-/// The bytes of the descriptor of the file of this name and this source, with its locations, as
-/// Protocol Buffers writes a `FileDescriptorProto`.
+/// Parses a file and encodes its descriptor, with locations, as a serialized `FileDescriptorProto`.
 ///
 /// # Errors
-/// `NotParsed` with what is wrong with the source, or that memory ran out. `NotEncoded` where the
-/// bytes would be 2 GiB or more, where some option's value is no float though it should be, or
-/// where memory ran out.
+/// `NotParsed` if the source is refused, or memory ran out while it was parsed. `NotEncoded` if the
+/// bytes would be 2 GiB or more, if an option needs a float and its value is none, or if memory ran
+/// out while encoding.
 pub fn parse_to_bytes(alloc: Global, name: &str, source: &str) -> Result<Vec<u8>, BytesFailure>
-    // The bytes are the spelling of the descriptor of a tree that the source's tokens spell, with which nothing is wrong.
-    ensures found { IfOk result (λ bytes. (f : tree.File Place) × IsAccepted source.now f
-        × IsFaultless (ast_of.file (length source.now) f)
-        × (bytes.items ≡ message (encoded.file_descriptor (file_descriptor name.now source.now (ast_of.file (length source.now) f))))) }
+    // The bytes are the spelling of the translation of the source.
+    ensures found { IfOk result (λ bytes. (d : descriptor.FileDescriptorProto) × IsTranslation name.now source.now d
+        × (bytes.items ≡ message (encoded.file_descriptor d))) }
     // There are fewer than 2 GiB of them.
     ensures fits { IfOk result (λ bytes. length bytes.items < 2 ^ 31) }
-    // Every accepted source gets these bytes, unless memory runs out or its descriptor has none.
-    ensures only { (f : tree.File Place) → IsAccepted source.now f → IsFaultless (ast_of.file (length source.now) f)
-        → MatchResult result
-        (λ bytes. bytes.items ≡ message (encoded.file_descriptor (file_descriptor name.now source.now (ast_of.file (length source.now) f))))
-        (IsWithout (file_descriptor name.now source.now (ast_of.file (length source.now) f))) }
-    // A refusal names its file and holds its source, and its faults lie in it.
+    // Every source that is a file gets them, unless memory runs out or its descriptor has none.
+    ensures only { (d : descriptor.FileDescriptorProto) → IsTranslation name.now source.now d
+        → MatchResult result (λ bytes. bytes.items ≡ message (encoded.file_descriptor d)) (IsWithout d) }
+    // A refusal has the file's name and the source, and its faults lie in the source.
     ensures refused { IfNotParsed result (IsRefusalOf name.now source.now) }
-    // The first fault is true of the source.
-    ensures is_true { IfNotParsed result (IsTrueFirst source.now) }
-    // No fault comes before it.
-    ensures tight { IfNotParsed result (IsTightFirst source.now) }
+    // The first fault is true of the source, and no fault comes before it.
+    ensures first { IfNotParsed result (BeginsWithFirst source.now) }
 {
     match parse(alloc, name, source) {
         Ok(file) => encoded_file(alloc, &file),

@@ -1,4 +1,4 @@
--- Faults that are added, node after node.
+-- Faults are added node by node.
 use Rattle.std.proofs.Common.{◌≡◌, ℕ, zero, suc, not-suc-le-zero, le_of_suc-le-suc, refl, ◌+◌, ◌<◌, ◌≤◌, List, [], ◌∷◌, ◌++◌, length, take, get_or, flat_map, Result, Ok, Err, OnOk, ap, sym, ◌∙◌, append_assoc, append-nil, take_all}
 use Rattle.std.proofs.lemmas.Grind.{flat_map-append}
 use Rattle.std.proofs.lemmas.List.{take_more}
@@ -6,7 +6,7 @@ use Rattle.protox_fault.specs.declared.error.ParseErrorKind.{ParseErrorKind}
 use Rattle.protox_ast.specs.declared.ast.Syntax.{Syntax}
 use Rattle.protox_checks.specs.Checks.{node_faults, nodes_faults}
 use Rattle.protox_checks.specs.Nodes.{Node}
-use Rattle.protox_checks.specs.Walk.{Adds, AddsIn}
+use Rattle.protox_checks.specs.inner.Walk.{Adds, AddsIn}
 
 -- ---- in one syntax
 
@@ -29,7 +29,7 @@ pub in-more : {A : Type 0} (s : Syntax) (g : A → List Node) (xs : List A) (i :
 in-more s g xs i x start old new h e a b =
     in-both s start old new (flat_map g (take i xs)) (g x) a b ∙ ap (λ l. start ++ nodes_faults s l) (sym (flat-more g xs i x h e))
 
--- An element is the same whatever would stand past the end.
+-- An element is the same, whichever value counts as the one past the end.
 read-same : {A : Type 0} (xs : List A) (i : ℕ) (d e : A) → i < length xs → get_or xs i d ≡ get_or xs i e
 read-same [] i d e h = absurd (not-suc-le-zero h)
 read-same (x ∷ xs) zero d e h = refl
@@ -68,7 +68,7 @@ all g xs ys i start new h e a = λ s. in-all s g xs ys i start new h e (a s)
 pub same : (old new : List ParseErrorKind) (xs ys : List Node) → xs ≡ ys → Adds old new xs → Adds old new ys
 same old new xs ys e a = λ s. a s ∙ ap (λ l. old ++ nodes_faults s l) e
 
--- ---- where memory did not run out
+-- ---- if memory did not run out
 
 pub on-ok : {A E P Q : Type 0} (r : Result A E) → (P → Q) → OnOk r P → OnOk r Q
 on-ok (Ok x) f h = f h

@@ -1,4 +1,4 @@
--- A default value has no text exactly where something is wrong with it.
+-- A default value has no text exactly if it is wrong.
 use Rattle.std.proofs.Common.{◌≡◌, Bool, true, false, ◌↔◌, if◌then◌else◌, List, ℕ, ℤ, Option, Some, None, codes, refl, ap, sym, true≢false, is_none}
 use Rattle.protox_fault.specs.declared.error.ParseErrorKind.{ParseErrorKind}
 use Rattle.protox_fault.specs.declared.error.ParseErrorKind.TheVariants as fault

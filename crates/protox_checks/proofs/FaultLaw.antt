@@ -1,4 +1,4 @@
--- A fault is in the list of a file's faults exactly if it is wrong of the file.
+-- A fault is in the list of a file's faults exactly if it is `Wrong` of the file.
 use Rattle.std.proofs.Common.{◌≡◌, ℕ, Bool, true, false, not, ◌⊎◌, inl, inr, List, [], ◌∷◌, ◌++◌, Contains, Option, Some, None, codes, refl, sym, ap, subst, ◌∙◌, true≢false, Bor, is_none}
 use Rattle.std.specs.Prelude.{◌&&◌}
 use Rattle.protox_fault.specs.Faults.{Span}
@@ -26,21 +26,21 @@ use Rattle.protox_checks.proofs.Membership.{Among, somewhere-from, any-from, amo
 
 -- ---- the word of a kind
 
--- no word stands in the fault
+-- the fault has no word
 abbrev plain : ParseErrorKind → Bool
 plain (fault.InvalidDefault span kind) = false
 plain (fault.InvalidExtendFieldKind span kind) = false
 plain (fault.InvalidOneofFieldKind span kind) = false
 plain wrong = true
 
--- a fault without a word is no other one settled
+-- a settled fault without a word is the fault itself
 unsettle : (one wrong : ParseErrorKind) → plain one ≡ true → one ≡ settled wrong → wrong ≡ one
 unsettle one (fault.InvalidDefault span kind) p e = absurd (true≢false (sym p ∙ ap plain e))
 unsettle one (fault.InvalidExtendFieldKind span kind) p e = absurd (true≢false (sym p ∙ ap plain e))
 unsettle one (fault.InvalidOneofFieldKind span kind) p e = absurd (true≢false (sym p ∙ ap plain e))
 unsettle one wrong p e = sym e
 
--- which fault of a word it is
+-- the fault, given its word
 abbrev is_default : ParseErrorKind → Bool
 is_default (fault.InvalidDefault span kind) = true
 is_default wrong = false
@@ -102,21 +102,21 @@ one-from : {x y : ParseErrorKind} → Among (x ∷ []) y → x ≡ y
 one-from (inl e) = e
 one-from (inr h) = absurd h
 
--- a fault without a word, that holds where the test fails
+-- a fault without a word, held where the test fails
 fails-to : (b : Bool) (one wrong : ParseErrorKind) → settled one ≡ one → (b ≡ false) × (wrong ≡ one) → Among (only_if (not b) one) (settled wrong)
 fails-to b one wrong s h = test-to (not b) one wrong (not-false b h.0) (sym (ap settled h.1 ∙ s))
 
 fails-from : (b : Bool) (one wrong : ParseErrorKind) → plain one ≡ true → Among (only_if (not b) one) (settled wrong) → (b ≡ false) × (wrong ≡ one)
 fails-from b one wrong p h = let r = test-from (not b) one wrong h in (not-true b r.0, unsettle one wrong p r.1)
 
--- one that always holds
+-- a fault that always holds
 plain-to : (one wrong : ParseErrorKind) → settled one ≡ one → wrong ≡ one → Among (one ∷ []) (settled wrong)
 plain-to one wrong s e = inl (sym (ap settled e ∙ s))
 
 plain-from : (one wrong : ParseErrorKind) → plain one ≡ true → Among (one ∷ []) (settled wrong) → wrong ≡ one
 plain-from one wrong p h = unsettle one wrong p (one-from h)
 
--- one that holds where there is no value
+-- a fault that holds if there is no value
 none-to : {A : Type 0} (o : Option A) (one wrong : ParseErrorKind) → settled one ≡ one → (o ≡ None) × (wrong ≡ one) → Among (only_if (is_none o) one) (settled wrong)
 none-to o one wrong s h = test-to (is_none o) one wrong (none-test o h.0) (sym (ap settled h.1 ∙ s))
 

@@ -1,4 +1,4 @@
--- The faults of a file lie in a source in which the file stands.
+-- The faults of a file lie in each source in which the file stands.
 use Rattle.std.proofs.Common.{◌≡◌, ℕ, Bool, true, false, not, List, [], ◌∷◌, ◌++◌, map, flat_map, Option, Some, None, IfSome, codes, sym, subst, is_none}
 use Rattle.std.specs.Prelude.{◌&&◌}
 use Rattle.protox_fault.specs.Faults.{Span, SpanLiesIn, LiesIn}
@@ -113,11 +113,11 @@ module _ (n : ℕ) where
   all-lie syntax [] h = tt
   all-lie syntax (node ∷ nodes) h = each-both (LiesIn n) (node_faults syntax node) (flat_map (node_faults syntax) nodes) (node-lies syntax node h.0) (all-lie syntax nodes h.1)
 
-  -- The faults of a file lie in a source in which it stands.
+  -- The faults of a file lie in each source in which it stands.
   pub faults-lie : (file : File) → FileStands n file → Each (LiesIn n) (file_faults file)
   faults-lie file h = all-lie file.syntax (file_nodes file) (nodes-lie n file h)
 
-  -- ---- what is found
+  -- ---- found faults
 
   settled-lies : (wrong : ParseErrorKind) → LiesIn n (settled wrong) → LiesIn n wrong
   settled-lies (fault.InvalidDefault span kind) h = h
@@ -129,11 +129,11 @@ module _ (n : ℕ) where
   all-settled [] h = tt
   all-settled (wrong ∷ found) h = (settled-lies wrong h.0, all-settled found h.1)
 
-  -- What is found, in the order of the list, lies there.
+  -- The listed faults lie there.
   pub listed-lie : (file : File) (found : List ParseErrorKind) → FileStands n file → AreListed file found → Each (LiesIn n) found
   listed-lie file found h e = all-settled found (subst (Each (LiesIn n)) (sym e) (faults-lie file h))
 
-  -- What is wrong of the file lies there.
+  -- The faults of the file lie there.
   pub wrong-lies : (file : File) → FileStands n file → (wrong : ParseErrorKind) → Wrong file wrong → LiesIn n wrong
   wrong-lies file h wrong w = settled-lies wrong (each-among (LiesIn n) (file_faults file) (faults-lie file h) (settled wrong) (among-from (file_faults file) (settled wrong) (listed-if-wrong file wrong w)))
 

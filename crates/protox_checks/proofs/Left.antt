@@ -1,4 +1,4 @@
--- Options that are left, one after another.
+-- The options that are left, one after another.
 use Rattle.std.proofs.Common.{◌≡◌, ℕ, suc, ◌+◌, ◌-◌, ◌<◌, ◌≤◌, Bool, true, false, if◌then◌else◌, List, [], ◌∷◌, ◌++◌, length, take, drop, get_or, ap, sym, ◌∙◌, append_assoc, append-nil, add-one, arith, codes}
 use Rattle.std.proofs.Math.Seq.{drop-cons}
 use Rattle.std.proofs.lemmas.List.{drop_all, length-drop, take_all}
@@ -8,13 +8,13 @@ use Rattle.protox_ast.specs.declared.ast.OptionBody.{OptionBody}
 use Rattle.protox_ast.specs.declared.ast.Syntax.{Syntax}
 use Rattle.protox_checks.specs.Checks.{node_faults, nodes_faults}
 use Rattle.protox_checks.specs.Nodes.{AnOption, option_nodes}
-use Rattle.protox_checks.specs.Walk.{Adds, others}
+use Rattle.protox_checks.specs.inner.Walk.{Adds, others}
 
--- what is found, and then what is wrong with these
+-- the faults so far, and then those of these options
 abbrev pub after : Syntax → List ParseErrorKind → List OptionBody → List ParseErrorKind
 after s found bodies = found ++ nodes_faults s (option_nodes bodies)
 
--- one of them is looked at
+-- one option is checked
 pub one-after : (s : Syntax) (x : OptionBody) (xs : List OptionBody) (old new : List ParseErrorKind) → Adds old new (AnOption x.value ∷ []) → after s new xs ≡ after s old (x ∷ xs)
 one-after s x xs old new h =
     let f = node_faults s (AnOption x.value) in
@@ -56,7 +56,8 @@ rest xs i = take (length xs - (i + 1)) (drop (i + 1) xs)
 rest-is : (xs : List OptionBody) (i : ℕ) → rest xs i ≡ drop (i + 1) xs
 rest-is xs i = take_all (length xs - (i + 1)) (drop (i + 1) xs) (omega (arith, length-drop (i + 1) xs))
 
--- What is found of those before i, and of what is left of the others, is what is found of all that is left.
+-- `found` with the faults of the options left from i on is the same as `start` with the faults of
+-- all options that are left.
 abbrev pub ToCome : (List OptionBody → List OptionBody) → List OptionBody → ℕ → List ParseErrorKind → List ParseErrorKind → Type 0
 ToCome left xs i start found = (s : Syntax) → after s found (left (drop i xs)) ≡ after s start (left xs)
 
@@ -64,7 +65,7 @@ module _ (left : List OptionBody → List OptionBody) (xs : List OptionBody) (i 
   here : (others : List OptionBody) → left (x ∷ drop (i + 1) xs) ≡ others → (s : Syntax) → after s old others ≡ after s start (left xs)
   here others k s = ap (after s old) (sym k) ∙ (ap (λ l. after s old (left l)) (sym (drop_more xs i x h e)) ∙ inv s)
 
-  -- What is left from there on is told of the rest, which is looked at as a whole.
+  -- The options left from there on are described by the rest, which is checked as a whole.
   pub whole : (of_rest : List OptionBody → List OptionBody) → left (x ∷ drop (i + 1) xs) ≡ of_rest (drop (i + 1) xs) → Adds old new (option_nodes (of_rest (rest xs i))) → Adds start new (option_nodes (left xs))
   whole of_rest k a = λ s. a s ∙ (ap (λ l. after s old (of_rest l)) (rest-is xs i) ∙ here (of_rest (drop (i + 1) xs)) k s)
 

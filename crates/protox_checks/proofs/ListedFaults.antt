@@ -1,4 +1,5 @@
--- Each fault that is listed has its word at the one place. So it is wrong of the file, and each that is wrong is listed.
+-- In each listed fault the word is held at the one place. So each listed fault is one of the file,
+-- and each fault of the file is listed.
 use Rattle.std.proofs.Common.{◌≡◌, Bool, true, false, not, List, [], ◌∷◌, map, inl, inr, Any, Contains, Option, Some, None, codes, refl, sym, ap, subst, ◌∙◌, is_none}
 use Rattle.std.specs.Prelude.{◌&&◌}
 use Rattle.protox_fault.specs.Faults.{Span}
@@ -25,7 +26,7 @@ use Rattle.protox_ast.specs.Values.{is_in, any_64, signed_32, Wanted, a_float, a
 use Rattle.protox_checks.proofs.FaultLaw.{listed-if-wrong, wrong-if-listed}
 use Rattle.protox_checks.proofs.Membership.{Among, Somewhere, among-each, among-from, any-from, contains-from, each-among, each-both, each-flat, somewhere-among}
 
--- ---- what is listed is settled
+-- ---- listed faults are settled
 
 abbrev IsSettled : ParseErrorKind → Type 0
 IsSettled wrong = settled wrong ≡ wrong
@@ -128,7 +129,7 @@ wrong-listed file wrong h =
 pub none-listed : (file : File) → file_faults file ≡ [] → IsFaultless file
 none-listed file e wrong h = among-from [] (settled wrong) (subst (λ l. Contains l (settled wrong)) e (listed-if-wrong file wrong h))
 
--- ---- what is found
+-- ---- found faults
 
 among-settled : (xs : List ParseErrorKind) (x : ParseErrorKind) → Among xs x → Among (map settled xs) (settled x)
 among-settled [] x a = absurd a

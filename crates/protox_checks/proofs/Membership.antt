@@ -1,4 +1,4 @@
--- What holds of each element of a list, and of its elements by recursion.
+-- Statements about each element of a list, and about its elements by recursion.
 use Rattle.std.proofs.Common.{◌≡◌, Bool, true, false, not, inl, inr, List, [], ◌∷◌, ◌++◌, flat_map, Option, Some, None, refl, sym, ap, subst, true≢false, is_none}
 use Rattle.std.specs.Prelude.{◌&&◌}
 pub use Rattle.std.proofs.lemmas.Bool.{and_parts, not-true}

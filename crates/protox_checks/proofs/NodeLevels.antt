@@ -1,4 +1,4 @@
--- What is looked at in one level of a tree, of what is looked at in the levels in it.
+-- The checked parts in one level of a tree, given the parts in the levels below.
 use Rattle.std.proofs.Common.{◌≡◌, List, [], ◌∷◌, ◌++◌, map, flat_map, refl, ap, sym, ◌∙◌}
 use Rattle.std.proofs.lemmas.Grind.{flat_map-append}
 use Rattle.std.proofs.lemmas.List.Folds.{flat_map-map}
@@ -16,7 +16,7 @@ use Rattle.protox_ast.specs.declared.ast.Reserved.{Reserved}
 use Rattle.protox_ast.proofs.Levels.{body-gives, oneof-gives, extend-gives, field-gives}
 use Rattle.protox_checks.specs.FieldFaults.{Scope, InOneof, InExtend}
 use Rattle.protox_checks.specs.Nodes.{Node, AMessageNumber, AField, AnOption, empty_nodes, extensions_nodes, fields_nodes, json_name_nodes, node_steps, option_nodes, range_nodes, reserved_nodes}
-use Rattle.protox_checks.specs.Walk.{field_node}
+use Rattle.protox_checks.specs.inner.Walk.{field_node}
 
 -- ---- options and ranges
 
@@ -43,7 +43,7 @@ reserved-flat node (x ∷ xs) =
     ap (λ l. kind_nodes node x ++ l) (reserved-flat node xs)
     ∙ sym (flat_map-append (range_nodes node) (kind_ranges x.kind) (flat_map (λ (statement : Reserved). kind_ranges statement.kind) xs))
 
--- ---- fields that stand in one thing
+-- ---- fields in one place
 
 abbrev pub field_in : Scope → Field → List Node
 field_in scope field = of_field node_steps field scope
@@ -57,7 +57,7 @@ empty-same f (x ∷ xs) span = refl
 
 -- ---- levels
 
--- what stands in a body and isn't an item
+-- the parts of a body that are no items
 abbrev pub aside : MessageBody → List Node
 aside x = reserved_nodes AMessageNumber (out-MessageBody x).reserved ++ (flat_map extensions_nodes (out-MessageBody x).extensions ++ option_nodes (bodies_of (out-MessageBody x).options))
 

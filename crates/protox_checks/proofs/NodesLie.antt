@@ -1,4 +1,4 @@
--- What of a file is looked at for faults lies in a source in which the file stands.
+-- The checked parts of a file lie in each source in which the file stands.
 use Rattle.std.proofs.Common.{ℕ, Bool, true, false, if◌then◌else◌, List, [], ◌∷◌, ◌++◌, map, flat_map, Option, Some, None, IfSome, codes, subst}
 use Rattle.std.specs.Prelude.{find}
 use Rattle.protox_fault.specs.Faults.{Span, SpanLiesIn}
@@ -46,7 +46,7 @@ first-found : {A : Type 0} (P : A → Type 0) (b : Bool) (x : A) (others : Optio
 first-found P true x others h k = h
 first-found P false x others h k = k
 
--- What holds of each holds of the one that is found.
+-- If something holds of each element, it holds of the one that is found.
 found : {A : Type 0} (P : A → Type 0) (test : A → Bool) (xs : List A) → Each P xs → IfSome (find test xs) P
 found P test [] h = tt
 found P test (x ∷ xs) h = first-found P (test x) x (find test xs) h.0 (found P test xs h.1)
@@ -59,7 +59,7 @@ left : (P : OptionBody → Type 0) (name : List ℕ) (xs : List OptionBody) → 
 left P name [] h = tt
 left P name (x ∷ xs) h = first-left P (has_name name x) xs (x ∷ without_first name xs) h.1 (h.0, left P name xs h.1)
 
--- ---- what lies in a source of so many bytes
+-- ---- parts that lie in a source of `size` bytes
 
 module _ (n : ℕ) where
   -- an option, and its value
@@ -192,7 +192,7 @@ module _ (n : ℕ) where
 
   -- ---- the levels of a tree
 
-  -- What is looked at in a node lies in the source where what is in the node stands there.
+  -- The checked parts of a node lie in the source if the parts in the node stand there.
   abbrev Lie : List Node → places.Node → Type 0
   Lie nodes place = Within place.inside → Each NodeLies nodes
 

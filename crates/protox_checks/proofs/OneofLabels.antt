@@ -1,4 +1,4 @@
--- In a file with which nothing is wrong no field of a oneof has a label.
+-- If nothing is wrong with a file, no field of a oneof has a label.
 use Rattle.std.proofs.Common.{◌≡◌, inl, List, Option, Some, None, codes, refl, sym, subst}
 use Rattle.protox_ast.specs.Keywords.{Each}
 use Rattle.protox_ast.specs.declared.ast.FieldLabel.{FieldLabel}
@@ -14,7 +14,7 @@ use Rattle.protox_checks.specs.FieldFaults.{Scope, InMessage, InOneof, InExtend,
 use Rattle.protox_checks.specs.Faults.{IsFaultless, WrongNode, placed}
 use Rattle.protox_checks.specs.Nodes.{Node, AField, AMessageNumber, AnEnumNumber, AJsonName, AnOption, AnEmptyOneof, file_nodes}
 
--- what a field stands in, for other crates
+-- the place of a field, for other crates
 abbrev pub Holder : Type 0
 Holder = Scope
 

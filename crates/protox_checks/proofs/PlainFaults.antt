@@ -1,4 +1,5 @@
--- What is wrong of a syntax tree is no fault of a lexeme, and no unexpected token: a list of such faults stands in each source.
+-- The faults of a syntax tree are no faults of lexemes and no unexpected tokens. So a list of them
+-- stands in each source.
 use Rattle.std.proofs.Common.{◌≡◌, inl, inr, Bool, true, false, List, [], ◌∷◌, ◌++◌, Option, Some, None, refl, sym, ap, subst, ◌∙◌}
 use Rattle.protox_fault.specs.Faults.{Span}
 use Rattle.protox_fault.specs.declared.error.ParseErrorKind.{ParseErrorKind}

@@ -1,4 +1,5 @@
--- What is wrong with a file that its syntax allows: a relation, without order. What the parser checks stands elsewhere.
+-- What may be wrong with a file that the grammar allows, as a relation without order. The checks
+-- that are made while reading are defined in protox_ast.
 use Rattle.std.specs.Prelude.{ℕ, ◌≡◌, ◌≢◌, false, List, [], Any}
 pub use Rattle.protox_fault.specs.Faults.{placed, settled, IsSame}
 use Rattle.protox_fault.specs.declared.error.ParseErrorKind.{ParseErrorKind}
@@ -14,6 +15,7 @@ use Rattle.protox_ast.specs.FieldNumbers.{in_message_range}
 use Rattle.protox_checks.specs.ValueFaults.{WrongUninterpreted, WrongValue}
 use Rattle.protox_ast.specs.Values.{a_text, is_in, signed_32}
 
+-- The fault is one of this node.
 abbrev pub WrongNode : Syntax → Node → ParseErrorKind → Type 0
 WrongNode syntax (AMessageNumber int) wrong = (in_message_range int ≡ false) × (wrong ≡ fault.InvalidMessageNumber int.span)
 WrongNode syntax (AnEnumNumber int) wrong = (is_in signed_32 int ≡ false) × (wrong ≡ fault.InvalidEnumNumber int.span)
@@ -22,7 +24,7 @@ WrongNode syntax (AJsonName value) wrong = WrongValue a_text value wrong
 WrongNode syntax (AnOption value) wrong = WrongUninterpreted value wrong
 WrongNode syntax (AnEmptyOneof span) wrong = wrong ≡ fault.EmptyOneof span
 
--- The fault is that of some node of the file.
+-- The fault is one of some node of the file.
 abbrev pub Wrong : File → ParseErrorKind → Type 0
 Wrong file wrong = Any (λ node. WrongNode file.syntax node wrong) (file_nodes file)
 
@@ -32,22 +34,22 @@ IsFaultless file = (wrong : ParseErrorKind) → Wrong file wrong → ⊥
 
 -- ---- faults that were found
 
--- Each is wrong of the file.
+-- Each of the faults is one of the file.
 abbrev pub EachIsWrong : File → List ParseErrorKind → Type 0
 EachIsWrong file found = Each (Wrong file) found
 
--- Each that is wrong of the file is among them.
+-- Each fault of the file is in the list.
 abbrev pub HasEachWrong : File → List ParseErrorKind → Type 0
 HasEachWrong file found = (wrong : ParseErrorKind) → Wrong file wrong → Any (IsSame wrong) found
 
 -- ---- the faults of a refusal
 
--- There are some, and each is wrong of the file; or memory ran out.
+-- The list has at least one fault, and each is one of the file; or memory ran out.
 abbrev pub AreWrong : File → SyntaxFailure → Type 0
 AreWrong file (failure.Faults found) = (found.items ≢ []) × EachIsWrong file found.items
 AreWrong file failure.OutOfMemory = Unit {0}
 
--- Each that is wrong of the file is among them; or memory ran out.
+-- Each fault of the file is in the list; or memory ran out.
 abbrev pub HaveAll : File → SyntaxFailure → Type 0
 HaveAll file (failure.Faults found) = HasEachWrong file found.items
 HaveAll file failure.OutOfMemory = Unit {0}

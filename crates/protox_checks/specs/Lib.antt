@@ -3,4 +3,4 @@ pub mod FieldFaults
 pub mod Nodes
 pub mod Faults
 pub mod Checks
-pub mod Walk
+pub mod inner

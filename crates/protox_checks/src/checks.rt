@@ -1,11 +1,11 @@
-//! All that is wrong with a file.
+//! The checks of a whole file.
 
 ghost use Rattle.std.specs.Prelude.{IfOk, OnOk};
 ghost use Rattle.std.specs.List.{flat_map};
 ghost use Rattle.protox_checks.specs.Checks.{AreListed};
 ghost use Rattle.protox_checks.specs.Faults.{EachIsWrong, HasEachWrong};
 ghost use Rattle.protox_checks.specs.Nodes.{file_nodes, item_nodes};
-ghost use Rattle.protox_checks.specs.Walk.{AddsIn};
+ghost use Rattle.protox_checks.specs.inner.Walk.{AddsIn};
 
 use crate::enums::{check_enum, check_service};
 use crate::found::Found;
@@ -43,9 +43,10 @@ fn check_whole(ast: &File, errors: &mut Found) -> Result<(), AllocError>
     check_statements(ast.options.as_slice(), errors)
 }
 
-/// All that is wrong with a file that its syntax allows, in the order in which it is found. Or `AllocError`.
+/// Checks the syntax tree of a file. Answers its faults in the order in which they are found; none
+/// if the file is right. `AllocError` if memory runs out.
 pub fn check_file(alloc: Global, ast: &File) -> Result<Items<ParseErrorKind>, AllocError>
-    // Each is wrong of the tree, each that is wrong is there, and they are in order.
+    // Each is a fault of the tree, each fault of the tree is listed, and they are in order.
     ensures wrong { IfOk result (EachIsWrong ast.now) }
     ensures all { IfOk result (HasEachWrong ast.now) }
     ensures in_order { IfOk result (AreListed ast.now) }

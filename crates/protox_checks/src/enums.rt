@@ -1,9 +1,9 @@
-//! Enums and services.
+//! The checks of enums and services.
 
 ghost use Rattle.std.specs.Prelude.{OnOk};
 ghost use Rattle.std.specs.List.{flat_map};
 ghost use Rattle.protox_checks.specs.Nodes.{enum_nodes, enum_value_nodes, method_nodes, service_nodes};
-ghost use Rattle.protox_checks.specs.Walk.{Adds};
+ghost use Rattle.protox_checks.specs.inner.Walk.{Adds};
 
 use crate::found::Found;
 use crate::numbers::{Numbering, check_enum_number, check_reserved};
@@ -27,7 +27,7 @@ fn check_enum_values(values: &[EnumValue], errors: &mut Found) -> Result<(), All
     Ok(())
 }
 
-/// All that is wrong with an enum.
+/// Adds all faults of an enum.
 pub(crate) fn check_enum(ast: &Enum, errors: &mut Found) -> Result<(), AllocError>
     ensures { OnOk result (Adds errors.old errors.new (enum_nodes ast.now)) }
 {
@@ -45,7 +45,7 @@ fn check_methods(methods: &[Method], errors: &mut Found) -> Result<(), AllocErro
     Ok(())
 }
 
-/// All that is wrong with a service.
+/// Adds all faults of a service.
 pub(crate) fn check_service(ast: &Service, errors: &mut Found) -> Result<(), AllocError>
     ensures { OnOk result (Adds errors.old errors.new (service_nodes ast.now)) }
 {

@@ -1,11 +1,11 @@
-//! What may be wrong with a field itself: its label, its kind where it stands, and its default.
+//! The checks of a field itself: its label, its kind in this place, and its `default`.
 
 ghost use Rattle.std.specs.Prelude.{◌≡◌, ◌++◌, OnOk};
 ghost use Rattle.protox_ast.specs.Spans.{body_span};
 ghost use Rattle.protox_ast.specs.declared.ast.Field.{out-Field};
 ghost use Rattle.protox_checks.specs.Checks.{default_value_faults, field_faults, group_faults, key_faults, kind_faults, label_faults, map_faults, place_faults};
 ghost use Rattle.protox_checks.specs.FieldFaults as kinds;
-ghost use Rattle.protox_checks.specs.Walk.{field_node};
+ghost use Rattle.protox_checks.specs.inner.Walk.{field_node};
 
 use crate::found::{Found, copied};
 use crate::options::named;
@@ -15,7 +15,7 @@ use protox_ast::ast::{Field, FieldKind, FieldLabel, Opt, OptionBody, Syntax, Ty}
 use protox_fault::error::{ParseErrorKind, Span};
 use std::alloc::AllocError;
 
-// Of the faults of a label only the first that holds.
+// Adds at most one fault of a label: the first that holds.
 fn check_label(
     syntax: Syntax,
     scope: Scope,
@@ -99,7 +99,7 @@ fn check_map(
     check_key(key, key_span, errors)
 }
 
-// A map or a group stands where it may.
+// Checks that a map or a group is allowed here.
 fn check_kind(
     syntax: Syntax,
     scope: Scope,
@@ -198,7 +198,7 @@ fn check_without_default(
     check_kind(syntax, scope, ast, errors)
 }
 
-/// A field, apart from its number and what is in it.
+/// Checks a field without its number and its body.
 pub(crate) fn check_field_itself(
     syntax: Syntax,
     scope: Scope,

@@ -8,7 +8,8 @@ use protox_fault::error::{ParseErrorKind, Span};
 use std::alloc::{AllocError, Global};
 use std::marker::Model;
 
-/// Faults, in the order in which they were found. Contracts see each with the word of its kind at one place in memory.
+/// Faults in the order in which they were found. Contracts see the word of each kind as if it were
+/// always held the same way in memory.
 #[derive(Drop)]
 pub(crate) struct Found {
     alloc: Global,
@@ -25,7 +26,7 @@ impl Model for Found {
     ghost view = { λ found. map settled found.faults };
 }
 
-/// A span of its own.
+/// A copy of the span.
 pub(crate) fn copied(span: &Span) -> Span
     ensures { result ≡ span.now }
 {
@@ -33,7 +34,7 @@ pub(crate) fn copied(span: &Span) -> Span
 }
 
 impl Found {
-    /// No fault. It takes no memory: `alloc` serves what is added.
+    /// No fault yet. It takes no memory: `alloc` serves what is added later.
     pub fn new(alloc: Global) -> Found
         ensures { result ≡ [] }
     {
@@ -43,7 +44,7 @@ impl Found {
         }
     }
 
-    /// What the texts of a fault take their memory from.
+    /// The allocator for the texts of faults.
     pub fn alloc(&self) -> Global {
         self.alloc
     }

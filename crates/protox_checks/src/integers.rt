@@ -1,10 +1,10 @@
-//! Integers that an option may have as its value.
+//! The ranges of integers that an option's value may have.
 
 ghost use Rattle.std.specs.Prelude.{◌≡◌, ◌++◌, ◌∷◌, [], pos, OnOk};
 ghost use Rattle.protox_ast.specs.Values.{any_64, is_in, signed_32, signed_64, unsigned_32, unsigned_64};
 ghost use Rattle.protox_checks.specs.Checks.{integer_faults};
 ghost use Rattle.protox_checks.specs.ValueFaults.{out_of_range};
-ghost use Rattle.protox_checks.specs.Walk.{interval_of};
+ghost use Rattle.protox_checks.specs.inner.Walk.{interval_of};
 
 use crate::found::{Found, copied};
 use protox_ast::ast::Int;
@@ -12,14 +12,15 @@ use protox_descriptor::values::Text;
 use protox_fault::error::ParseErrorKind;
 use std::alloc::AllocError;
 
-/// A range of integers.
+/// A range of integers, by the type of the option.
 #[derive(Clone, Copy)]
 pub(crate) enum Integers {
     Signed32,
     Signed64,
     Unsigned32,
     Unsigned64,
-    /// What an option that isn't interpreted may have: with a sign a signed integer of 64 bits, else an unsigned one.
+    /// Any option that isn't interpreted: a signed integer of 64 bits if it has a sign, otherwise
+    /// an unsigned one.
     Any64,
 }
 
@@ -78,7 +79,7 @@ impl Integers {
         }
     }
 
-    // The least of them.
+    // The least integer of the range.
     fn low(self) -> i64
         ensures { result ≡ (interval_of self).low }
     {
@@ -89,7 +90,7 @@ impl Integers {
         }
     }
 
-    // The greatest.
+    // The greatest integer of the range.
     fn high(self) -> u64
         ensures { pos result ≡ (interval_of self).high }
     {
@@ -119,7 +120,7 @@ fn add_out_of_range(integers: Integers, int: &Int, errors: &mut Found) -> Result
     })
 }
 
-/// An integer lies in the range.
+/// Checks that an integer lies in the range.
 pub(crate) fn check_integer(
     integers: Integers,
     int: &Int,

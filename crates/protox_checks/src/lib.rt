@@ -1,4 +1,4 @@
-//! What is wrong with a syntax tree that its syntax allows.
+//! Finds the faults of a syntax tree that the grammar allows.
 #![tactic(auto)]
 
 pub mod checks;

@@ -1,4 +1,4 @@
-//! What recurses: messages, groups, oneofs and extend blocks.
+//! The checks that recurse: messages, groups, oneofs and `extend` statements.
 
 ghost use Rattle.std.specs.Prelude.{map, OnOk, ◌++◌, ◌∷◌, []};
 ghost use Rattle.std.specs.List.{flat_map};
@@ -9,7 +9,7 @@ ghost use Rattle.protox_ast.specs.declared.ast.MessageBody.{out-MessageBody};
 ghost use Rattle.protox_ast.specs.declared.ast.Oneof.{out-Oneof};
 ghost use Rattle.protox_checks.specs.FieldFaults.{InExtend, InOneof};
 ghost use Rattle.protox_checks.specs.Nodes.{AMessageNumber, empty_nodes, extensions_nodes, fields_nodes, node_steps, option_nodes, reserved_nodes};
-ghost use Rattle.protox_checks.specs.Walk.{Adds, AddsIn};
+ghost use Rattle.protox_checks.specs.inner.Walk.{Adds, AddsIn};
 
 use crate::enums::check_enum;
 use crate::fields::check_field_itself;
@@ -22,7 +22,7 @@ use protox_fault::error::ParseErrorKind;
 use std::alloc::AllocError;
 
 #[cycle(messages)]
-/// All that is wrong with a message.
+/// Adds all faults of a message.
 pub(crate) fn check_message(
     syntax: Syntax,
     ast: &Message,
@@ -41,7 +41,7 @@ fn check_body(syntax: Syntax, ast: &MessageBody, errors: &mut Found) -> Result<(
     check_set_aside(ast, errors)
 }
 
-// What stands in a body and isn't an item.
+// Checks what isn't an item of a body: options, reserved and extensions statements.
 fn check_set_aside(ast: &MessageBody, errors: &mut Found) -> Result<(), AllocError>
     ensures { OnOk result (Adds errors.old errors.new (reserved_nodes AMessageNumber (out-MessageBody ast.now).reserved ++ (flat_map extensions_nodes (out-MessageBody ast.now).extensions ++ option_nodes (bodies_of (out-MessageBody ast.now).options)))) }
 {
@@ -103,7 +103,7 @@ fn check_oneof_fields(syntax: Syntax, ast: &Oneof, errors: &mut Found) -> Result
     Ok(())
 }
 
-/// All that is wrong with an extend block.
+/// Adds all faults of an `extend` statement.
 #[cycle(messages)]
 pub(crate) fn check_extend(
     syntax: Syntax,
@@ -133,7 +133,7 @@ fn check_field(
     check_field_options(&ast.options, errors)
 }
 
-// What stands in a group.
+// Checks the body of a group.
 #[cycle(messages)]
 fn check_inside(syntax: Syntax, kind: &FieldKind, errors: &mut Found) -> Result<(), AllocError>
     ensures { OnOk result (AddsIn syntax errors.old errors.new (of_kind node_steps kind.now).1) }

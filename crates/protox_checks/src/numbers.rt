@@ -1,4 +1,4 @@
-//! Numbers of fields and of enum values, and ranges of them.
+//! The checks of numbers of fields and enum values, and of ranges of them.
 
 ghost use Rattle.std.specs.Prelude.{◌≡◌, ◌++◌, ◌∷◌, [], OnOk};
 ghost use Rattle.std.specs.List.{flat_map};
@@ -8,7 +8,7 @@ ghost use Rattle.protox_ast.specs.Ranges.{kind_ranges};
 ghost use Rattle.protox_ast.specs.Values.{is_in, signed_32};
 ghost use Rattle.protox_checks.specs.Checks.{message_number_faults, enum_number_faults};
 ghost use Rattle.protox_checks.specs.Nodes.{AMessageNumber, end_nodes, extensions_nodes, option_nodes, range_nodes, reserved_nodes};
-ghost use Rattle.protox_checks.specs.Walk.{Adds, number_node};
+ghost use Rattle.protox_checks.specs.inner.Walk.{Adds, number_node};
 
 use crate::found::{Found, copied};
 use crate::options::check_listed;
@@ -16,7 +16,7 @@ use protox_ast::ast::{Extensions, Int, Reserved, ReservedKind, ReservedRange, Re
 use protox_fault::error::ParseErrorKind;
 use std::alloc::AllocError;
 
-/// What the numbers of a range are.
+/// Whether a range is of field numbers or of enum numbers.
 #[derive(Clone, Copy)]
 pub(crate) enum Numbering {
     OfFields,
@@ -47,7 +47,7 @@ pub(crate) fn check_message_number(number: &Int, errors: &mut Found) -> Result<(
     })
 }
 
-/// An enum value's number lies in the range of such numbers.
+/// Checks that an enum number fits 32 bits.
 pub(crate) fn check_enum_number(number: &Int, errors: &mut Found) -> Result<(), AllocError>
     ensures { OnOk result (errors.new ≡ errors.old ++ enum_number_faults number.now) }
 {
@@ -153,7 +153,7 @@ fn check_statement(statement: &Extensions, errors: &mut Found) -> Result<(), All
     Ok(())
 }
 
-/// What stands in extensions statements: at each range their options, and its bounds.
+/// Checks extensions statements: for each range the options, and then the bounds.
 pub(crate) fn check_extensions(
     statements: &[Extensions],
     errors: &mut Found,

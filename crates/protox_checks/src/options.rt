@@ -1,10 +1,10 @@
-//! Options, where they stand.
+//! The checks of options.
 
 ghost use Rattle.std.specs.Prelude.{◌≡◌, ◌++◌, ◌∷◌, [], find, OnOk};
 ghost use Rattle.std.specs.Option.{option_copied};
 ghost use Rattle.protox_ast.specs.Options.{bodies_of, has_name, json_name_of, listed, options_left, without_first};
 ghost use Rattle.protox_checks.specs.Nodes.{AnOption, json_name_nodes, option_nodes};
-ghost use Rattle.protox_checks.specs.Walk.{Adds, others};
+ghost use Rattle.protox_checks.specs.inner.Walk.{Adds, others};
 
 use crate::found::Found;
 use crate::values::{check_text, check_uninterpreted};
@@ -17,7 +17,7 @@ fn check_body(body: &OptionBody, errors: &mut Found) -> Result<(), AllocError>
     check_uninterpreted(&body.value, errors)
 }
 
-/// The values of option statements.
+/// Checks the values of option statements.
 pub(crate) fn check_statements(statements: &[Option], errors: &mut Found) -> Result<(), AllocError>
     ensures { OnOk result (Adds errors.old errors.new (option_nodes (bodies_of statements.now))) }
 {
@@ -36,7 +36,7 @@ fn check_bodies(bodies: &[OptionBody], errors: &mut Found) -> Result<(), AllocEr
     Ok(())
 }
 
-/// The values of options in brackets.
+/// Checks the values of options in brackets.
 pub(crate) fn check_listed(
     list: &Opt<Boxed<OptionList>>,
     errors: &mut Found,
@@ -55,7 +55,7 @@ fn first_named<'a>(bodies: &'a [OptionBody], name: &str) -> Opt<&'a OptionBody>
     bodies.iter().find(|body| body.has_name(name))
 }
 
-/// The first option of that name.
+/// The first option of this name, if there is one.
 pub(crate) fn named<'a>(list: &'a Opt<Boxed<OptionList>>, name: &str) -> Opt<&'a OptionBody>
     ensures { option_copied result ≡ find (has_name name.now) (listed list.now) }
 {
@@ -74,7 +74,7 @@ fn check_json_name(list: &Opt<Boxed<OptionList>>, errors: &mut Found) -> Result<
     }
 }
 
-// The values but that of the first option of that name.
+// Checks all values but that of the first option of this name.
 fn check_without(name: &str, bodies: &[OptionBody], errors: &mut Found) -> Result<(), AllocError>
     ensures { OnOk result (Adds errors.old errors.new (option_nodes (without_first name.now bodies.now))) }
 {
@@ -87,7 +87,7 @@ fn check_without(name: &str, bodies: &[OptionBody], errors: &mut Found) -> Resul
     Ok(())
 }
 
-// The values but those of the first `default` and of the first `json_name`.
+// Checks all values but those of the first `default` and of the first `json_name`.
 fn check_others(bodies: &[OptionBody], errors: &mut Found) -> Result<(), AllocError>
     ensures { OnOk result (Adds errors.old errors.new (option_nodes (others bodies.now))) }
 {
@@ -112,7 +112,7 @@ fn check_options_left(list: &Opt<Boxed<OptionList>>, errors: &mut Found) -> Resu
     }
 }
 
-/// The options of a field but its default: its `json_name`, and what isn't interpreted.
+/// Checks a field's options but the `default`: its `json_name`, and those that aren't interpreted.
 pub(crate) fn check_field_options(
     list: &Opt<Boxed<OptionList>>,
     errors: &mut Found,

@@ -1,11 +1,11 @@
-//! Values of options.
+//! The checks of option values.
 
 ghost use Rattle.std.specs.Prelude.{◌≡◌, ◌++◌, ◌∷◌, [], is_some, not, OnOk};
 ghost use Rattle.protox_ast.specs.Checks as texts;
 ghost use Rattle.protox_ast.specs.Values.{a_bool, a_float, a_text, an_integer, as_float_text, float_word, some_bytes, wanted};
 ghost use Rattle.protox_checks.specs.Checks.{only_if, option_faults, value_faults};
 ghost use Rattle.protox_checks.specs.ValueFaults.{invalid_type};
-ghost use Rattle.protox_checks.specs.Walk.{interval_of};
+ghost use Rattle.protox_checks.specs.inner.Walk.{interval_of};
 
 use crate::found::{Found, copied};
 use crate::integers::{Integers, check_integer};
@@ -14,7 +14,7 @@ use protox_descriptor::values::Text;
 use protox_fault::error::{ParseErrorKind, Span};
 use std::alloc::AllocError;
 
-// The value isn't what is wanted.
+// Adds the fault that a value isn't of the wanted kind.
 fn add_invalid_type(
     expected: &str,
     value: &OptionValue,
@@ -105,7 +105,7 @@ fn check_string(string: &String, errors: &mut Found) -> Result<(), AllocError>
     })
 }
 
-/// A value is a string of UTF-8.
+/// Checks that a value is a string of UTF-8.
 pub(crate) fn check_text(value: &OptionValue, errors: &mut Found) -> Result<(), AllocError>
     ensures { OnOk result (errors.new ≡ errors.old ++ value_faults a_text value.now) }
 {
@@ -124,7 +124,7 @@ fn check_bytes(value: &OptionValue, errors: &mut Found) -> Result<(), AllocError
     }
 }
 
-/// A value is one that the type takes.
+/// Checks that a value fits the type.
 pub(crate) fn check_value(
     ty: &Ty,
     value: &OptionValue,
@@ -158,7 +158,7 @@ fn check_identifier(negative: bool, span: &Span, errors: &mut Found) -> Result<(
     Ok(())
 }
 
-/// A value of an option that isn't interpreted.
+/// Checks the value of an option that isn't interpreted.
 pub(crate) fn check_uninterpreted(value: &OptionValue, errors: &mut Found) -> Result<(), AllocError>
     ensures { OnOk result (errors.new ≡ errors.old ++ option_faults value.now) }
 {

@@ -1,4 +1,4 @@
--- The comments of a gap, one at a time.
+-- The comments of a gap, one after another.
 use Rattle.std.proofs.Common.{◌≡◌, ℕ, zero, suc, ◌+◌, ◌<◌, length, get_or, drop, map, arith, Bool, true, false, inl, inr, List, [], ◌∷◌, ◌++◌, refl, sym, ap, ◌∙◌, subst, append_assoc, Option, Some, None}
 use Rattle.std.specs.declared.alloc.Global.{Global}
 use Rattle.std.specs.declared.borrow.CowStr.{CowStr}
@@ -7,7 +7,7 @@ use Rattle.std.proofs.lemmas.List.{at_drop_more}
 use Rattle.std.specs.List.{list_all}
 use Rattle.std.specs.Option.{option_or}
 use Rattle.std.specs.Prelude.{if◌then◌else◌}
-use Rattle.protox_comments.specs.Attributing.{Newlines, begins_newline, behind, pending, outcome_of, outcome}
+use Rattle.protox_comments.specs.inner.Attributing.{Newlines, begins_newline, behind, pending, outcome_of, outcome}
 use Rattle.protox_comments.specs.CommentState.{CommentState, placed, flushed, with_block, with_line, empty}
 use Rattle.protox_comments.specs.declared.comments.Block.{Block}
 use Rattle.protox_lexeme.specs.Gaps.{Item, block, blank, begins_line, joined, items, nothing, may_lead, led_by, unless_leading, among, attribution, IsGap}
@@ -25,23 +25,23 @@ others_front (block t) y rest (Some l) = refl
 others_front blank y rest None = refl
 others_front blank y rest (Some l) = refl
 
--- a block in front of others takes its place, and the rest is as if nothing might trail
+-- A block in front of others is finished. The rest is as if nothing might trail.
 among_block : (m : Bool) (t : List ℕ) (y : Item) (rest : List Item) (next : Option Shape)
     → among m (block t ∷ (y ∷ rest)) next
     ≡ record { trailing = if m then Some t else None; detached = (if m then [] else t ∷ []) ++ (among false (y ∷ rest) next).detached; leading = (among false (y ∷ rest) next).leading }
 among_block true t y rest next = rw (others_front (block t) y rest (led_by (y ∷ rest) next)) refl
 among_block false t y rest next = rw (others_front (block t) y rest (led_by (y ∷ rest) next)) refl
 
--- a blank in front of others is left out, and then nothing may trail
+-- A blank in front of others is left out. From then on nothing may trail.
 pub among_blank : (m : Bool) (ys : List Item) (next : Option Shape) → among m (blank ∷ ys) next ≡ among false ys next
 among_blank true [] next = elim (cases_Bool (may_lead next)) [ inl e ↦ rw e refl | inr e ↦ rw e refl ]
 among_blank false [] next = elim (cases_Bool (may_lead next)) [ inl e ↦ rw e refl | inr e ↦ rw e refl ]
 among_blank true (y ∷ rest) next = rw (others_front blank y rest (led_by (y ∷ rest) next)) refl
 among_blank false (y ∷ rest) next = rw (others_front blank y rest (led_by (y ∷ rest) next)) refl
 
--- ---- the open block is put in its place
+-- ---- finishing the open block
 
--- a block in its place, with what is to come behind it
+-- A finished block, and what is to come after it.
 placed_same : (detached : List (List ℕ)) (trailing : Option (List ℕ)) (m : Bool) (t : List ℕ) (y : Item) (rest : List Item) (next : Option Shape)
     → outcome_of (if m then detached else detached ++ t ∷ []) (if m then Some t else trailing) false (y ∷ rest) next ≡ outcome_of detached trailing m (block t ∷ (y ∷ rest)) next
 placed_same detached trailing true t y rest next = sym (ap (behind detached trailing) (among_block true t y rest next))
@@ -50,7 +50,7 @@ placed_same detached trailing false t y rest next =
     ap (λ ds. behind [] trailing (record a { detached = ds })) (append_assoc detached (t ∷ []) a.detached) ∙ sym (ap (behind detached trailing) (among_block false t y rest next))
 
 module _ (s : CommentState) (t : List ℕ) where
-  -- the fields of the state behind it
+  -- the fields of the state after it
   placed_detached : (placed t s).detached ≡ (if s.may_trail then s.detached else s.detached ++ t ∷ [])
   placed_detached = elim (cases_Bool s.may_trail) [ inl e ↦ rw e refl | inr e ↦ rw e refl ]
 
@@ -70,7 +70,7 @@ module _ (s : CommentState) (t : List ℕ) where
   placed_open : (placed t s).open_block ≡ None
   placed_open = elim (cases_Bool s.may_trail) [ inl e ↦ rw e refl | inr e ↦ rw e refl ]
 
-  -- what is left is as if a blank stood in front of it
+  -- the rest is as if a blank stood in front of it
   placed_blank : (its : List Item) (next : Option Shape)
       → outcome_of (placed t s).detached (placed t s).trailing (placed t s).may_trail its next ≡ outcome_of s.detached s.trailing s.may_trail (block t ∷ (blank ∷ its)) next
   placed_blank its next =
@@ -78,7 +78,7 @@ module _ (s : CommentState) (t : List ℕ) where
       let none = subst P (sym (placed_trails s t)) (sym (among_blank false its next)) in
       ap (behind (placed t s).detached (placed t s).trailing) none ∙ placed_outcome s t blank its next
 
--- an open block in front of items that no line comment begins
+-- An open block, in front of items that don't begin with a line comment.
 pending_front : (b : Block) (gap : List Shape) → begins_line gap ≡ false → pending (Some b) gap ≡ block b.text ∷ items gap
 pending_front b gap h = elim (cases_Bool b.of_lines) [ inl e ↦ rw (e, h) refl | inr e ↦ rw e refl ]
 
@@ -138,7 +138,7 @@ gap_at [] at x h e g = absurd (omega arith)
 gap_at (y ∷ gap) zero x h e g = ap (λ z. is_gap (shape_of z)) e ∙ (and_parts (is_gap (shape_of y)) (list_all is_gap (map shape_of gap)) g).0
 gap_at (y ∷ gap) (suc at) x h e g = gap_at gap at x (omega arith) e (and_parts (is_gap (shape_of y)) (list_all is_gap (map shape_of gap)) g).1
 
--- nothing else is in one
+-- Nothing else stands in a gap.
 pub no_other : (x : Token) → ((t : CowStr Global) → x ≡ token.LineComment t → ⊥) → ((t : CowStr Global) → x ≡ token.BlockComment t → ⊥) → (x ≡ token.Newline → ⊥) → is_gap (shape_of x) ≡ true → ⊥
 no_other (token.LineComment t) a b c h = a t refl
 no_other (token.BlockComment t) a b c h = b t refl

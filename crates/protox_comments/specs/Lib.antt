@@ -1,2 +1,2 @@
 pub mod CommentState
-pub mod Attributing
+pub mod inner

@@ -1,8 +1,8 @@
-//! Comments, and the declarations that they belong to.
+//! Comments, and the declarations to which they belong.
 ghost use Rattle.std.specs.Prelude.{◌≡◌, ◌<◌, ◌≤◌, ◌+◌, ℕ, List, [], ◌∷◌, ◌++◌, length, drop, if◌then◌else◌, true, false, Option, None, Some, map, IfOk, IfSome, OnOk, OnErr};
 ghost use Rattle.std.specs.Cow.{cow_str_bytes};
 ghost use Rattle.std.specs.Option.{option_map};
-ghost use Rattle.protox_comments.specs.Attributing.{Newlines, attribution_of, begins_newline, outcome, ended, shape_lent};
+ghost use Rattle.protox_comments.specs.inner.Attributing.{Newlines, attribution_of, begins_newline, outcome, ended, shape_lent};
 ghost use Rattle.protox_comments.specs.CommentState as state;
 ghost use Rattle.protox_lexeme.specs.Gaps as gaps;
 ghost use Rattle.protox_lexeme.specs.Shapes.{Shape};
@@ -15,7 +15,7 @@ use std::alloc::{AllocError, Global};
 use std::borrow::CowStr;
 use std::marker::Model;
 
-/// Comments that stand together, and whether they are line comments.
+/// A block of comments: a run of line comments, or one block comment.
 #[derive(Drop)]
 struct Block {
     text: Text,
@@ -43,7 +43,7 @@ impl Model for Comments {
 }
 
 impl Comments {
-    /// No comment, and none may trail. It takes no memory: `alloc` serves later growths.
+    /// No comment, and none may trail. It takes no memory; later growth takes it from `alloc`.
     pub fn new(alloc: Global) -> Comments
         ensures { result ≡ state.empty false }
     {
@@ -56,8 +56,8 @@ impl Comments {
         }
     }
 
-    /// Puts the open block in its place: it trails, if it may, or else is the last detached one.
-    /// Nothing may trail from then on. On `AllocError` nothing is changed.
+    /// Finishes the open block, if there is one. It trails, if it may; else it is the last detached
+    /// comment. Nothing may trail from then on. On `AllocError` nothing changes.
     pub fn flush(&mut self) -> Result<(), AllocError>
         ensures ok { OnOk result (self.new ≡ state.flushed self.old) }
         ensures err { OnErr result (self.new ≡ self.old) }
@@ -85,7 +85,7 @@ impl Comments {
         }
     }
 
-    // Puts the open block in its place, if there is one. On `AllocError` nothing is changed.
+    // Finishes the open block, if there is one. On `AllocError` nothing changes.
     fn close_block(&mut self) -> Result<(), AllocError>
         ensures ok { OnOk result (self.new ≡ state.closed self.old) }
         ensures err { OnErr result (self.new ≡ self.old) }
@@ -96,7 +96,7 @@ impl Comments {
         self.flush()
     }
 
-    // Opens a block behind the one that is open. On `AllocError` nothing is changed.
+    // Finishes the open block, and opens a new one. On `AllocError` nothing changes.
     fn open_as(&mut self, comment: CowStr<'_>, of_lines: bool) -> Result<(), AllocError>
         ensures ok { OnOk result (self.new ≡ record (state.closed self.old) { open_block = Some (state.block (cow_str_bytes comment.entry) of_lines) }) }
         ensures err { OnErr result (self.new ≡ self.old) }
@@ -107,8 +107,8 @@ impl Comments {
         Ok(())
     }
 
-    /// A block comment: the block that was open is put in its place, and the comment is the open
-    /// one. On `AllocError` nothing is changed.
+    /// Adds a block comment. It finishes the open block and is the new one. On `AllocError` nothing
+    /// changes.
     pub fn block_comment(&mut self, comment: CowStr<'_>) -> Result<(), AllocError>
         ensures ok { OnOk result (self.new ≡ state.with_block (cow_str_bytes comment.entry) self.old) }
         ensures err { OnErr result (self.new ≡ self.old) }
@@ -116,8 +116,8 @@ impl Comments {
         self.open_as(comment, false)
     }
 
-    /// A line comment: it goes on with an open block of line comments. A block of the other kind is
-    /// put in its place, and the comment is the open one. On `AllocError` nothing is changed.
+    /// Adds a line comment. It joins an open block of line comments. Else it finishes the open
+    /// block and is the new one. On `AllocError` nothing changes.
     pub fn line_comment(&mut self, comment: CowStr<'_>) -> Result<(), AllocError>
         ensures ok { OnOk result (self.new ≡ state.with_line (cow_str_bytes comment.entry) self.old) }
         ensures err { OnErr result (self.new ≡ self.old) }
@@ -143,14 +143,14 @@ impl Comments {
         }
     }
 
-    /// No block may trail from now on.
+    /// From now on no block may trail.
     pub fn detach(&mut self)
         ensures { self.new ≡ record self.old { may_trail = false } }
     {
         self.may_trail = false;
     }
 
-    /// Forgets all comments. The next block may trail.
+    /// Drops all comments. The next block may trail.
     pub fn reset(&mut self)
         ensures { self.new ≡ state.empty true }
     {
@@ -160,7 +160,7 @@ impl Comments {
         self.may_trail = true;
     }
 
-    /// Hands out the detached comments, and the text of the open block.
+    /// Takes out the detached comments, and the text of the open block.
     pub fn take_leading(&mut self) -> (Items<Text>, Option<Text>)
         ensures detached { result.0 ≡ self.old.detached }
         ensures leading { result.1 ≡ state.open_text self.old.open_block }
@@ -174,7 +174,7 @@ impl Comments {
         (Items::from_vec(detached), leading)
     }
 
-    /// Hands out the comment that trails.
+    /// Takes out the comment that trails.
     pub fn take_trailing(&mut self) -> Option<Text>
         ensures trailing { result ≡ self.old.trailing }
         ensures rest { self.new ≡ record self.old { trailing = None } }
@@ -183,18 +183,19 @@ impl Comments {
     }
 }
 
-/// The comments of a gap, by the declarations that they belong to.
+/// The comments of a gap, by the declarations to which they belong.
 #[derive(Drop)]
 pub struct GapComments {
-    /// The comment that trails the declaration before the gap, or the one whose `{` is before it.
+    /// The comment that trails the declaration before the gap. It may be one whose `{` ends before
+    /// the gap.
     pub trailing: Option<Text>,
-    /// They stand apart before the declaration behind the gap, and belong to it too.
+    /// The detached comments before the declaration after the gap. They belong to it too.
     pub detached: Items<Text>,
-    /// It leads the declaration behind the gap.
+    /// The comment that leads the declaration after the gap.
     pub leading: Option<Text>,
 }
 
-// A comment may lead the token.
+// Whether a comment may lead the token.
 fn may_lead(next: Option<&Token<'_>>) -> bool
     ensures { result ≡ gaps.may_lead (shape_lent next.entry) }
 {
@@ -207,7 +208,7 @@ fn may_lead(next: Option<&Token<'_>>) -> bool
     }
 }
 
-// How many tokens the block comment at a place takes: the newline behind it is one of them.
+// How many tokens the block comment at `at` takes: 2 with a newline right after it, else 1.
 fn block_len(gap: &[Token<'_>], at: usize) -> usize
     requires { at < length gap.now }
     ensures value { result ≡ (if begins_newline (map shape_of (drop (at + 1) gap.now)) then 2 else 1) }
@@ -222,7 +223,7 @@ fn block_len(gap: &[Token<'_>], at: usize) -> usize
 }
 
 impl Comments {
-    // Takes the comment or the newline at a place in a gap. Answers how many tokens that are.
+    // Takes in the comment or newline at `at`. Answers how many tokens these are.
     fn take_at(&mut self, gap: &[Token<'_>], at: usize) -> Result<usize, AllocError>
         requires inside { at < length gap.now }
         requires comments { gaps.IsGap (map shape_of gap.now) }
@@ -246,7 +247,7 @@ impl Comments {
         }
     }
 
-    // Takes the comments and newlines of a gap from a place on.
+    // Takes in the comments and newlines of a gap, beginning at `from`.
     fn take_from(&mut self, gap: &[Token<'_>], from: usize) -> Result<(), AllocError>
         requires inside { from ≤ length gap.now }
         requires comments { gaps.IsGap (map shape_of gap.now) }
@@ -259,7 +260,7 @@ impl Comments {
         Ok(())
     }
 
-    // What becomes of the comments at the end of a gap.
+    // Assigns the comments at the end of a gap.
     fn end(mut self, next: Option<&Token<'_>>) -> Result<GapComments, AllocError>
         ensures { IfOk result (λ g. attribution_of g ≡ ended self (shape_lent next.entry)) }
     {
@@ -276,8 +277,8 @@ impl Comments {
     }
 }
 
-// What stands at the front of a gap: how many tokens of it are done with, or None where all
-// comments of the gap are dropped.
+// Takes in what stands at the front of a gap. Answers how many of its tokens are done with, or None
+// if all comments of the gap are dropped.
 fn begin(
     comments: &mut Comments,
     gap: &[Token<'_>],
@@ -313,7 +314,7 @@ fn begin(
     }
 }
 
-// Whether newlines alone stand in a gap. They do in most.
+// Whether a gap has only newlines, as most do.
 fn is_bare(gap: &[Token<'_>]) -> bool
     ensures { result ≡ true → Newlines (map shape_of gap.now) }
 {
@@ -325,7 +326,7 @@ fn is_bare(gap: &[Token<'_>]) -> bool
     true
 }
 
-// No comment at all.
+// No comments.
 fn no_comments(alloc: Global) -> GapComments
     ensures { attribution_of result ≡ gaps.nothing }
 {
@@ -336,8 +337,9 @@ fn no_comments(alloc: Global) -> GapComments
     }
 }
 
-/// The comments of a gap, by the declarations that they belong to: the gap stands at the start of
-/// the file or elsewhere, and before this token or, at None, before the end.
+/// The comments of a gap, by the declarations to which they belong. `at_start` says that the gap
+/// stands at the start of the file. `next` is the token after the gap, or None at the end of the
+/// file. The gap must hold only comments and newlines. Fails with `AllocError` if memory runs out.
 #[tactic(auto, using(crate::proofs::Attributing::newlines_alone))]
 pub fn gap_comments(
     alloc: Global,

@@ -1,4 +1,4 @@
-//! Comments, and the declarations that they belong to.
+//! Comments, and the declarations to which they belong.
 #![tactic(auto)]
 
 pub mod comments;

@@ -1,4 +1,4 @@
-//! Copies of descriptors: each is equal to what it is made of, and owns its memory.
+//! Copies of descriptors. A copy is equal to its original and owns its memory.
 #![tactic(auto)]
 
 ghost use Rattle.std.specs.Prelude.{◌≡◌, IfOk};
@@ -12,8 +12,8 @@ mod places;
 use protox_descriptor::values::{Items, Numbers, Text};
 use std::alloc::{AllocError, Global};
 
-/// What can be copied. `copy` is there for each message of descriptor.proto, and for the texts, lists
-/// and numbers that they hold.
+/// A value that can be copied: each message of descriptor.proto, and the texts, lists and numbers
+/// in them.
 pub trait CopyIn: Drop {
     /// A value that is equal to this one and owns its memory, or `AllocError`.
     ///
@@ -24,7 +24,7 @@ pub trait CopyIn: Drop {
         ensures { IfOk result (λ made. made ≡ self.now) };
 }
 
-// The copy of a part that is lent, if it is there.
+// A copy of a borrowed part, if there is one.
 fn copy_lent<T: CopyIn>(alloc: Global, part: Option<&T>) -> Result<Option<T>, AllocError>
     ensures { IfOk result (λ made. made ≡ option_copied part.entry) }
 {

@@ -1,4 +1,4 @@
-//! Copies of messages and what stands in them.
+//! Copies of messages and of what stands in them.
 
 ghost use Rattle.std.specs.Prelude.{◌≡◌, IfOk};
 

@@ -1,4 +1,4 @@
--- What is left of a field's options behind those that are read.
+-- The options of a field that are left after those that the parser reads.
 use Rattle.std.proofs.Common.{◌≡◌, ℕ, Bool, true, false, List, [], ◌∷◌, ◌++◌, map, refl, ap, sym, ◌∙◌, append_assoc}
 use Rattle.std.specs.Prelude.{codes, if◌then◌else◌, ◌⊎◌}
 use Rattle.std.proofs.Common.{inl, inr}
@@ -9,7 +9,7 @@ use Rattle.protox_descriptor.specs.declared.descriptor.options.UninterpretedOpti
 abbrev pub without : Bool → List ℕ → List OptionBody → List OptionBody
 without read name bodies = if read then bodies else without_first name bodies
 
--- where a `default`, and a `json_name`, stands before these or not
+-- whether a `default` or a `json_name` comes before these
 abbrev pub left : Bool → Bool → List OptionBody → List OptionBody
 left default_read json_name_read bodies = without json_name_read (codes "json_name") (without default_read (codes "default") bodies)
 

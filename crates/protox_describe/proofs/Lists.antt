@@ -31,12 +31,12 @@ flat_map-snoc f (x ∷ xs) y = ap (λ l. f x ++ l) (flat_map-snoc f xs y) ∙ sy
 pub flat_map-take_more : {A B : Type 0} (f : A → List B) (xs : List A) (i : ℕ) (x : A) → i < length xs → x ≡ get_or xs i x → flat_map f (take (i + 1) xs) ≡ flat_map f (take i xs) ++ f x
 flat_map-take_more f xs i x h e = ap (flat_map f) (take_one_more xs i x h e) ∙ flat_map-snoc f (take i xs) x
 
--- what comes of each element, flat
+-- the results of each element, joined
 pub flat-take_more : {A B C : Type 0} (f : B → List C) (g : A → B) (xs : List A) (i : ℕ) (x : A) → i < length xs → x ≡ get_or xs i x
     → flat_map f (map g (take (i + 1) xs)) ≡ flat_map f (map g (take i xs)) ++ f (g x)
 flat-take_more f g xs i x h e = ap (flat_map f) (map-take_more g xs i x h e) ∙ flat_map-snoc f (map g (take i xs)) (g x)
 
--- the same behind what was there
+-- the same behind earlier results
 pub more-flat : {A B C : Type 0} (f : B → List C) (g : A → B) (xs : List A) (i : ℕ) (x : A) (start old new : List C) → i < length xs → x ≡ get_or xs i x
     → old ≡ start ++ flat_map f (map g (take i xs)) → new ≡ old ++ f (g x) → new ≡ start ++ flat_map f (map g (take (i + 1) xs))
 more-flat f g xs i x start old new h e before now =
@@ -82,7 +82,7 @@ count-at_most test (x ∷ xs) =
 pub count-within : {A B : Type 0} (test : B → Bool) (f : A → B) (xs : List A) (i : ℕ) → i ≤ length xs → count test (map f (take i xs)) ≤ i
 count-within test f xs i h = omega (arith, count-at_most test (map f (take i xs)), length-map (take i xs) f, length-take-le i xs h)
 
--- Behind so many elements no more pass than there are left.
+-- At most as many elements pass the test as are left.
 pub count-rest : {A B : Type 0} (test : B → Bool) (f : A → B) (xs : List A) (i : ℕ) → i ≤ length xs → count test (map f xs) + i ≤ count test (map f (take i xs)) + length xs
 count-rest test f xs zero h = omega (arith, count-at_most test (map f xs), length-map xs f)
 count-rest test f [] (suc i) h = omega (arith, h)

@@ -1,4 +1,4 @@
--- In a message the oneofs that are written come first.
+-- The written oneofs of a message come first.
 use Rattle.std.proofs.Common.{◌≡◌, ℕ, ◌+◌, ◌<◌, ◌≤◌, Bool, true, false, List, [], ◌∷◌, ◌++◌, length, map, Option, Some, None, refl, ap, sym, ◌∙◌, subst, arith, length-append, append-nil, append_assoc}
 use Rattle.std.specs.Prelude.{ℤ, pos, if◌then◌else◌}
 use Rattle.std.specs.List.{flat_map}
@@ -15,17 +15,17 @@ use Rattle.protox_describe.specs.Oneofs.{AreIndexed, AreInNone, IsBelow, Own, Re
 use Rattle.protox_describe.specs.Siblings.{count, each_after}
 use Rattle.protox_describe.proofs.Lists.{flat_map-snoc}
 
--- ---- what the items give
+-- ---- what items contribute
 
 abbrev pub IsPlain : Gives → Type 0
 IsPlain gives = is_optional gives.field.proto3_optional ≡ false
 
--- A field is `optional` in proto3 exactly where one oneof is made for it.
+-- A field is `optional` in proto3 exactly if a oneof is made for it.
 pub data Made (gives : Gives) : Type 0 where
   none : gives.synthetic ≡ [] → IsPlain gives → Made gives
   one : (oneof : OneofDescriptorProto) → gives.synthetic ≡ oneof ∷ [] → is_optional gives.field.proto3_optional ≡ true → Made gives
 
--- A field stands in no oneof, as it is made.
+-- A new field is in no oneof.
 abbrev pub IsApart : Gives → Type 0
 IsApart gives = gives.field.oneof_index ≡ None
 
@@ -63,7 +63,7 @@ of-oneof real next all n (f ∷ fs) more lt e h = plain real next all (Some (pos
 more-made : (before : List Item) (item : Item) → length (flat_map synthetic_of (before ++ item ∷ [])) ≡ length (flat_map synthetic_of before) + length (synthetic_of item)
 more-made before item = ap length (flat_map-snoc synthetic_of before item) ∙ length-append (flat_map synthetic_of before) (synthetic_of item)
 
--- The items, behind others, are indexed from what is made for those.
+-- The indices of the items' fields follow those of the items before.
 abbrev Rest : ℕ → ℕ → ℕ → List Item → List Item → Type 0
 Rest real next all before items = AreIndexed real next all (each_after (fields_of real) before items)
 
@@ -87,7 +87,7 @@ a-field real all before gives items (one oneof made is) h =
     (ap (λ l. elim l as (λ _. Option ℤ) [ [] ↦ None | oneof ∷ more ↦ Some (pos next) ]) made)
     (subst (λ n. AreIndexed real n all more) same h)
 
--- an item that is no field makes none
+-- no oneof is made for an item that is no field
 passed : (real all : ℕ) (before : List Item) (item : Item) (items : List Item) → length (synthetic_of item) ≡ 0
     → Rest real (real + length (flat_map synthetic_of (before ++ item ∷ []))) all (before ++ item ∷ []) items
     → Rest real (real + length (flat_map synthetic_of before)) all (before ++ item ∷ []) items

@@ -1,5 +1,5 @@
--- The descriptor of a message: its fields in order of the items, those of a oneof where the oneof stands; the messages in
--- it, groups' bodies and maps' entries among them, in order of the items too; and all else that stands in it.
+-- The descriptor of a message. Fields come in the order of the source, those of a oneof where the
+-- oneof stands. Nested messages do too, with the messages of groups and of map entries among them.
 use Rattle.std.specs.Prelude.{ℕ, ◌+◌, Bool, true, false, if◌then◌else◌, List, [], ◌∷◌, ◌++◌, length, map, Option, Some, None, ℤ, pos}
 use Rattle.std.specs.List.{flat_map}
 use Rattle.protox_ast.specs.Names.{type_name_text}
@@ -20,20 +20,21 @@ use Rattle.protox_ast.specs.Options.{OptionStatement, bodies_of, default_of, jso
 use Rattle.protox_ast.specs.Ranges.{extension_protos, greatest_number, reserved_range, reserved_ranges, reserved_texts}
 use Rattle.protox_describe.specs.Siblings.{each_after, count}
 
--- ---- what the levels of a message give
+-- ---- what each part of a message contributes
 
--- what a field gives: its descriptor; the message that stands for a group, or a map's entry message; and the oneof that is
--- made for it where it stands in a message
+-- What a field contributes: its descriptor; the message of a group or of a map entry; and the oneof
+-- made for it where it is `optional` in proto3 (for fields of a message).
 pub record Gives : Type 0 where
   pub field : FieldDescriptorProto
   pub nested : List DescriptorProto
   pub synthetic : List OneofDescriptorProto
 
--- what a oneof gives: its descriptor, and its fields
+-- What a oneof contributes: its descriptor and its fields.
 pub record OneofGives : Type 0 where
   pub oneof : OneofDescriptorProto
   pub fields : List Gives
 
+-- what one item of a message's body contributes
 pub data Item : Type 0 where
   OfField : Gives → Item
   OfMessage : DescriptorProto → Item
@@ -41,41 +42,48 @@ pub data Item : Type 0 where
   OfEnum : EnumDescriptorProto → Item
   OfExtend : List Gives → Item
 
--- ---- from a message's items to its parts
+-- ---- from the items of a body to the lists of a descriptor
 
+-- The item is a oneof.
 abbrev pub is_oneof : Item → Bool
 is_oneof (OfOneof gives) = true
 is_oneof _ = false
 
+-- the oneof that an item writes, if it is one
 abbrev pub oneofs_of : Item → List OneofDescriptorProto
 oneofs_of (OfOneof gives) = gives.oneof ∷ []
 oneofs_of _ = []
 
+-- the oneof that is made for an item, if one is
 abbrev pub synthetic_of : Item → List OneofDescriptorProto
 synthetic_of (OfField gives) = gives.synthetic
 synthetic_of _ = []
 
--- those that are written, and then those that are made
+-- the oneofs that are written, and then those made for fields
 abbrev pub all_oneofs : List Item → List OneofDescriptorProto
 all_oneofs items = flat_map oneofs_of items ++ flat_map synthetic_of items
 
+-- the field, in the oneof with this index
 abbrev pub in_oneof : Option ℤ → Gives → FieldDescriptorProto
 in_oneof index gives = record gives.field { oneof_index = index }
 
--- the place of the oneof that is made for a field, if there is one, behind so many others
+-- The index of the oneof made for a field, if one is made. `others` oneofs come before it.
 abbrev pub synthetic_index : ℕ → Gives → Option ℤ
 synthetic_index others gives = elim gives.synthetic as (λ _. Option ℤ) [ [] ↦ None | oneof ∷ more ↦ Some (pos others) ]
 
--- the fields of an item, where so many oneofs are written in the whole message
+-- The fields of an item. `written` oneofs stand in the whole message, and `before` are the items
+-- before this one.
 abbrev pub fields_of : ℕ → List Item → Item → List FieldDescriptorProto
 fields_of written before (OfField gives) = in_oneof (synthetic_index (written + length (flat_map synthetic_of before)) gives) gives ∷ []
 fields_of written before (OfOneof gives) = map (in_oneof (Some (pos (count is_oneof before)))) gives.fields
 fields_of written before _ = []
 
+-- the extensions that an item declares
 abbrev pub extensions_of : Item → List FieldDescriptorProto
 extensions_of (OfExtend fields) = map (λ gives. gives.field) fields
 extensions_of _ = []
 
+-- the nested messages of an item, with those of groups and map entries
 abbrev pub nested_of : Item → List DescriptorProto
 nested_of (OfField gives) = gives.nested
 nested_of (OfMessage message) = message ∷ []
@@ -83,10 +91,12 @@ nested_of (OfOneof oneof) = flat_map (λ gives. gives.nested) oneof.fields
 nested_of (OfExtend fields) = flat_map (λ gives. gives.nested) fields
 nested_of (OfEnum enum) = []
 
+-- the enum that an item is, if it is one
 abbrev pub enums_of : Item → List EnumDescriptorProto
 enums_of (OfEnum enum) = enum ∷ []
 enums_of _ = []
 
+-- the lists of a message's descriptor, from what its body contributes
 abbrev pub parts : List Item → List Extensions → List OptionStatement → List Reserved → Parts
 parts items extensions options reserved = record {
   field = each_after (fields_of (count is_oneof items)) [] items;
@@ -100,16 +110,19 @@ parts items extensions options reserved = record {
   reserved_name = reserved_texts reserved;
 }
 
--- ---- the levels
+-- ---- what is computed at each part of the tree
 
+-- a node of the tree, with what each node below contributes in its place
 abbrev Layer : (Type 0 → Type 0 → Type 0 → Type 0 → Type 0 → Type 0 → Type 0 → Type 0) → Type 0
 Layer F = F Kind Item (List Gives) Gives DescriptorProto Parts OneofGives
 
+-- the kind of a field; for a group with the lists of its message's descriptor
 abbrev pub kind_step : Layer FieldKind-F → Kind
 kind_step (FieldKind-F.Normal type span) = Normal type
 kind_step (FieldKind-F.Group span body) = Group body
 kind_step (FieldKind-F.Map span key key_span value value_span) = Map key value
 
+-- what an item contributes
 abbrev pub item_step : Layer MessageItem-F → Item
 item_step (MessageItem-F.Field field) = OfField field
 item_step (MessageItem-F.Message message) = OfMessage message
@@ -117,11 +130,12 @@ item_step (MessageItem-F.Oneof oneof) = OfOneof oneof
 item_step (MessageItem-F.Enum enum) = OfEnum (enum_proto enum)
 item_step (MessageItem-F.Extend extend) = OfExtend extend
 
--- an extension names what it extends, as it is written
+-- An extension's extendee is the type name as it is written.
 abbrev pub extending : TypeName → Gives → Gives
 extending extendee gives = record gives { field = record gives.field { extendee = Some (type_name_text extendee) } }
 
 module _ (syntax : Syntax) where
+  -- what a field contributes, from its parts
   abbrev pub field_step : Layer Field-F → Gives
   field_step f = record {
     field = record {
@@ -141,7 +155,7 @@ module _ (syntax : Syntax) where
     synthetic = if is_proto3_optional syntax f.label then synthetic_oneof f.name.value ∷ [] else [];
   }
 
-  -- `of_message (descriptor_steps syntax) message` is the descriptor of the message
+  -- The steps that compute a message's descriptor: `of_message (descriptor_steps syntax) message`.
   abbrev pub descriptor_steps : Steps Kind Item (List Gives) Gives DescriptorProto Parts OneofGives
   descriptor_steps = record {
     kind = kind_step;

@@ -7,6 +7,7 @@ use Rattle.protox_descriptor.specs.declared.descriptor.EnumValueDescriptorProto.
 use Rattle.protox_ast.specs.Options.{bodies_of, listed, options_message}
 use Rattle.protox_ast.specs.Ranges.{enum_number, enum_reserved_range, reserved_ranges, reserved_texts}
 
+-- the descriptor of an enum value
 abbrev pub enum_value_proto : EnumValue → EnumValueDescriptorProto
 enum_value_proto value = record {
   name = Some value.name.value;
@@ -14,6 +15,7 @@ enum_value_proto value = record {
   options = options_message (λ options. record { uninterpreted_option = options }) (listed value.options);
 }
 
+-- the descriptor of an enum
 abbrev pub enum_proto : Enum → EnumDescriptorProto
 enum_proto enum = record {
   name = Some enum.name.value;

@@ -1,4 +1,4 @@
--- What a field's words say in its descriptor, and the messages that stand for groups and for the entries of maps.
+-- What a field says in its descriptor, and the messages made for groups and for map entries.
 use Rattle.std.specs.Prelude.{ℕ, ◌==◌, Bool, true, false, if◌then◌else◌, List, [], ◌∷◌, ◌++◌, Option, Some, None, option_and_then, ℤ, pos, codes}
 use Rattle.std.specs.Str.{str_to_ascii_lowercase}
 use Rattle.protox_fault.specs.Faults.{Span}
@@ -20,7 +20,7 @@ use Rattle.protox_descriptor.specs.declared.descriptor.options.MessageOptions.{M
 use Rattle.protox_ast.specs.FieldNumbers.{label_number, scalar_number}
 use Rattle.protox_ast.specs.Values.{default_text, wanted}
 
--- what a body gives
+-- the lists of a message's descriptor
 pub record Parts : Type 0 where
   pub field : List FieldDescriptorProto
   pub extension : List FieldDescriptorProto
@@ -32,7 +32,7 @@ pub record Parts : Type 0 where
   pub reserved_range : List ReservedRange
   pub reserved_name : List (List ℕ)
 
--- what a field is: a map of keys and values of these types
+-- a field of a type, a group with this body, or a map with these types of keys and values
 pub data Kind : Type 0 where
   Normal : Ty → Kind
   Group : Parts → Kind
@@ -40,6 +40,7 @@ pub data Kind : Type 0 where
 
 -- ---- messages
 
+-- the descriptor of a message with this name and these parts
 abbrev pub message_proto : List ℕ → Parts → DescriptorProto
 message_proto name parts =
     roll-DescriptorProto (record {
@@ -55,11 +56,11 @@ message_proto name parts =
       reserved_name = parts.reserved_name;
     })
 
--- `MyMapEntry` for `my_map`
+-- the name of a map's entry message: `MyMapEntry` for `my_map`
 abbrev pub entry_name : List ℕ → List ℕ
 entry_name name = pascal_case name ++ codes "Entry"
 
--- an optional field of that name, also in JSON
+-- a field of an entry message: optional, its JSON name the same as its name
 abbrev pub entry_field : List ℕ → ℤ → Ty → FieldDescriptorProto
 entry_field name number type = record {
   name = Some name;
@@ -75,7 +76,7 @@ entry_field name number type = record {
   proto3_optional = None;
 }
 
--- an entry of a map: a message of a key and a value
+-- the parts of a map's entry message: a field `key` and a field `value`
 abbrev pub entry_parts : Ty → Ty → Parts
 entry_parts key value = record {
   field = entry_field (codes "key") (pos 1) key ∷ entry_field (codes "value") (pos 2) value ∷ [];
@@ -89,7 +90,7 @@ entry_parts key value = record {
   reserved_name = [];
 }
 
--- the message that stands for a group, and a map's entry message
+-- the message made for a group or for the entries of a map; none for another field
 abbrev pub messages_of : List ℕ → Kind → List DescriptorProto
 messages_of name (Normal type) = []
 messages_of name (Group body) = message_proto name body ∷ []
@@ -97,47 +98,52 @@ messages_of name (Map key value) = message_proto (entry_name name) (entry_parts 
 
 -- ---- fields
 
--- that of a group in small letters
+-- the field's name; for a group, the name in small letters
 abbrev pub field_name : List ℕ → Kind → List ℕ
 field_name name (Group body) = str_to_ascii_lowercase name
 field_name name _ = name
 
--- A map is repeated.
+-- the number of the label: 1 optional, 2 required, 3 repeated; a map is repeated
 abbrev pub label_of : Kind → Option (FieldLabel × Span) → ℤ
 label_of (Map key value) label = pos 3
 label_of _ label = label_number label
 
--- a scalar type, a group, or a map's entry message; a named type is only known by its name
+-- the number of the type: a scalar, a group (10), or a map's entry message (11). None for a named
+-- type, since only its name is known.
 abbrev pub field_type_of : Kind → Option ℤ
 field_type_of (Normal type) = scalar_number (scalar_type type)
 field_type_of (Group body) = Some (pos 10)
 field_type_of (Map key value) = Some (pos 11)
 
--- a named type as it is written; that of a group is the message of its name
+-- The name of the type: a named type as it is written, a group's name, or the name of an entry
+-- message. None for a scalar.
 abbrev pub type_name_of : List ℕ → Kind → Option (List ℕ)
 type_name_of name (Normal type) = named_type type
 type_name_of name (Group body) = Some name
 type_name_of name (Map key value) = Some (entry_name name)
 
+-- the text of the default, where the field has one
 abbrev pub default_value : Kind → Option OptionBody → Option (List ℕ)
 default_value (Normal type) body = option_and_then (λ (b : OptionBody). default_text (wanted type) b.value) body
 default_value _ body = None
 
 -- ---- `optional` in proto3
 
+-- The field is `optional` in proto3.
 abbrev pub is_proto3_optional : Syntax → Option (FieldLabel × Span) → Bool
 is_proto3_optional Proto3 (Some (label.Optional, span)) = true
 is_proto3_optional _ _ = false
 
+-- what `proto3_optional` says: true, or nothing
 abbrev pub optional_flag : Bool → Option Bool
 optional_flag true = Some true
 optional_flag false = None
 
--- `_a` for `a`, `X_a` for `_a`
+-- the name of the oneof made for a field: `_a` for `a`, `X_a` for `_a`
 abbrev pub synthetic_name : List ℕ → List ℕ
 synthetic_name [] = 95 ∷ []
 synthetic_name (first ∷ rest) = if first == 95 then 88 ∷ first ∷ rest else 95 ∷ first ∷ rest
 
--- a oneof that stands in no source, for one field
+-- the oneof made for a field that is `optional` in proto3
 abbrev pub synthetic_oneof : List ℕ → OneofDescriptorProto
 synthetic_oneof name = record { name = Some (synthetic_name name); options = None }

@@ -1,4 +1,4 @@
--- The descriptor of a file, apart from where it stands.
+-- The descriptor of a file without its locations.
 use Rattle.std.specs.Prelude.{ℕ, List, [], ◌∷◌, map, Some, None}
 use Rattle.std.specs.List.{flat_map}
 use Rattle.protox_ast.specs.Steps.{of_extend, of_message}
@@ -18,25 +18,28 @@ use Rattle.protox_ast.specs.Options.{bodies_of, options_message}
 use Rattle.protox_describe.specs.Services.{service_proto}
 use Rattle.protox_describe.specs.Siblings.{places}
 
--- the messages that an item gives: an `extend` gives those of its groups
+-- the messages of an item; an `extend` has those of its groups and maps
 abbrev pub item_messages : Syntax → FileItem → List DescriptorProto
 item_messages syntax (item.Message message) = of_message (descriptor_steps syntax) message ∷ []
 item_messages syntax (item.Extend extend) = flat_map (λ gives. gives.nested) (of_extend (descriptor_steps syntax) extend)
 item_messages syntax _ = []
 
+-- the enum that an item is, if it is one
 abbrev pub item_enums : FileItem → List EnumDescriptorProto
 item_enums (item.Enum enum) = enum_proto enum ∷ []
 item_enums _ = []
 
+-- the service that an item is, if it is one
 abbrev pub item_services : FileItem → List ServiceDescriptorProto
 item_services (item.Service service) = service_proto service ∷ []
 item_services _ = []
 
+-- the extensions that an item declares
 abbrev pub item_extensions : Syntax → FileItem → List FieldDescriptorProto
 item_extensions syntax (item.Extend extend) = map (λ gives. gives.field) (of_extend (descriptor_steps syntax) extend)
 item_extensions syntax _ = []
 
--- what a file of that name gives
+-- the descriptor of a file of this name, without locations
 abbrev pub file_proto : List ℕ → File → FileDescriptorProto
 file_proto name file = record {
   name = Some name;

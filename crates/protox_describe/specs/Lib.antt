@@ -5,6 +5,5 @@ pub mod Services
 pub mod Fields
 pub mod Descriptor
 pub mod File
-pub mod Widths
-pub mod Pass
 pub mod Oneofs
+pub mod inner

@@ -8,12 +8,12 @@ use Rattle.protox_descriptor.specs.declared.descriptor.MethodDescriptorProto.{Me
 use Rattle.protox_descriptor.specs.declared.descriptor.ServiceDescriptorProto.{ServiceDescriptorProto}
 use Rattle.protox_ast.specs.Options.{bodies_of, options_message}
 
--- said where the word `stream` stands, and nothing is said where it doesn't
+-- true where the word `stream` stands; absent where it doesn't
 abbrev pub streaming : Option Span → Option Bool
 streaming None = None
 streaming (Some span) = Some true
 
--- the types as they are written
+-- the descriptor of a method; its types are named as they are written
 abbrev pub method_proto : Method → MethodDescriptorProto
 method_proto method = record {
   name = Some method.name.value;
@@ -24,6 +24,7 @@ method_proto method = record {
   server_streaming = streaming method.server_streaming;
 }
 
+-- the descriptor of a service
 abbrev pub service_proto : Service → ServiceDescriptorProto
 service_proto service = record {
   name = Some service.name.value;

@@ -1,4 +1,4 @@
-//! What a field's words say in its descriptor, and the entry messages of maps.
+//! The descriptor of a field, and the entry messages of maps.
 
 ghost use Rattle.std.specs.Prelude.{◌≡◌, ◌≤ℤ◌, IfOk};
 ghost use Rattle.protox_ast.specs.Steps.{of_field, of_kind};
@@ -38,7 +38,7 @@ fn number_if_scalar(ty: Option<FieldType>) -> Option<i32>
     }
 }
 
-// A named type is only known by its name.
+// The number of the type. None for a named type, since only its name is known.
 fn field_type(kind: &FieldKind) -> Option<i32>
     ensures { (syntax : Syntax) → result ≡ field_type_of (of_kind (descriptor_steps syntax) kind.now) }
 {
@@ -60,7 +60,7 @@ fn label_number(label: &Option<(FieldLabel, Span)>) -> i32
     }
 }
 
-// A map is repeated.
+// The number of the label; a map is repeated.
 fn label(kind: &FieldKind, label: &Option<(FieldLabel, Span)>) -> i32
     ensures { (syntax : Syntax) → result ≡ label_of (of_kind (descriptor_steps syntax) kind.now) label.now }
 {
@@ -71,7 +71,7 @@ fn label(kind: &FieldKind, label: &Option<(FieldLabel, Span)>) -> i32
     }
 }
 
-// That of a group in small letters.
+// The field's name; for a group, the name in small letters.
 fn field_name(alloc: Global, kind: &FieldKind, name: &str) -> Result<Text, AllocError>
     ensures { IfOk result (λ text. (syntax : Syntax) → text ≡ field_name name.now (of_kind (descriptor_steps syntax) kind.now)) }
 {
@@ -82,7 +82,7 @@ fn field_name(alloc: Global, kind: &FieldKind, name: &str) -> Result<Text, Alloc
     }
 }
 
-// That of a group is the message of its name.
+// The name of the type; for a group, its own name.
 fn type_name(alloc: Global, kind: &FieldKind, name: &str) -> Result<Option<Text>, AllocError>
     ensures { IfOk result (λ text. (syntax : Syntax) → text ≡ type_name_of name.now (of_kind (descriptor_steps syntax) kind.now)) }
 {
@@ -130,7 +130,8 @@ fn optional_flag(flag: bool) -> Option<bool>
     if flag { Some(true) } else { None }
 }
 
-/// The descriptor of a field that extends this and stands in this oneof, or does neither.
+/// The descriptor of a field. An extension has an `extendee`, and a field of a oneof a
+/// `oneof_index`.
 pub(crate) fn field_proto(
     alloc: Global,
     syntax: Syntax,
@@ -158,7 +159,7 @@ pub(crate) fn field_proto(
     plain.with_rare_parts(alloc, extendee, default_value, json_name, options)
 }
 
-// `MyMapEntry` for `my_map`.
+// The name of an entry message: `MyMapEntry` for `my_map`.
 fn entry_name(alloc: Global, name: &str) -> Result<Text, AllocError>
     ensures { IfOk result (λ text. text ≡ entry_name name.now) }
 {
@@ -166,7 +167,7 @@ fn entry_name(alloc: Global, name: &str) -> Result<Text, AllocError>
     Text::joined(alloc, pascal.as_str(), "Entry")
 }
 
-// An optional field of that name, also in JSON.
+// A field of an entry message: optional, its JSON name the same as its name.
 fn entry_field(
     alloc: Global,
     name: &str,
@@ -203,7 +204,7 @@ fn entry_fields(
     Ok(fields)
 }
 
-/// The entry message of the map of that name: a message of a key and a value.
+/// The entry message of a map: a field `key` and a field `value`.
 pub(crate) fn entry_message(
     alloc: Global,
     name: &str,
@@ -231,7 +232,7 @@ pub(crate) fn entry_message(
     })
 }
 
-// `_a` for `a`, `X_a` for `_a`.
+// The name of the oneof made for a field: `_a` for `a`, `X_a` for `_a`.
 fn synthetic_name(alloc: Global, name: &str) -> Result<Text, AllocError>
     ensures { IfOk result (λ text. text ≡ synthetic_name name.now) }
 {
@@ -242,7 +243,7 @@ fn synthetic_name(alloc: Global, name: &str) -> Result<Text, AllocError>
     }
 }
 
-/// The oneof that is made for the field of that name.
+/// The oneof made for a field that is `optional` in proto3.
 pub(crate) fn synthetic_oneof(alloc: Global, name: &str) -> Result<OneofDescriptorProto, AllocError>
     ensures { IfOk result (λ oneof. oneof ≡ synthetic_oneof name.now) }
 {

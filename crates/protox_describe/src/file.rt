@@ -4,7 +4,7 @@ ghost use Rattle.std.specs.Prelude.{◌≡◌, ◌≤◌, ◌++◌, [], map, IfO
 ghost use Rattle.std.specs.List.{flat_map};
 ghost use Rattle.protox_describe.specs.File.{item_messages, item_enums, item_services, item_extensions, file_proto};
 ghost use Rattle.protox_describe.specs.Siblings.{greatest};
-ghost use Rattle.protox_describe.specs.Widths.{file_item_width, file_width};
+ghost use Rattle.protox_describe.specs.inner.Widths.{file_item_width, file_width};
 
 use crate::enums::enum_proto;
 use crate::head::{ImportLists, imports, package_name, syntax_name};
@@ -37,7 +37,7 @@ fn push_messages(
     }
 }
 
-// Each item is dropped as soon as its message is made, so that the memory of the tree serves the descriptor.
+// Each item is dropped once its message is made, so that its memory can serve the descriptor.
 fn messages(
     alloc: Global,
     syntax: Syntax,
@@ -133,7 +133,7 @@ fn extensions(
     Ok(found)
 }
 
-// What the items of a file give, apart from messages.
+// The lists of the descriptor that the items of a file fill, without messages.
 #[derive(Drop)]
 struct ItemLists {
     enum_type: Items<EnumDescriptorProto>,
@@ -156,7 +156,7 @@ fn definitions(alloc: Global, syntax: Syntax, items: &[FileItem]) -> Result<Item
     })
 }
 
-// The tree is only lent here: an exit then lets go of a few parts, and not of the tree as well.
+// Borrows the tree, so that an early exit drops a few parts and not the tree as well.
 fn all_but_messages(
     alloc: Global,
     name: &str,
@@ -202,9 +202,10 @@ fn messages_of(alloc: Global, ast: File) -> Result<Items<DescriptorProto>, Alloc
     messages(alloc, ast.syntax, ast.items)
 }
 
-/// The descriptor of a file of that name, apart from where its parts stand in the source. Or
-/// `AllocError`. It uses the tree up. A message of the file has no more items, and the file no more
-/// imports, than an `i32` counts.
+/// The descriptor of a file of this name, without locations. It uses the tree up.
+///
+/// Needs that no message of the file has more items, and the file no more imports, than an `i32`
+/// counts. `AllocError` if memory runs out.
 pub fn describe_file(
     alloc: Global,
     name: &str,

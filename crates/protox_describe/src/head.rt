@@ -10,7 +10,7 @@ use protox_descriptor::values::{Items, Text};
 use protox_fault::error::Span;
 use std::alloc::{AllocError, Global};
 
-/// None for proto2.
+/// What `syntax` says: `proto3`, or None for proto2.
 pub(crate) fn syntax_name(alloc: Global, syntax: Syntax) -> Result<Option<Text>, AllocError>
     ensures { IfOk result (λ name. name ≡ name_of_syntax syntax) }
 {
@@ -20,7 +20,7 @@ pub(crate) fn syntax_name(alloc: Global, syntax: Syntax) -> Result<Option<Text>,
     }
 }
 
-/// The package as it is written.
+/// The package's name as it is written.
 pub(crate) fn package_name(alloc: Global, ast: &Option<Package>) -> Result<Option<Text>, AllocError>
     ensures { IfOk result (λ name. name ≡ name_of_package ast.now) }
 {
@@ -30,7 +30,7 @@ pub(crate) fn package_name(alloc: Global, ast: &Option<Package>) -> Result<Optio
     }
 }
 
-// The imported files.
+// The paths of the imported files.
 fn dependencies(alloc: Global, imports: &[Import]) -> Result<Items<Text>, AllocError>
     ensures { IfOk result (λ names. names ≡ map (λ (statement : import_type.Import). statement.value) imports.now) }
 {
@@ -72,7 +72,7 @@ fn push_place(found: &mut Items<i32>, is_wanted: bool, place: usize) -> Result<(
     }
 }
 
-// The places of the public ones among the imports.
+// The indices of the `public` imports.
 fn public_places(alloc: Global, imports: &[Import]) -> Result<Items<i32>, AllocError>
     requires { length imports.now ≤ 2147483647 }
     ensures { IfOk result (λ found. found ≡ places is_public 0 imports.now) }
@@ -84,7 +84,7 @@ fn public_places(alloc: Global, imports: &[Import]) -> Result<Items<i32>, AllocE
     Ok(found)
 }
 
-// The places of the weak ones among the imports.
+// The indices of the `weak` imports.
 fn weak_places(alloc: Global, imports: &[Import]) -> Result<Items<i32>, AllocError>
     requires { length imports.now ≤ 2147483647 }
     ensures { IfOk result (λ found. found ≡ places is_weak 0 imports.now) }
@@ -96,7 +96,7 @@ fn weak_places(alloc: Global, imports: &[Import]) -> Result<Items<i32>, AllocErr
     Ok(found)
 }
 
-/// What the imports of a file give.
+/// The lists of the descriptor that imports fill.
 #[derive(Drop)]
 pub(crate) struct ImportLists {
     pub dependency: Items<Text>,
@@ -104,7 +104,7 @@ pub(crate) struct ImportLists {
     pub weak_dependency: Items<i32>,
 }
 
-/// The imported files, and the places of the public ones and of the weak ones among them.
+/// The imported files, and the indices of the public and of the weak ones.
 pub(crate) fn imports(alloc: Global, imports: &[Import]) -> Result<ImportLists, AllocError>
     requires { length imports.now ≤ 2147483647 }
     ensures files { IfOk result (λ made. made.dependency ≡ map (λ (statement : import_type.Import). statement.value) imports.now) }

@@ -1,4 +1,4 @@
-//! What the items of a message give: its fields, extensions, enums and oneofs.
+//! The lists that the items of a message fill: fields, extensions, enums and oneofs.
 
 ghost use Rattle.std.specs.Prelude.{◌≡◌, ◌≤◌, ◌+◌, ◌++◌, ◌∷◌, [], map, length, IfOk, OnOk, if◌then◌else◌};
 ghost use Rattle.std.specs.List.{flat_map};
@@ -6,7 +6,7 @@ ghost use Rattle.protox_ast.specs.Steps.{of_extend, of_field, of_item, of_oneof}
 ghost use Rattle.protox_ast.specs.declared.ast.Syntax.{Syntax};
 ghost use Rattle.protox_describe.specs.Descriptor.{descriptor_steps, is_oneof, oneofs_of, synthetic_of, all_oneofs, in_oneof, synthetic_index, fields_of, extensions_of, enums_of, extending};
 ghost use Rattle.protox_describe.specs.Enums.{enum_proto};
-ghost use Rattle.protox_describe.specs.Pass.{item_fields};
+ghost use Rattle.protox_describe.specs.inner.Pass.{item_fields};
 ghost use Rattle.protox_describe.specs.Siblings.{count, each_after};
 
 use crate::enums::enum_proto;
@@ -19,7 +19,7 @@ use protox_descriptor::descriptor::{
 use protox_descriptor::values::{Items, Text};
 use std::alloc::{AllocError, Global};
 
-// The places of the next oneof that is written and of the next one that is made.
+// The indices of the next oneof that is written and of the next one that is made.
 #[derive(Clone, Copy)]
 struct Places {
     written: usize,
@@ -42,7 +42,7 @@ fn places_after_field(syntax: Syntax, ast: &Field, places: Places) -> Places
     }
 }
 
-// The places behind an item.
+// The same indices behind an item.
 fn places_after(syntax: Syntax, item: &MessageItem, places: Places) -> Places
     requires written { places.written ≤ 4294967296 }
     requires made { places.made ≤ 4294967296 }
@@ -98,7 +98,7 @@ fn fields_among(items: &[MessageItem]) -> usize {
     fields
 }
 
-// The place of the oneof that is made for a field, if there is one.
+// The index of the oneof that is made for a field, if one is made.
 fn synthetic_index(syntax: Syntax, ast: &Field, made: usize) -> Option<i32>
     requires { made ≤ 2147483647 }
     ensures { result ≡ synthetic_index made (of_field (descriptor_steps syntax) ast.now) }
@@ -170,7 +170,7 @@ fn push_fields(
     }
 }
 
-/// The fields of a message, those of a oneof where the oneof stands.
+/// The fields of a message, in the order of the source; those of a oneof where the oneof stands.
 pub(crate) fn fields(
     alloc: Global,
     syntax: Syntax,
@@ -203,7 +203,7 @@ fn extension_field(
     field_proto(alloc, syntax, ast, Some(extendee), None)
 }
 
-/// Appends the fields of an extend block.
+/// Appends the fields of an `extend` statement.
 pub(crate) fn push_extensions(
     alloc: Global,
     syntax: Syntax,
@@ -388,7 +388,7 @@ fn push_made(
     Ok(())
 }
 
-/// The oneofs that are written in a message, and then those that are made for its fields.
+/// The oneofs of a message: those that are written, and then those made for its fields.
 pub(crate) fn oneofs(
     alloc: Global,
     syntax: Syntax,

@@ -1,4 +1,4 @@
-//! The descriptor of a syntax tree, apart from where its parts stand in the source.
+//! The descriptor of a syntax tree, without locations.
 #![tactic(auto)]
 
 mod enums;

@@ -1,5 +1,4 @@
-//! The descriptors of messages, with the messages that stand for groups and for the entries of
-//! maps.
+//! The descriptors of messages, with those made for groups and for map entries.
 
 ghost use Rattle.std.specs.Prelude.{◌≡◌, ◌≤◌, ◌++◌, ◌∷◌, [], map, length, IfOk, OnOk};
 ghost use Rattle.std.specs.List.{flat_map};
@@ -7,8 +6,8 @@ ghost use Rattle.protox_ast.specs.Steps.{of_message, of_body, of_item, of_field,
 ghost use Rattle.protox_ast.specs.declared.ast.MessageBody.{out-MessageBody};
 ghost use Rattle.protox_describe.specs.Descriptor.{descriptor_steps, nested_of, parts};
 ghost use Rattle.protox_describe.specs.Fields.{message_proto, entry_name, entry_parts};
-ghost use Rattle.protox_describe.specs.Pass.{with_nested};
-ghost use Rattle.protox_describe.specs.Widths.{widths};
+ghost use Rattle.protox_describe.specs.inner.Pass.{with_nested};
+ghost use Rattle.protox_describe.specs.inner.Widths.{widths};
 
 use crate::fields::entry_message;
 use crate::items::{enums, extensions, fields, oneofs};
@@ -25,7 +24,7 @@ use protox_descriptor::descriptor::{
 use protox_descriptor::values::{Items, Text};
 use std::alloc::{AllocError, Global};
 
-// What a body gives, apart from the messages in it.
+// The parts of a message without its nested messages.
 #[derive(Drop)]
 pub(crate) struct Unnested {
     field: Items<FieldDescriptorProto>,
@@ -110,7 +109,7 @@ pub(crate) fn message_proto(
     body_message(alloc, syntax, ast.name.value.as_str(), &ast.body)
 }
 
-// The message of that name with that body.
+// The descriptor of a message with this name and this body.
 #[cycle(messages)]
 fn body_message(
     alloc: Global,
@@ -192,7 +191,7 @@ fn push_oneof_messages(
     Ok(())
 }
 
-/// Appends the messages that the fields of an extend block give.
+/// Appends the messages made for the fields of an `extend` statement.
 #[cycle(messages)]
 pub(crate) fn push_extend_messages(
     alloc: Global,
@@ -209,7 +208,7 @@ pub(crate) fn push_extend_messages(
     Ok(())
 }
 
-// Appends the message that stands for a group, or the entry message of a map.
+// Appends the message made for a group or for the entries of a map.
 #[cycle(messages)]
 fn push_field_messages(
     alloc: Global,

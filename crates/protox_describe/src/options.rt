@@ -1,4 +1,5 @@
-//! Options: what a parser reads of them, and the messages that hold all others as they are written.
+//! Options: what the parser reads of them, and the messages that hold the others as they are
+//! written.
 
 ghost use Rattle.std.specs.Prelude.{◌≡◌, ◌==◌, None, Some, IfOk, if◌then◌else◌, map, length, find, option_and_then, codes};
 ghost use Rattle.protox_ast.specs.Values.{a_text, default_text, wanted};
@@ -105,7 +106,7 @@ fn aggregate_value(alloc: Global, value: &OptionValue) -> Result<Option<Text>, A
     }
 }
 
-// An option as it is written.
+// An option as an uninterpreted option.
 fn uninterpreted(alloc: Global, ast: &OptionBody) -> Result<UninterpretedOption, AllocError>
     ensures { IfOk result (λ option. option ≡ uninterpreted ast.now) }
 {
@@ -223,7 +224,7 @@ fn default_among(alloc: Global, ty: &Ty, bodies: &[OptionBody]) -> Result<Option
     Ok(None)
 }
 
-/// The text of a field's default value: that of the first option `default`.
+/// The text of a field's default value, from its first option `default`.
 pub(crate) fn default_value(
     alloc: Global,
     ty: &Ty,
@@ -248,7 +249,7 @@ fn json_name_among(alloc: Global, bodies: &[OptionBody]) -> Result<Option<Text>,
     Ok(None)
 }
 
-/// The JSON name of a field: the text of the first option `json_name`.
+/// The JSON name of a field, from its first option `json_name`.
 pub(crate) fn json_name(
     alloc: Global,
     list: &Option<Boxed<OptionList>>,
@@ -382,7 +383,7 @@ pub(crate) fn extension_range_options(
     }
 }
 
-/// The options of a field, but for its default value and its JSON name.
+/// The options of a field without its default value and its JSON name.
 pub(crate) fn field_options(
     alloc: Global,
     ast: &Option<Boxed<OptionList>>,

@@ -1,4 +1,4 @@
-//! The numbers and names that a message or an enum sets aside.
+//! The numbers and names that messages and enums reserve.
 
 ghost use Rattle.std.specs.Prelude.{◌≡◌, ◌++◌, ◌+ℤ◌, ◌≤ℤ◌, pos, map, option_map, Some, IfOk, OnOk};
 ghost use Rattle.std.specs.List.{flat_map};
@@ -15,7 +15,7 @@ use protox_descriptor::descriptor::enum_descriptor_proto::EnumReservedRange;
 use protox_descriptor::values::{Items, Text};
 use std::alloc::{AllocError, Global};
 
-/// The number of a field, from 1 to 536870911.
+/// The number of a field, if it is 1 to 536870911.
 pub(crate) fn number_of(int: &Int) -> Option<i32>
     ensures { result ≡ number_of int.now }
 {
@@ -26,7 +26,7 @@ pub(crate) fn number_of(int: &Int) -> Option<i32>
     }
 }
 
-// The number after it.
+// The number plus 1.
 fn number_after(int: &Int) -> Option<i32>
     ensures { result ≡ option_map (λ number. number +ℤ pos 1) (number_of int.now) }
 {
@@ -57,8 +57,8 @@ fn is_message_set(statements: &[ast::Option]) -> bool
     false
 }
 
-/// The greatest number of a message with these options, which `max` stands for. A message set has
-/// more.
+/// The number that `max` stands for in a message with these options. It is greater for a message
+/// set.
 pub(crate) fn greatest_number(statements: &[ast::Option]) -> i32
     ensures value { result ≡ greatest_number statements.now }
     ensures bound { result ≤ℤ pos 2147483646 }
@@ -70,7 +70,7 @@ pub(crate) fn greatest_number(statements: &[ast::Option]) -> i32
     }
 }
 
-// The number after the last of a range.
+// The end of a range: one more than its last number.
 fn end_number(greatest: i32, range: &ast::ReservedRange) -> Option<i32>
     requires { greatest ≤ℤ pos 2147483646 }
     ensures { result ≡ end_number greatest range.now }
@@ -120,7 +120,7 @@ fn push_reserved(
     }
 }
 
-/// The numbers that a message sets aside.
+/// The ranges of numbers that a message reserves.
 pub(crate) fn reserved_protos(
     alloc: Global,
     greatest: i32,
@@ -154,7 +154,7 @@ fn push_names(alloc: Global, kind: &ReservedKind, found: &mut Items<Text>) -> Re
     }
 }
 
-/// The names that a message or an enum sets aside.
+/// The names that a message or an enum reserves.
 pub(crate) fn reserved_texts(
     alloc: Global,
     statements: &[Reserved],
@@ -200,7 +200,7 @@ fn push_extension_ranges(
     Ok(())
 }
 
-/// The numbers that a message sets aside for extensions.
+/// The ranges of extension numbers of a message.
 pub(crate) fn extension_protos(
     alloc: Global,
     greatest: i32,
@@ -223,7 +223,7 @@ pub(crate) fn enum_number(int: &Int) -> Option<i32>
     number_in_signed_32(int)
 }
 
-// The last number of a range of an enum.
+// The end of a range in an enum: its last number.
 fn enum_end(range: &ast::ReservedRange) -> Option<i32>
     ensures { result ≡ last_number enum_number (pos 2147483647) range.now.start range.now.end }
 {
@@ -267,7 +267,7 @@ fn push_enum_reserved(
     }
 }
 
-/// The numbers that an enum sets aside.
+/// The ranges of numbers that an enum reserves.
 pub(crate) fn enum_reserved_protos(
     alloc: Global,
     statements: &[Reserved],

@@ -1,4 +1,4 @@
-//! Option values as numbers and texts, and the text of a default value.
+//! Option values as numbers and texts, and default values as texts.
 
 ghost use Rattle.std.specs.Prelude.{◌≡◌, pos, option_map, IfOk, if◌then◌else◌};
 ghost use Rattle.protox_ast.specs.Checks.{is_text};
@@ -118,7 +118,7 @@ fn text_if_text(alloc: Global, bytes: &[u8]) -> Result<Option<Text>, AllocError>
     }
 }
 
-/// The text, if the value is one.
+/// The text of the value; None if it isn't a string of UTF-8.
 pub(crate) fn text_value(alloc: Global, value: &OptionValue) -> Result<Option<Text>, AllocError>
     ensures { IfOk result (λ text. text ≡ default_text a_text value.now) }
 {
@@ -139,7 +139,7 @@ fn bytes_text(alloc: Global, value: &OptionValue) -> Result<Option<Text>, AllocE
     }
 }
 
-/// The text of a default value for a field of that type, or None where the type doesn't take it.
+/// The text of a default value for a field of this type; None if the type doesn't take it.
 pub(crate) fn default_text(
     alloc: Global,
     ty: &Ty,

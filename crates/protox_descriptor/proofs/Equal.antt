@@ -1,4 +1,4 @@
--- Descriptors are equal exactly where they are the same, by their fields.
+-- Two descriptors are equal exactly when all their fields are.
 use Rattle.std.proofs.Common.{refl, sym, subst, ◌∙◌}
 use Rattle.std.specs.Cmp.Lexicographic.{pointwise}
 use Rattle.protox_descriptor.proofs.Sameness.{Tells, tells-alike, tells-bool, tells-both, tells-held, tells-list, tells-option, tells-parts, tells-signed, tells-signed_list, tells-text, tells-unsigned}
@@ -285,7 +285,7 @@ same-SourceCodeInfo x =
     (λ p. record { location = p }) (λ z. refl) x
     (tells-list same-Location x.location)
 
--- A message is told from others where those in it are.
+-- A message differs from others if the messages in it do.
 of_nested : (x : DescriptorProto) → Tells (pointwise message.ghosts.eq) (out-DescriptorProto x).nested_type → Tells message.ghosts.eq x
 of_nested x nested = tells-alike (is x)
     (tells-parts (λ (z : DescriptorProto). (

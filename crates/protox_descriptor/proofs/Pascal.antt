@@ -73,7 +73,7 @@ pub pascal_letter : (raised : Bool) (letter : ℕ) (text rest : List ℕ) → le
     → pascal_case_from raised text ≡ encode (if raised then to_ascii_uppercase letter else letter) ++ pascal_case_from false rest
 pascal_letter raised letter text rest differs split = ap (pascal_case_from raised) split ∙ letter_of raised letter rest differs (cases_lt letter 128)
 
--- a step of the loop: the whole is what is written and what is to come
+-- One step of the loop: the whole is what is written so far, and what is still to come.
 pub pascal_pushed : (raised after : Bool) (letter pushed : ℕ) (whole old new text rest : List ℕ)
     → whole ≡ old ++ pascal_case_from raised text → text ≡ encode letter ++ rest → letter ≢ 95
     → pushed ≡ (if raised then to_ascii_uppercase letter else letter) → after ≡ false → new ≡ old ++ encode pushed

@@ -1,4 +1,4 @@
--- What lies at the front of a list after two writes.
+-- The front of a list after two writes.
 --     written_twice      what was written, one behind the other
 use Rattle.std.proofs.Common.{◌≡◌, ℕ, ◌+◌, List, ◌++◌, take, length, refl, ap, ◌∙◌, arith, length-append}
 use Rattle.std.proofs.lemmas.List.{take_at}

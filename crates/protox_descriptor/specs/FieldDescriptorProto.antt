@@ -1,8 +1,9 @@
--- What a contract sees of the descriptor of a field.
+-- What contracts see of the descriptor of a field.
 use Rattle.std.specs.Prelude.{ℕ, ℤ, Bool, List, Option}
 use Rattle.protox_descriptor.specs.declared.descriptor.options.FieldOptions.{FieldOptions}
 
--- A field of a message, or an extension: each part as in the message `FieldDescriptorProto`. Texts are lists of bytes.
+-- A field of a message, or an extension. Each part is as in the message `FieldDescriptorProto`.
+-- Texts are lists of bytes.
 pub record FieldDescriptorProto : Type 0 where
   pub name : Option (List ℕ)
   pub number : Option ℤ

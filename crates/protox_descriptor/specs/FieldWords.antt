@@ -1,23 +1,23 @@
--- The numbers and the words of labels and types, as descriptor.proto and a source have them.
+-- The numbers of labels and types in descriptor.proto, and their words in a source.
 use Rattle.std.specs.Prelude.{ℕ, ℤ, pos, List, codes}
 use Rattle.protox_descriptor.specs.declared.descriptor.field_descriptor_proto.Label.{Label}
 use Rattle.protox_descriptor.specs.declared.descriptor.field_descriptor_proto.Label.TheVariants.{Optional, Required, Repeated}
 use Rattle.protox_descriptor.specs.declared.descriptor.field_descriptor_proto.FieldType.{FieldType}
 use Rattle.protox_descriptor.specs.declared.descriptor.field_descriptor_proto.FieldType.TheVariants as type
 
--- the number of the label in descriptor.proto
+-- The number of a label in descriptor.proto.
 abbrev pub label_number : Label → ℤ
 label_number Optional = pos 1
 label_number Required = pos 2
 label_number Repeated = pos 3
 
--- the label's word in a source
+-- The word of a label in a source.
 abbrev pub label_word : Label → List ℕ
 label_word Optional = codes "optional"
 label_word Required = codes "required"
 label_word Repeated = codes "repeated"
 
--- the number of the type in descriptor.proto
+-- The number of a type in descriptor.proto.
 abbrev pub type_number : FieldType → ℤ
 type_number type.Double = pos 1
 type_number type.Float = pos 2
@@ -38,7 +38,8 @@ type_number type.Sfixed64 = pos 16
 type_number type.Sint32 = pos 17
 type_number type.Sint64 = pos 18
 
--- the type's word in a source; of those that have none, the name in descriptor.proto in small letters
+-- The word of a type in a source. A type that no word of a source names (message, enum) gets its
+-- name in descriptor.proto, in small letters.
 abbrev pub type_word : FieldType → List ℕ
 type_word type.Double = codes "double"
 type_word type.Float = codes "float"

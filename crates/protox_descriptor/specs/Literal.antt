@@ -3,11 +3,12 @@ use Rattle.std.specs.Prelude.{ℕ, ◌/◌, ◌%◌, ◌==◌, if◌then◌else�
 use Rattle.std.specs.Char.{digit_char}
 use Rattle.std.specs.Int.{is_in_range}
 
--- three octal digits
+-- A byte as three octal digits.
 abbrev pub octal : ℕ → List ℕ
 octal byte = digit_char (byte / 64) ∷ digit_char (byte / 8 % 8) ∷ digit_char (byte % 8) ∷ []
 
--- a byte of a string: itself where it is printable, else an escape
+-- A byte of a string as it is written. Quotes, backslashes and bytes outside printable ASCII become
+-- escapes; all others stay.
 abbrev pub printed_byte : ℕ → List ℕ
 printed_byte byte =
     if byte == 9 then codes "\\t"

@@ -1,8 +1,8 @@
--- What a contract sees of a location.
+-- What contracts see of a location.
 use Rattle.std.specs.Prelude.{ℕ, ℤ, List, Option}
 
--- The place of one part of a descriptor: its path, its span, and its comments, each as in `SourceCodeInfo.Location`.
--- Texts are lists of bytes.
+-- The place of one part of a descriptor: its path, its span and its comments, as in
+-- `SourceCodeInfo.Location`. Texts are lists of bytes.
 pub record Location : Type 0 where
   pub path : List ℤ
   pub span : List ℤ

@@ -1,4 +1,4 @@
--- Options as one writes them in a source.
+-- Options as they are written in a source.
 use Rattle.std.specs.Prelude.{ℕ, ℤ, pos, ◌==◌, if◌then◌else◌, List, [], ◌∷◌, ◌++◌, Option, Some, None, Bool, flat_map, codes}
 use Rattle.std.specs.Option.{option_map}
 use Rattle.std.specs.Fmt.{decimal, signed_decimal}
@@ -18,6 +18,7 @@ pub data Written : Type 0 where
   String : List ℕ → Written
   Aggregate : List ℕ → Written
 
+-- The value that a `Value` of the code stands for.
 abbrev pub written : Value → Written
 written (value.Identifier text) = Identifier text.now
 written (value.PositiveInt number) = PositiveInt number
@@ -26,11 +27,13 @@ written (value.Double text) = Double text.now
 written (value.String bytes) = String bytes.now
 written (value.Aggregate text) = Aggregate text.now
 
+-- The first value if there is one, else the other.
 abbrev pub or_else : Option Written → Option Written → Option Written
 or_else (Some v) other = Some v
 or_else None other = other
 
--- the value of an option: what a parser sets is one alone
+-- The value of an option. A parser sets only one of the six parts. If more are set, the first in
+-- this order counts.
 abbrev pub value_of : UninterpretedOption → Option Written
 value_of option =
     or_else (option_map Identifier option.identifier_value)
@@ -40,22 +43,24 @@ value_of option =
     (or_else (option_map String option.string_value)
     (option_map Aggregate option.aggregate_value)))))
 
--- a part of a name, in parentheses where it is the name of an extension
+-- A part of an option's name. The name of an extension stands in parentheses.
 abbrev pub part_text : NamePart → List ℕ
 part_text part = if part.is_extension then codes "(" ++ part.name_part ++ codes ")" else part.name_part
 
+-- A dot, and a later part of the name.
 abbrev pub later_part_text : NamePart → List ℕ
 later_part_text part = codes "." ++ part_text part
 
--- the parts of a name with dots between them
+-- All parts of a name, with dots between them.
 abbrev pub name_text : List NamePart → List ℕ
 name_text [] = []
 name_text (part ∷ parts) = part_text part ++ flat_map later_part_text parts
 
--- an integer with its minus sign, which 0 has too
+-- A negative integer with its sign. 0 is written `-0`.
 abbrev pub negative_text : ℤ → List ℕ
 negative_text number = if int_eq number (pos 0) then codes "-0" else signed_decimal number
 
+-- The text of a value. Strings stand in quotes, aggregates in braces.
 abbrev pub value_text : Written → List ℕ
 value_text (Identifier text) = text
 value_text (PositiveInt number) = decimal number
@@ -64,10 +69,11 @@ value_text (Double text) = text
 value_text (String bytes) = codes "\"" ++ flat_map printed_byte bytes ++ codes "\""
 value_text (Aggregate text) = codes "{ " ++ text ++ codes " }"
 
+-- ` = ` and the value. Without a value nothing.
 abbrev pub assigned_text : Option Written → List ℕ
 assigned_text None = []
 assigned_text (Some v) = codes " = " ++ value_text v
 
--- the name, ` = ` and the value
+-- The text of an option: its name, ` = ` and its value.
 abbrev pub option_text : UninterpretedOption → List ℕ
 option_text option = name_text option.name ++ assigned_text (value_of option)

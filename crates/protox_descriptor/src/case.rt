@@ -1,4 +1,4 @@
-//! The rules for names, and the spelling of a map's entry message.
+//! The rules for names, and the name of a map's entry message.
 
 ghost use Rattle.std.specs.Prelude.{◌≡◌, IfOk};
 ghost use Rattle.std.specs.List.{list_all};
@@ -7,7 +7,7 @@ ghost use Rattle.protox_descriptor.specs.Case.{is_ident_byte, is_ident, is_group
 
 use std::alloc::{AllocError, Global};
 
-/// Whether `name` is an ASCII letter or `_`, and then ASCII letters, digits and `_`.
+/// Whether `name` is an identifier: an ASCII letter or `_`, then ASCII letters, digits and `_`.
 pub fn is_valid_ident(name: &str) -> bool
     ensures { result ≡ is_ident name.now }
 {
@@ -19,7 +19,7 @@ pub fn is_valid_ident(name: &str) -> bool
     }
 }
 
-/// Whether `name` is an ASCII capital and then ASCII letters, digits and `_`.
+/// Whether `name` may name a group: an ASCII capital, then ASCII letters, digits and `_`.
 pub fn is_valid_group_name(name: &str) -> bool
     ensures { result ≡ is_group_name name.now }
 {
@@ -37,8 +37,8 @@ fn are_ident_bytes(bytes: &[u8]) -> bool
         .all(|byte| byte.is_ascii_alphanumeric() || *byte == b'_')
 }
 
-/// `name` without its `_`, its first character and each first one after `_` as an ASCII capital:
-/// `FooBar` for `foo_bar`. Or `AllocError`.
+/// `name` without its `_`, or `AllocError`. The first character and each character right after a
+/// `_` becomes an ASCII capital: `foo_bar` gives `FooBar`.
 pub fn to_pascal_case(alloc: Global, name: &str) -> Result<String, AllocError>
     ensures { IfOk result (λ pascal. string_bytes pascal ≡ pascal_case name.now) }
 {

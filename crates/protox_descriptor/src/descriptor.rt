@@ -1,6 +1,6 @@
 //! The messages of descriptor.proto, as far as a parser of source files fills them in. Each type is
-//! named after its message and each field after the message's field; an optional field is an
-//! `Option`, a repeated one a list.
+//! named after its message, and each field after the message's field. An optional field is an
+//! `Option`, and a repeated one is a list.
 
 ghost use Rattle.std.specs.Prelude.{◌≡◌, [], None, false};
 ghost use Rattle.protox_descriptor.specs.declared.descriptor.DescriptorProto.{roll-DescriptorProto};
@@ -31,11 +31,11 @@ pub struct FileDescriptorProto {
     pub package: Option<Text>,
     /// The imported files, in order.
     pub dependency: Items<Text>,
-    /// The places of public imports in `dependency`, from 0.
+    /// The indices of public imports in `dependency`, from 0.
     pub public_dependency: Items<i32>,
-    /// The places of weak imports in `dependency`, from 0.
+    /// The indices of weak imports in `dependency`, from 0.
     pub weak_dependency: Items<i32>,
-    /// The messages of the file, in order, with those of groups in its `extend` blocks.
+    /// The messages of the file, in order. Those of groups in its `extend` blocks are among them.
     pub message_type: Items<DescriptorProto>,
     /// The enums of the file, in order.
     pub enum_type: Items<EnumDescriptorProto>,
@@ -45,14 +45,14 @@ pub struct FileDescriptorProto {
     pub extension: Items<FieldDescriptorProto>,
     /// The options of the file, if it has any.
     pub options: Option<FileOptions>,
-    /// Where each part of the file stands. `parse` always sets it.
+    /// The place of each part of the file. `parse` always sets it.
     pub source_code_info: Option<SourceCodeInfo>,
-    /// None for proto2, else `proto3`.
+    /// `proto3`, or None for proto2.
     pub syntax: Option<Text>,
 }
 
 impl FileDescriptorProto {
-    /// Nothing set. It takes no memory: `alloc` serves later growths.
+    /// A message with nothing set. It takes no memory; later growth takes it from `alloc`.
     pub fn new(alloc: Global) -> FileDescriptorProto
         ensures { result ≡ record { name = None; «package» = None; dependency = []; public_dependency = []; weak_dependency = []; message_type = []; enum_type = []; service = []; extension = []; options = None; source_code_info = None; syntax = None } }
     {
@@ -73,34 +73,35 @@ impl FileDescriptorProto {
     }
 }
 
-/// The message `DescriptorProto`: a message type. Drop, `==` and Debug go down through `nested_type` level by
-/// level: at most 31 in what comes from a source, and as deep as a caller nested it else.
+/// The message `DescriptorProto`: a message type. Drop, `==` and Debug call themselves for each
+/// level of `nested_type`. A descriptor from a source has at most 31 levels. A deeper one can only
+/// be made by hand.
 #[derive(PartialEq, Debug, Drop)]
 pub struct DescriptorProto {
     /// Its name, without the package and the messages around it.
     pub name: Option<Text>,
-    /// Its fields with those of its oneofs, in order.
+    /// Its fields in order, with those of its oneofs.
     pub field: Items<FieldDescriptorProto>,
     /// The fields of the `extend` blocks in it, in order.
     pub extension: Items<FieldDescriptorProto>,
-    /// The messages in it: nested ones, those of groups and the entries of maps, in order.
+    /// The messages in it, in order: nested messages, those of groups, and the entries of maps.
     pub nested_type: Items<DescriptorProto>,
     /// The enums in it, in order.
     pub enum_type: Items<EnumDescriptorProto>,
-    /// The numbers that are free for extensions.
+    /// The ranges of numbers that are free for extensions.
     pub extension_range: Items<descriptor_proto::ExtensionRange>,
-    /// Its oneofs: first those that are written, then one for each `proto3_optional` field.
+    /// Its oneofs: first those in the source, then one for each `proto3_optional` field.
     pub oneof_decl: Items<OneofDescriptorProto>,
     /// Its options, if it has any.
     pub options: Option<MessageOptions>,
-    /// The numbers that no field may have.
+    /// The ranges of numbers that no field may have.
     pub reserved_range: Items<descriptor_proto::ReservedRange>,
     /// The names that no field may have.
     pub reserved_name: Items<Text>,
 }
 
 impl DescriptorProto {
-    /// Nothing set. It takes no memory: `alloc` serves later growths.
+    /// A message with nothing set. It takes no memory; later growth takes it from `alloc`.
     pub fn new(alloc: Global) -> DescriptorProto
         ensures { result ≡ roll-DescriptorProto (record { name = None; field = []; extension = []; nested_type = []; enum_type = []; extension_range = []; oneof_decl = []; options = None; reserved_range = []; reserved_name = [] }) }
     {
@@ -129,7 +130,7 @@ pub struct OneofDescriptorProto {
 }
 
 impl OneofDescriptorProto {
-    /// Nothing set. It takes no memory.
+    /// A message with nothing set. It takes no memory.
     pub fn new(_alloc: Global) -> OneofDescriptorProto
         ensures { result ≡ record { name = None; options = None } }
     {
@@ -149,14 +150,14 @@ pub struct EnumDescriptorProto {
     pub value: Items<EnumValueDescriptorProto>,
     /// Its options, if it has any.
     pub options: Option<EnumOptions>,
-    /// The numbers that no value may have.
+    /// The ranges of numbers that no value may have.
     pub reserved_range: Items<enum_descriptor_proto::EnumReservedRange>,
     /// The names that no value may have.
     pub reserved_name: Items<Text>,
 }
 
 impl EnumDescriptorProto {
-    /// Nothing set. It takes no memory: `alloc` serves later growths.
+    /// A message with nothing set. It takes no memory; later growth takes it from `alloc`.
     pub fn new(alloc: Global) -> EnumDescriptorProto
         ensures { result ≡ record { name = None; value = []; options = None; reserved_range = []; reserved_name = [] } }
     {
@@ -182,7 +183,7 @@ pub struct EnumValueDescriptorProto {
 }
 
 impl EnumValueDescriptorProto {
-    /// Nothing set. It takes no memory.
+    /// A message with nothing set. It takes no memory.
     pub fn new(_alloc: Global) -> EnumValueDescriptorProto
         ensures { result ≡ record { name = None; number = None; options = None } }
     {
@@ -206,7 +207,7 @@ pub struct ServiceDescriptorProto {
 }
 
 impl ServiceDescriptorProto {
-    /// Nothing set. It takes no memory: `alloc` serves later growths.
+    /// A message with nothing set. It takes no memory; later growth takes it from `alloc`.
     pub fn new(alloc: Global) -> ServiceDescriptorProto
         ensures { result ≡ record { name = None; method = []; options = None } }
     {
@@ -223,20 +224,20 @@ impl ServiceDescriptorProto {
 pub struct MethodDescriptorProto {
     /// Its name.
     pub name: Option<Text>,
-    /// The type of what is sent, as it is written.
+    /// The type of the request, as it stands in the source.
     pub input_type: Option<Text>,
-    /// The type of what is answered, as it is written.
+    /// The type of the response, as it stands in the source.
     pub output_type: Option<Text>,
     /// Its options, if it has any.
     pub options: Option<MethodOptions>,
-    /// True where `stream` stands before the first type, else None.
+    /// True if `stream` stands before the request type, else None.
     pub client_streaming: Option<bool>,
-    /// True where `stream` stands before the second type, else None.
+    /// True if `stream` stands before the response type, else None.
     pub server_streaming: Option<bool>,
 }
 
 impl MethodDescriptorProto {
-    /// Nothing set. It takes no memory.
+    /// A message with nothing set. It takes no memory.
     pub fn new(_alloc: Global) -> MethodDescriptorProto
         ensures { result ≡ record { name = None; input_type = None; output_type = None; options = None; client_streaming = None; server_streaming = None } }
     {
@@ -251,7 +252,7 @@ impl MethodDescriptorProto {
     }
 }
 
-/// The message `SourceCodeInfo`: where in the source each part of a descriptor stands.
+/// The message `SourceCodeInfo`: the place of each part of a descriptor in the source.
 #[derive(PartialEq, Debug, Drop)]
 pub struct SourceCodeInfo {
     /// The locations, sorted by path.
@@ -259,7 +260,7 @@ pub struct SourceCodeInfo {
 }
 
 impl SourceCodeInfo {
-    /// Nothing set. It takes no memory: `alloc` serves later growths.
+    /// A message with nothing set. It takes no memory; later growth takes it from `alloc`.
     pub fn new(alloc: Global) -> SourceCodeInfo
         ensures { result ≡ record { location = [] } }
     {

@@ -1,5 +1,5 @@
-//! The values that a parsed Protocol Buffers file is made of, and the messages of descriptor.proto
-//! over them, with their tags and the rules for their names.
+//! The messages of descriptor.proto as a parser fills them in, the texts and lists in them, the
+//! field numbers of the messages, and the rules for names.
 #![tactic(auto)]
 
 pub mod case;

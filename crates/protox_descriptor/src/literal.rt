@@ -1,4 +1,4 @@
-//! The bytes of a string as they are written between quotes.
+//! How the bytes of a string are written between quotes.
 
 ghost use Rattle.std.specs.Prelude.{◌≡◌, ◌∷◌, ◌<◌, Some, flat_map};
 ghost use Rattle.std.specs.Char.{digit_char};
@@ -45,8 +45,8 @@ fn write_byte<W: fmt::Write>(byte: u8, f: &mut fmt::Formatter<W>) -> fmt::Result
     }
 }
 
-/// Writes the bytes of a string as a source has them between quotes: a printable character of ASCII
-/// as it is, but for quotes and backslashes, and each other byte as an escape.
+/// Writes the bytes of a string as they stand between quotes. Quotes, backslashes and bytes outside
+/// printable ASCII become escapes. All other bytes stay.
 pub fn write_bytes<W: fmt::Write>(bytes: &[u8], f: &mut fmt::Formatter<W>) -> fmt::Result
     ensures { DisplaysOnOk W.write_str_gives f.old result (Some (flat_map printed_byte bytes.now)) f.new }
 {

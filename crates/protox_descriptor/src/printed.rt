@@ -1,4 +1,4 @@
-//! Options as one writes them in a source: their names and their values.
+//! Options as they are written in a source: names and values.
 
 ghost use Rattle.std.specs.Prelude.{◌≡◌, Some, flat_map};
 ghost use Rattle.std.specs.Fmt.{DisplaysOnOk};
@@ -10,10 +10,10 @@ use crate::descriptor::uninterpreted_option::NamePart;
 use crate::literal::write_bytes;
 use std::fmt;
 
-/// The value of an option, by its kind. Display writes it as a source has it.
+/// The value of an option, by its kind. Display writes it as it stands in a source.
 #[derive(Clone, Copy)]
 pub enum Value<'a> {
-    /// A word.
+    /// An identifier.
     Identifier(&'a str),
     /// An integer without a sign.
     PositiveInt(u64),
@@ -23,13 +23,13 @@ pub enum Value<'a> {
     Double(&'a str),
     /// The bytes of a string.
     String(&'a [u8]),
-    /// The tokens between braces, with a space between each two.
+    /// The tokens between the braces, with a space between each two.
     Aggregate(&'a str),
 }
 
 impl UninterpretedOption {
-    /// The value by its kind. Of an option that a parser made it is the one value that is set; else
-    /// the first in the order of the fields. None where no value is set.
+    /// The value of the option, or None if no value is set. A parser sets just one. If more are
+    /// set, it is the first in the order of the fields.
     ///
     /// ```
     /// if let Some(Value::Identifier(word)) = option.value() {
@@ -60,7 +60,7 @@ impl UninterpretedOption {
         None
     }
 
-    /// The name, which Display writes as a source has it: `(a.b).c`.
+    /// The name of the option. Display writes it as it stands in a source: `(a.b).c`.
     pub fn written_name(&self) -> WrittenName<'_>
         ensures { result.0.now ≡ self.now.name }
     {
@@ -68,11 +68,12 @@ impl UninterpretedOption {
     }
 }
 
-/// The name of an option. Display writes it as a source has it: its parts with dots between them.
+/// The name of an option. Display writes it as it stands in a source: the parts, with dots between
+/// them.
 #[derive(Clone, Copy)]
 pub struct WrittenName<'a>(pub &'a [NamePart]);
 
-/// As a source has it: in parentheses where it is the name of an extension.
+/// Writes the part as it stands in a source: an extension's name in parentheses.
 impl fmt::Display for NamePart {
     ghost use Rattle.std.specs.Prelude.{Some};
     ghost use Rattle.protox_descriptor.specs.Printed.{part_text};
@@ -150,7 +151,7 @@ impl fmt::Display for Value<'_> {
     }
 }
 
-/// As a source has it between `option` and `;`, or between brackets: `(a.b).c = 1`.
+/// Writes the option as it stands between `option` and `;`, or between brackets: `(a.b).c = 1`.
 impl fmt::Display for UninterpretedOption {
     ghost use Rattle.std.specs.Prelude.{Some};
     ghost use Rattle.protox_descriptor.specs.Printed.{option_text};

@@ -1,10 +1,10 @@
-//! The field numbers of the messages of descriptor.proto, from which the paths of locations are
-//! made. A module for each message.
+//! The field numbers of the messages of descriptor.proto, in a module for each message. The paths
+//! of locations are made of them.
 
-/// `uninterpreted_option`, in each of the options messages.
+/// The number of `uninterpreted_option` in each of the options messages.
 pub const UNINTERPRETED_OPTION: i32 = 999;
 
-/// `FileDescriptorProto`.
+/// The field numbers of `FileDescriptorProto`.
 pub mod file {
     /// The number of `package`.
     pub const PACKAGE: i32 = 2;
@@ -37,7 +37,7 @@ pub mod file {
     pub const SYNTAX: i32 = 12;
 }
 
-/// `DescriptorProto`.
+/// The field numbers of `DescriptorProto`.
 pub mod message {
     /// The number of `name`.
     pub const NAME: i32 = 1;
@@ -69,7 +69,7 @@ pub mod message {
     /// The number of `reserved_name`.
     pub const RESERVED_NAME: i32 = 10;
 
-    /// `DescriptorProto.ExtensionRange`.
+    /// The field numbers of `DescriptorProto.ExtensionRange`.
     pub mod extension_range {
         /// The number of `start`.
         pub const START: i32 = 1;
@@ -81,7 +81,7 @@ pub mod message {
         pub const OPTIONS: i32 = 3;
     }
 
-    /// `DescriptorProto.ReservedRange`.
+    /// The field numbers of `DescriptorProto.ReservedRange`.
     pub mod reserved_range {
         /// The number of `start`.
         pub const START: i32 = 1;
@@ -91,7 +91,7 @@ pub mod message {
     }
 }
 
-/// `FieldDescriptorProto`.
+/// The field numbers of `FieldDescriptorProto`.
 pub mod field {
     /// The number of `name`.
     pub const NAME: i32 = 1;
@@ -121,7 +121,7 @@ pub mod field {
     pub const JSON_NAME: i32 = 10;
 }
 
-/// `OneofDescriptorProto`.
+/// The field numbers of `OneofDescriptorProto`.
 pub mod oneof {
     /// The number of `name`.
     pub const NAME: i32 = 1;
@@ -130,7 +130,7 @@ pub mod oneof {
     pub const OPTIONS: i32 = 2;
 }
 
-/// `EnumDescriptorProto`.
+/// The field numbers of `EnumDescriptorProto`.
 pub mod enum_ {
     /// The number of `name`.
     pub const NAME: i32 = 1;
@@ -147,7 +147,7 @@ pub mod enum_ {
     /// The number of `reserved_name`.
     pub const RESERVED_NAME: i32 = 5;
 
-    /// `EnumDescriptorProto.EnumReservedRange`.
+    /// The field numbers of `EnumDescriptorProto.EnumReservedRange`.
     pub mod reserved_range {
         /// The number of `start`.
         pub const START: i32 = 1;
@@ -157,7 +157,7 @@ pub mod enum_ {
     }
 }
 
-/// `EnumValueDescriptorProto`.
+/// The field numbers of `EnumValueDescriptorProto`.
 pub mod enum_value {
     /// The number of `name`.
     pub const NAME: i32 = 1;
@@ -169,7 +169,7 @@ pub mod enum_value {
     pub const OPTIONS: i32 = 3;
 }
 
-/// `ServiceDescriptorProto`.
+/// The field numbers of `ServiceDescriptorProto`.
 pub mod service {
     /// The number of `name`.
     pub const NAME: i32 = 1;
@@ -181,7 +181,7 @@ pub mod service {
     pub const OPTIONS: i32 = 3;
 }
 
-/// `MethodDescriptorProto`.
+/// The field numbers of `MethodDescriptorProto`.
 pub mod method {
     /// The number of `name`.
     pub const NAME: i32 = 1;

@@ -1,5 +1,5 @@
-//! A text and a list that contracts see as what they hold: a text as its bytes, a list as its
-//! elements. A tree of them is plain data in a contract, with no memory to speak of.
+//! A text and two kinds of lists. Contracts see a text as the list of its bytes, and a list as its
+//! elements. So a tree of them is plain data in a contract.
 
 mod items;
 mod numbers;

@@ -1,4 +1,4 @@
--- What a part of a message was, from what it is on the wire.
+-- What a part of a message was, found from its bytes.
 use Rattle.std.proofs.Common.{◌≡◌, ℕ, zero, suc, ◌^◌, ◌<◌, ℤ, pos, negsuc, Bool, true, false, List, [], ◌∷◌, ◌++◌, Option, Some, None, refl, sym, ap, arith}
 use Rattle.std.specs.Prelude.{nat_lt}
 use Rattle.std.specs.Cmp.{first_so, second_so}
@@ -18,7 +18,7 @@ use Rattle.protox_encode.specs.Payloads.{text, texts, signed, signeds, unsigned,
 use Rattle.protox_encode.specs.Reading.{HasRoom, HaveRoom, fields_of, numbered, numbers, rise_from}
 use Rattle.protox_encode.specs.Wire.{Payload, Parts, message, varint}
 
--- ---- tests and parts by their places
+-- ---- tests and parts by their index
 
 abbrev test_at : List Bool → ℕ → Bool
 test_at [] k = true
@@ -195,7 +195,7 @@ names-again (x ∷ xs) (y ∷ ys) e =
     let t : xs ≡ ys = names-again xs ys r in
     λ i. record { name_part = a' i; is_extension = b' i } ∷ t i
 
--- A message is told by its bytes from all others that pass its tests.
+-- No other message that passes its tests has the same bytes.
 pub record Told {M : Type 0} (parts : M → Parts) (tests : M → List Bool) : Type 0 where
   pub told : (x y : M) → all (tests x) ≡ true → all (tests y) ≡ true → message (parts x) ≡ message (parts y) → x ≡ y
 

@@ -1,4 +1,4 @@
--- No number begins another.
+-- No encoded number is the beginning of another.
 use Rattle.std.proofs.Common.{◌≡◌, ℕ, zero, suc, ◌+◌, ◌/◌, ◌%◌, ◌<◌, ◌≤◌, List, ◌∷◌, ◌++◌, refl, sym, ◌∙◌, arith}
 use Rattle.protox_encode.proofs.Varint.{within_one, within_split, either}
 use Rattle.protox_encode.specs.Reading.{NumbersAreApart}
@@ -13,7 +13,7 @@ one k n x h = rw (within_one k n h) refl
 pub more : (k n : ℕ) (x : List ℕ) → 128 ≤ n → varint_within (suc k) n ++ x ≡ (128 + n % 128) ∷ (varint_within k (n / 128) ++ x)
 more k n x h = rw (within_split k n h) refl
 
--- the same groups, where the highest are known to be
+-- The same groups, if the highest ones are known.
 grown : (m n : ℕ) {P : Type 0} → 128 + m % 128 ≡ 128 + n % 128 → (m / 128 ≡ n / 128) × P → (m ≡ n) × P
 grown m n e h = (omega (arith, h.0), h.1)
 

@@ -1,4 +1,4 @@
--- Messages with the same bytes are the same, kind by kind, where nothing of them is lost.
+-- Messages with the same bytes are the same, kind by kind, if nothing of them is lost.
 use Rattle.std.proofs.Common.{◌≡◌, Bool, true, List, [], ◌∷◌, map, refl, sym, ap, subst, ◌∙◌}
 use Rattle.std.specs.Cmp.{first_so, second_so}
 use Rattle.std.proofs.lemmas.List.Folds.{list_all-map}
@@ -304,7 +304,7 @@ told-reserved_range = record {
       };
 }
 
--- a message by what stands in it
+-- A message, by what stands in it.
 abbrev message-whole : DescriptorProto → Parts
 message-whole m = (1, payload.text (out-DescriptorProto m).name) ∷ (2, payload.each words.field_descriptor (out-DescriptorProto m).field) ∷ (3, payload.each words.message_descriptor (out-DescriptorProto m).nested_type) ∷ words.message_middle (out-DescriptorProto m)
 
@@ -318,11 +318,11 @@ tested m =
     ∙ ap (λ (inner : Bool). inner ∷ exact.message_own (out-DescriptorProto m))
     (list_all-map all exact.message_descriptor (out-DescriptorProto m).nested_type)
 
--- A message is the only one with its bytes.
+-- No other message has the same bytes.
 abbrev ToldAt : DescriptorProto → Type 0
 ToldAt x = (y : DescriptorProto) → all (exact.message_descriptor x) ≡ true → all (exact.message_descriptor y) ≡ true → message (words.message_descriptor x) ≡ message (words.message_descriptor y) → x ≡ y
 
--- So are these, one by one.
+-- The same for each of these messages.
 abbrev AreTold : List DescriptorProto → Type 0
 AreTold xs = (ys : List DescriptorProto) → exact.each exact.message_descriptor xs ≡ true → exact.each exact.message_descriptor ys ≡ true → payload.each words.message_descriptor xs ≡ payload.each words.message_descriptor ys → xs ≡ ys
 

@@ -1,4 +1,4 @@
--- What a message holds, by what the messages in it hold.
+-- What a message holds, given what the messages nested in it hold.
 use Rattle.std.proofs.Common.{◌≡◌, ℕ, Bool, ◌&&◌, List, [], ◌∷◌, ◌++◌, refl, ap, ◌∙◌, map, append_assoc}
 use Rattle.std.specs.List.{list_all}
 use Rattle.std.proofs.lemmas.List.Folds.{list_all-map}
@@ -21,13 +21,13 @@ message-holds m =
     ∙ ap (λ (held : List Payload). (1, text (out-DescriptorProto m).name) ∷ (2, each field_descriptor (out-DescriptorProto m).field) ∷ (3, held) ∷ message_middle (out-DescriptorProto m))
     (each-mapped message_descriptor (out-DescriptorProto m).nested_type)
 
--- a message that is put in front in three steps
+-- A message that is put in front in three steps.
 pub message-onto : (m : DescriptorProto) (middle nested old : List ℕ) → middle ≡ message (message_middle (out-DescriptorProto m)) ++ old
     → nested ≡ part 3 (each message_descriptor (out-DescriptorProto m).nested_type) ++ middle
     → part 1 (text (out-DescriptorProto m).name) ++ (part 2 (each field_descriptor (out-DescriptorProto m).field) ++ nested) ≡ message (message_descriptor m) ++ old
 message-onto m middle nested old h k = rw (k, h, message-holds m) (simp append_assoc)
 
--- the floats of a message, by those of the messages in it
+-- The floats of a message, given those of the messages nested in it.
 pub message_floats : (m : DescriptorProto) → floats.message_descriptor m ≡ (list_all floats.message_descriptor (out-DescriptorProto m).nested_type && floats.message_own (out-DescriptorProto m))
 unfolding floats.message_descriptor floats.message_step floats.message_own
 message_floats m =

@@ -1,4 +1,4 @@
--- Two messages of one kind with the same bytes hold the same.
+-- Two messages of one kind with the same bytes have the same values.
 use Rattle.std.proofs.Common.{◌≡◌, ℕ, ◌<◌, ◌≤◌, true, List, [], ◌∷◌, ◌++◌, refl, sym, ap, ◌∙◌, arith, append_assoc}
 use Rattle.std.specs.Prelude.{nat_lt}
 use Rattle.std.specs.Cmp.{first_so, second_so}
@@ -28,7 +28,7 @@ above-rising j k ((n, ps) ∷ p) h r =
     above-numbered j n ps (fields_of p) (omega arith)
     (above-rising j n p (omega arith) (second_so (nat_lt k n) (rise_from n (numbers p)) r))
 
--- Where fields of one number stand in front of fields of greater ones, it is plain which they are.
+-- If fields of one number come before fields of greater numbers, the bytes tell which is which.
 cut : (k : ℕ) (ps qs : List Payload) (fs gs : List (ℕ × Payload)) → Above k fs → Above k gs → numbered k ps ++ fs ≡ numbered k qs ++ gs → (ps ≡ qs) × (fs ≡ gs)
 cut k [] [] fs gs a b e = (refl, e)
 cut k [] (q ∷ qs) [] gs a b e = cc

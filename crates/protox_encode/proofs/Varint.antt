@@ -16,7 +16,7 @@ within_split k n h = grind (arith, nat_tests)
 pub less : (k n : ℕ) → n < 128 ^ suc k → n / 128 < 128 ^ k
 less k n h = omega (arith, pow-succ' 128 k)
 
--- a number that fits in so many groups has no more
+-- A number that fits in this many groups has no more.
 pub either : {P : Type 0} (n : ℕ) → (n < 128 → P) → (128 ≤ n → P) → P
 either {P} n low high = at (nat_lt n 128) refl
   where

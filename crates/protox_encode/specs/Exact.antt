@@ -1,5 +1,6 @@
--- When nothing of a descriptor is lost on the wire: each of its signed numbers is one of 64 bits, as they all are by their types, and no option
--- has a double. The text of a double is lost, as the wire has the nearest float alone: `1.0` and `1.00` have the same bytes.
+-- Descriptors of which nothing is lost on the wire. Each of their signed numbers fits in 64 bits,
+-- as all do by their types, and no option has a double. The wire keeps the nearest float of a
+-- double and not its text: `1.0` and `1.00` give the same bytes.
 use Rattle.std.specs.Prelude.{◌≡◌, ℕ, ◌^◌, ℤ, pos, negsuc, Bool, true, false, nat_lt, List, [], ◌∷◌, Option, Some, None}
 use Rattle.std.specs.List.{list_all}
 use Rattle.protox_descriptor.specs.FieldDescriptorProto.{FieldDescriptorProto}
@@ -31,27 +32,29 @@ use Rattle.protox_encode.specs.Floats.{if_there}
 use Rattle.protox_encode.specs.Messages as words
 use Rattle.protox_encode.specs.Wire.{message}
 
--- a number of 64 bits with a sign
+-- Whether a number fits in 64 bits with a sign.
 abbrev pub fits : ℤ → Bool
 fits (pos n) = nat_lt n (2 ^ 63)
 fits (negsuc n) = nat_lt n (2 ^ 63)
 
+-- Whether there is no text.
 abbrev pub is_none : Option (List ℕ) → Bool
 is_none None = true
 is_none (Some text) = false
 
--- All of the tests pass.
+-- Whether all of the tests pass.
 abbrev pub all : List Bool → Bool
 all tests = list_all (λ passes. passes) tests
 
--- Each of the messages passes its tests; or the one that there is, does.
+-- Whether each of the messages passes its tests.
 abbrev pub each : {M : Type 0} → (M → List Bool) → List M → Bool
 each tests ms = list_all (λ m. all (tests m)) ms
 
+-- Whether the message passes its tests, or there is none.
 abbrev pub there : {M : Type 0} → (M → List Bool) → Option M → Bool
 there tests m = if_there (λ m. all (tests m)) m
 
--- ---- the tests of each message, one for each part that they look at
+-- ---- the tests of each message, one for each part that could be lost
 
 unfoldable pub uninterpreted_option : UninterpretedOption → List Bool
 uninterpreted_option m = if_there fits m.negative_int_value ∷ is_none m.double_value ∷ []
@@ -116,13 +119,13 @@ extension_range m = if_there fits m.start ∷ if_there fits m.end ∷ there exte
 unfoldable pub reserved_range : ReservedRange → List Bool
 reserved_range m = if_there fits m.start ∷ if_there fits m.end ∷ []
 
--- a message apart from the messages in it
+-- The tests of a message, without those of the messages nested in it.
 unfoldable pub message_own : {M : Type 0} → DescriptorProto-F M → List Bool
 message_own m =
     each field_descriptor m.field ∷ each enum_descriptor m.enum_type ∷ each extension_range m.extension_range ∷ each field_descriptor m.extension
     ∷ there message_options m.options ∷ each oneof_descriptor m.oneof_decl ∷ each reserved_range m.reserved_range ∷ []
 
--- a message, where the tests of the messages in it are known
+-- The tests of a message, given the tests of the messages nested in it.
 unfoldable pub message_step : DescriptorProto-F (List Bool) → List Bool
 message_step m = each (λ inner. inner) m.nested_type ∷ message_own m
 
@@ -134,11 +137,11 @@ file_descriptor m =
     each message_descriptor m.message_type ∷ each enum_descriptor m.enum_type ∷ each service_descriptor m.service ∷ each field_descriptor m.extension
     ∷ there file_options m.options ∷ there source_code_info m.source_code_info ∷ list_all fits m.public_dependency ∷ list_all fits m.weak_dependency ∷ []
 
--- Nothing of the file is lost.
+-- Whether nothing of the file is lost on the wire.
 abbrev pub is_exact : FileDescriptorProto → Bool
 is_exact f = all (file_descriptor f)
 
--- Files with the same bytes are the same, if nothing of either is lost.
+-- Two files with the same bytes are the same file, if nothing of either is lost.
 abbrev pub NothingIsLost : Type 0
 NothingIsLost = (these those : FileDescriptorProto) → is_exact these ≡ true → is_exact those ≡ true
     → message (words.file_descriptor these) ≡ message (words.file_descriptor those) → these ≡ those

@@ -1,4 +1,5 @@
--- Whether each `double_value` of a descriptor is the text of a float. The wire has no place for another text.
+-- Whether each `double_value` of a descriptor is the text of a float. No other text can be written
+-- on the wire.
 use Rattle.std.specs.Prelude.{Bool, true, ◌&&◌, List, Option, Some, None}
 use Rattle.std.specs.List.{list_all}
 use Rattle.std.specs.Float.Parse.{is_float_text}
@@ -24,15 +25,17 @@ use Rattle.protox_descriptor.specs.declared.descriptor.options.OneofOptions.{One
 use Rattle.protox_descriptor.specs.declared.descriptor.options.ServiceOptions.{ServiceOptions}
 use Rattle.protox_descriptor.specs.declared.descriptor.options.UninterpretedOption.{UninterpretedOption}
 
--- There is none, or it passes the test.
+-- Whether the value passes the test, or there is none.
 abbrev pub if_there : {M : Type 0} → (M → Bool) → Option M → Bool
 if_there test None = true
 if_there test (Some m) = test m
 
--- Digits with a point or an exponent, `inf` or `nan`, after a sign or none.
+-- Whether the `double_value` of an option is the text of a float, or there is none. Such a text has
+-- digits with a point or an exponent, `inf` or `nan`, after a sign or none.
 unfoldable pub uninterpreted_option : UninterpretedOption → Bool
 uninterpreted_option o = if_there is_float_text o.double_value
 
+-- Whether each of the options passes the test.
 abbrev pub options : List UninterpretedOption → Bool
 options os = list_all uninterpreted_option os
 
@@ -57,20 +60,20 @@ service_descriptor s = list_all method_descriptor s.method && if_there (λ (o : 
 unfoldable pub extension_range : ExtensionRange → Bool
 extension_range r = if_there (λ (o : ExtensionRangeOptions). options o.uninterpreted_option) r.options
 
--- a message apart from the messages in it
+-- Whether a message passes, without the messages nested in it.
 unfoldable pub message_own : {M : Type 0} → DescriptorProto-F M → Bool
 message_own m =
     list_all field_descriptor m.field && (list_all enum_descriptor m.enum_type && (list_all extension_range m.extension_range
     && (list_all field_descriptor m.extension && (list_all oneof_descriptor m.oneof_decl && if_there (λ (o : MessageOptions). options o.uninterpreted_option) m.options))))
 
--- a message, where it is known of the messages in it
+-- Whether a message passes, given whether each message nested in it does.
 unfoldable pub message_step : DescriptorProto-F Bool → Bool
 message_step m = list_all (λ inner. inner) m.nested_type && message_own m
 
 unfoldable pub message_descriptor : DescriptorProto → Bool
 message_descriptor = fold-DescriptorProto Bool message_step
 
--- Each `double_value` in a file is the text of a float.
+-- Whether each `double_value` of a file is the text of a float.
 unfoldable pub has_floats : FileDescriptorProto → Bool
 has_floats f =
     list_all message_descriptor f.message_type && (list_all enum_descriptor f.enum_type && (list_all service_descriptor f.service

@@ -1,4 +1,5 @@
--- What each message of descriptor.proto holds on the wire: the numbers of its fields in order, each with what a descriptor has there.
+-- What each message of descriptor.proto holds on the wire: the numbers of its fields, in the order
+-- in which they are written, each with its values.
 use Rattle.std.specs.Prelude.{List, [], ◌∷◌, Some}
 use Rattle.protox_descriptor.specs.FieldDescriptorProto.{FieldDescriptorProto}
 use Rattle.protox_descriptor.specs.Location.{Location}
@@ -37,7 +38,7 @@ uninterpreted_option o =
     (2, each name_part o.name) ∷ (3, text o.identifier_value) ∷ (4, unsigned o.positive_int_value) ∷ (5, signed o.negative_int_value)
     ∷ (6, double o.double_value) ∷ (7, text o.string_value) ∷ (8, text o.aggregate_value) ∷ []
 
--- each message of options has those that are not interpreted under one number
+-- Each message of options holds its uninterpreted options as field 999.
 unfoldable pub options : List UninterpretedOption → Parts
 options os = (999, each uninterpreted_option os) ∷ []
 
@@ -74,7 +75,7 @@ location l = (1, packed l.path) ∷ (2, packed l.span) ∷ (3, text l.leading_co
 unfoldable pub source_code_info : SourceCodeInfo → Parts
 source_code_info i = (1, each location i.location) ∷ []
 
--- what few fields have
+-- The parts that few fields have.
 unfoldable pub rare_parts : FieldDescriptorProto → Parts
 rare_parts f = (7, text f.default_value) ∷ (8, nested field_options f.options) ∷ (9, signed f.oneof_index) ∷ (10, text f.json_name) ∷ (17, flag f.proto3_optional) ∷ []
 
@@ -108,34 +109,34 @@ extension_range r = (1, signed r.start) ∷ (2, signed r.end) ∷ (3, nested ext
 unfoldable pub reserved_range : ReservedRange → Parts
 reserved_range r = (1, signed r.start) ∷ (2, signed r.end) ∷ []
 
--- a message behind its definitions
+-- The fields of a message from 7 on, after its definitions.
 unfoldable pub message_end : {M : Type 0} → DescriptorProto-F M → Parts
 message_end m =
     (7, nested message_options m.options) ∷ (8, each oneof_descriptor m.oneof_decl) ∷ (9, each reserved_range m.reserved_range) ∷ (10, texts m.reserved_name) ∷ []
 
--- a message behind the messages in it
+-- The fields of a message from 4 on, after the messages nested in it.
 unfoldable pub message_middle : {M : Type 0} → DescriptorProto-F M → Parts
 message_middle m = (4, each enum_descriptor m.enum_type) ∷ (5, each extension_range m.extension_range) ∷ (6, each field_descriptor m.extension) ∷ message_end m
 
--- a message, where it is known what the messages in it hold
+-- The fields of a message, given the fields of the messages nested in it.
 unfoldable pub message_step : DescriptorProto-F Parts → Parts
 message_step m = (1, text m.name) ∷ (2, each field_descriptor m.field) ∷ (3, each (λ inner. inner) m.nested_type) ∷ message_middle m
 
 unfoldable pub message_descriptor : DescriptorProto → Parts
 message_descriptor = fold-DescriptorProto Parts message_step
 
--- a file behind its definitions
+-- The fields of a file from 8 on, after its definitions.
 unfoldable pub file_end : FileDescriptorProto → Parts
 file_end f =
     (8, nested file_options f.options) ∷ (9, nested source_code_info f.source_code_info) ∷ (10, signeds f.public_dependency) ∷ (11, signeds f.weak_dependency) ∷ (12, text f.syntax) ∷ []
 
--- a file from its definitions on
+-- The fields of a file from 4 on, beginning with its definitions.
 unfoldable pub file_definitions : FileDescriptorProto → Parts
 file_definitions f = (4, each message_descriptor f.message_type) ∷ (5, each enum_descriptor f.enum_type) ∷ (6, each service_descriptor f.service) ∷ (7, each field_descriptor f.extension) ∷ file_end f
 
 unfoldable pub file_descriptor : FileDescriptorProto → Parts
 file_descriptor f = (1, text f.name) ∷ (2, text f.«package») ∷ (3, texts f.dependency) ∷ file_definitions f
 
--- a `FileDescriptorSet`: each file in a field of its own
+-- A `FileDescriptorSet`: each file as a field of its own.
 unfoldable pub file_set : List FileDescriptorProto → Parts
 file_set files = (1, each file_descriptor files) ∷ []

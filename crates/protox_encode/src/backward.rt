@@ -1,12 +1,12 @@
-//! Bytes that grow at the front.
+//! A buffer that grows at the front.
 
 ghost use Rattle.std.specs.Prelude.{◌≡◌, ◌+◌, [], ◌∷◌, ◌++◌, length, drop, IfOk, OnOk, OnErr};
 
 use std::alloc::{AllocError, Global};
 use std::marker::Model;
 
-/// Bytes that grow at the front: what stands inside a message is written before its length. Contracts
-/// see the list of them.
+/// A buffer that grows at the front. The inside of a message is written before its length, since
+/// only then the length is known. Contracts see the list of the bytes.
 #[derive(Drop)]
 pub struct Backward {
     buffer: Vec<u8>,
@@ -23,7 +23,7 @@ impl Model for Backward {
     ghost invariant = { λ bytes. bytes.start ≤ length bytes.buffer.items };
 }
 
-// The bytes with so many zeros in front.
+// The bytes, with `room` zeros in front.
 fn widened(alloc: Global, room: usize, bytes: &[u8]) -> Result<Vec<u8>, AllocError>
     ensures { IfOk result (λ whole. (length whole.items ≡ room + length bytes.now) × (drop room whole.items ≡ bytes.now)) }
 {
@@ -33,7 +33,7 @@ fn widened(alloc: Global, room: usize, bytes: &[u8]) -> Result<Vec<u8>, AllocErr
 }
 
 impl Backward {
-    /// No byte. It takes no memory.
+    /// An empty buffer. It takes no memory.
     pub fn new(alloc: Global) -> Backward
         ensures { result ≡ [] }
     {
@@ -43,7 +43,7 @@ impl Backward {
         }
     }
 
-    /// The bytes, lent.
+    /// The bytes, borrowed.
     pub fn as_slice(&self) -> &[u8]
         ensures { result.now ≡ self.now }
     {
@@ -57,14 +57,14 @@ impl Backward {
         self.buffer.len() - self.start
     }
 
-    /// Drops all bytes, and keeps the memory.
+    /// Drops all bytes and keeps the memory.
     pub fn clear(&mut self)
         ensures { self.new ≡ [] }
     {
         self.start = self.buffer.len();
     }
 
-    /// The bytes in the memory that they were written to, moved to its front.
+    /// The bytes, moved to the front of the buffer's memory. It takes no new memory.
     pub fn into_vec(self) -> Vec<u8>
         ensures { result.items ≡ self }
     {
@@ -76,7 +76,7 @@ impl Backward {
         bytes
     }
 
-    /// Puts `bytes` in front. On `AllocError` nothing changes.
+    /// Puts `bytes` in front. On `AllocError` the buffer is unchanged.
     pub fn prepend(&mut self, alloc: Global, bytes: &[u8]) -> Result<(), AllocError>
         ensures ok { OnOk result (self.new ≡ bytes.now ++ self.old) }
         ensures err { OnErr result (self.new ≡ self.old) }
@@ -93,7 +93,7 @@ impl Backward {
         Ok(())
     }
 
-    /// Puts one byte in front. On `AllocError` nothing changes.
+    /// Puts one byte in front. On `AllocError` the buffer is unchanged.
     pub fn prepend_byte(&mut self, alloc: Global, byte: u8) -> Result<(), AllocError>
         ensures ok { OnOk result (self.new ≡ byte ∷ self.old) }
         ensures err { OnErr result (self.new ≡ self.old) }

@@ -3,12 +3,12 @@ ghost use Rattle.protox_encode.specs.declared.fault.EncodeError.TheVariants.{Out
 
 use std::alloc::AllocError;
 
-/// Why a descriptor has no bytes.
+/// Why a descriptor can't be encoded.
 #[derive(Clone, Copy, PartialEq, Eq, Debug)]
 pub enum EncodeError {
-    /// It would take 2 GiB or more, and messages of Protocol Buffers are smaller.
+    /// It takes 2 GiB or more. Messages of Protocol Buffers are smaller.
     TooLarge,
-    /// The text of some `double_value` is no float's.
+    /// Some `double_value` is not the text of a float.
     NotAFloat,
     /// Memory ran out.
     OutOfMemory,

@@ -11,14 +11,14 @@ use crate::wire::{Message, prepend_files, prepend_nested};
 use protox_descriptor::descriptor::FileDescriptorProto;
 use std::alloc::{AllocError, Global};
 
-// Whether there are fewer bytes than 2 GiB.
+// Whether there are fewer than 2 GiB of bytes.
 fn fits(out: &Backward) -> bool
     ensures { IsTrue result ↔ (length out.now < 2 ^ 31) }
 {
     out.len() <= 0x7fff_ffff
 }
 
-// The bytes, where they are fewer than 2 GiB.
+// The bytes, or `TooLarge` if they are 2 GiB or more.
 fn finished(out: Backward) -> Result<Vec<u8>, EncodeError>
     ensures exact { IfOk result (λ bytes. bytes.items ≡ out) }
     ensures fits { IfOk result (λ bytes. length bytes.items < 2 ^ 31) }
@@ -31,12 +31,12 @@ fn finished(out: Backward) -> Result<Vec<u8>, EncodeError>
     Ok(out.into_vec())
 }
 
-/// The file as bytes: its fields in the order of their numbers, each in the one spelling that the
-/// wire format has for it.
+/// The bytes of the file. Its fields stand in the order of their numbers. The same file always
+/// gives the same bytes.
 ///
 /// # Errors
-/// `TooLarge` where that takes 2 GiB or more. `NotAFloat` where some `double_value` is the text of
-/// no float. `OutOfMemory` where memory runs out.
+/// `TooLarge` if that takes 2 GiB or more. `NotAFloat` if some `double_value` is not the text of a
+/// float. `OutOfMemory` if memory runs out.
 pub fn encode(alloc: Global, file: &FileDescriptorProto) -> Result<Vec<u8>, EncodeError>
     ensures exact { IfOk result (λ bytes. bytes.items ≡ message (file_descriptor file.now)) }
     ensures fits { IfOk result (λ bytes. length bytes.items < 2 ^ 31) }
@@ -52,11 +52,11 @@ pub fn encode(alloc: Global, file: &FileDescriptorProto) -> Result<Vec<u8>, Enco
     finished(out)
 }
 
-/// The bytes of the set of this one file, a `FileDescriptorSet`. The bytes of a set of several
-/// files are those of each, one behind the other.
+/// The bytes of a `FileDescriptorSet` that holds only this file. The bytes of several such sets,
+/// one after another, are the bytes of the set of all their files.
 ///
 /// # Errors
-/// Those of `encode`.
+/// As for `encode`.
 #[tactic(auto, unfolding(crate::specs::Messages::file_set))]
 pub fn encode_entry(alloc: Global, file: &FileDescriptorProto) -> Result<Vec<u8>, EncodeError>
     ensures exact { IfOk result (λ bytes. bytes.items ≡ message (file_set (file.now ∷ []))) }
@@ -73,17 +73,17 @@ pub fn encode_entry(alloc: Global, file: &FileDescriptorProto) -> Result<Vec<u8>
     finished(out)
 }
 
-// Whether each of the files has floats alone.
+// Whether each `double_value` in the files is the text of a float.
 fn files_have_floats(files: &[FileDescriptorProto]) -> bool
     ensures { result ≡ list_all has_floats files.now }
 {
     files.iter().all(|file| file.has_floats())
 }
 
-/// The bytes of a `FileDescriptorSet` of these files, in their order.
+/// The bytes of a `FileDescriptorSet` of these files, in order.
 ///
 /// # Errors
-/// Those of `encode`, of the whole set.
+/// As for `encode`, for the whole set.
 pub fn encode_set(alloc: Global, files: &[FileDescriptorProto]) -> Result<Vec<u8>, EncodeError>
     ensures exact { IfOk result (λ bytes. bytes.items ≡ message (file_set files.now)) }
     ensures fits { IfOk result (λ bytes. length bytes.items < 2 ^ 31) }
@@ -99,11 +99,11 @@ pub fn encode_set(alloc: Global, files: &[FileDescriptorProto]) -> Result<Vec<u8
     finished(out)
 }
 
-/// Puts the bytes of the file into a buffer of the caller's, in place of what it holds, and keeps
-/// its memory for the next. No byte is copied at the end: `as_slice` lends them.
+/// Writes the bytes of the file into a buffer of the caller's. What the buffer holds is dropped,
+/// but its memory is used again. `as_slice` then gives the bytes without a copy.
 ///
 /// # Errors
-/// Those of `encode`; then the buffer is empty.
+/// As for `encode`. The buffer is empty then.
 pub fn encode_over(
     alloc: Global,
     file: &FileDescriptorProto,

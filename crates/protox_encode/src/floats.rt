@@ -1,4 +1,4 @@
-//! Whether each double of a descriptor is the text of a float.
+//! Whether each `double_value` of a descriptor is the text of a float.
 
 ghost use Rattle.std.specs.Prelude.{◌≡◌, Bool, List};
 ghost use Rattle.std.specs.List.{list_all};
@@ -14,17 +14,17 @@ use protox_descriptor::descriptor::{
 };
 use protox_descriptor::values::Items;
 
-/// A message that holds options.
+/// A message with options in it.
 pub trait HasFloats {
-    /// Whether each double in it is the text of a float.
+    /// Whether each `double_value` in it is the text of a float.
     ghost floats: { Self → Bool };
 
-    /// Whether each double in it is the text of a float.
+    /// Whether each `double_value` in it is the text of a float.
     fn has_floats(&self) -> bool
         ensures { result ≡ floats self.now };
 }
 
-/// Whether each of the messages has floats alone.
+/// Whether each `double_value` in these messages is the text of a float.
 fn each_has_floats<M: HasFloats>(values: &Items<M>) -> bool
     ensures { result ≡ list_all M.floats values.now }
 {
@@ -137,7 +137,8 @@ impl HasFloats for ExtensionRange {
     }
 }
 
-// Whether the parts of a message, apart from the messages in it, have floats alone.
+// Whether each `double_value` in a message is the text of a float, without the messages nested in
+// it.
 #[tactic(auto, unfolding(crate::specs::Floats::message_own))]
 fn parts_have_floats(message: &DescriptorProto) -> bool
     ensures { result ≡ words.message_own (out-DescriptorProto message.now) }

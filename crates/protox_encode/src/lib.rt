@@ -1,4 +1,4 @@
-//! The bytes of descriptors, as Protocol Buffers writes messages.
+//! Descriptors as bytes, in the wire format of Protocol Buffers.
 #![tactic(auto)]
 
 pub mod backward;

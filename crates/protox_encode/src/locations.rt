@@ -1,4 +1,4 @@
-//! Locations on the wire.
+//! How locations are encoded.
 
 ghost use Rattle.std.specs.Prelude.{◌≡◌, ◌++◌, OnOk};
 ghost use Rattle.protox_encode.specs.Wire.{message};

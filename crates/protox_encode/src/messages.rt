@@ -1,4 +1,4 @@
-//! Descriptors on the wire.
+//! How descriptors are encoded.
 
 ghost use Rattle.std.specs.Prelude.{◌≡◌, ◌++◌, OnOk};
 ghost use Rattle.protox_encode.specs.Wire.{message, part};
@@ -19,7 +19,7 @@ use protox_descriptor::descriptor::{
 };
 use std::alloc::{AllocError, Global};
 
-// Puts in front what few fields have.
+// Puts the parts that few fields have in front.
 #[tactic(auto, unfolding(crate::specs::Messages::rare_parts))]
 fn prepend_rare_parts(
     alloc: Global,
@@ -140,7 +140,7 @@ impl Message for ReservedRange {
     }
 }
 
-// Puts in front what stands behind the definitions in a message.
+// Puts the fields of a message from 7 on in front.
 #[tactic(auto, unfolding(crate::specs::Messages::message_end))]
 fn prepend_message_end(
     alloc: Global,
@@ -155,7 +155,7 @@ fn prepend_message_end(
     prepend_nested(alloc, out, 7, m.options.as_ref())
 }
 
-// Puts in front what stands behind the messages in a message.
+// Puts the fields of a message from 4 on in front.
 #[tactic(auto, unfolding(crate::specs::Messages::message_middle))]
 fn prepend_message_middle(
     alloc: Global,
@@ -170,7 +170,7 @@ fn prepend_message_middle(
     prepend_each(alloc, out, 4, &m.enum_type)
 }
 
-// Puts in front what stands before the messages in a message.
+// Puts the fields of a message before its nested messages in front.
 fn prepend_message_front(
     alloc: Global,
     out: &mut Backward,
@@ -192,7 +192,7 @@ impl Message for DescriptorProto {
     }
 }
 
-// Puts in front what stands behind a file's definitions.
+// Puts the fields of a file from 8 on in front.
 #[tactic(auto, unfolding(crate::specs::Messages::file_end))]
 fn prepend_file_end(
     alloc: Global,
@@ -208,7 +208,7 @@ fn prepend_file_end(
     prepend_nested(alloc, out, 8, f.options.as_ref())
 }
 
-// Puts a file's definitions in front, and what stands behind them.
+// Puts the fields of a file from 4 on in front.
 #[tactic(auto, unfolding(crate::specs::Messages::file_definitions))]
 fn prepend_file_definitions(
     alloc: Global,

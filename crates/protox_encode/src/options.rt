@@ -1,4 +1,4 @@
-//! Options on the wire.
+//! How options are encoded.
 
 ghost use Rattle.std.specs.Prelude.{◌≡◌, ◌++◌, OnOk};
 ghost use Rattle.protox_encode.specs.Wire.{message};

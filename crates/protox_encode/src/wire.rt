@@ -1,4 +1,5 @@
-//! Fields on the wire, each put in front of what stands behind it.
+//! How fields are encoded. Each function puts bytes in front of what is written already. On
+//! `AllocError` the buffer may hold a part of them.
 
 ghost use Rattle.std.specs.Prelude.{◌≡◌, ◌+◌, ◌*◌, ◌<◌, ◌^◌, ◌++◌, ℕ, List, length, map, OnOk};
 ghost use Rattle.std.specs.Int.{w64, to_le_bytes, cast_unsigned};
@@ -13,17 +14,17 @@ use protox_descriptor::descriptor::FileDescriptorProto;
 use protox_descriptor::values::{Items, Text};
 use std::alloc::{AllocError, Global};
 
-/// A message, by what it holds.
+/// A message that can be encoded.
 pub trait Message {
-    /// The numbers of its fields in order, each with what is there of it.
+    /// The numbers of its fields in order, each with its payloads.
     ghost parts: { Self → Parts };
 
-    /// Puts the message in front.
+    /// Puts the bytes of the message in front.
     fn prepend_to(&self, alloc: Global, out: &mut Backward) -> Result<(), AllocError>
         ensures { OnOk result (out.new ≡ message (parts self.now) ++ out.old) };
 }
 
-/// Puts a number in front, by groups of seven bits.
+/// Puts a number in front, in groups of seven bits.
 #[tactic(auto, using(crate::proofs::Varint::one_group, crate::proofs::Varint::more_groups))]
 pub fn prepend_varint(alloc: Global, out: &mut Backward, n: u64) -> Result<(), AllocError>
     ensures { OnOk result (out.new ≡ varint n ++ out.old) }
@@ -47,7 +48,7 @@ fn prepend_header(
     prepend_varint(alloc, out, 8 * (number as u64) + kind as u64)
 }
 
-/// Puts a field in front that is a number.
+/// Puts a field with a number in front.
 pub fn prepend_number(
     alloc: Global,
     out: &mut Backward,
@@ -60,7 +61,7 @@ pub fn prepend_number(
     prepend_header(alloc, out, number, 0)
 }
 
-// Puts in front of `len` bytes what makes a field of them.
+// Puts the header and the length of a field in front of the `len` bytes that it holds.
 fn prepend_length(
     alloc: Global,
     out: &mut Backward,
@@ -86,7 +87,7 @@ pub fn prepend_bytes(
     prepend_length(alloc, out, number, bytes.len())
 }
 
-/// Puts a text in front, if there is one.
+/// Puts a text in front as a field, if there is one.
 pub fn prepend_text(
     alloc: Global,
     out: &mut Backward,
@@ -101,7 +102,7 @@ pub fn prepend_text(
     }
 }
 
-/// Puts texts in front, each as a field.
+/// Puts texts in front, each as a field of its own.
 pub fn prepend_texts(
     alloc: Global,
     out: &mut Backward,
@@ -118,7 +119,7 @@ pub fn prepend_texts(
     Ok(())
 }
 
-/// Puts a signed number in front, if there is one.
+/// Puts a signed number in front as a field, if there is one.
 pub fn prepend_signed(
     alloc: Global,
     out: &mut Backward,
@@ -133,7 +134,7 @@ pub fn prepend_signed(
     }
 }
 
-/// Puts signed numbers in front, each as a field.
+/// Puts signed numbers in front, each as a field of its own.
 pub fn prepend_signeds(
     alloc: Global,
     out: &mut Backward,
@@ -150,7 +151,7 @@ pub fn prepend_signeds(
     Ok(())
 }
 
-/// Puts a signed number of 64 bits in front, if there is one.
+/// Puts a signed number of 64 bits in front as a field, if there is one.
 pub fn prepend_long(
     alloc: Global,
     out: &mut Backward,
@@ -165,7 +166,7 @@ pub fn prepend_long(
     }
 }
 
-/// Puts a number in front, if there is one.
+/// Puts an unsigned number in front as a field, if there is one.
 pub fn prepend_unsigned(
     alloc: Global,
     out: &mut Backward,
@@ -180,7 +181,7 @@ pub fn prepend_unsigned(
     }
 }
 
-// Puts eight bytes in front, as a field.
+// Puts a field of eight bytes in front. `n` has these bytes, the lowest first.
 fn prepend_eight(alloc: Global, out: &mut Backward, number: u32, n: u64) -> Result<(), AllocError>
     ensures { OnOk result (out.new ≡ field number (Eight n) ++ out.old) }
 {
@@ -188,8 +189,8 @@ fn prepend_eight(alloc: Global, out: &mut Backward, number: u32, n: u64) -> Resu
     prepend_header(alloc, out, number, 1)
 }
 
-/// Puts in front the float that a text spells, if there is one. A text that spells none is left
-/// out: callers find it before.
+/// Puts the float that a text stands for in front as a field, if there is one. A text that is not a
+/// float is left out; callers check this before.
 pub fn prepend_double(
     alloc: Global,
     out: &mut Backward,
@@ -214,7 +215,7 @@ pub fn prepend_double(
     }
 }
 
-/// Puts bytes in front, if there are some.
+/// Puts bytes in front as a field, if there are some.
 pub fn prepend_bytes_of(
     alloc: Global,
     out: &mut Backward,
@@ -229,7 +230,7 @@ pub fn prepend_bytes_of(
     }
 }
 
-/// Puts in front whether something is so, if that is said.
+/// Puts a flag in front as a field, if there is one.
 pub fn prepend_flag(
     alloc: Global,
     out: &mut Backward,
@@ -244,7 +245,7 @@ pub fn prepend_flag(
     }
 }
 
-/// Puts signed numbers in front, all in one field.
+/// Puts signed numbers in front, all in one field. Without a number there is no field.
 pub fn prepend_packed(
     alloc: Global,
     out: &mut Backward,
@@ -266,7 +267,7 @@ pub fn prepend_packed(
     prepend_length(alloc, out, number, len)
 }
 
-/// Puts a message in front, if there is one.
+/// Puts a message in front as a field, if there is one.
 pub fn prepend_nested<M: Message>(
     alloc: Global,
     out: &mut Backward,
@@ -286,7 +287,7 @@ pub fn prepend_nested<M: Message>(
     }
 }
 
-/// Puts messages in front, each as a field.
+/// Puts messages in front, each as a field of its own.
 pub fn prepend_each<M: Message>(
     alloc: Global,
     out: &mut Backward,
@@ -304,7 +305,7 @@ pub fn prepend_each<M: Message>(
     Ok(())
 }
 
-/// Puts files in front, each as a field of a set.
+/// Puts the fields of a `FileDescriptorSet` in front, one for each file.
 #[tactic(auto, unfolding(crate::specs::Messages::file_set))]
 pub fn prepend_files(
     alloc: Global,

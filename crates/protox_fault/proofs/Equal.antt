@@ -1,4 +1,4 @@
--- Faults are equal exactly where they are of one kind, with the same spans, texts and words.
+-- Two faults are equal exactly when they are of one kind and have the same spans, texts and words.
 use Rattle.std.proofs.Common.{◌≡◌, Bool, true, false, IsTrue, refl, rules, ap, ◌∙◌}
 use Rattle.std.proofs.lemmas.Bool.{false≢true}
 use Rattle.protox_fault.specs.Faults.{IsSame, settled}

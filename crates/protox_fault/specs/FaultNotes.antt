@@ -1,4 +1,4 @@
--- What is noted beside a fault: labels at its places, and a help.
+-- What a fault says besides its text: labels at its places, and a hint.
 use Rattle.std.specs.Prelude.{ℕ, List, [], ◌∷◌, ◌++◌, codes, Option, Some, None}
 use Rattle.protox_fault.specs.declared.error.ParseErrorKind.{ParseErrorKind}
 use Rattle.protox_fault.specs.declared.error.ParseErrorKind.TheVariants.{InvalidToken, IntegerOutOfRange, InvalidStringCharacters, UnterminatedString, UnknownSyntax, InvalidIdentifier, InvalidGroupName, InvalidImport, DuplicatePackage, NoSpaceBetweenIntAndIdent, HashCommentOutsideTextFormat, FloatSuffixOutsideTextFormat, UnexpectedToken, UnexpectedEof, NegativeIdentOutsideDefault, Proto2FieldMissingLabel, IntegerValueOutOfRange, MessageNestingTooDeep, FileTooLarge}
@@ -8,7 +8,8 @@ use Rattle.protox_fault.specs.Faults.{Span}
 abbrev pub ellipsis : List ℕ
 ellipsis = 0xE2 ∷ (0x80 ∷ (0xA6 ∷ []))
 
--- the label at a fault's place, or at its first one. A fault without a place has none.
+-- The label at the place of a fault, or at the first of two places. A fault without a place has
+-- none.
 abbrev pub label_of : ParseErrorKind → Option (List ℕ)
 label_of (InvalidToken span) = Some (codes "found here")
 label_of (IntegerOutOfRange span) = Some (codes "integer defined here")
@@ -25,12 +26,12 @@ label_of (Proto2FieldMissingLabel span) = Some (codes "field defined here")
 label_of FileTooLarge = None
 label_of fault = Some (codes "defined here")
 
--- the second place of a fault, and the label there
+-- The second place of a fault and the label there, if it has a second place.
 abbrev pub second_label_of : ParseErrorKind → Option (Span × List ℕ)
 second_label_of (DuplicatePackage first second) = Some (second, ellipsis ++ codes "and again here")
 second_label_of fault = None
 
--- what may help
+-- A hint how to mend the fault, if there is one.
 abbrev pub help_of : ParseErrorKind → Option (List ℕ)
 help_of (UnknownSyntax span syntax) = Some (codes "possible values are 'proto2' and 'proto3'")
 help_of (InvalidIdentifier span) = Some (codes "identifiers must consist of letters, numbers and underscores, and may not start with a number")

@@ -1,9 +1,9 @@
--- How faults print.
+-- The texts of faults.
 use Rattle.std.specs.Prelude.{ℕ, List, ◌++◌, codes}
 use Rattle.protox_fault.specs.declared.error.ParseErrorKind.{ParseErrorKind}
 use Rattle.protox_fault.specs.declared.error.ParseErrorKind.TheVariants.{InvalidToken, IntegerOutOfRange, InvalidStringCharacters, UnterminatedString, InvalidStringEscape, InvalidUtf8String, NestedBlockComment, UnknownSyntax, InvalidIdentifier, InvalidGroupName, InvalidImport, DuplicatePackage, NoSpaceBetweenIntAndIdent, HashCommentOutsideTextFormat, FloatSuffixOutsideTextFormat, UnexpectedToken, UnexpectedEof, NegativeIdentOutsideDefault, InvalidMessageNumber, InvalidEnumNumber, InvalidDefault, Proto3DefaultValue, InvalidExtendFieldKind, RequiredExtendField, MapFieldWithLabel, OneofFieldWithLabel, Proto2FieldMissingLabel, Proto3GroupField, Proto3RequiredField, InvalidOneofFieldKind, InvalidMapFieldKeyType, ValueInvalidType, IntegerValueOutOfRange, EmptyOneof, MessageNestingTooDeep, FileTooLarge}
 
--- the text of a fault
+-- The text of a fault, in one line.
 abbrev pub text_of : ParseErrorKind → List ℕ
 text_of (InvalidToken span) = codes "invalid token"
 text_of (IntegerOutOfRange span) = codes "integer is too large"
@@ -42,7 +42,7 @@ text_of (EmptyOneof span) = codes "a oneof must have at least one field"
 text_of (MessageNestingTooDeep span) = codes "reached maximum recursion limit for nested messages"
 text_of FileTooLarge = codes "file is too large"
 
--- The text names no value of the fault.
+-- The text of the fault is always the same: it has no values in it.
 abbrev pub HasFixedText : ParseErrorKind → Type 0
 HasFixedText (UnknownSyntax span syntax) = ⊥
 HasFixedText (UnexpectedToken span expected found) = ⊥

@@ -1,18 +1,20 @@
--- What a clause sees of a fault.
+-- What contracts see of a fault.
 use Rattle.std.specs.Prelude.{ℕ, ◌≡◌, ◌≤◌, Bool, true, false, not, if◌then◌else◌, List, filter, Option, Some, None, IfSome}
 use Rattle.std.specs.Borrow.{Bor}
 use Rattle.std.specs.declared.ops.Range.{Range}
 use Rattle.protox_fault.specs.declared.error.ParseErrorKind.{ParseErrorKind}
 use Rattle.protox_fault.specs.declared.error.ParseErrorKind.TheVariants.{InvalidToken, IntegerOutOfRange, InvalidStringCharacters, UnterminatedString, InvalidStringEscape, InvalidUtf8String, NestedBlockComment, UnknownSyntax, InvalidIdentifier, InvalidGroupName, InvalidImport, DuplicatePackage, NoSpaceBetweenIntAndIdent, HashCommentOutsideTextFormat, FloatSuffixOutsideTextFormat, UnexpectedToken, UnexpectedEof, NegativeIdentOutsideDefault, InvalidMessageNumber, InvalidEnumNumber, InvalidDefault, Proto3DefaultValue, InvalidExtendFieldKind, RequiredExtendField, MapFieldWithLabel, OneofFieldWithLabel, Proto2FieldMissingLabel, Proto3GroupField, Proto3RequiredField, InvalidOneofFieldKind, InvalidMapFieldKeyType, ValueInvalidType, IntegerValueOutOfRange, EmptyOneof, MessageNestingTooDeep, FileTooLarge}
 
--- from the first byte to the one past the last
+-- A range of byte offsets: from the first byte to the one after the last.
 abbrev pub Span : Type 0
 Span = Range ℕ
 
+-- The span with this start and this end.
 abbrev pub span_from : ℕ → ℕ → Span
 span_from start end = record { start = start; end = end }
 
--- where a fault is: a fault of two places, of the end of the source or of the whole of it has none
+-- The place of a fault. None for a fault of two places, at the end of the source, or of the whole
+-- source.
 abbrev pub span_of : ParseErrorKind → Option Span
 span_of (InvalidToken span) = Some span
 span_of (IntegerOutOfRange span) = Some span
@@ -51,37 +53,39 @@ span_of (EmptyOneof span) = Some span
 span_of (MessageNestingTooDeep span) = Some span
 span_of FileTooLarge = None
 
--- a word, at one place in memory
+-- A word that lies at one fixed place in memory.
 abbrev pub placed : List ℕ → Bor (List ℕ)
 placed word = record { ref_ptr = (0, 0); now = word }
 
--- the fault with the word of its kind at that place
+-- The fault, with the word of its kind at that fixed place.
 abbrev pub settled : ParseErrorKind → ParseErrorKind
 settled (InvalidDefault span kind) = InvalidDefault span (placed kind.now)
 settled (InvalidExtendFieldKind span kind) = InvalidExtendFieldKind span (placed kind.now)
 settled (InvalidOneofFieldKind span kind) = InvalidOneofFieldKind span (placed kind.now)
 settled wrong = wrong
 
--- Both are one fault, apart from where in memory the word of its kind stands.
+-- Both are the same fault. Only the word of its kind may lie elsewhere in memory.
 abbrev pub IsSame : ParseErrorKind → ParseErrorKind → Type 0
 IsSame a b = settled a ≡ settled b
 
--- The span lies in a source of so many bytes, its start not past its end.
+-- The span lies in a source of `size` bytes, and its start is not after its end.
 abbrev pub SpanLiesIn : ℕ → Span → Type 0
 SpanLiesIn size span = (span.start ≤ span.end) × (span.end ≤ size)
 
--- The spans of a fault lie in a source of so many bytes. That a source is too large is no fault in it.
+-- All spans of a fault lie in a source of `size` bytes. `FileTooLarge` is never a fault of such a
+-- source.
 abbrev pub LiesIn : ℕ → ParseErrorKind → Type 0
 LiesIn size FileTooLarge = ⊥
 LiesIn size (DuplicatePackage first second) = SpanLiesIn size first × SpanLiesIn size second
 LiesIn size fault = IfSome (span_of fault) (SpanLiesIn size)
 
--- A `#` comment and a float suffix are faults outside aggregates alone.
+-- Whether the fault is one only outside aggregates: a `#` comment or a float suffix.
 abbrev pub is_of_mode : ParseErrorKind → Bool
 is_of_mode (FloatSuffixOutsideTextFormat span) = true
 is_of_mode (HashCommentOutsideTextFormat span) = true
 is_of_mode _ = false
 
--- those of the faults that are faults in text format, or outside it
+-- Of the faults of lexemes, those that count. In text format a `#` comment and a float suffix
+-- don't.
 abbrev pub faults_in : Bool → List ParseErrorKind → List ParseErrorKind
 faults_in text_format faults = if text_format then filter (λ fault. not (is_of_mode fault)) faults else faults

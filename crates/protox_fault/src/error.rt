@@ -1,4 +1,4 @@
-//! Faults of a source, and how a call that reads one fails.
+//! The faults of a source, and why a call that reads one fails.
 ghost use Rattle.std.specs.Prelude.{◌≡◌};
 ghost use Rattle.protox_fault.specs.Faults.{span_of};
 ghost use Rattle.protox_fault.specs.FaultTexts.{HasFixedText, text_of};
@@ -8,77 +8,86 @@ use std::alloc::{AllocError, AllocFailed};
 use std::fmt;
 use std::ops::Range;
 
-/// A part of a source: the offset in bytes of its first byte, and that of the one past its last.
+/// A part of a source, by byte offsets: from its first byte to the one after its last byte.
 pub type Span = Range<usize>;
 
-/// What is wrong with a source, and where. Each kind says behind its colon what its `span` covers.
+/// What is wrong with a source, and where. Each kind tells what its `span` covers, in byte offsets.
 #[derive(PartialEq, Debug, Drop)]
 pub enum ParseErrorKind {
-    /// No token begins with this character: its bytes.
+    /// No token begins with this character. The span covers the character.
     InvalidToken {
         span: Span,
     },
-    /// An integer literal is above `u64::MAX`: its digits, without `0` or `0x` before them.
+    /// An integer literal is above `u64::MAX`. The span covers its digits, without the `0` or `0x`
+    /// before them.
     IntegerOutOfRange {
         span: Span,
     },
-    /// A string holds characters that no string may hold: they, and what adjoins them that is invalid too.
+    /// A string holds characters that no string may hold. The span covers them, and all invalid
+    /// ones right after them.
     InvalidStringCharacters {
         span: Span,
     },
-    /// A line ends within a string: the newline.
+    /// A line ends within a string. The span covers the newline.
     UnterminatedString {
         span: Span,
     },
-    /// A string holds a backslash that begins no escape, or an escape that stands for nothing: the backslash, or the whole escape, and
-    /// what adjoins it that is invalid too.
+    /// A string holds a backslash that begins no escape, or an escape that stands for nothing. The
+    /// span covers the backslash or the whole escape, and all that is invalid right after it.
     InvalidStringEscape {
         span: Span,
     },
-    /// A string that has to be text is not UTF-8: the string, from its first literal to its last.
+    /// A string that has to be text is not UTF-8. The span goes from its first literal to its last.
     InvalidUtf8String {
         span: Span,
     },
-    /// A block comment opens within another: the two bytes that open it.
+    /// A block comment opens within another one. The span covers the `/*`.
     NestedBlockComment {
         span: Span,
     },
-    /// The syntax statement names no syntax that there is: the string, from its first literal to its last. `syntax` is its text.
+    /// The syntax statement names an unknown syntax. The span goes from the first literal of the
+    /// string to the last. `syntax` is the text of the string.
     UnknownSyntax {
         span: Span,
         syntax: Text,
     },
-    /// A reserved name is no identifier: the string, from its first literal to its last.
+    /// A reserved name is not an identifier. The span goes from the first literal of the string to
+    /// the last.
     InvalidIdentifier {
         span: Span,
     },
-    /// A group's name does not begin with a capital letter, or has other characters than letters, digits and `_`: the name.
+    /// The name of a group doesn't begin with a capital letter, or has other characters than
+    /// letters, digits and `_`. The span covers the name.
     InvalidGroupName {
         span: Span,
     },
-    /// An import's path is not one of plain components: the string, from its first literal to its last.
+    /// The path of an import is not allowed: a component between its slashes is empty, `.` or `..`,
+    /// or has a backslash. The span goes from the first literal of the string to the last.
     InvalidImport {
         span: Span,
     },
-    /// A file has two package statements: the first one, and this one, each with its `;`.
+    /// A file has a second package statement. The spans cover the first one and this one, each with
+    /// its `;`.
     DuplicatePackage {
         first: Span,
         second: Span,
     },
-    /// A letter or `_` follows an integer at once: the digits, without `0` or `0x` before them, the byte behind them, and the letters that
-    /// follow.
+    /// A letter or `_` stands right after an integer. The span covers the digits without the `0` or
+    /// `0x` before them, the byte after them, and the letters that follow it.
     NoSpaceBetweenIntAndIdent {
         span: Span,
     },
-    /// A comment begins with `#` outside an aggregate: the comment, with the newline that ends it.
+    /// A comment begins with `#` outside an aggregate. The span covers the comment, with the
+    /// newline at its end.
     HashCommentOutsideTextFormat {
         span: Span,
     },
-    /// A float ends in `f` outside an aggregate: the literal.
+    /// A float ends in `f` or `F` outside an aggregate. The span covers the literal.
     FloatSuffixOutsideTextFormat {
         span: Span,
     },
-    /// Another token was expected: the token that stands there. `expected` says what, `found` is how the token prints.
+    /// Another token was expected. The span covers the token that stands there. `expected` says
+    /// what was expected, and `found` is the token as it prints.
     UnexpectedToken {
         span: Span,
         expected: Text,
@@ -88,7 +97,8 @@ pub enum ParseErrorKind {
     UnexpectedEof {
         expected: Text,
     },
-    /// A negated identifier stands where only a `default` may have one: the value, from its sign on.
+    /// An identifier has a minus sign, and the value is not one of a `default`. The span covers the
+    /// value with its sign.
     NegativeIdentOutsideDefault {
         span: Span,
     },
@@ -100,61 +110,66 @@ pub enum ParseErrorKind {
     InvalidEnumNumber {
         span: Span,
     },
-    /// A field of this kind has a default value: the option, from its name to its value. `kind` is the word of the kind.
+    /// A field of this kind has a default value. The span covers the option, from its name to its
+    /// value. `kind` is the word for the kind of the field.
     InvalidDefault {
         span: Span,
         kind: &'static str,
     },
-    /// A field has a default value in proto3: the option, from its name to its value.
+    /// A field of proto3 has a default value. The span covers the option, from its name to its
+    /// value.
     Proto3DefaultValue {
         span: Span,
     },
-    /// An extension is a field of this kind: the field. `kind` is the word of the kind.
+    /// An extension is a field of this kind. The span covers the field. `kind` is the word for the
+    /// kind of the field.
     InvalidExtendFieldKind {
         span: Span,
         kind: &'static str,
     },
-    /// An extension is required: the label.
+    /// An extension is `required`. The span covers the label.
     RequiredExtendField {
         span: Span,
     },
-    /// A map field has a label: the label.
+    /// A map field has a label. The span covers the label.
     MapFieldWithLabel {
         span: Span,
     },
-    /// A field of a oneof has a label: the label.
+    /// A field of a oneof has a label. The span covers the label.
     OneofFieldWithLabel {
         span: Span,
     },
-    /// A field has no label in proto2: the field.
+    /// A field of proto2 has no label. The span covers the field.
     Proto2FieldMissingLabel {
         span: Span,
     },
-    /// A group stands in proto3: the field.
+    /// A group stands in proto3. The span covers the field.
     Proto3GroupField {
         span: Span,
     },
-    /// A field is required in proto3: the label.
+    /// A field of proto3 is `required`. The span covers the label.
     Proto3RequiredField {
         span: Span,
     },
-    /// A oneof has a field of this kind: the field. `kind` is the word of the kind.
+    /// A oneof has a field of this kind. The span covers the field. `kind` is the word for the kind
+    /// of the field.
     InvalidOneofFieldKind {
         span: Span,
         kind: &'static str,
     },
-    /// A map key type that is not allowed. The span is the type's.
+    /// The type is not allowed for the keys of a map. The span covers the type.
     InvalidMapFieldKeyType {
         span: Span,
     },
-    /// A value is not of the type that its place asks for: the value. `expected` says what is, `actual` is how the value prints.
+    /// A value has the wrong type. The span covers the value. `expected` names the right type, and
+    /// `actual` is the value as it prints.
     ValueInvalidType {
         span: Span,
         expected: Text,
         actual: Text,
     },
-    /// An integer is outside the range that its place asks for: the value. `expected` names the range, from `min` to `max`; `actual` is how
-    /// the value prints.
+    /// An integer is out of range. The span covers the value. `expected` names the range, which
+    /// goes from `min` to `max`. `actual` is the value as it prints.
     IntegerValueOutOfRange {
         span: Span,
         expected: Text,
@@ -162,11 +177,12 @@ pub enum ParseErrorKind {
         min: Text,
         max: Text,
     },
-    /// A oneof has no field: the oneof.
+    /// A oneof has no field. The span covers the oneof.
     EmptyOneof {
         span: Span,
     },
-    /// Messages and groups are nested too deep: the word `message` or `group` of the one at level 32.
+    /// Messages and groups are nested more than 31 levels deep. The span covers the word `message`
+    /// or `group` at level 32.
     MessageNestingTooDeep {
         span: Span,
     },
@@ -175,7 +191,8 @@ pub enum ParseErrorKind {
 }
 
 impl ParseErrorKind {
-    /// Where the fault is. A fault of two places, of the end of the source or of the whole of it has none.
+    /// The place of the fault. None for a fault of two places, at the end of the source, or of the
+    /// whole source.
     pub fn span(&self) -> Option<Span>
         ensures { result ≡ span_of self.now }
     {
@@ -311,7 +328,7 @@ impl fmt::Display for ParseErrorKind {
     }
 }
 
-/// Why a source was not read to its end.
+/// Why a source could not be read.
 #[derive(Debug, Drop)]
 pub enum SyntaxFailure {
     /// The source has these faults, in the order in which they were found. There is at least one.

@@ -1,4 +1,4 @@
-//! What is noted beside a fault.
+//! What a fault says besides its text: labels at its places, and a hint.
 ghost use Rattle.std.specs.Prelude.{◌≡◌, ◌++◌, codes, IfOk};
 ghost use Rattle.std.specs.Option.{option_copied, option_map};
 ghost use Rattle.std.specs.String.{string_bytes};
@@ -8,7 +8,7 @@ use crate::error::{ParseErrorKind, Span};
 use protox_descriptor::values::Text;
 use std::alloc::{AllocError, Global};
 
-// The help for an integer that is out of range.
+// The hint for an integer that is out of range.
 fn range_help(alloc: Global, min: &Text, max: &Text) -> Result<String, AllocError>
     ensures { IfOk result (λ s. string_bytes s ≡ codes "the value must be between " ++ min.now ++ codes " and " ++ max.now ++ codes " inclusive") }
 {
@@ -21,7 +21,8 @@ fn range_help(alloc: Global, min: &Text, max: &Text) -> Result<String, AllocErro
 }
 
 impl ParseErrorKind {
-    /// The label at the fault's place, or at its first one. A fault without a place has none.
+    /// The label at the place of the fault, or at the first of its two places. None for a fault
+    /// without a place.
     pub fn label(&self) -> Option<&'static str>
         ensures { option_copied result ≡ label_of self.now }
     {
@@ -43,7 +44,7 @@ impl ParseErrorKind {
         Some(label)
     }
 
-    /// The second place of a fault that has two, and the label there.
+    /// The second place of the fault and the label there. None for a fault without a second place.
     pub fn second_label(&self) -> Option<(Span, &'static str)>
         ensures { option_map (λ p. (p.0, p.1.now)) result ≡ second_label_of self.now }
     {
@@ -56,7 +57,7 @@ impl ParseErrorKind {
         }
     }
 
-    /// What may help.
+    /// A hint how to mend the fault, or None. Fails with `AllocError` if memory runs out.
     pub fn help(&self, alloc: Global) -> Result<Option<String>, AllocError>
         ensures { IfOk result (λ r. option_map string_bytes r ≡ help_of self.now) }
     {

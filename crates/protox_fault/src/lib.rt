@@ -1,4 +1,4 @@
-//! What is wrong with a source, and what is said of it.
+//! The faults of a source: what is wrong and where, and what is said about it.
 #![tactic(auto)]
 
 pub mod error;

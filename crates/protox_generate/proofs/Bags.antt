@@ -1,4 +1,5 @@
--- The lists of parts that the elements of a body bring, one for each kind, and that all of them together take comments of the elements' rows.
+-- The lists of parts that the elements of a body bring, one list for each kind. All together they
+-- take comments of the elements' rows.
 use Rattle.std.proofs.Common.{◌+◌, ◌≤◌, List, [], ◌++◌, ℤ, arith}
 use Rattle.protox_fault.specs.Faults.{Span}
 use Rattle.protox_lexeme.specs.Shapes.{Rows}
@@ -6,7 +7,8 @@ use Rattle.protox_ast.specs.Places.{Place}
 use Rattle.protox_locate.specs.LocationWords.{Part}
 use Rattle.protox_generate.proofs.Taking.{Weights, Cost, free, weigh, weigh-append, Parts, parts-none, parts-append}
 
--- In a file the imports stand in place of the fields, the services in place of the oneofs, and the package in place of the extensions statements.
+-- In a file, imports stand in the place of fields, services in the place of oneofs, and the package
+-- in the place of extensions statements.
 pub record Lists : Type 0 where
   pub fields : List Part
   pub messages : List Part

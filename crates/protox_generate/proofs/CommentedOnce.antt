@@ -1,4 +1,5 @@
--- Each comment of an accepted source stands in at most one field of one location, and around that.
+-- Each comment of an accepted source stands in at most one field of one location, around that
+-- location.
 use Rattle.std.proofs.Common.{◌≡◌, ◌≢◌, ℕ, ◌+◌, ◌≤◌, Bool, true, false, if◌then◌else◌, ◌==◌, inl, inr, ◌⊎◌, List, [], ◌∷◌, ◌++◌, length, map, flat_map, Option, Some, None, refl, ap, sym, subst, ◌∙◌, arith}
 use Rattle.std.specs.Str.{IsUtf8}
 use Rattle.std.proofs.lemmas.Bool.Decides.{Decides-eqb}
@@ -102,7 +103,7 @@ module _ (lexemes : List Lexeme) where
 
   -- ---- the numbers of what locations take
 
-  -- those that a location takes before one row and behind another
+  -- the comments that a location takes, before one row and behind another
   abbrev sources_at : Place → Place → Sources
   sources_at first last = record { leading = text_or lexemes (numbers_at lexemes first).leading; trailing = text_or lexemes (numbers_at lexemes last).trailing; detached = (numbers_at lexemes first).detached }
 
@@ -142,7 +143,7 @@ module _ (lexemes : List Lexeme) where
 
   -- ---- the fields of a location
 
-  -- what the comments before a row and behind another come to
+  -- the weight of the comments before a row and behind another
   abbrev at : Weights → Place → Place → ℕ
   at w first last = w.first first + w.last last
 
@@ -161,7 +162,7 @@ module _ (lexemes : List Lexeme) where
       }
 
   module _ (source : List ℕ) where
-    -- They stand around it.
+    -- The comments stand around the location.
     around-of : (l : Location) (first last end : Place) (k : Known lexemes first) (m : Known lexemes last) → l.span ≡ span_numbers source (join first.span end.span)
         → first.span.start ≤ last.span.start → last.span.end ≤ end.span.end → (last.span.end ≡ end.span.end) ⊎ (m.row.shape ≡ open_brace) → StandsAround source lexemes l (sources_at first last)
     around-of l first last end k m span start stop what =
@@ -257,7 +258,7 @@ commented-once source u f accepted =
       none-twice (flat_map numbers_of (map (source_of lexemes) take.taken)) (λ n. omega (arith, counted lexemes n take.taken, bound (count n) (count-grows n), count-once n 0 lexemes)),
     )
 
--- So it is of the descriptor that is answered.
+-- The same holds for the descriptor in the answer.
 pub answer-commented : (name source : List ℕ) (file : File) (d : FileDescriptorProto) → IsUtf8 source → IsFileOf source file → d ≡ file_descriptor name source file → AreCommentedOnce source d
 unfolding file_descriptor
 answer-commented name source file d u of is =

@@ -1,4 +1,4 @@
--- What fields take: a field its own comments, or the message of a group in its place.
+-- What fields take: a field takes its own comments; if it is a group, its message takes them.
 use Rattle.std.proofs.Common.{ℕ, ◌+◌, ◌≤◌, List, [], ◌∷◌, ◌++◌, map, Option, Some, None, ℤ, refl, ap, sym, subst, ◌∙◌, arith}
 use Rattle.std.specs.Option.{unwrap_or}
 use Rattle.protox_fault.specs.Faults.{Span}
@@ -83,7 +83,7 @@ map-ends w x = omega (
 module _ (numbers : Span → List ℤ) where
   -- ---- fields
 
-  -- the field and the message that it brings take comments of these rows
+  -- the field and the message made for it take comments of these rows
   pub record FieldTakes (rows : Rows Place) (f : OfField) : Type 0 where
     pub own : Cost
     pub messages : Cost
@@ -91,14 +91,15 @@ module _ (numbers : Span → List ℤ) where
     pub message_parts : Parts numbers f.messages messages
     pub within : (w : Weights) → own w + messages w ≤ weigh w rows
 
-  -- a body takes comments of its rows, but for what trails its opener, which stands before its end
+  -- a body takes comments of its rows, but not the one that trails its `{`; that row is before its
+  -- end
   pub record BodyTakes (b : t.Mbody Place) : Type 0 where
     pub inside : Cost
     pub takes : (path : Path) → Take numbers (of_body (location_steps numbers) (ast.mbody b) path) inside
     pub within : (w : Weights) → w.last (ast.body_open b) + w.mark open_brace (ast.body_open b) + w.both (ast.body_open b) (ast.body_close b) + inside w ≤ weigh w (s.mbody b)
     pub opens : (w : Weights) (p : Place) → w.both p (ast.body_open b) ≤ behind w p (s.mbody b)
 
-  -- of a field whose kind is this
+  -- a field of this kind
   abbrev made : Field → OfKind → OfField
   made x kind = let y = out-Field x in (location_steps numbers).field (record { label = y.label; name = y.name; kind = kind; number = y.number; options = y.options; comments = y.comments; span = y.span })
 
@@ -131,7 +132,7 @@ module _ (numbers : Span → List ℤ) where
         within = λ w. omega (arith, first-within w l x.keyword x.end (s.map x) (w.last x.end) (map-ends w x) (λ p. map-behind w p x));
       })
 
-  -- A group itself takes nothing, and its message what is the declaration's.
+  -- A group itself takes nothing. Its message takes the declaration's comments.
   pub group-takes : (l : Option (t.Label Place)) (k : Place) (n : t.Word Place) (e : Place) (i : t.Int Place) (o : Option (t.OptionList Place)) (b : t.Mbody Place)
       → BodyTakes b → FieldTakes (s.maybe s.label l ++ s.group (t.group_of k n e i o b)) (of_field (location_steps numbers) (ast.group l (t.group_of k n e i o b)))
   group-takes l k n e i o b body =

@@ -1,4 +1,4 @@
--- What a file takes: comments of its rows, those of each row at most once.
+-- The comments that a file takes: those before and behind its rows, each at most once.
 use Rattle.std.proofs.Common.{ℕ, List, [], ◌∷◌, ◌++◌, map, flat_map, Option, Some, None, ℤ, refl, arith}
 use Rattle.std.specs.Prelude.{option_map}
 use Rattle.std.specs.List.{filter_map}
@@ -26,7 +26,7 @@ module _ (numbers : Span → List ℤ) where
   package_parts None = []
   package_parts (Some x) = (λ path. package_locations numbers path (Some x)) ∷ []
 
-  -- what the statements of a file bring
+  -- the parts that the statements of a file bring
   abbrev lists_in : List (t.Statement Place) → Lists
   lists_in xs = record {
     fields = map (import_locations numbers) (filter_map ast.imported xs);

@@ -1,4 +1,5 @@
--- What a gap's comments come to, by any measure of texts that does not grow where texts are joined, the attribution gives at most once.
+-- The attribution gives each comment at most once. This holds by any measure of texts that does not
+-- grow when texts are joined.
 use Rattle.std.proofs.Common.{◌≡◌, ℕ, ◌+◌, ◌≤◌, Bool, true, false, if◌then◌else◌, List, [], ◌∷◌, ◌++◌, Option, Some, None, refl, subst, arith}
 use Rattle.protox_fault.specs.Faults.{Span}
 use Rattle.protox_lexeme.specs.Gaps.{Item, block, blank, begins_line, joined, items, blocks, last_block, all_but_last, Attribution, may_lead, led_by, unless_leading, trailed_by, unless_trailing, among, attribution}
@@ -42,7 +43,7 @@ module _ (e : List ℕ → ℕ) where
   abbrev pub of_attribution : Attribution → ℕ
   of_attribution a = of_text a.trailing + of_texts a.detached + of_text a.leading
 
-  -- of the comments before a row, and of the one behind it
+  -- the comments before a row, and the one behind it
   abbrev pub weights : Weights
   weights = record { first = λ p. of_text p.leading + of_texts p.detached; last = λ p. of_text p.trailing; mark = λ s p. 0; both = λ p q. 0 }
 
@@ -137,6 +138,6 @@ module _ (e : List ℕ → ℕ) where
     gaps-within [] = omega arith
     gaps-within (x ∷ xs) = omega (arith, gap-within (is_gap x.shape) x.shape (gaps_of xs), gaps-within xs)
 
-    -- All rows together have at most what the comments of the lexemes come to.
+    -- All rows together have at most the weight of the comments of the lexemes.
     pub all-within : (rows : Rows Span) (xs : List Lexeme) → weigh weights (placed_from true rows (gaps_of xs)) ≤ of_lexemes xs
     all-within rows xs = omega (arith, rows-within true rows (gaps_of xs), gaps-within xs)

@@ -1,4 +1,5 @@
--- Where the numbers of a gap's comments stand, which the attribution gives to the declarations around it.
+-- Where the numbers of a gap's comments stand when the attribution gives them to the declarations
+-- around the gap.
 use Rattle.std.proofs.Common.{◌≡◌, ℕ, zero, suc, ◌+◌, ◌<◌, ◌≤◌, Bool, true, false, if◌then◌else◌, inl, inr, ◌⊎◌, List, [], ◌∷◌, ◌++◌, length, flat_map, Option, Some, None, refl, ap, sym, subst, append_assoc, arith}
 use Rattle.std.proofs.lemmas.List.{append-nil}
 use Rattle.protox_lexeme.specs.Gaps.{Item, block, blank, begins_line, joined, items, blocks, last_block, all_but_last, Attribution, may_lead, led_by, unless_leading, trailed_by, unless_trailing, among, attribution}
@@ -67,7 +68,8 @@ module _ (lexemes : List Lexeme) where
 
   -- ---- runs of numbers, and items in their places
 
-  -- The numbers are those from the first one on, and the lexeme behind the last of them has this number, or a newline has that before it.
+  -- The numbers follow one another from the first one on. The lexeme behind the last of them, or
+  -- behind one newline there, has this number.
   abbrev pub Run : ℕ → ℕ → List ℕ → Type 0
   Run low high [] = ⊥
   Run low high (n ∷ []) = (n ≡ low) × IsNext lexemes low high
@@ -110,7 +112,7 @@ module _ (lexemes : List Lexeme) where
   sit k (Newline ∷ gap) h = past k Newline gap (items gap) (sit (suc k) gap h.2)
   sit k (other ∷ gap) h = absurd h.0
 
-  -- ---- what is said of a run, and of items
+  -- ---- runs of numbers, and items
 
   run-first : (low high n : ℕ) (ns : List ℕ) → Run low high (n ∷ ns) → n ≡ low
   run-first low high n [] h = h.0
@@ -133,7 +135,7 @@ module _ (lexemes : List Lexeme) where
   run-leads low high (n ∷ []) h = subst (λ k. IsNext lexemes k high) (sym h.0) h.1
   run-leads low high (n ∷ (m ∷ ns)) h = run-leads (suc low) high (m ∷ ns) h.1
 
-  -- Behind a run, what rises from its end on rises with it.
+  -- Numbers that rise from the end of a run rise with the run before them.
   run-rise : (low high to : ℕ) (ns more : List ℕ) → Run low high ns → Rise high to more → Rise low to (ns ++ more)
   run-rise low high to [] more h k = absurd h
   run-rise low high to (n ∷ []) more h k =
@@ -192,7 +194,7 @@ module _ (lexemes : List Lexeme) where
   led-by low high its true h = led-sit low high its (last_block its) h refl
   led-by low high its false h = (high, h, omega arith)
 
-  -- what is before a declaration, in a gap with these numbers
+  -- the comments before a declaration, in a gap with these numbers
   pub record Before (low high : ℕ) (a : Attribution) : Type 0 where
     pub rise : Rise low high (flat a.detached ++ text_or lexemes a.leading)
     pub leads : Leads lexemes (text_or lexemes a.leading) high
@@ -255,7 +257,7 @@ module _ (lexemes : List Lexeme) where
       let b = subst (λ n. Before (suc k) n a) e h in
       record { rise = rise-lower k (suc k) (k + length (x ∷ gap)) (flat a.detached ++ text_or lexemes a.leading) (omega arith) b.rise; leads = b.leads; leading = b.leading; detached = b.detached }
 
-  -- What the gap gives to the declaration behind it stands at its end.
+  -- What the gap gives to the declaration behind it stands at the gap's end.
   pub gap-before : (k : ℕ) (gap : List Shape) (first : Bool) (next : Option Shape) → GapFrom k gap → Before k (k + length gap) (attribution gap first next)
   gap-before k gap true next h = (in-gap false k gap next h).before
   gap-before k (LineComment text ∷ gap) false next h = behind-first (Some text) k (LineComment text) gap (among false (items gap) next) (in-gap false (suc k) gap next h.2).before
@@ -270,7 +272,7 @@ module _ (lexemes : List Lexeme) where
   trails-next last low [] is h = tt
   trails-next last low (n ∷ ns) is h = subst (IsNext lexemes last) (sym h) is
 
-  -- What it gives to the declaration before it stands at its start.
+  -- What the gap gives to the declaration before it stands at the gap's start.
   pub gap-trails : (last : ℕ) (gap : List Shape) (next : Option Shape) → GapFrom (suc last) gap
       → let ns = text_or lexemes (attribution gap false next).trailing in Trails lexemes last ns × AreNeighbours ns
   gap-trails last (LineComment text ∷ gap) next h = subst (λ ns. Trails lexemes last ns × AreNeighbours ns) (sym h.0) (next-is last, tt)

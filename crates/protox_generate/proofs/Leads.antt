@@ -1,4 +1,5 @@
--- Locations whose paths lead to names: what is listed at a path, by what the rest of a path leads to there.
+-- Locations whose paths lead to names. The locations at a path are described by what the rest of a
+-- path leads to there.
 use Rattle.std.proofs.Common.{◌≡◌, ℕ, ◌+◌, suc, List, [], ◌∷◌, ◌++◌, map, flat_map, Option, Some, None, refl, sym, ap, ◌∙◌, subst, append_assoc, append-nil, arith}
 use Rattle.std.specs.Prelude.{ℤ, pos, option_and_then, slice_get}
 use Rattle.protox_ast.specs.Basics.{Each}
@@ -124,7 +125,7 @@ module _ (numbers : Span → List ℤ) where
 
 -- ---- pairs
 
--- like siblings, of which there may be more than have locations
+-- siblings, of which there may be more than have locations
 abbrev pub Fronts : {A : Type 0} → (A → Part → Type 0) → List A → List Part → Type 0
 Fronts P xs [] = Unit {0}
 Fronts P [] (at ∷ ats) = ⊥
@@ -153,7 +154,7 @@ module _ (source : List ℕ) where
   abbrev pub Fits : Lookup → Part → Type 0
   Fits look at = (path : Path) → Each (Leads look path) (at path)
 
-  -- what no name is
+  -- parts that are no name
   pub apart : (look : Lookup) (path : Path) (tag : ℤ) (ls : List Location) → ((rest : Path) → look (tag ∷ rest) ≡ None) → Each (From (part path tag)) ls → Each (Leads look path) ls
   apart look path tag ls none h =
       each-so (From (part path tag)) (Leads look path) ls
@@ -190,7 +191,7 @@ module _ (source : List ℕ) where
       }) (h.0 (nth path tag n)))
       (from-place inner look tag all goes path (n + 1) xs ats (λ k. ap (slice_get all) (omega arith) ∙ same (suc k)) h.1)
 
-  -- like siblings at a tag
+  -- siblings at a field number
   pub siblings : {A : Type 0} (inner : A → Lookup) (look : Lookup) (tag : ℤ) (all : List A) (ats : List Part) → ((place : ℤ) (rest : Path) → look (tag ∷ place ∷ rest) ≡ at inner all place rest)
       → Fronts (λ x. Fits (inner x)) all ats → (path : Path) → Each (Leads look path) (numbered path tag 0 ats)
   siblings inner look tag all ats goes h path = from-place inner look tag all goes path 0 all ats (λ k. ap (slice_get all) (omega arith)) h

@@ -1,4 +1,4 @@
--- What messages and all that stands in them take: comments of their rows.
+-- What messages and the parts in them take: comments of their rows.
 use Rattle.std.proofs.Common.{◌≡◌, ◌+◌, ◌≤◌, List, [], ◌∷◌, ◌++◌, map, flat_map, Some, None, ℤ, refl, sym, subst, arith}
 use Rattle.protox_fault.specs.Faults.{Span}
 use Rattle.protox_lexeme.specs.Shapes.{Rows}
@@ -29,7 +29,7 @@ use Rattle.protox_generate.proofs.BlocksTaking.{enum-takes}
 use Rattle.protox_generate.proofs.Bags.{Lists, Bag, no, bag-of, empty, bag-none, bag-more, bag-append}
 use Rattle.protox_generate.proofs.FieldsTaking.{FieldTakes, BodyTakes, normal-takes, map-takes, group-takes, FieldsTake, fields-none, fields-more, fields-first}
 
--- what an item brings
+-- the parts that an item brings
 abbrev pub item_lists : OfItem → Lists
 item_lists i = record empty { fields = i.fields; messages = i.messages; enums = i.enums; blocks = i.blocks; extensions = i.extensions; oneofs = i.oneofs }
 
@@ -37,7 +37,7 @@ module _ (numbers : Span → List ℤ) where
   abbrev items_in : t.Elements Place → List OfItem
   items_in es = map (of_item (location_steps numbers)) (ast.items es)
 
-  -- what the elements of a body bring
+  -- the parts that the elements of a body bring
   abbrev lists_in : t.Elements Place → Lists
   lists_in es = record {
     fields = flat_map (λ (i : OfItem). i.fields) (items_in es);
@@ -56,7 +56,7 @@ module _ (numbers : Span → List ℤ) where
   item-bag : (rows : Rows Place) (x : MessageItem) (node : OfItem) → of_item (location_steps numbers) x ≡ node → Bag numbers rows (item_lists node) → Bag numbers rows (item_lists (of_item (location_steps numbers) x))
   item-bag rows x node is g = subst (λ n. Bag numbers rows (item_lists n)) (sym is) g
 
-  -- what stands in a oneof: options and fields
+  -- the parts of a oneof: options and fields
   record OneofTakes (es : t.OneofElements Place) : Type 0 where
     options : Cost
     own : Cost
@@ -66,7 +66,7 @@ module _ (numbers : Span → List ℤ) where
     message_parts : Parts numbers (messages_of (map (of_field (location_steps numbers)) (ast.oneof_fields es))) messages
     within : (w : Weights) → options w + own w + messages w ≤ weigh w (s.oneof_elements es)
 
-  -- a oneof and an extend, by what they give
+  -- a oneof and an `extend`, by what they bring
   oneof-bag : (rows : Rows Place) (o : OfOneof) {c d m : Cost} → ((path : Path) → Take numbers (o.own path) c) → Parts numbers (map (λ (f : OfField). f.own None) o.fields) d → Parts numbers (messages_of o.fields) m
       → ((w : Weights) → c w + d w + m w ≤ weigh w rows) → Bag numbers rows (record empty { fields = map (λ (f : OfField). f.own None) o.fields; messages = messages_of o.fields; oneofs = o.own ∷ [] })
   oneof-bag rows o own fields messages h = bag-of rows fields messages no no no (parts-one own) no no no no (λ w. omega (arith, h w))

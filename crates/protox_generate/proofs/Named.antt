@@ -1,4 +1,4 @@
--- The locations of messages, and of a file: those that lead to a name stand at it.
+-- The locations of messages and of a file: those whose paths lead to a name stand at that name.
 use Rattle.std.proofs.Common.{◌≡◌, ℕ, false, List, [], ◌∷◌, ◌++◌, map, flat_map, Option, Some, None, refl, sym, ap, subst}
 use Rattle.std.specs.Prelude.{ℤ, pos, if◌then◌else◌}
 use Rattle.std.specs.Ordering.{int_eq}
@@ -35,7 +35,7 @@ pairs-both P [] xs' (y ∷ ys) ys' h k = absurd h
 pairs-both P (x ∷ xs) xs' [] ys' h k = absurd h
 pairs-both P (x ∷ xs) xs' (y ∷ ys) ys' h k = (h.0, pairs-both P xs xs' ys ys' h.1 k)
 
--- what the elements of paired lists bring is paired
+-- the parts that the elements of paired lists bring are paired
 pub pairs-flat : {A B C D : Type 0} (Q : A → B → Type 0) (P : C → D → Type 0) (f : A → List C) (g : B → List D) → ((a : A) (b : B) → Q a b → Pairs P (f a) (g b)) → (xs : List A) (ys : List B) → Pairs Q xs ys
     → Pairs P (flat_map f xs) (flat_map g ys)
 pairs-flat Q P f g h [] [] k = tt
@@ -94,7 +94,7 @@ module _ (source : List ℕ) where
     reserved_name = parts.reserved_name;
   })
 
-  -- where it stands apart from its name
+  -- locations that stand apart from the name
   abbrev pub BodyFits : Parts → Part → Type 0
   BodyFits parts b = (name : List ℕ) → Fits source (look_in name parts) b
 

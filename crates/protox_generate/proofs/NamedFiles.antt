@@ -138,7 +138,7 @@ module _ (syntax : Syntax) (source : List ℕ) where
             (syntax-row look path file.syntax_span refl)))))))))),
       )
 
--- Of an accepted source's tree: where a path leads to a name, the source has it there.
+-- For an accepted source's tree: if a path leads to a name, the source writes that name there.
 names-of : (name source : List ℕ) (file : File) → IsUtf8 source → IsFileOf source file → (path : Path) → Each (Leads source (in_file (file_proto name file)) path) (file_at (span_numbers source) file path)
 names-of name source file u (f, accepted, is) path =
     let rows = subst (Each (RowSpelled source)) accepted.spells.0 (rows-spelled source u) in

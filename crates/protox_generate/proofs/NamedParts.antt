@@ -79,7 +79,7 @@ type-tag ty.String = refl
 type-tag ty.Bytes = refl
 type-tag (ty.Named name) = refl
 
--- Behind another number than 1 no name is the own one.
+-- Behind a number other than 1 there is no name of the part itself.
 pub own-none : (name : Option Name) (tag : ℤ) → int_eq tag (pos 1) ≡ false → (rest : Path) → own name (tag ∷ rest) ≡ None
 own-none name tag e [] = ap (λ b. if b then name else None) e
 own-none name tag e (place ∷ rest) = refl
@@ -147,7 +147,7 @@ module _ (source : List ℕ) where
               (json-row path (json_name_of options))))),
         )
 
-    -- a field, whose text writes that name
+    -- a field, whose text writes this name
     pub field-fits : (label : Option (FieldLabel × Span)) (ident : Ident) (kind : OfKind) (number : Int) (options : Option OptionList) (comments : Comments) (span : Span)
         → Spelled ident → ((text : List ℕ) → text ≡ ident.value → Writes text name) → (extendee : Option TypeName)
         → Fits source look (λ path. itself numbers path span comments kind ∷ bare numbers (part path (pos 1)) ident.span ∷ (extended numbers path extendee ++ from_number numbers path number label ident kind options))

@@ -1,4 +1,4 @@
--- The locations of each tree whose rows are spelled lead to its names.
+-- If the rows of a tree are spelled, the tree's locations lead to its names.
 use Rattle.std.proofs.Common.{◌≡◌, ℕ, List, [], ◌∷◌, ◌++◌, map, flat_map, Option, Some, None, refl, sym, ap, ◌∙◌, subst}
 use Rattle.std.specs.Prelude.{pos, if◌then◌else◌, option_map}
 use Rattle.std.specs.Str.{str_to_ascii_lowercase}

@@ -1,4 +1,5 @@
--- Lexemes whose comments have their numbers for texts: what becomes of each number, and that the texts are made of them.
+-- Lexemes whose comments have their own numbers as texts: what becomes of each number, and that the
+-- texts are made of them.
 use Rattle.std.proofs.Common.{◌≡◌, ℕ, suc, ◌+◌, ◌<◌, ◌≤◌, Bool, true, false, if◌then◌else◌, ◌==◌, List, [], ◌∷◌, ◌++◌, map, flat_map, Option, Some, None, refl, ap, sym, subst, ◌∙◌, arith}
 use Rattle.std.proofs.lemmas.Bool.{eqb-true}
 use Rattle.std.proofs.lemmas.Grind.{flat_map-append}
@@ -86,7 +87,7 @@ module _ (lexemes : List Lexeme) where
   from-here : (k : ℕ) (x : Lexeme) (xs : List Lexeme) → From k (x ∷ xs) → text_at lexemes k ≡ text_of x.shape
   from-here k x xs h = let e : k ≡ k + 0 = omega arith in ap (text_at lexemes) e ∙ h 0
 
-  -- A number that is no comment's is given to none.
+  -- A number that is no comment's is given to nothing.
   here-none : (n k : ℕ) (x : Shape) (b : Bool) → (k == n) ≡ b → text_at lexemes k ≡ text_of x → text_at lexemes n ≡ None → of_shape (count n) (with_number k x) ≤ 0
   here-none n k (LineComment text) true h is none = absurd (some-none (sym is ∙ ap (text_at lexemes) (eqb-true k n h) ∙ none))
     where
@@ -132,7 +133,7 @@ module _ (lexemes : List Lexeme) where
   gap-made k Newline is gaps = in_front-made k Newline Newline refl gaps
   gap-made k other is gaps = refl
 
-  -- The gaps of the lexemes are made of those of their numbers.
+  -- The gaps of the lexemes are made of the gaps of their numbers.
   pub gaps-made : (k : ℕ) (xs : List Lexeme) → From k xs → gaps_of xs ≡ map (map (made_shape made)) (gaps_of (numbered k xs))
   gaps-made k [] h = refl
   gaps-made k (x ∷ xs) h =

@@ -1,4 +1,4 @@
--- What is known of the rows that a location takes comments from: they are rows of the source, in their order.
+-- The rows that a location takes comments from are rows of the source, in order.
 use Rattle.std.proofs.Common.{◌≡◌, ℕ, ◌+◌, ◌-◌, ◌≤◌, Bool, true, false, if◌then◌else◌, ◌==◌, List, [], ◌∷◌, map, Option, Some, None, refl, ap, subst, arith}
 use Rattle.std.proofs.lemmas.Bool.{eqb-true}
 use Rattle.protox_lexeme.specs.Lexemes.{Lexeme}
@@ -63,7 +63,7 @@ module _ (lexemes : List Lexeme) where
     pub end : row.at.span.end ≡ p.span.end
     pub around : IsAround lexemes row
 
-  -- what is not so of two rows in their order
+  -- two rows in order do not have this
   abbrev pub disorder : Weights
   disorder = record {
     first = λ p. 0;

@@ -1,4 +1,4 @@
--- What is said of the list of faults that is found.
+-- What the list of faults says.
 use Rattle.std.proofs.Common.{◌≡◌, Bool, true, false, nat_eq, List, [], ◌∷◌, map, length, refl, sym, ap, ◌∙◌, arith}
 use Rattle.std.proofs.lemmas.Bool.{eqb-true, eqb-false}
 use Rattle.protox_ast.specs.declared.ast.File.{File}
@@ -7,7 +7,7 @@ use Rattle.protox_checks.specs.Checks.{AreListed}
 use Rattle.protox_checks.specs.Faults.{IsFaultless, settled}
 use Rattle.protox_fault.specs.declared.error.ParseErrorKind.{ParseErrorKind}
 
--- Where none is found, nothing is wrong.
+-- If no fault is found, nothing is wrong.
 pub none-found : (file : File) (found : List ParseErrorKind) → AreListed file found → found ≡ [] → IsFaultless file
 none-found file found h none = none-listed file (sym h ∙ ap (map settled) none)
 

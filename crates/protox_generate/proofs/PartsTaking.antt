@@ -1,4 +1,5 @@
--- What the parts of a declaration take: names, types, numbers, options and ranges take nothing, and a statement its own comments.
+-- What the parts of a declaration take. Names, types, numbers, options and ranges take no comments;
+-- a statement takes its own.
 use Rattle.std.proofs.Common.{◌≡◌, ◌+◌, ◌≤◌, List, [], ◌∷◌, ◌++◌, map, flat_map, Option, Some, None, ℤ, refl, arith}
 use Rattle.protox_fault.specs.Faults.{Span}
 use Rattle.protox_ast.specs.Ast as ast
@@ -132,7 +133,7 @@ module _ (numbers : Span → List ℤ) where
       take-bare (refl, refl, refl) (bare-then (labelled-free path label kind) (bare-then (typed-free path name kind) (bare-then (defaulted-free path (default_of options))
       (bare-then (list-free _ options (options_left options)) (json_named-free path (json_name_of options))))))
 
-  -- what stands behind a field's own location
+  -- the parts behind a field's own location
   pub behind-free : (path : Path) (extendee : Option TypeName) (number : Int) (label : Option (FieldLabel × Span)) (name : Ident) (kind : OfKind) (options : Option OptionList)
       → Take numbers (extended numbers path extendee ++ from_number numbers path number label name kind options) free
   behind-free path extendee number label name kind options = bare-then (extended-free path extendee) (from_number-free path number label name kind options)

@@ -1,4 +1,5 @@
--- Locations at the paths of names: what stands under ascending tags of a path has exactly one at each.
+-- Locations at the paths of names. If the parts below a path have ascending field numbers, each
+-- name there has exactly one location.
 use Rattle.std.proofs.Common.{◌≡◌, ℕ, zero, suc, ◌+◌, ◌<◌, ◌≤◌, Bool, true, false, List, [], ◌∷◌, ◌++◌, length, map, take, drop, refl, sym, ap, ◌∙◌, subst, arith, append_assoc, append-nil, length-append}
 use Rattle.std.specs.Prelude.{ℤ, pos, nat_abs, unwrap_or, slice_get, if◌then◌else◌}
 use Rattle.std.specs.Cmp.Rules.{signed_items}
@@ -62,7 +63,7 @@ longer path t r e = omega (arith, ap length e, length-append path (pos t ∷ r))
 
 -- ---- names and locations below a path, at these tags
 
--- the path of a name, behind that of the part in which it stands
+-- the path of a name, behind the path of the part it names
 pub record Led (low high : ℕ) (name : Path) : Type 0 where
   pub tag : ℕ
   pub rest : Path
@@ -120,7 +121,7 @@ below-tag path tag low high ls l h from =
 pub one-below : (path : Path) (tag low high : ℕ) (l : Location) → low ≤ tag → tag < high → l.path ≡ part path (pos tag) → Each (Below path low high) (l ∷ [])
 one-below path tag low high l a b e = below-tag path tag low high (l ∷ []) a b (here (part path (pos tag)) l e, tt)
 
--- what is no name, and stands alone, before others or behind others
+-- parts that are no name and stand alone, before others or behind others
 pub quiet : (path : Path) (low high : ℕ) (ls : List Location) → low ≤ high → Each (Below path low high) ls → Row path low high [] ls
 quiet path low high ls le below = record { fits = le; below = below; named = tt; once = tt }
 
@@ -147,7 +148,7 @@ a-name numbers path span = record {
 
 -- ---- parts
 
--- a part whose own location comes first
+-- a part with its own location first
 pub node : (names : List Path) (own : Path → Location) (others : Part) (low high : ℕ) → ((path : Path) → (own path).path ≡ path) → ((path : Path) → Row path low high names (others path))
     → Placed names (λ path. own path ∷ others path)
 node names own others low high e row = record {
@@ -157,19 +158,19 @@ node names own others low high e row = record {
       (λ same. longer path led.tag led.rest (sym (e path) ∙ same ∙ ap (λ (n : Path). path ++ n) led.is)) ∙ one) (row path).named (row path).once;
 }
 
--- one whose name comes next
+-- a part with its name next
 pub named-node : (numbers : Span → List ℤ) (span : Span) (more : List Path) (own : Path → Location) (others : Part) (high : ℕ) → ((path : Path) → (own path).path ≡ path)
     → ((path : Path) → Row path 2 high more (others path)) → Placed ((pos 1 ∷ []) ∷ more) (λ path. own path ∷ bare numbers (part path (pos 1)) span ∷ others path)
 named-node numbers span more own others high e row =
     node ((pos 1 ∷ []) ∷ more) own (λ path. bare numbers (part path (pos 1)) span ∷ others path) 1 high e
     (λ path. joined path 1 2 high ((pos 1 ∷ []) ∷ []) more (bare numbers (part path (pos 1)) span ∷ []) (others path) (a-name numbers path span) (row path))
 
--- one with no other name than its own
+-- a part with no name but its own
 pub named-leaf : (numbers : Span → List ℤ) (span : Span) (own : Path → Location) (others : Part) (high : ℕ) → 2 ≤ high → ((path : Path) → (own path).path ≡ path)
     → ((path : Path) → Each (Below path 2 high) (others path)) → Placed ((pos 1 ∷ []) ∷ []) (λ path. own path ∷ bare numbers (part path (pos 1)) span ∷ others path)
 named-leaf numbers span own others high le e below = named-node numbers span [] own others high e (λ path. quiet path 2 high (others path) le (below path))
 
--- ---- like siblings
+-- ---- siblings
 
 -- names behind a number
 behind-once : (path : Path) (n : ℕ) (names : List Path) (ls : List Location) → Each (Once (part path (pos n)) ls) names → Each (Once path ls) (behind (pos n) names)
@@ -200,7 +201,7 @@ siblings names path tag n high (x ∷ xs) (at ∷ ats) h le =
     joined (part path tag) n (n + 1) high (behind (pos n) (names x)) (in_places (n + 1) (map names xs)) (at (nth path tag n)) (numbered path tag (n + 1) ats) first
     (siblings names path tag (n + 1) high xs ats h.1 (omega (arith, le)))
 
--- statements that stand at the path of a tag, and then what stands below it
+-- statements at the path of a field number, and then the parts below it
 pub statements : (path : Path) (tag low high from to : ℕ) (names : List Path) (own ls : List Location) → from ≤ tag → tag < to → Each (λ (l : Location). l.path ≡ part path (pos tag)) own
     → Row (part path (pos tag)) low high names ls → Row path from to (behind (pos tag) names) (own ++ ls)
 statements path tag low high from to names own ls l h at row = record {
@@ -221,13 +222,13 @@ statements path tag low high from to names own ls l h at row = record {
       )) row.named row.once);
 }
 
--- like siblings at a tag
+-- siblings at a field number
 pub all-at : {A : Type 0} (names : A → List Path) (path : Path) (tag from to : ℕ) (xs : List A) (ats : List Part) → from ≤ tag → tag < to → Pairs (λ x at. Placed (names x) at) xs ats
     → Row path from to (in_list (pos tag) (map names xs)) (numbered path (pos tag) 0 ats)
 all-at names path tag from to xs ats l h pairs =
     statements path tag 0 (length xs) from to (in_places 0 (map names xs)) [] (numbered path (pos tag) 0 ats) l h tt (siblings names path (pos tag) 0 (length xs) xs ats pairs (omega arith))
 
--- of like siblings with others behind them no more than these
+-- siblings with others behind them count no more than these
 each-first : {A : Type 0} (P : Path → Type 0) (names : A → List Path) (xs more : List A) (k n : ℕ) → k ≤ length xs → Each P (in_places n (map names xs)) → Each P (in_places n (map names (take k (xs ++ more))))
 each-first P names xs more zero n le h = tt
 each-first P names [] more (suc k) n le h = absurd (omega (arith, le))

@@ -33,7 +33,7 @@ use Rattle.protox_locate.specs.LocationWords.{Path, part, bare, commented, numbe
 use Rattle.protox_locate.specs.ServiceLocations.{method_locations, service_locations, stream_locations}
 
 module _ (numbers : Span → List ℤ) where
-  -- ---- what is no name
+  -- ---- parts that are no name
 
   abbrev Behind : ℕ → Path → List Location → Type 0
   Behind high path ls = Each (Below path 2 high) ls

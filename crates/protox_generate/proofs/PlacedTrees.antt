@@ -1,4 +1,4 @@
--- Messages, and all that stands in them: their names have their locations.
+-- The names of messages and of the parts in them have their locations.
 use Rattle.std.proofs.Common.{◌≡◌, ℕ, ◌+◌, ◌-◌, ◌≤◌, Bool, true, false, List, [], ◌∷◌, ◌++◌, length, map, flat_map, Option, Some, None, refl, sym, ap, ◌∙◌, subst, arith, append_assoc, length-append}
 use Rattle.std.specs.Prelude.{ℤ, pos, if◌then◌else◌}
 use Rattle.protox_ast.proofs.Keeps.{Keeps, Pairs, extend_has, message_has}
@@ -34,7 +34,7 @@ use Rattle.protox_locate.specs.FieldLocations.{OfField, OfKind, brought, group_l
 use Rattle.protox_locate.specs.LocationWords.{Path, Part, part, commented, each_at, extensions_statements, name_statements, numbered, option_statements, range_statements}
 use Rattle.protox_locate.specs.Locations.{OfExtend, OfItem, OfOneof, location_steps, messages_of}
 
--- the names in a message of these parts, but its own
+-- the names in a message of these parts, without its own name
 abbrev body_paths : Parts → List Path
 body_paths parts =
     in_list (pos 2) (map field_paths parts.field)
@@ -58,7 +58,7 @@ message-paths name parts plain =
     })
     ∙ ap (λ b. if b then [] else (pos 1 ∷ []) ∷ body_paths parts) plain
 
--- and none in the entry of a map
+-- no name in the entry message of a map
 entry-paths : (name : List ℕ) (parts : Parts) → is_map_entry parts.options ≡ true → message_paths (message_proto name parts) ≡ []
 entry-paths name parts entry =
     fold-roll-DescriptorProto (List Path) paths_step (record {
@@ -75,7 +75,7 @@ entry-paths name parts entry =
     })
     ∙ ap (λ b. if b then [] else (pos 1 ∷ []) ∷ body_paths parts) entry
 
--- ---- oneofs that are made
+-- ---- oneofs made for fields
 
 count-joined : (fields more : List FieldDescriptorProto) → count is_alone (fields ++ more) ≡ count is_alone fields + count is_alone more
 count-joined [] more = omega arith
@@ -102,7 +102,7 @@ blocks-at path [] h = tt
 blocks-at path (at ∷ ats) h = each-both (λ (l : Location). l.path ≡ path) (at path) (each_at path ats) (h.0 path) (blocks-at path ats h.1)
 
 module _ (syntax : Syntax) (numbers : Span → List ℤ) where
-  -- ---- what a descriptor's parts and their locations have together
+  -- ---- the parts of a descriptor together with their locations
 
   record BodyHas (parts : Parts) (b : Part) : Type 0 where
     pub row : (path : Path) → Row path 2 11 (body_paths parts) (b path)
@@ -159,7 +159,7 @@ module _ (syntax : Syntax) (numbers : Span → List ℤ) where
   item-blocks (i ∷ is) [] h = absurd h
   item-blocks (i ∷ is) (o ∷ os) h = each-both BlockAt o.blocks (flat_map (λ o. o.blocks) os) h.0.blocks (item-blocks is os h.1)
 
-  -- There are no fewer fields that have a oneof for themselves than oneofs that are made.
+  -- There are at least as many fields with a oneof of their own as oneofs that are made.
   all-made : (others : ℕ) (before items : List Item) (os : List OfItem) → Pairs ItemHas items os → length (flat_map synthetic_of items) ≤ count is_alone (each_after (fields_of others) before items)
   all-made others before [] [] h = omega arith
   all-made others before [] (o ∷ os) h = absurd h

@@ -1,4 +1,5 @@
--- In a file with which nothing is wrong the oneofs that are written come first, in each message: no field of a oneof has a label.
+-- If nothing is wrong with a file, the written oneofs come first in each message: no field of a
+-- oneof has a label.
 use Rattle.std.proofs.Common.{◌≡◌, ℕ, Bool, true, false, List, [], ◌∷◌, ◌++◌, map, Option, None, refl, ap, sym, ◌∙◌, subst}
 use Rattle.std.specs.Prelude.{if◌then◌else◌}
 use Rattle.std.specs.List.{flat_map}
@@ -34,7 +35,7 @@ use Rattle.protox_descriptor.specs.declared.descriptor.OneofDescriptorProto.{One
 use Rattle.protox_generate.specs.File.{file_descriptor}
 
 module _ (syntax : Syntax) where
-  -- so it is of a message, and of each in it
+  -- the same for a message and each in it
   abbrev First : DescriptorProto → Type 0
   First message = Each RealFirst (each_own message)
 
@@ -182,7 +183,7 @@ faultless-first name file right = (
   all-apart file.syntax file.items,
 )
 
--- and of what is answered
+-- the same for the answer
 pub answer-first : (name source : List ℕ) (file : File) (found : FileDescriptorProto) → IsFaultless file → found ≡ file_descriptor name source file → HasRealFirst found
 unfolding file_descriptor
 answer-first name source file found right is = subst HasRealFirst (sym is) (faultless-first name file right)

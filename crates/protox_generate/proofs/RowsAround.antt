@@ -1,4 +1,5 @@
--- Each row of a source has a lexeme's number, and the numbers of the comments at its place stand around that.
+-- Each row of a source has a lexeme's number, and the numbers of the comments at its place stand
+-- around that number.
 use Rattle.std.proofs.Common.{◌≡◌, ℕ, suc, ◌+◌, Bool, true, false, if◌then◌else◌, List, [], ◌∷◌, ◌++◌, length, Some, refl, ap, sym, subst, append_assoc, ◌∙◌, arith}
 use Rattle.std.proofs.lemmas.List.{append-nil}
 use Rattle.protox_fault.specs.Faults.{Span, span_from}
@@ -36,7 +37,7 @@ module _ (lexemes : List Lexeme) where
   gap-at : (k : ℕ) (x : Lexeme) (xs : List Lexeme) → From k (x ∷ xs) → is_gap x.shape ≡ true → IsGapAt lexemes k
   gap-at k x xs h gap = (x, from-here k x xs h, gap)
 
-  -- The gap in front of the first row has the numbers from here on.
+  -- The gap before the first row has the numbers from here on.
   front-shape : (k : ℕ) (x : Lexeme) (xs : List Lexeme) (s : Shape) → x.shape ≡ s → From k (x ∷ xs) → (gaps : List (List Shape)) → GapFrom lexemes (suc k) (next_gap gaps)
       → GapFrom lexemes k (next_gap (if is_gap (with_number k s) then in_front (with_number k s ∷ []) gaps else [] ∷ gaps))
   front-shape k x xs (LineComment text) is h [] f = tt
@@ -94,7 +95,7 @@ module _ (lexemes : List Lexeme) where
         detached = b.detached;
       }
 
-  -- the rows of these lexemes, where a gap stands in front of them
+  -- the rows of these lexemes, with a gap before them
   abbrev Placed : Bool → List Shape → ℕ → List Lexeme → Type 0
   Placed first gap k xs = Each IsAround (placed_from first (rows_of xs) (in_front gap (gaps_of (numbered k xs))))
 
@@ -132,7 +133,7 @@ module _ (lexemes : List Lexeme) where
   from-on k [] h j gap first front e = tt
   from-on k (x ∷ xs) h j gap first front e = in-shape j k gap x xs x.shape first refl h front e (from-on (suc k) xs (from-next k x xs h))
 
-  -- So it is of each row of the lexemes.
+  -- The same holds for each row of the lexemes.
   pub rows-around : Each IsAround (placed_from true (rows_of lexemes) (gaps_of (numbered 0 lexemes)))
   rows-around =
       subst (λ gaps. Each IsAround (placed_from true (rows_of lexemes) gaps)) (no-gap (gaps_of (numbered 0 lexemes)))

@@ -91,6 +91,6 @@ module _ (source : List ℕ) where
   placed-spelled first [] gaps h = tt
   placed-spelled first (r ∷ rs) gaps h = (h.0, placed-spelled false rs (later_gaps gaps) h.1)
 
--- Each identifier of a source's tokens has the text at its place.
+-- Each identifier among a source's tokens has the text at its span.
 pub rows-spelled : (source : List ℕ) → IsUtf8 source → Each (RowSpelled source) (placed (table_of (cut 0 source)))
 rows-spelled source u = placed-spelled source true (rows_of (cut 0 source)) _ (cut-spelled source 0 (cut 0 source) u (omega arith) (cut_is_cut 0 source))

@@ -1,4 +1,5 @@
--- The syntax tree of a source stands in it, so its places and spans fit the numbers of a descriptor.
+-- The syntax tree of a source stands in it. So its indices and spans fit the numbers of a
+-- descriptor.
 use Rattle.std.proofs.Common.{◌≤◌, ℕ, List, [], ◌∷◌, length, sym, subst, arith}
 use Rattle.std.specs.Str.{IsUtf8}
 use Rattle.protox_fault.specs.Faults.{Span}
@@ -12,10 +13,10 @@ use Rattle.protox_ast.specs.AstParts.{last_place, rows_span}
 use Rattle.protox_ast.specs.Places.{Place, placed}
 use Rattle.protox_ast.specs.Siblings.{FileStands}
 use Rattle.protox_ast.specs.declared.ast.File.{File}
-use Rattle.protox_describe.specs.Widths.{file_width}
+use Rattle.protox_describe.specs.inner.Widths.{file_width}
 use Rattle.protox_generate.proofs.Wide.{file-wide}
 use Rattle.protox_locate.proofs.Fits.{file-fits}
-use Rattle.protox_locate.specs.Bounds.{file_weight, file_reach, reach}
+use Rattle.protox_locate.specs.inner.Bounds.{file_weight, file_reach, reach}
 
 pub file-stands : (source : List ℕ) (file : File) → IsUtf8 source → IsFileOf source file → FileStands (length source) file
 file-stands source file u k = subst (FileStands (length source)) (sym k.2) (source-stands source u k.0 k.1.spells.0)

@@ -1,4 +1,5 @@
--- Whose comments locations have: of each the rows that it takes them from, and how often all of them take those of a row.
+-- Which comments locations have: from which rows each location takes them, and how often all
+-- locations together take the comments of a row.
 use Rattle.std.proofs.Common.{◌≡◌, ℕ, ◌+◌, ◌≤◌, List, [], ◌∷◌, ◌++◌, length, map, flat_map, None, ℤ, refl, ap, sym, subst, append_assoc, ◌∙◌, arith}
 use Rattle.protox_fault.specs.Faults.{Span}
 use Rattle.protox_lexeme.specs.Shapes.{Shape, Mark, Rows}
@@ -8,7 +9,8 @@ use Rattle.protox_descriptor.specs.declared.descriptor.source_code_info.Location
 use Rattle.protox_locate.proofs.Numbered.{numbered_append}
 use Rattle.protox_locate.specs.LocationWords.{Path, Part, nth, numbered, each_at}
 
--- A location has no comments. Or it has those before its first row and the one behind its last, or behind the brace that opens its body.
+-- A location has no comments, or it has those before its first row and the one behind its last row
+-- or behind the `{` of its body.
 pub data Taken : Type 0 where
   nothing : Taken
   ending : (first last : Place) → Taken
@@ -17,14 +19,15 @@ pub data Taken : Type 0 where
 abbrev pub open_brace : Shape
 open_brace = Mark 123
 
--- any numbers for the comments before a row, and for the one behind it; for the row's token; and for two rows in their order
+-- weights of the comments before a row and of the one behind it; of the row's token; and of two
+-- rows in order
 pub record Weights : Type 0 where
   pub first : Place → ℕ
   pub last : Place → ℕ
   pub mark : Shape → Place → ℕ
   pub both : Place → Place → ℕ
 
--- of a row, and of each behind it
+-- for a row, and for each behind it
 abbrev pub behind : Weights → Place → Rows Place → ℕ
 behind w p [] = 0
 behind w p (r ∷ rs) = w.both p r.at + behind w p rs
@@ -78,7 +81,7 @@ module _ (numbers : Span → List ℤ) where
   SayEach (l ∷ ls) [] = ⊥
   SayEach (l ∷ ls) (t ∷ ts) = Says l t × SayEach ls ts
 
-  -- The locations take comments of at most this weight, whatever weights there are.
+  -- The locations take comments of at most this weight, for any weights.
   pub record Take (ls : List Location) (c : Cost) : Type 0 where
     pub taken : List Taken
     pub said : SayEach ls taken
@@ -90,7 +93,7 @@ module _ (numbers : Span → List ℤ) where
   say-append (l ∷ ls) ms [] b h k = absurd h
   say-append (l ∷ ls) ms (t ∷ a) b h k = (h.0, say-append ls ms a b h.1 k)
 
-  -- parts, as like siblings and at one path
+  -- parts, as siblings and at one path
   pub record Parts (ps : List Part) (c : Cost) : Type 0 where
     pub numbered : (path : Path) (tag : ℤ) (n : ℕ) → Take (numbered path tag n ps) c
     pub at : (path : Path) → Take (each_at path ps) c
@@ -131,7 +134,7 @@ module _ {numbers : Span → List ℤ} where
   pub then-bare : {ls ms : List Location} {c : Cost} → Take numbers ls c → Take numbers ms free → Take numbers (ls ++ ms) c
   then-bare t u = take-more (take-append t u) (λ w. omega arith)
 
-  -- ---- parts, as like siblings and at one path
+  -- ---- parts, as siblings and at one path
 
   pub parts-none : (c : Cost) → Parts numbers [] c
   parts-none c = record { numbered = λ path tag n. take-none c; at = λ path. take-none c }

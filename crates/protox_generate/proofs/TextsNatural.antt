@@ -1,4 +1,5 @@
--- Where the texts of comments are made of others, piece by piece, so are those that the attribution gives.
+-- If the texts of comments are made of others, piece by piece, then the texts that the attribution
+-- gives are made so too.
 use Rattle.std.proofs.Common.{◌≡◌, ℕ, Bool, true, false, if◌then◌else◌, List, [], ◌∷◌, ◌++◌, map, Option, Some, None, refl, ap, sym, ◌∙◌}
 use Rattle.std.specs.Prelude.{option_map}
 use Rattle.protox_fault.specs.Faults.{Span}
@@ -64,7 +65,7 @@ module _ (made : List ℕ → List ℕ) where
   unless_trailing-made true (block text ∷ its) = blocks-made its
   unless_trailing-made true (blank ∷ its) = blocks-made its
 
-  -- what the others and the leading one give
+  -- the texts of the others and of the leading comment
   abbrev given : Bool → List Item → Option (List ℕ) → Attribution
   given may others leading = record { trailing = trailed_by may others; detached = blocks (unless_trailing others (trailed_by may others)); leading = leading }
 

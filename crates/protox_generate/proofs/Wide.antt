@@ -1,4 +1,4 @@
--- No message of a tree has more items than its source has bytes, and a file no more imports.
+-- No message of a tree has more items than its source has bytes, and no file more imports.
 use Rattle.std.proofs.Common.{ℕ, ◌+◌, ◌≤◌, List, [], ◌∷◌, length, map, flat_map, Option, arith}
 use Rattle.protox_fault.specs.Faults.{Span}
 use Rattle.protox_ast.specs.Options.{OptionStatement}
@@ -18,7 +18,7 @@ use Rattle.protox_ast.specs.declared.ast.Reserved.{Reserved}
 use Rattle.protox_ast.proofs.LevelsStand.{declarations-stand}
 use Rattle.protox_ast.proofs.SpansStand.{each-front, each-back}
 use Rattle.protox_describe.specs.Siblings.{greatest}
-use Rattle.protox_describe.specs.Widths.{widths, file_item_width, file_width}
+use Rattle.protox_describe.specs.inner.Widths.{widths, file_item_width, file_width}
 use Rattle.protox_locate.proofs.FitsParts.{max-fits, from-zero, few, Stands}
 use Rattle.protox_ast.proofs.Keeps.{Keeps, Pairs, message_has, extend_has}
 
@@ -39,7 +39,7 @@ module _ (n : ℕ) where
   nodes-wide (w ∷ ws) (x ∷ xs) p k =
       max-fits _ _ n (p.0 (each-front (SiblingsStand 0 n) x.inside (inside_all xs) k)) (nodes-wide ws xs p.1 (each-back (SiblingsStand 0 n) x.inside (inside_all xs) k))
 
-  -- Each has a byte, so there are no more of them than bytes.
+  -- Each part has a byte, so there are no more parts than bytes.
   nodes-few : (low high : ℕ) (ws : List ℕ) (ns : List Node) → Pairs NodeWide ws ns → SpansStand low high (node_spans ns) → low + length ws ≤ high
   nodes-few low high [] [] p h = omega (arith, h)
   nodes-few low high [] (x ∷ xs) p h = absurd p
@@ -84,7 +84,7 @@ module _ (n : ℕ) where
   items-wide [] = tt
   items-wide (x ∷ xs) = (item-wide x, items-wide xs)
 
--- in a source of so many bytes
+-- in a source of `size` bytes
 pub file-wide : (n : ℕ) (file : File) → FileStands n file → file_width file ≤ n
 file-wide n file s =
     let d = declarations-stand n file s in

@@ -10,15 +10,15 @@ use Rattle.protox_places.specs.Lines.{span_numbers}
 use Rattle.protox_locate.specs.Locations.{file_locations}
 use Rattle.protox_places.specs.Order.{AreByPath, StartsBefore, InOrder}
 
--- what a file of that name and that source gives
+-- the descriptor of a file of this name, source and syntax tree, with its locations
 unfoldable pub file_descriptor : List ℕ → List ℕ → File → FileDescriptorProto
 file_descriptor name source file = record (file_proto name file) { source_code_info = Some (record { location = file_locations (span_numbers source) file }) }
 
--- The locations are sorted by path, and those of equal paths by where they start.
+-- There are locations. They are sorted by path, and those of one path by where they start.
 abbrev pub AreLocated : FileDescriptorProto → Type 0
 AreLocated file = elim file.source_code_info as (λ _. Type 0) [ None ↦ ⊥ | Some info ↦ InOrder StartsBefore info.location ]
 
--- The locations are sorted by path: what `locate` asks of them.
+-- There are locations, and they are sorted by path. `locate` needs this.
 abbrev pub AreSorted : FileDescriptorProto → Type 0
 AreSorted file = elim file.source_code_info as (λ _. Type 0) [ None ↦ ⊥ | Some info ↦ AreByPath info.location ]
 

@@ -1,5 +1,6 @@
--- The paths of the names in a file's descriptor, and that each of them has its location. What stands in no source has none: the entries of
--- maps, and the oneofs that are made for fields.
+-- The paths of the names in a file's descriptor. Each of these names has exactly one location.
+-- Names that no source writes have no path here: those of map entries and of their fields, and
+-- those of the oneofs that are made for proto3 `optional` fields.
 use Rattle.std.specs.Prelude.{◌≡◌, ◌+◌, ◌-◌, ℕ, Bool, false, if◌then◌else◌, List, [], ◌∷◌, ◌++◌, length, map, take, Option, Some, None, unwrap_or, ℤ, pos}
 use Rattle.protox_ast.specs.Basics.{Each}
 use Rattle.protox_describe.specs.Oneofs.{is_optional}
@@ -22,49 +23,56 @@ use Rattle.protox_descriptor.specs.declared.tag.service.TheConstants as service_
 use Rattle.protox_locate.specs.LocationWords.{Path}
 use Rattle.protox_places.specs.First.{is_at}
 
--- the path of a name, if there is a name: the number 1
+-- the path of a name, if there is one: the field number 1
 abbrev pub to_name : Option (List ℕ) → List Path
 to_name None = []
 to_name (Some name) = (pos 1 ∷ []) ∷ []
 
--- the paths, each behind a number
+-- the paths, each with this number in front
 abbrev pub behind : ℤ → List Path → List Path
 behind number paths = map (λ path. number ∷ path) paths
 
--- the paths in each of like siblings, behind its place; the first has the place n
+-- The paths in each element of a list, with its index in front. The first index is n.
 abbrev pub in_places : ℕ → List (List Path) → List Path
 in_places n [] = []
 in_places n (paths ∷ more) = behind (pos n) paths ++ in_places (n + 1) more
 
--- the paths in each element of a list, behind the list's field number and the element's place
+-- The paths in each element of a list, with the list's field number and the index in front.
 abbrev pub in_list : ℤ → List (List Path) → List Path
 in_list number siblings = behind number (in_places 0 siblings)
 
--- ---- the names in each part, from the path of the part on
+-- ---- the names in each part; paths begin at the part
 
+-- in a field
 abbrev pub field_paths : FieldDescriptorProto → List Path
 field_paths field = to_name field.name
 
+-- in a oneof
 abbrev pub oneof_paths : OneofDescriptorProto → List Path
 oneof_paths oneof = to_name oneof.name
 
+-- in an enum value
 abbrev pub value_paths : EnumValueDescriptorProto → List Path
 value_paths value = to_name value.name
 
+-- in an enum: its own name, and those of its values
 abbrev pub enum_paths : EnumDescriptorProto → List Path
 enum_paths enum = to_name enum.name ++ in_list enum_tag.VALUE (map value_paths enum.value)
 
+-- in a method
 abbrev pub method_paths : MethodDescriptorProto → List Path
 method_paths method = to_name method.name
 
+-- in a service: its own name, and those of its methods
 abbrev pub service_paths : ServiceDescriptorProto → List Path
 service_paths service = to_name service.name ++ in_list service_tag.METHOD (map method_paths service.method)
 
--- A field has a oneof for itself, which stands in no source.
+-- The field has a oneof of its own that no source writes: it is `optional` in proto3.
 abbrev pub is_alone : FieldDescriptorProto → Bool
 is_alone field = is_optional field.proto3_optional
 
--- the oneofs that are written: behind them come as many as there are fields that have one for themselves
+-- The oneofs that the source writes. They come first: the others, one for each such field, are
+-- last.
 abbrev pub written_oneofs : List FieldDescriptorProto → List OneofDescriptorProto → List OneofDescriptorProto
 written_oneofs fields oneofs = take (length oneofs - count is_alone fields) oneofs
 
@@ -73,7 +81,7 @@ abbrev pub is_map_entry : Option MessageOptions → Bool
 is_map_entry None = false
 is_map_entry (Some options) = unwrap_or options.map_entry false
 
--- in a message, where the paths in the messages in it are known
+-- the paths in one message, given those in its nested messages
 abbrev pub paths_step : DescriptorProto-F (List Path) → List Path
 paths_step message =
     if is_map_entry message.options then []
@@ -84,6 +92,7 @@ paths_step message =
     ++ (in_list message_tag.EXTENSION (map field_paths message.extension)
     ++ in_list message_tag.ONEOF_DECL (map oneof_paths (written_oneofs message.field message.oneof_decl))))))
 
+-- the paths of all names in a message, at every depth
 abbrev pub message_paths : DescriptorProto → List Path
 message_paths = fold-DescriptorProto (List Path) paths_step
 
@@ -97,7 +106,7 @@ name_paths file =
     ++ (in_list file_tag.SERVICE (map service_paths file.service)
     ++ in_list file_tag.EXTENSION (map field_paths file.extension)))
 
--- At the path of each name there is exactly one location.
+-- The path of each name has exactly one location.
 abbrev pub HasPlaces : FileDescriptorProto → Type 0
 HasPlaces file = elim file.source_code_info as (λ _. Type 0) [
   | None ↦ ⊥

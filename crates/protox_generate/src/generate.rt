@@ -1,16 +1,16 @@
-//! The descriptor of a file.
+//! The descriptor of a file, from its syntax tree.
 
 ghost use Rattle.std.specs.Prelude.{◌≡◌, ◌≤◌, length, IfErr, IfOk};
 ghost use Rattle.protox_ast.specs.Accepted.{FaultsLieIn, IsFileOf};
 ghost use Rattle.protox_ast.specs.Siblings.{FileStands};
 ghost use Rattle.protox_checks.specs.Faults.{AreWrong, HaveAll, IsFaultless};
 ghost use Rattle.protox_describe.specs.Oneofs.{HasRealFirst};
-ghost use Rattle.protox_describe.specs.Widths.{file_width};
+ghost use Rattle.protox_describe.specs.inner.Widths.{file_width};
 ghost use Rattle.protox_generate.specs.Commented.{AreCommentedOnce};
 ghost use Rattle.protox_generate.specs.File.{file_descriptor, AreLocated, AreListedAll, AreSorted};
 ghost use Rattle.protox_generate.specs.NamePaths.{HasPlaces};
 ghost use Rattle.protox_generate.specs.Names.{HasNames};
-ghost use Rattle.protox_locate.specs.Bounds.{file_weight, file_reach};
+ghost use Rattle.protox_locate.specs.inner.Bounds.{file_weight, file_reach};
 
 use protox_ast::ast::File;
 use protox_checks::checks::check_file;
@@ -21,7 +21,8 @@ use protox_locate::file::locate_file;
 pub use protox_places::lines::LineResolver;
 use std::alloc::{AllocError, Global};
 
-// What the tree gives, where it stands in the source, and its spans and places fit an i32.
+// Builds the descriptor. Needs that the tree's spans lie in the source, and that spans and counts
+// fit an i32.
 fn described(
     alloc: Global,
     ast: File,
@@ -43,9 +44,10 @@ fn described(
     Ok(file)
 }
 
-/// The descriptor of a file with its locations, exactly where nothing is wrong with it; else all that
-/// is wrong, in the order in which it is found; or that memory ran out. `name` is the file's name, and
-/// `ast` what parsing answers for that source.
+/// The descriptor of a file with its locations, if the checks of its syntax tree find nothing
+/// wrong. Otherwise all faults, in the order in which they are found; or that memory ran out.
+///
+/// `name` is the file's name. `ast` is what `parse_file` answers for `source`.
 pub fn generate_file(
     alloc: Global,
     ast: File,
@@ -53,26 +55,26 @@ pub fn generate_file(
     source: &str,
 ) -> Result<FileDescriptorProto, SyntaxFailure>
     requires { IsFileOf source.now ast }
-    // What is answered is the descriptor of the tree, with which nothing is wrong.
+    // The answer is the descriptor of the tree, and nothing is wrong with the tree.
     ensures found { IfOk result (λ file. file ≡ file_descriptor name.now source.now ast) }
     ensures fine { IfOk result (λ file. IsFaultless ast) }
-    // Its locations are sorted by path, and those of equal paths by where they start.
+    // Its locations are sorted by path, and those of one path by where they start.
     ensures located { IfOk result AreLocated }
-    // So `locate` finds those of a path.
+    // `locate` needs this order.
     ensures sorted { IfOk result AreSorted }
-    // In each of its messages the oneofs that are written come first.
+    // In each message the oneofs that the source writes come first.
     ensures oneofs { IfOk result HasRealFirst }
-    // Where the path of a location leads to a name, the source has that name there.
+    // If the path of a location leads to a name, the source writes that name there.
     ensures named { IfOk result (HasNames source.now) }
-    // At the path of each name of the descriptor there is exactly one location.
+    // The path of each name that the source writes in the descriptor has exactly one location.
     ensures placed { IfOk result HasPlaces }
-    // Each comment of the source stands in at most one field of one location, and around that.
+    // Each comment of the source stands in at most one field of one location, around that location.
     ensures commented_once { IfOk result (AreCommentedOnce source.now) }
-    // A refusal has faults. Each is wrong of the tree, each that is wrong is there, and they are in order.
+    // A refusal has at least one fault. It lists exactly the faults of the tree, in order.
     ensures wrong { IfErr result (AreWrong ast) }
     ensures all { IfErr result (HaveAll ast) }
     ensures in_order { IfErr result (AreListedAll ast) }
-    // They lie in the source.
+    // The faults lie in the source.
     ensures lie { IfErr result (FaultsLieIn source.now) }
 {
     let faults = check_file(alloc, &ast)?;

@@ -1,4 +1,4 @@
-//! The descriptor of a syntax tree, with the place of each of its parts in the source.
+//! From a syntax tree to a descriptor with the place of each part in the source.
 #![tactic(auto)]
 
 pub mod generate;

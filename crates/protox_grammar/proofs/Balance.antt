@@ -1,4 +1,4 @@
--- Braces match exactly where a count of those that are open says so.
+-- Braces match exactly when a count of the open ones says so.
 use Rattle.std.proofs.Common.{◌≡◌, ◌↔◌, ◌≤◌, ℕ, zero, suc, ◌+◌, ◌-◌, Bool, true, false, cond, eqb, [], ◌∷◌, take, refl, sym, ap, ◌∙◌, arith}
 use Rattle.std.proofs.lemmas.Bool.{eqb-true, eq-eqb}
 use Rattle.std.specs.Prelude.{if◌then◌else◌, ◌==◌}
@@ -6,7 +6,7 @@ use Rattle.protox_lexeme.specs.Shapes.{Shape, Mark, Row, Rows}
 use Rattle.protox_ast.specs.Keywords.{is_open_brace, is_close_brace, how_many, BracesMatch}
 use Rattle.protox_ast.specs.Spelling.{open_brace, close_brace}
 
--- braces match, with so many open before
+-- Braces match, if this many were open before.
 abbrev pub balances : {M : Type 0} → ℕ → Rows M → Bool
 balances unclosed [] = unclosed == 0
 balances unclosed (r ∷ rs) =
@@ -15,7 +15,7 @@ balances unclosed (r ∷ rs) =
     then (if unclosed == 0 then false else balances (unclosed - 1) rs)
     else balances unclosed rs)
 
--- the same by fronts
+-- The same, by all beginnings of the rows.
 abbrev MatchBehind : {M : Type 0} → ℕ → Rows M → Type 0
 MatchBehind unclosed rows =
     ((n : ℕ) → how_many is_close_brace (take n rows) ≤ unclosed + how_many is_open_brace (take n rows)) × (unclosed + how_many is_open_brace rows ≡ how_many is_close_brace rows)
@@ -32,7 +32,7 @@ count-is : {M : Type 0} (test : Shape → Bool) (r : Row M) (b : Bool) → test 
 count-is test r true e rs = ap (λ b. cond b (suc (how_many test rs)) (how_many test rs)) e ∙ omega arith
 count-is test r false e rs = ap (λ b. cond b (suc (how_many test rs)) (how_many test rs)) e ∙ omega arith
 
--- past a row with so many of each, which leaves so many open
+-- After a row that changes how many braces are open.
 module _ {M : Type 0} (d d' : ℕ) (r : Row M) (rs : Rows M) (a b : Bool) (p : is_open_brace r.shape ≡ a) (q : is_close_brace r.shape ≡ b) (e : d + cond a 1 0 ≡ d' + cond b 1 0) where
   forth-at : MatchBehind d' rs → (n : ℕ) → how_many is_close_brace (take n (r ∷ rs)) ≤ d + how_many is_open_brace (take n (r ∷ rs))
   forth-at h zero = omega arith

@@ -1,4 +1,4 @@
--- The keyword rules in words, and as sets of classes.
+-- The keyword rules, in words and as sets of classes.
 use Rattle.std.proofs.Common.{◌≡◌, ℕ, suc, ◌<◌, Bool, true, false, ◌&&◌, ◌||◌, cond, List, [], ◌∷◌, ◌++◌, length, Option, Some, None, refl, sym, ap, ◌∙◌, arith}
 use Rattle.std.proofs.lemmas.Slice.Eq.{bytes_eq-Decides}
 use Rattle.std.proofs.lemmas.Bool.{eqb-true, eq-eqb, ltb-true}
@@ -31,7 +31,7 @@ abbrev pub places : List (List ℕ) → List ℕ
 places [] = []
 places (w ∷ ws) = place keywords w ∷ places ws
 
--- each is a keyword
+-- Each word is a keyword.
 abbrev pub known : List (List ℕ) → Bool
 known [] = true
 known (w ∷ ws) = nat_lt (place keywords w) 38 && known ws
@@ -79,7 +79,7 @@ module _ {M : Type 0} (ks : List (List ℕ)) (known-ks : known ks ≡ true) (dot
   then-undotted (Some m) w rest z h = tt
   then-undotted None w rest z h = among-none ks w.0 h
 
-  -- the same of a type, none of them a scalar word
+  -- the same for a type; none of the words is a scalar word
   module _ (no-scalar : (x : t.Scalar) → among (places ks) (place keywords (s.scalar_word x)) ≡ false) where
     pub type-stops : (x : t.FieldType M) (z : Rows M) → k.TypeBeginsWithNone ks x → Stops (among (places ks)) (s.type x ++ z)
     type-stops (t.scalar x m) z h = no-scalar x

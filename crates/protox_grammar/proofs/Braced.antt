@@ -1,12 +1,13 @@
--- The steps of trees that hold no node that is checked, and no body: what is noted among them are the braces of their aggregates.
+-- The steps of trees without checked nodes and without bodies. Only the braces of their aggregates
+-- are noted.
 use Rattle.std.proofs.Common.{◌≡◌, List, [], ◌∷◌, ◌++◌, Option, Some, None, refl, sym, ap, ◌∙◌}
 use Rattle.std.proofs.lemmas.List.{append-nil}
 use Rattle.std.specs.List.{flat_map}
 use Rattle.protox_lexeme.specs.Shapes.{Mark, Rows}
 use Rattle.protox_ast.specs.Tree as t
 use Rattle.protox_ast.specs.Spelling as s
-use Rattle.protox_ast.specs.AggregateWalk as a
-use Rattle.protox_ast.specs.AggregateWalk.{Braces}
+use Rattle.protox_ast.specs.inner.AggregateWalk as a
+use Rattle.protox_ast.specs.inner.AggregateWalk.{Braces}
 use Rattle.protox_grammar.specs.Class.{just_mark}
 use Rattle.protox_grammar.specs.Rule.{row, seq, times}
 use Rattle.protox_grammar.specs.Rules as r

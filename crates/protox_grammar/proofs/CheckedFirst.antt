@@ -1,4 +1,5 @@
--- The first fault that is noted while the tokens of a source are read: it is true of the source, and none is noted before.
+-- The first fault that is noted while the tokens of a source are read. It is true of the source,
+-- and no fault is noted before it.
 use Rattle.std.proofs.Common.{◌≡◌, ◌≤◌, ◌<◌, ℕ, suc, ◌+◌, Bool, true, false, cond, List, [], ◌∷◌, ◌++◌, length, None, Result, Ok, Err, refl, sym, ap, subst, ◌∙◌, append_assoc, arith, inl, inr, ◌⊎◌}
 use Rattle.std.proofs.lemmas.List.{length-append}
 use Rattle.protox_lexeme.specs.Lexemes.{Lexeme}
@@ -10,7 +11,7 @@ use Rattle.protox_ast.specs.Places.{Place}
 use Rattle.protox_ast.specs.Tree as t
 use Rattle.protox_ast.specs.Truth.{IsTrueOf, IsWrongBefore, IsWrongBehind}
 use Rattle.protox_grammar.specs.CheckLaws.{IsNotedBy, levels}
-use Rattle.protox_grammar.specs.MarkLaws.{no_place, place_at, placed_nodes_by, placed_steps_by, placed_tokens}
+use Rattle.protox_grammar.specs.TagLaws.{no_place, place_at, placed_nodes_by, placed_steps_by, placed_tokens}
 use Rattle.protox_grammar.specs.Noted.{noted_nodes, trace}
 use Rattle.protox_grammar.specs.Reader.{Refusal}
 use Rattle.protox_grammar.specs.Steps.{Event, Token, Note, Steps, is_too_deep, tokens, until}
@@ -29,7 +30,7 @@ use Rattle.protox_grammar.proofs.Telling.{told-append}
 
 -- ---- the steps up to a note
 
--- The steps of reading as many rows as were taken before a note have it among them.
+-- The steps of reading as many rows as were taken before a note include the note.
 pub until-to : {M : Type 0} (b : Steps M) (e : Event M) (k : Steps M) → EndsDeep (b ++ (Note e ∷ k)) → (j : Steps M) × (until (length (tokens b)) (b ++ (Note e ∷ k)) ≡ (b ++ (Note e ∷ [])) ++ j)
 until-to [] e k h = (cond (is_too_deep e) [] (until 0 k), refl)
 until-to (Token r ∷ b) e k h = let v = until-to b e k h in (v.0, ap (λ u. Token r ∷ u) v.1)
@@ -43,14 +44,14 @@ until-to {M} (Note d ∷ b) e k h = let v = until-to b e k h.1 in (v.0, until-no
     under true q = absurd (some b (h.0 q))
     under false q = refl
 
--- ---- the rows behind steps
+-- ---- the rows after steps
 
 pub past-taken : (l : Steps Place) (rest : Rows Place) → past l (tokens l ++ rest) ≡ rest
 past-taken [] rest = refl
 past-taken (Token r ∷ l) rest = past-taken l rest
 past-taken (Note e ∷ l) rest = past-taken l rest
 
--- the rows that are taken are the first of those that are read
+-- The rows that are taken are the first of those that are read.
 pub taken-rows : (xs : Rows Place) → (rest : Rows Place) × (xs ≡ tokens (trace levels xs) ++ rest)
 taken-rows xs = at ((main.file_at no_place levels).read xs) refl
   where
@@ -65,8 +66,9 @@ taken-rows xs = at ((main.file_at no_place levels).read xs) refl
 abbrev pub FirstOf : List Lexeme → Place → Type 0
 FirstOf lexemes w = FirstCheck None w (trace levels (placed_tokens lexemes)) (placed_tokens lexemes)
 
--- The fault is noted once so many tokens are taken, as the rows that are left say. It is that of a node that ends with one of these tokens, and true of
--- the source; and of fewer tokens no fault is noted.
+-- The fault is noted once this many tokens are taken, as the number of rows left says. It is a
+-- fault of a node that ends with one of these tokens, and it is true of the source. For fewer
+-- tokens no fault is noted.
 pub record IsCheckedFirst (lexemes : List Lexeme) (w : Place) (number left : ℕ) (fault : ParseErrorKind) : Type 0 where
   pub noted : IsNotedBy lexemes number fault
   pub is_true : IsTrueOf lexemes fault
@@ -152,7 +154,7 @@ module _ (lexemes : List Lexeme) (w : Place) (v : FirstOf lexemes w) where
         within = omega (arith, ap (λ u. length (tokens u)) v.parts, ap length (tokens-append v.before (Note v.event ∷ v.later)), length-append (tokens v.before) (tokens v.later));
       }
 
--- While the tokens of a source are read no fault is noted, or there is a first one.
+-- While the tokens of a source are read, no fault is noted, or there is a first one.
 pub checked-first : (lexemes : List Lexeme) (w : Place) → IsFaultless (told None w (trace levels (placed_tokens lexemes)) (placed_tokens lexemes)) ⊎ ((v : FirstOf lexemes w) × IsCheckedFirst lexemes w (length (tokens v.before)) v.left v.fault)
 checked-first lexemes w = elim (first-check None w (trace levels (placed_tokens lexemes)) (placed_tokens lexemes)) [
   | inl h ↦ inl h

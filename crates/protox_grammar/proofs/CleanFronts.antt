@@ -1,5 +1,6 @@
--- What the first entries of a source's table of faults say of its lexemes: a front of the lexemes is clean where its entries have no fault in the
--- modes of their places, and the first fault of an entry is that of a lexeme with clean ones in front.
+-- What the first entries in a source's table of faults say about its lexemes. If these entries have
+-- no fault in their modes, their lexemes are clean. The first fault of an entry is one of a lexeme
+-- with clean lexemes before it.
 use Rattle.std.proofs.Common.{◌≡◌, ◌↔◌, ◌+◌, ◌<◌, inl, inr, ℕ, zero, suc, Bool, true, false, cond, List, [], ◌∷◌, ◌++◌, length, Some, refl, sym, ap, subst, ◌∙◌, arith}
 use Rattle.std.specs.Prelude.{slice_get, slice_index_or}
 use Rattle.std.proofs.lemmas.Bool.{cases_Bool}
@@ -18,7 +19,7 @@ Faults = List ParseErrorKind
 
 -- ---- the first entries of a source, and their modes
 
--- The modes of the first m entries say whether a file goes on inside an aggregate there.
+-- The modes of the first m entries say whether a file may be inside an aggregate there.
 abbrev pub AreToldTo : List Lexeme → (ℕ → Bool) → ℕ → Type 0
 AreToldTo lexemes on m = (k : ℕ) → k < m → (on k ≡ true) ↔ Inside lexemes k
 
@@ -26,7 +27,7 @@ AreToldTo lexemes on m = (k : ℕ) → k < m → (on k ≡ true) ↔ Inside lexe
 abbrev pub AreClearTo : List Lexeme → (ℕ → Bool) → ℕ → Type 0
 AreClearTo lexemes on m = (k : ℕ) → k < m → faults_in (on k) (slice_index_or (faults_of lexemes) k []) ≡ []
 
--- A lexeme behind m tokens has this fault as its first in the mode, and those in front of it are clean.
+-- This fault is the first in the mode for a lexeme after m tokens. All lexemes before it are clean.
 pub record IsFirstLexeme (lexemes : List Lexeme) (text_format : Bool) (m : ℕ) (f : ParseErrorKind) : Type 0 where
   pub before : List Lexeme
   pub here : Lexeme
@@ -38,26 +39,26 @@ pub record IsFirstLexeme (lexemes : List Lexeme) (text_format : Bool) (m : ℕ) 
 
 -- ---- entries, by the first lexeme
 
--- entry k of the faults of these lexemes
+-- Entry k of the faults of these lexemes.
 abbrev entry : List Lexeme → ℕ → Faults
 entry xs k = slice_index_or (faults_of xs) k []
 
 abbrev row : Lexeme → Row Span
 row x = record { shape = x.shape; at = span_from x.start x.stop }
 
--- a comment or a newline is no row
+-- A comment or a newline is no row.
 pub gap-rows : (x : Lexeme) (xs : List Lexeme) → is_gap x.shape ≡ true → rows_of (x ∷ xs) ≡ rows_of xs
 gap-rows x xs gap = ap (λ b. cond b (rows_of xs) (row x ∷ rows_of xs)) gap
 
--- each other lexeme is one
+-- Each other lexeme is a row.
 pub token-rows : (x : Lexeme) (xs : List Lexeme) → is_gap x.shape ≡ false → rows_of (x ∷ xs) ≡ row x ∷ rows_of xs
 token-rows x xs token = ap (λ b. cond b (rows_of xs) (row x ∷ rows_of xs)) token
 
--- the faults of a comment or a newline stand at the front of the first entry
+-- The faults of a comment or a newline stand at the front of the first entry.
 pub gap-faults : (x : Lexeme) (xs : List Lexeme) → is_gap x.shape ≡ true → faults_of (x ∷ xs) ≡ in_front (row_faults x) (faults_of xs)
 gap-faults x xs gap = ap (λ b. cond b (in_front x.faults (faults_of xs)) (row_faults x ∷ faults_of xs)) gap ∙ ap (λ own. in_front own (faults_of xs)) (sym (gap-own x gap))
 
--- those of each other lexeme are an entry
+-- The faults of each other lexeme are an entry.
 pub token-faults : (x : Lexeme) (xs : List Lexeme) → is_gap x.shape ≡ false → faults_of (x ∷ xs) ≡ row_faults x ∷ faults_of xs
 token-faults x xs token = ap (λ b. cond b (in_front x.faults (faults_of xs)) (row_faults x ∷ faults_of xs)) token
 
@@ -92,7 +93,8 @@ gap-behind lexemes n x xs gap c cs = (c, subst (λ b. AreCleanBehind lexemes (co
 token-behind : (lexemes : List Lexeme) (n : ℕ) (x : Lexeme) (xs : List Lexeme) → is_gap x.shape ≡ false → IsCleanBehind lexemes n x → AreCleanBehind lexemes (suc n) xs → AreCleanBehind lexemes n (x ∷ xs)
 token-behind lexemes n x xs token c cs = (c, subst (λ b. AreCleanBehind lexemes (cond b n (suc n)) xs) (sym token) cs)
 
--- Of these lexemes behind n tokens, the token behind j others is clean, and so are those in front of it.
+-- Of these lexemes, which come after n tokens, the token after j others is clean, and so are all
+-- before it.
 record Through (lexemes : List Lexeme) (n : ℕ) (xs : List Lexeme) (j : ℕ) : Type 0 where
   before : List Lexeme
   here : Lexeme
@@ -127,7 +129,8 @@ through-token lexemes n x xs j token c r = record {
   clean = token-behind lexemes n x (r.before ++ (r.here ∷ [])) token c r.clean;
 }
 
--- Of these lexemes behind n tokens, one behind j tokens has the fault as its first in the mode, and those in front of it are clean.
+-- Of these lexemes, which come after n tokens, one after j tokens has the fault as its first in the
+-- mode. All before it are clean.
 record First (lexemes : List Lexeme) (n : ℕ) (xs : List Lexeme) (j : ℕ) (text_format : Bool) (f : ParseErrorKind) : Type 0 where
   before : List Lexeme
   here : Lexeme
@@ -165,17 +168,18 @@ first-token lexemes n x xs j b f token c r = record {
   first = r.first;
 }
 
--- where a comment or a newline has faults in the mode, the first of these is the first of the entry
+-- If a comment or a newline has faults in the mode, the first of them is the first of the entry.
 first-of-gap :
     (lexemes : List Lexeme) (n : ℕ) (x : Lexeme) (xs : List Lexeme) (b : Bool) (f : ParseErrorKind) (more own : Faults) → faults_in b (row_faults x) ≡ own → own ++ faults_in b (entry xs 0) ≡ f ∷ more
     → (faults_in b (row_faults x) ≡ [] → faults_in b (entry xs 0) ≡ f ∷ more → First lexemes n (x ∷ xs) 0 b f) → First lexemes n (x ∷ xs) 0 b f
 first-of-gap lexemes n x xs b f more [] e w later = later e w
 first-of-gap lexemes n x xs b f more (g ∷ gs) e w later = let same : g ≡ f = cc in first-here lexemes n x xs b f gs (e ∙ ap (λ v. v ∷ gs) same)
 
--- ---- by induction over the lexemes, behind n tokens
+-- ---- by induction on the lexemes, after n tokens
 
 module _ (lexemes : List Lexeme) (on : ℕ → Bool) (top : ℕ) (told : AreToldTo lexemes on top) where
-  -- the first m entries of these lexemes, of which the first is entry n of the source, have no fault in their modes
+  -- the first m entries of these lexemes have no fault in their modes; the first of them is entry n
+  -- of the source
   abbrev AreClearFrom : ℕ → ℕ → List Lexeme → Type 0
   AreClearFrom n m xs = (k i : ℕ) → k < m → n + k ≡ i → faults_in (on i) (entry xs k) ≡ []
 
@@ -256,17 +260,19 @@ module _ (lexemes : List Lexeme) (on : ℕ → Bool) (top : ℕ) (told : AreTold
 clear-from : (lexemes : List Lexeme) (on : ℕ → Bool) (m : ℕ) → AreClearTo lexemes on m → (k i : ℕ) → k < m → 0 + k ≡ i → faults_in (on i) (entry lexemes k) ≡ []
 clear-from lexemes on m h k i l e = let same : k ≡ i = omega arith in subst (λ v. faults_in (on v) (entry lexemes k) ≡ []) same (h k l)
 
--- where the first entries have no fault in their modes, up to that of token n, this token and all lexemes in front of it are clean
+-- If no entry up to that of token n has a fault in its mode, the token and all lexemes before it
+-- are clean.
 pub clean-through : (lexemes : List Lexeme) (on : ℕ → Bool) (n : ℕ) → n < length (rows_of lexemes) → AreClearTo lexemes on (suc n) → AreToldTo lexemes on (suc n) → AreCleanThrough lexemes n
 clean-through lexemes on n l h told =
     let r = through-from lexemes on (suc n) told 0 n lexemes l (omega arith) (clear-from lexemes on (suc n) h) in
     record { before = r.before; here = r.here; behind = r.behind; parts = r.parts; is_token = r.is_token; number = r.number; clean = r.clean }
 
--- where no entry has a fault in its mode, all lexemes are clean
+-- If no entry has a fault in its mode, all lexemes are clean.
 pub clean-all : (lexemes : List Lexeme) (on : ℕ → Bool) → AreClearTo lexemes on (suc (length (rows_of lexemes))) → AreToldTo lexemes on (suc (length (rows_of lexemes))) → AreClean lexemes
 clean-all lexemes on h told = let m = suc (length (rows_of lexemes)) in all-from lexemes on m told 0 lexemes (omega arith) (clear-from lexemes on m h)
 
--- the first fault of an entry, behind entries with none, is that of a lexeme with clean ones in front
+-- If the entries before one have no fault, its first fault is one of a lexeme with clean lexemes
+-- before it.
 pub first-lexeme :
     (lexemes : List Lexeme) (on : ℕ → Bool) (m : ℕ) (f : ParseErrorKind) (more : List ParseErrorKind)
     → faults_in (on m) (slice_index_or (faults_of lexemes) m []) ≡ f ∷ more → AreClearTo lexemes on m → AreToldTo lexemes on (suc m) → IsFirstLexeme lexemes (on m) m f
@@ -299,7 +305,7 @@ valid-at b (suc j) (x ∷ xs) l e is = elim (cases_Bool (is_gap x.shape)) [
       valid-at b j xs (omega arith) (ap (faults_in b) (sym (token-later x xs j token)) ∙ e) (subst (λ rs. (source_row rs (suc j)).shape ≡ Invalid) rows is)
 ]
 
--- a row whose entry has no fault in its mode isn't invalid
+-- A row whose entry has no fault in its mode is valid.
 pub row-clear : (lexemes : List Lexeme) (on : ℕ → Bool) (n : ℕ) → n < length (rows_of lexemes) → AreClearTo lexemes on (suc n) → (source_row (rows_of lexemes) n).shape ≡ Invalid → ⊥
 row-clear lexemes on n l h = valid-at (on n) n lexemes l (h n (omega arith))
 
@@ -308,12 +314,12 @@ row-there [] n r e = absurd cc
 row-there (x ∷ rows) zero r e = let same : x ≡ r = cc in (omega arith, same)
 row-there (x ∷ rows) (suc n) r e = let h = row-there rows n r e in (omega arith, h.1)
 
--- the same of a row that is looked up, by its entry alone, in any mode
+-- The same for a row that is looked up, by its entry alone, in any mode.
 pub row-valid : (b : Bool) (xs : List Lexeme) (n : ℕ) (r : Row Span) → slice_get (rows_of xs) n ≡ Some r → faults_in b (slice_index_or (faults_of xs) n []) ≡ [] → r.shape ≡ Invalid → ⊥
 row-valid b xs n r e none is =
     let h = row-there (rows_of xs) n r e in
     valid-at b n xs h.0 none (ap (λ (v : Row Span). v.shape) h.1 ∙ is)
 
--- the same of a row that is looked up, where the first entries have no fault in their modes
+-- The same for a row that is looked up, if the first entries have no fault in their modes.
 pub row-clear-there : (lexemes : List Lexeme) (on : ℕ → Bool) (n : ℕ) (r : Row Span) → slice_get (rows_of lexemes) n ≡ Some r → AreClearTo lexemes on (suc n) → r.shape ≡ Invalid → ⊥
 row-clear-there lexemes on n r e h = row-valid (on n) lexemes n r e (h n (omega arith))

@@ -1,4 +1,5 @@
--- A source's lexemes are clean exactly where no gap and no row of its table has a fault in the mode of its place.
+-- The lexemes of a source are clean exactly when no gap and no row of its table has a fault in the
+-- mode of its place.
 use Rattle.std.proofs.Common.{◌≡◌, ◌↔◌, ◌+◌, ℕ, zero, suc, Bool, true, false, not, cond, List, [], ◌∷◌, ◌++◌, refl, sym, ap, subst, ◌∙◌, arith, append-nil, true≢false}
 use Rattle.std.specs.Prelude.{slice_index_or}
 use Rattle.std.proofs.lemmas.List.Elements.{filter-append}
@@ -14,12 +15,12 @@ Faults = List ParseErrorKind
 
 -- ---- faults in a mode
 
--- the faults in a mode of two lists are those of the one and then those of the other
+-- The faults of two lists in a mode are those of the first list, and then those of the second.
 pub in-append : (b : Bool) (x y : Faults) → faults_in b (x ++ y) ≡ faults_in b x ++ faults_in b y
 in-append true x y = filter-append (λ f. not (is_of_mode f)) x y
 in-append false x y = refl
 
--- no faults are none in each mode
+-- If there are no faults, there are none in any mode.
 pub in-none : (b : Bool) → faults_in b [] ≡ []
 in-none true = refl
 in-none false = refl
@@ -32,14 +33,14 @@ last-none : (x y : Faults) → x ++ y ≡ [] → y ≡ []
 last-none [] y e = e
 last-none (f ∷ x) y e = absurd cc
 
--- none in two lists: none in each
+-- If two lists have no fault, neither has one.
 pub both-none : (b : Bool) (x y : Faults) → faults_in b (x ++ y) ≡ [] → (faults_in b x ≡ []) × (faults_in b y ≡ [])
 both-none b x y e = let h = sym (in-append b x y) ∙ e in (first-none (faults_in b x) (faults_in b y) h, last-none (faults_in b x) (faults_in b y) h)
 
 none-both : (b : Bool) (x y : Faults) → faults_in b x ≡ [] → faults_in b y ≡ [] → faults_in b (x ++ y) ≡ []
 none-both b x y e f = in-append b x y ∙ (λ i. e i ++ f i)
 
--- an invalid character is a fault in each mode
+-- An invalid character is a fault in each mode.
 pub invalid-some : (b : Bool) (s : Shape) (span : Span) → s ≡ Invalid → faults_in b (invalid_faults s span) ≡ [] → ⊥
 invalid-some b s span is e = at b (subst (λ v. faults_in b (invalid_faults v span) ≡ []) is e)
   where
@@ -65,7 +66,7 @@ gap-valid s g e = true≢false (sym (subst (λ v. is_gap v ≡ true) e g))
 pub gap-own : (x : Lexeme) → is_gap x.shape ≡ true → row_faults x ≡ x.faults
 gap-own x g = ap (λ fs. x.faults ++ fs) (invalid-none false x.shape (span_from x.start x.stop) (gap-valid x.shape g)) ∙ append-nil x.faults
 
--- ---- one lexeme, in a mode that is that of an aggregate only inside one
+-- ---- one lexeme, in a mode that is text format only inside an aggregate
 
 fault-clean : (lexemes : List Lexeme) (b : Bool) (k : ℕ) (fs : Faults) → (b ≡ true → Inside lexemes k) → faults_in b fs ≡ [] → (faults_in true fs ≡ []) × ((fs ≡ [] → ⊥) → Inside lexemes k)
 fault-clean lexemes true k fs inside h = (h, λ some. inside refl)
@@ -90,7 +91,7 @@ pub some-entry : (xs : List Lexeme) → (fs : Faults) × (fss : List Faults) × 
 some-entry [] = ([], [], refl)
 some-entry (x ∷ xs) = entry-by x xs (some-entry xs) (is_gap x.shape)
 
--- ---- the modes of places: where a file goes on inside an aggregate
+-- ---- the modes of places: whether a file may be inside an aggregate there
 
 module _ (lexemes : List Lexeme) (on : ℕ → Bool) (is_inside : (k : ℕ) → on k ≡ true → Inside lexemes k) (is_on : (k : ℕ) → Inside lexemes k → on k ≡ true) where
   -- one lexeme
@@ -102,7 +103,7 @@ module _ (lexemes : List Lexeme) (on : ℕ → Bool) (is_inside : (k : ℕ) → 
   abbrev NoneFrom : ℕ → List Faults → Type 0
   NoneFrom n fss = (k : ℕ) → faults_in (on (n + k)) (slice_index_or fss k []) ≡ []
 
-  -- the first entry, and those behind it
+  -- the first entry, and the entries after it
   none-first : (n : ℕ) (fs : Faults) (fss : List Faults) → NoneFrom n (fs ∷ fss) → faults_in (on n) fs ≡ []
   none-first n fs fss h = let e : n + 0 ≡ n = omega arith in ap (λ v. faults_in (on v) fs) (sym e) ∙ h 0
 

@@ -15,7 +15,7 @@ use Rattle.protox_grammar.proofs.Takes.{bind_ok, ok_is}
 use Rattle.protox_grammar.proofs.Laws.{IsSpelled, head-same}
 use Rattle.protox_grammar.proofs.Reading.{IsRead, Took, Begins, left_of, bind_err, ok-err, err-ok, err-left, unexpected-deep, true-false}
 
--- tokens whose braces match, with so many open before
+-- Tokens whose braces match, if this many were open before.
 record Matches {M : Type 0} (d : ℕ) (t : Rows M) : Type 0 where
   braces : balances d t ≡ true
   tokens : k.Each k.IsSignificant t
@@ -23,7 +23,7 @@ record Matches {M : Type 0} (d : ℕ) (t : Rows M) : Type 0 where
 abbrev after : {M : Type 0} → Row M → Rows M × Rows M → Result (Rows M × Rows M) Refusal
 after r x = Ok (r ∷ x.0, x.1)
 
--- what one row does: it leaves so many braces open, closes what stands between braces, or is no token
+-- What one row does: it leaves this many braces open, or closes the aggregate, or is no token.
 data Step {M : Type 0} (d : ℕ) (r : Row M) : Type 0 where
   goes : (d' : ℕ) → ((t : Rows M) → Matches d (r ∷ t) → Matches d' t) → ((t : Rows M) → Matches d' t → Matches d (r ∷ t))
       → ((xs : Rows M) → balanced_at d (r ∷ xs) ≡ (balanced_at d' xs >>= after r)) → Step d r
@@ -42,7 +42,7 @@ close-token : (s : Shape) → k.is_close_brace s ≡ true → k.is_significant s
 close-token (Mark b) h = refl
 close-token _ h = absurd cc
 
--- where the rows behind count the same, and this one is a token
+-- If the rows after it count the same, and this one is a token.
 goes-on : {M : Type 0} (d d' : ℕ) (r : Row M) → k.is_significant r.shape ≡ true → ((t : Rows M) → balances d (r ∷ t) ≡ balances d' t)
     → ((xs : Rows M) → balanced_at d (r ∷ xs) ≡ (balanced_at d' xs >>= after r)) → Step d r
 goes-on d d' r s f g = goes d' (λ t h. record { braces = sym (f t) ∙ h.braces; tokens = h.tokens.1 }) (λ t h. record { braces = f t ∙ h.braces; tokens = (s, h.tokens) }) g
@@ -63,7 +63,7 @@ step d r = step-by d r _ _ _ _ refl refl refl refl
 abbrev shut : {M : Type 0} → M → Row M
 shut m = row (Mark close_brace) m
 
--- the brace that closes is no front of matching tokens
+-- Matching tokens don't begin with the closing brace, if none is open.
 shut-ends : {M : Type 0} (m : M) (d : ℕ) → d ≡ 0 → (u : Rows M) → Matches d (shut m ∷ u) → ⊥
 shut-ends m zero z u h = let b = h.braces in absurd cc
 shut-ends m (suc d) z u h = omega (arith, z)
@@ -160,7 +160,7 @@ closers-tokens m (suc d) = (refl, closers-tokens m d)
 closers-match : {M : Type 0} (m : M) (d : ℕ) → Matches d (closers m d)
 closers-match m d = record { braces = closers-balance m d; tokens = closers-tokens m d }
 
--- where the reading stops, matching tokens go on from the rows before
+-- If reading stops, some matching tokens begin with the rows before.
 record Stuck {M : Type 0} (d : ℕ) (xs : Rows M) (left : ℕ) : Type 0 where
   front : Rows M
   rest : Rows M
@@ -187,13 +187,13 @@ left-within m d xs e h = let i = unfinished m d xs e h in omega (arith, i.left_i
 not-shut : {M : Type 0} (m : M) (r : Row M) → k.is_close_brace r.shape ≡ false → r ≡ shut m → ⊥
 not-shut m r h e = true-false (k.is_close_brace r.shape) (ap (λ (v : Row _). k.is_close_brace v.shape) e) h
 
--- no matching tokens, and the brace behind them, begin with a row that is no token
+-- No matching tokens, with the closing brace, begin with a row that is no token.
 never-begin : {M : Type 0} (d : ℕ) (r : Row M) → k.is_close_brace r.shape ≡ false → ((t : Rows M) → Matches d (r ∷ t) → ⊥)
     → (t z more : Rows M) (m : M) → Matches d t → t ++ (shut m ∷ z) ≡ r ∷ more → ⊥
 never-begin d r b f [] z more m h e = not-shut m r b (sym (head-same (shut m) r z more e).0)
 never-begin d r b f (x ∷ t) z more m h e = f t (subst (λ (v : Row _). Matches d (v ∷ t)) (head-same x r (t ++ (shut m ∷ z)) more e).0 h)
 
--- past a row that leaves so many braces open
+-- After a row that leaves this many braces open.
 past : {M : Type 0} (d d' : ℕ) (x : Row M) → ((u : Rows M) → Matches d (x ∷ u) → Matches d' u) → ((u : Rows M) → Matches d' u → Matches d (x ∷ u))
     → (front : Rows M) (s : Row M) (z more : Rows M) (m : M) → ((u : Rows M) → Matches d' u → u ++ (shut m ∷ z) ≡ front ++ (s ∷ more) → ⊥)
     → (t : Rows M) → Matches d t → t ++ (shut m ∷ z) ≡ x ∷ (front ++ (s ∷ more)) → ⊥
@@ -202,7 +202,7 @@ past d d' x f b front s z more m next (y ∷ t) a e =
     let p = head-same y x (t ++ (shut m ∷ z)) (front ++ (s ∷ more)) e in
     next t (f t (subst (λ (v : Row _). Matches d (v ∷ t)) p.0 a)) p.1
 
--- the reading never stops at what is too deep
+-- Reading never stops at something too deep.
 never-deep : {M : Type 0} (d n : ℕ) (xs : Rows M) → balanced_at d xs ≡ Err (Deep n) → ⊥
 unfolding balanced_at
 never-deep {M = M} d n [] h = unexpected-deep {A = Rows M × Rows M} 0 n h
@@ -215,7 +215,7 @@ never-deep {M = M} d n (r ∷ xs) h = elim (step d r) [
   | bars b f g ↦ unexpected-deep {A = Rows M × Rows M} (length (r ∷ xs)) n (sym (g xs) ∙ h)
 ]
 
--- where the reading stops at a row, none go on with it
+-- If reading stops at a row, no matching tokens go on with it.
 tight : {M : Type 0} (d : ℕ) (w : Refusal) (front : Rows M) (s : Row M) (rest : Rows M) → left_of w ≡ suc (length rest) → balanced_at d (front ++ (s ∷ rest)) ≡ Err w
     → (t z more : Rows M) (m : M) → Matches d t → t ++ (shut m ∷ z) ≡ front ++ (s ∷ more) → ⊥
 tight {M = M} d w [] s rest l h t z more m a e = elim (step d s) [
@@ -254,7 +254,7 @@ close v = reader.fixed (Mark close_brace) v.1 >>= λ y. Ok ((v.0, y.0), y.1)
 never : {M : Type 0} (xs : Rows M) (v : Rows M × Rows M) (e : Refusal) → balanced_at 0 xs ≡ Ok v → reader.fixed (Mark close_brace) v.1 ≡ Err e → ⊥
 never xs v e n h = let f = found 0 xs v n in ok-err (f.last.at, f.rest) e (sym (closes f.last f.rest f.shuts) ∙ ap (reader.fixed (Mark close_brace)) (sym f.next) ∙ h)
 
--- the reading fails only between the braces
+-- Reading fails only between the braces.
 inside : {M : Type 0} (xs : Rows M) (e : Refusal) → reader.seq (balanced_at 0) (reader.fixed (Mark close_brace)) xs ≡ Err e → balanced_at 0 xs ≡ Err e
 inside xs e h = elim (bind_err (balanced_at 0 xs) close e h) [
   | inl n ↦ n

@@ -1,4 +1,4 @@
--- Where reading ends at a body that is too deep, this is noted.
+-- If reading ends at a body that is too deep, this is noted.
 use Rattle.std.proofs.Common.{◌≡◌, ℕ, zero, suc, true, false, ◌||◌, cond, List, [], ◌∷◌, Option, Some, None, refl, sym, ap, subst, ◌∙◌, inl, inr}
 use Rattle.protox_fault.specs.Faults.{Span}
 use Rattle.protox_lexeme.specs.Lexemes.{Lexeme}

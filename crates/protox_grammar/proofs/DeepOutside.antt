@@ -1,15 +1,16 @@
--- Right behind the `{` of a body that is too deep no aggregate is open, and no file that goes on there is inside one.
+-- Right after the `{` of a body that is too deep no aggregate is open, and no file that begins with
+-- these tokens can be inside one.
 use Rattle.std.proofs.Common.{◌≡◌, ◌↔◌, ◌≤◌, ◌<◌, ℕ, zero, suc, ◌+◌, Bool, true, false, cond, ◌||◌, List, [], ◌∷◌, ◌++◌, length, take, Option, Some, None, refl, sym, ap, subst, ◌∙◌, arith, inl, inr}
 use Rattle.std.proofs.lemmas.List.{append-nil}
 use Rattle.protox_lexeme.specs.Lexemes.{Lexeme}
 use Rattle.protox_lexeme.specs.Shapes.{Row, Rows, Shape}
 use Rattle.protox_lexeme.specs.Table.{rows_of}
-use Rattle.protox_ast.specs.AggregateWalk.{Braces}
+use Rattle.protox_ast.specs.inner.AggregateWalk.{Braces}
 use Rattle.protox_ast.specs.Keywords.{Each}
 use Rattle.protox_ast.specs.Fronts.{Inside, GoesOn, aggregates, numbered, shapes}
 use Rattle.protox_ast.specs.Tree as t
 use Rattle.protox_grammar.specs.CheckLaws.{is_too_deep_by, levels, steps_by, tokens_of}
-use Rattle.protox_grammar.specs.MarkLaws.{place_at, placed_steps_by, placed_tokens}
+use Rattle.protox_grammar.specs.TagLaws.{place_at, placed_steps_by, placed_tokens}
 use Rattle.protox_grammar.specs.Noted.{open_behind, steps, trace}
 use Rattle.protox_grammar.specs.Steps.{Event, ANode, APackage, AKeyword, ADeepBody, ADeeperBody, AnOpenBrace, ACloseBrace, Token, Note, Steps, has_deep, is_too_deep, tokens, until}
 use Rattle.protox_grammar.specs.Bodies as rule
@@ -19,8 +20,8 @@ use Rattle.protox_grammar.proofs.InsideLaws as insides
 use Rattle.protox_grammar.proofs.InsideModes.{mode-inside}
 use Rattle.protox_grammar.proofs.Insides.{Counts, counts, Before, From, IsIn, Comes, In, notes-from, none-in, parts, placed-at, not-true, no-notes, not-sunk, until-on}
 use Rattle.protox_grammar.proofs.Main as main
-use Rattle.protox_grammar.proofs.MarkLaws.{same_steps, tokens-map}
-use Rattle.protox_grammar.proofs.Marks.{same-length}
+use Rattle.protox_grammar.proofs.TagLaws.{same_steps, tokens-map}
+use Rattle.protox_grammar.proofs.Tags.{same-length}
 use Rattle.protox_grammar.proofs.NotedFiles.{file-marks}
 use Rattle.protox_grammar.proofs.NotedTrue.{Completed, completed-at}
 use Rattle.protox_grammar.proofs.Notes.{brace_notes, brace_pairs}
@@ -36,7 +37,7 @@ deep-nil : (n : ℕ) → has_deep (until {M = ℕ} n []) ≡ true → ⊥
 deep-nil zero h = absurd cc
 deep-nil (suc n) h = absurd cc
 
--- past a note that isn't of such a body
+-- After a note of anything but such a body.
 deep-on : {M : Type 0} (n : ℕ) (e : Event M) (l : Steps M) → is_too_deep e ≡ false → has_deep (until n (Note e ∷ l)) ≡ true → has_deep (until n l) ≡ true
 deep-on n e l d h = sym (ap has_deep (until-note n e l) ∙ ap (λ u. u || has_deep (cond u [] (until n l))) d) ∙ h
 
@@ -53,14 +54,14 @@ shut-there (Note (ANode x) ∷ l) b n w d = ap (open_behind b) (until-on n (ANod
 shut-there (Note (APackage x) ∷ l) b n w d = ap (open_behind b) (until-on n (APackage x) l refl) ∙ shut-there l b n w (deep-on n (APackage x) l refl d)
 shut-there (Note (AKeyword x) ∷ l) b n w d = ap (open_behind b) (until-on n (AKeyword x) l refl) ∙ shut-there l b n w (deep-on n (AKeyword x) l refl d)
 
--- so many rows are taken by then
+-- This many rows are taken by then.
 abbrev Took : ℕ → Steps ℕ → Type 0
 Took n l = length (tokens (until n l)) ≡ n
 
 took-on : (n : ℕ) (e : Event ℕ) (l : Steps ℕ) → is_too_deep e ≡ false → Took n (Note e ∷ l) → Took n l
 took-on n e l d h = sym (ap (λ u. length (tokens u)) (until-on n e l d)) ∙ h
 
--- behind the `{` of a body a row comes before the next aggregate
+-- After the `{` of a body a row comes before the next aggregate.
 none-behind : (l : Steps ℕ) (ps : Braces ℕ) (i n : ℕ) (last : Option (Row ℕ)) (z : Rows ℕ) → TakesFirst l → Counts i l → ArePlaced last l z → brace_notes l ≡ brace_pairs ps → n ≡ 0 → Holds (IsIn (i + n)) ps → ⊥
 none-behind [] ps i n last z q k w h o g = q
 none-behind (Note e ∷ l) ps i n last z q k w h o g = q
@@ -71,7 +72,7 @@ none-behind (Token r ∷ l) ps i n last z q k w h o g =
 none-left : (n : ℕ) (e : Event ℕ) (l : Steps ℕ) → is_too_deep e ≡ true → Took n (Note e ∷ l) → n ≡ 0
 none-left n e l d h = sym h ∙ ap (λ u. length (tokens u)) (until-note n e l ∙ ap (λ u. Note e ∷ cond u [] (until n l)) d)
 
--- and no place there is inside one
+-- No place there is inside an aggregate.
 none-there : (l : Steps ℕ) (b : Bool) (c : ℕ) (ps : Braces ℕ) (i n : ℕ) (last : Option (Row ℕ)) (z : Rows ℕ) → Counts i l → Before last i → ArePlaced last l z → brace_notes l ≡ Comes b c ps
     → Outside b l → has_deep (until n l) ≡ true → Took n l → In b c ps (i + n) → ⊥
 none-there [] b c ps i n last z k w e h o d u g = deep-nil n d
@@ -123,7 +124,7 @@ ends-plain (Note e ∷ l) n last z w d = under (is_too_deep e) refl (λ g. ends-
     under true g more = ap (λ u. is_string_row (last_row last (tokens u))) (until-note n e l ∙ ap (λ u. Note e ∷ cond u [] (until n l)) g) ∙ no-string last e _ g w.0
     under false g more = ap (λ u. is_string_row (last_row last (tokens u))) (until-on n e l g) ∙ more g
 
--- ---- where reading ended so
+-- ---- where reading ended like this
 
 module _ (lexemes : List Lexeme) (j : ℕ) (d : is_too_deep_by lexemes j ≡ true) (le : j ≤ length (tokens (trace levels (placed_tokens lexemes)))) where
   abbrev rows : Rows ℕ
@@ -165,7 +166,8 @@ module _ (lexemes : List Lexeme) (j : ℕ) (d : is_too_deep_by lexemes j ≡ tru
       none-there l false 0 (aggregates f) 0 j None [] count tt (insides.file-placed lexemes j f go) (file-marks f (main.may-of 0 31 f go.spells.1)).0 (file-outside 31 f) (ap has_deep (sym same) ∙ d)
       (ap (λ u. length (tokens u)) (sym same ∙ whole) ∙ took) (subst (λ m. Holds (IsIn m) (aggregates f)) zero-plus h)
 
--- Of tokens that are all read: no aggregate is open behind them by the steps, and no file that goes on there is inside one.
+-- If all tokens are read, no aggregate is open after them by the steps, and no file that begins
+-- with them can be inside one.
 pub deep-outside-by : (lexemes : List Lexeme) (j : ℕ) → is_too_deep_by lexemes j ≡ true → j ≤ length (tokens (trace levels (placed_tokens lexemes)))
     → (Inside lexemes j → ⊥) × (open_behind false (placed_steps_by lexemes j) ≡ false)
 deep-outside-by lexemes j d le = (
@@ -173,12 +175,13 @@ deep-outside-by lexemes j d le = (
   (noted_alike lexemes j).is_open false ∙ shut lexemes j d le,
 )
 
--- so it is right behind the `{` where reading ended
+-- So it is right after the `{` at which reading ended.
 pub deep-outside : (lexemes : List Lexeme) (j : ℕ) → is_too_deep_by lexemes j ≡ true → j ≡ length (tokens (trace levels (placed_tokens lexemes)))
     → (Inside lexemes j → ⊥) × (open_behind false (placed_steps_by lexemes j) ≡ false)
 deep-outside lexemes j d e = deep-outside-by lexemes j d (omega (arith, e))
 
--- Behind each token up to where reading ended an aggregate is open exactly where a file that goes on is inside one.
+-- After each token up to where reading ended, an aggregate is open exactly when a file that begins
+-- with these tokens may be inside one.
 pub mode-inside-all : (lexemes : List Lexeme) (j : ℕ) → j ≤ length (tokens (trace levels (placed_tokens lexemes))) → (open_behind false (placed_steps_by lexemes j) ≡ true) ↔ Inside lexemes j
 mode-inside-all lexemes j le = at (is_too_deep_by lexemes j) refl
   where

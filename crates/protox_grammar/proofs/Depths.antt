@@ -26,7 +26,7 @@ use Rattle.protox_grammar.proofs.Placing.{event_end, is_run_event, IsPlaced, Are
 
 -- ---- how bodies are spelled, level by level
 
--- at most so many levels, the last of them empty
+-- At most this many levels, the last of them empty.
 unfoldable At : {M : Type 0} → ℕ → t.Mbody M → Type 0
 At zero (t.mbody_of o es c) = es ≡ t.no_elements
 At (suc n) x = rule.MbodyHas (At n) x
@@ -67,7 +67,7 @@ module _ {M : Type 0} (m : M) where
   unfolding At
   zero-once (t.mbody_of o es c) (t.mbody_of o' es' c') y z p q e = empty-once o o' c c' es es' y z p q e
 
-  -- ---- the steps of what is too deep
+  -- ---- the steps of a body that is too deep
 
   -- they begin with the brace and the note
   abbrev BeginsDeep : (M → Event M) → Steps M → t.Mbody M → Type 0
@@ -234,7 +234,7 @@ module _ {M : Type 0} (m : M) where
         (level-laws n).spelled.once x u y z (at-level n x p (omega arith)) (at-level n u q (omega arith)) e;
   }
 
-  -- ---- the steps of what is too deep, with what stands in it
+  -- ---- the steps of a body that is too deep, with what stands in it
 
   abbrev unread : (M → Event M) → (t.Mbody M → Steps M) → Rule M (t.Mbody M)
   unread note steps = rule.sealed k.KeepsMbody (λ x. ⊥) rule.deep_read steps (rule.deep_trace note)
@@ -268,7 +268,7 @@ module _ {M : Type 0} (m : M) where
         token-same : (r q : Row M) (l k : Steps M) → Token r ∷ l ≡ Token q ∷ k → r ≡ q
         token-same r q l k e = cc
 
-    -- with what stands in it, whatever that is
+    -- with what stands in it, whatever it is
     abbrev DeepIsWell : ℕ → Type 0
     DeepIsWell n = ((x : t.Mbody M) → tokens (rule.deep_steps note n x) ≡ s.mbody x) × ((x : t.Mbody M) (z : Rows M) → k.KeepsMbody x → ArePlaced None (rule.deep_steps note n x) z)
 
@@ -290,7 +290,7 @@ module _ {M : Type 0} (m : M) where
   deeper-is-well zero = deep-flat ADeeperBody (λ o. refl) (λ o. refl) (λ o. refl)
   deeper-is-well (suc n) = deep-over ADeeperBody (λ o. refl) (λ o. refl) (λ o. refl) n (inner-of n (deeper-is-well n))
 
-  -- of bodies in one that is too deep
+  -- for bodies in a body that is too deep
   pub inner-laws : (n : ℕ) → Lawful (inner n) false (just_mark s.open_brace) none
   inner-laws n = inner-of n (deeper-is-well n)
 
@@ -298,7 +298,7 @@ module _ {M : Type 0} (m : M) where
   deep-is-well zero = deep-flat ADeepBody (λ o. refl) (λ o. refl) (λ o. refl)
   deep-is-well (suc n) = deep-over ADeepBody (λ o. refl) (λ o. refl) (λ o. refl) n (inner-of n (deeper-is-well n))
 
-  -- ---- how bodies are read, at most so deep
+  -- ---- how bodies are read, at most this deep
 
   pub body-laws : (n : ℕ) → Lawful (rule.mbody_at {M = M} n) false (just_mark s.open_brace) none
   unfolding rule.unsealed rule.mbody

@@ -1,4 +1,4 @@
--- What is too deep is noted last, and only where reading stops.
+-- A body that is too deep is noted last, and only if reading stops.
 use Rattle.std.proofs.Common.{◌≡◌, Bool, true, false, cond, ◌++◌, Result, Ok, Err, sym, subst, ◌∙◌}
 use Rattle.std.proofs.lemmas.List.{append-nil}
 use Rattle.protox_lexeme.specs.Shapes.{Rows}
@@ -6,7 +6,7 @@ use Rattle.protox_grammar.specs.Reader.{Refusal, ◌>>=◌}
 use Rattle.protox_grammar.specs.Steps.{Steps, then_steps, has_deep}
 use Rattle.protox_grammar.proofs.StepLists.{EndsDeep, deep-behind, ends-behind, shallow-ends}
 
--- the steps of a reading that gave this
+-- The steps of a reading with this outcome.
 abbrev pub StopsDeep : {M A : Type 0} → Result (A × Rows M) Refusal → Steps M → Type 0
 StopsDeep (Ok x) l = has_deep l ≡ false
 StopsDeep (Err e) l = EndsDeep l

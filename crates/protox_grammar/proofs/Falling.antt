@@ -1,4 +1,5 @@
--- Notes without a fault come in order: each is made where no more rows are left than where the one before it was.
+-- Notes without a fault come in order: from note to note the number of rows that are left never
+-- grows.
 use Rattle.std.proofs.Common.{inl, inr, ◌≡◌, ◌≤◌, ℕ, suc, [], ◌∷◌, ◌++◌, length, Option, Some, None, sym, subst, arith}
 use Rattle.protox_lexeme.specs.Shapes.{Rows}
 use Rattle.protox_ast.specs.CheckedNodes.{CheckedNode, APackageAgain, ATooDeep}
@@ -11,12 +12,12 @@ use Rattle.protox_grammar.specs.declared.note.Note as note_type
 use Rattle.protox_grammar.proofs.FineNotes.{IsFaultless, faultless-first, faultless-last}
 use Rattle.protox_grammar.proofs.FirstCheck.{node-by}
 
--- each note is made where no more rows are left than where the one before it was
+-- From note to note the number of rows that are left never grows.
 abbrev pub Fall : ℕ → Notes → Type 0
 Fall bound [] = Unit {0}
 Fall bound (n ∷ ns) = (n.left ≤ bound) × Fall n.left ns
 
--- each is made where at least so many rows are left
+-- For each note at least this many rows are left.
 abbrev pub AreAbove : ℕ → Notes → Type 0
 AreAbove least ns = Each (λ (n : note_type.Note). least ≤ n.left) ns
 
@@ -24,7 +25,7 @@ fall-wider : (b c : ℕ) (ns : Notes) → b ≤ c → Fall b ns → Fall c ns
 fall-wider b c [] le h = tt
 fall-wider b c (n ∷ ns) le h = (omega (arith, le, h.0), h.1)
 
--- one more note, where no more rows are left than at any of them
+-- One more note, for which no more rows are left than for any other.
 pub fall-more : (b : ℕ) (ns : Notes) (n : note_type.Note) → n.left ≤ b → Fall b ns → AreAbove n.left ns → Fall b (ns ++ (n ∷ []))
 fall-more b [] n le h a = (le, tt)
 fall-more b (m ∷ ns) n le h a = (h.0, fall-more m.left ns n a.0 h.1 a.1)
@@ -38,7 +39,7 @@ past-fewer [] xs = omega arith
 past-fewer (Token r ∷ l) xs = omega (arith, past-fewer l (behind xs), behind-fewer xs)
 past-fewer (Note e ∷ l) xs = past-fewer l xs
 
--- of a node of which no fault is noted nothing is noted
+-- A node without a noted fault has no notes.
 pub none-noted-of : (x : CheckedNode Place) (xs : Rows Place) → IsFaultless (node_notes x xs) → node_notes x xs ≡ []
 none-noted-of x xs h = elim (node-by x xs) [
   | inl e ↦ e
@@ -53,7 +54,7 @@ past-node x l xs more f h =
     let none = none-noted-of x xs (faultless-first (node_notes x xs) more f) in
     subst (λ v. IsInOrder l xs (v ++ more)) (sym none) (h (faultless-last (node_notes x xs) more f))
 
--- Notes without a fault fall, and each is made before the rows behind the steps.
+-- Notes without a fault come in order, and all of them come before the rows after the steps.
 pub told-in-order : (p : Option (t.Package Place)) (w : Place) (l : Steps Place) (xs : Rows Place) → IsFaultless (told p w l xs) → Fall (suc (length xs)) (told p w l xs) × AreAbove (suc (length (past l xs))) (told p w l xs)
 told-in-order p w [] xs f = (tt, tt)
 told-in-order p w (Token r ∷ l) xs f =

@@ -1,11 +1,12 @@
--- Nothing is noted as a fault exactly where each node that is noted is fine, and the rows behind are tokens.
+-- No fault is noted exactly when each node that is noted is fine, provided that the rows after it
+-- are valid tokens.
 use Rattle.std.proofs.Common.{◌≡◌, ℕ, Bool, true, false, cond, [], ◌∷◌, ◌++◌, length, Option, Some, None, refl, sym, true≢false}
 use Rattle.protox_fault.specs.declared.error.ParseErrorKind.{ParseErrorKind}
 use Rattle.protox_lexeme.specs.Shapes.{Rows}
 use Rattle.protox_ast.specs.AstParts.{text_of, strings_value}
 use Rattle.protox_ast.specs.CheckedNodes.{CheckedNode, ASyntax, AnImport, AReservedName, AGroupName, APackageAgain, ATooDeep}
 use Rattle.protox_ast.specs.Checks.{is_group_name, is_ident, is_known_syntax, is_text, is_import_path}
-use Rattle.protox_ast.specs.Fine.{IsFine}
+use Rattle.protox_ast.specs.inner.Fine.{IsFine}
 use Rattle.protox_ast.specs.Keywords.{Each}
 use Rattle.protox_ast.specs.Places.{Place}
 use Rattle.protox_ast.specs.Tree as t
@@ -81,7 +82,7 @@ noted-fine (ATooDeep keyword open_at) xs e h = h.0
 
 -- ---- steps
 
--- all rows are tokens
+-- All rows are valid tokens.
 abbrev pub AreTokens : Rows Place → Type 0
 AreTokens [] = Unit {0}
 AreTokens (r ∷ rs) = (is_invalid r.shape ≡ false) × AreTokens rs

@@ -1,4 +1,5 @@
--- The first fault that is noted among steps: the note that it is made at, the node that has it, and how many rows are left there.
+-- The first fault that is noted among steps: its note, the node that has it, and how many rows are
+-- left there.
 use Rattle.std.proofs.Common.{◌≡◌, ℕ, suc, Bool, true, false, cond, [], ◌∷◌, ◌++◌, length, Option, Some, None, refl, sym, ap, subst, ◌∙◌, append_assoc, append-nil, inl, inr, ◌⊎◌}
 use Rattle.protox_fault.specs.declared.error.ParseErrorKind.{ParseErrorKind}
 use Rattle.protox_fault.specs.declared.error.ParseErrorKind.TheVariants as fault
@@ -20,11 +21,11 @@ use Rattle.protox_grammar.proofs.Telling.{told-append}
 
 -- ---- one fault
 
--- this fault, noted where so many rows are left
+-- This fault, noted while this many rows are left.
 abbrev pub fault_note : ℕ → ParseErrorKind → note_type.Note
 fault_note left f = record { left = left; noted = Fault f }
 
--- A fault is noted with the rows behind the last one taken, or with this one, too.
+-- A fault is noted with the rows after the last one taken, or with that row as well.
 abbrev pub IsLeftThere : ℕ → Rows Place → Type 0
 IsLeftThere left xs = (left ≡ length xs) ⊎ (left ≡ suc (length xs))
 
@@ -48,7 +49,7 @@ once-by false f xs = inr (refl, inr refl, refl)
 
 -- ---- of a node
 
--- Its notes begin with a fault that it has.
+-- The notes of the node begin with a fault of the node.
 pub record IsNodeFault (x : CheckedNode Place) (xs : Rows Place) : Type 0 where
   pub fault : ParseErrorKind
   pub left : ℕ
@@ -57,7 +58,7 @@ pub record IsNodeFault (x : CheckedNode Place) (xs : Rows Place) : Type 0 where
   pub left_is : IsLeftThere left xs
   pub is_wrong : WrongCheckedNode (λ place. place.span) x fault
 
--- two tests, one behind the other
+-- Two tests, one after the other.
 either-by : {W : ParseErrorKind → Type 0} (a b : Bool) (f g : ParseErrorKind) (xs : Rows Place) → (a ≡ false → W f) → (b ≡ false → W g)
     → (noted (unless_so a f) xs ++ noted (unless_so b g) xs ≡ []) ⊎ ((wrong : ParseErrorKind) × (left : ℕ) × (more : Notes) × (noted (unless_so a f) xs ++ noted (unless_so b g) xs ≡ fault_note left wrong ∷ more) × IsLeftThere left xs × W wrong)
 either-by a b f g xs h k = elim (test-by a f xs) [
@@ -95,13 +96,13 @@ node-by (ATooDeep keyword open_at) xs = inr (record { fault = fault.MessageNesti
 
 -- ---- of a note
 
--- it is no brace of an aggregate
+-- It is no brace of an aggregate.
 abbrev pub IsNoBrace : {M : Type 0} → Event M → Type 0
 IsNoBrace (AnOpenBrace m) = ⊥
 IsNoBrace (ACloseBrace m) = ⊥
 IsNoBrace e = Unit {0}
 
--- What is told of the note begins with a fault of a node that it notes.
+-- What is noted of an event begins with a fault of a node that it notes.
 pub record IsEventFault (first : Option (t.Package Place)) (w : Place) (e : Event Place) (xs : Rows Place) : Type 0 where
   pub node : CheckedNode Place
   pub no_brace : IsNoBrace e
@@ -131,7 +132,8 @@ event-by first w (ACloseBrace m) xs = inl (tt, tt)
 
 -- ---- of steps
 
--- No fault is noted among the first of these steps, and the note behind them begins with this one, of this node.
+-- No fault is noted among the first of these steps. The note after them begins with this fault, of
+-- this node.
 pub record FirstCheck (first : Option (t.Package Place)) (w : Place) (l : Steps Place) (xs : Rows Place) : Type 0 where
   pub before : Steps Place
   pub event : Event Place
@@ -148,7 +150,7 @@ pub record FirstCheck (first : Option (t.Package Place)) (w : Place) (l : Steps 
   pub is_wrong : WrongCheckedNode (λ place. place.span) node fault
   pub noted : Holds (λ u. u ≡ node) (noted_nodes first w (before ++ (Note event ∷ [])))
 
--- the node is noted behind the note, too
+-- The node is noted after another note, too.
 noted-later : (first : Option (t.Package Place)) (w : Place) (e : Event Place) (l : Steps Place) (P : CheckedNode Place → Type 0) → Holds P (noted_nodes (first_with first e) (keyword_with w e) l) → Holds P (noted_nodes first w (Note e ∷ l))
 noted-later first w (ANode x) l P h = inr h
 noted-later None w (APackage x) l P h = h

@@ -1,4 +1,5 @@
--- A body that is too deep is noted behind the word of its message or group: whatever word is said before the first, the same is noted.
+-- A body that is too deep is noted after the keyword of its message or group. Whatever keyword is
+-- assumed before the first one, the same is noted.
 use Rattle.std.proofs.Common.{◌≡◌, ◌≤◌, ℕ, suc, ◌+◌, Bool, true, false, List, [], ◌∷◌, ◌++◌, Option, Some, None, refl, sym, ap, subst, ◌∙◌, arith, inl, inr}
 use Rattle.protox_lexeme.specs.Lexemes.{Lexeme}
 use Rattle.protox_lexeme.specs.Shapes.{Rows}
@@ -7,18 +8,18 @@ use Rattle.protox_ast.specs.Places.{Place}
 use Rattle.protox_ast.specs.Tree as t
 use Rattle.protox_grammar.specs.Bodies as rule
 use Rattle.protox_grammar.specs.CheckLaws.{levels, tokens_of}
-use Rattle.protox_grammar.specs.MarkLaws.{map_steps, place_at, placed_tokens}
+use Rattle.protox_grammar.specs.TagLaws.{map_steps, place_at, placed_tokens}
 use Rattle.protox_grammar.specs.Noted.{noted_nodes, trace}
 use Rattle.protox_grammar.specs.Steps.{ANode, APackage, AKeyword, ADeepBody, ADeeperBody, AnOpenBrace, ACloseBrace, Token, Note, Steps}
 use Rattle.protox_grammar.specs.Told.{behind, brace_notes, node_notes, told}
 use Rattle.protox_grammar.proofs.Holding.{Holds}
 use Rattle.protox_grammar.proofs.Main as main
-use Rattle.protox_grammar.proofs.MarkLaws.{same_steps}
+use Rattle.protox_grammar.proofs.TagLaws.{same_steps}
 use Rattle.protox_grammar.proofs.NotedFiles.{file-noted}
 use Rattle.protox_grammar.proofs.NotedTrue.{completed-at, noted-front}
 use Rattle.protox_grammar.proofs.PlaceLaws.{places_are_looked_up}
 
--- whether a body that is too deep is noted before any word
+-- Whether a body that is too deep is noted before any keyword.
 abbrev pub is_wordless : {M : Type 0} → Steps M → Bool
 is_wordless [] = false
 is_wordless (Token r ∷ l) = is_wordless l
@@ -44,7 +45,7 @@ worded-map f (Note (ADeeperBody m) ∷ l) = worded-map f l
 worded-map f (Note (AnOpenBrace m) ∷ l) = worded-map f l
 worded-map f (Note (ACloseBrace m) ∷ l) = worded-map f l
 
--- ---- behind any word
+-- ---- after any keyword
 
 not-true : true ≡ false → ⊥
 not-true e = absurd cc
@@ -91,7 +92,7 @@ wordless-noted p w (Note (ADeeperBody m) ∷ l) h = wordless-noted p w l h
 wordless-noted p w (Note (AnOpenBrace m) ∷ l) h = wordless-noted p w l h
 wordless-noted p w (Note (ACloseBrace m) ∷ l) h = wordless-noted p w l h
 
--- a number that is the word of no such node
+-- A number that is not that of the keyword of such a node.
 abbrev beyond : List (CheckedNode ℕ) → ℕ
 beyond [] = 0
 beyond (ATooDeep keyword open_at ∷ xs) = suc (keyword + beyond xs)
@@ -104,7 +105,8 @@ not-beyond (ATooDeep keyword open_at ∷ xs) w h (inr g) = not-beyond xs w (omeg
 not-beyond (x ∷ xs) w h (inl g) = g
 not-beyond (x ∷ xs) w h (inr g) = not-beyond xs w h g
 
--- Where a body is noted before any word, each word makes it another node. A file has only so many.
+-- If such a body is noted before any keyword, each keyword makes it another node. But a file has
+-- only finitely many.
 numbered-worded : (xs : Rows ℕ) → is_wordless (trace levels xs) ≡ false
 unfolding rule.file
 numbered-worded xs = at (is_wordless (trace levels xs)) refl

@@ -1,4 +1,4 @@
--- The laws of the forms that the grammar is written in.
+-- The laws of the forms in which the grammar is written.
 use Rattle.std.proofs.Common.{◌≡◌, ◌<◌, ℕ, length, subst, Bool, true, false, ◌&&◌, List, [], ◌∷◌, ◌++◌, Option, Some, None, refl, sym, ap, ◌∙◌, inl, inr, ◌⊎◌}
 use Rattle.std.proofs.lemmas.Bool.{eq-eqb}
 use Rattle.protox_grammar.specs.Reader.{Refusal, Unexpected, Deep, is_token}
@@ -58,7 +58,7 @@ mapped-laws {b = b} {e = e} {f = f} {g = g} to from back there l = record {
   traced = mapped-traced to from b there l.traced;
 }
 
--- the second may begin as the first does: some tree of it doesn't
+-- The second rule may begin as the first does, but some tree of it doesn't.
 pub unless-laws : {M A B : Type 0} {a : Rule M A} {b : Rule M B} {eb : Bool} {fa ga fb gb : Set} (P : Set) → Lawful a false fa ga → within fa P ≡ true → Lawful b eb fb gb → (some : B) → b.may some → Stops P (b.spell some) → Lawful (unless P a b) eb (union fa fb) (union ga (union gb (gated eb P)))
 unless-laws {a = a} {b = b} {eb = eb} {fa = fa} {ga = ga} {fb = fb} {gb = gb} P la w lb some m s = record {
   spelled = either-spelled (in_set P) P a b eb fa ga fb gb la.spelled lb.spelled w;
@@ -69,7 +69,7 @@ unless-laws {a = a} {b = b} {eb = eb} {fa = fa} {ga = ga} {fb = fb} {gb = gb} P 
     traced : IsTraced (unless P a b)
     traced = either-traced (in_set P) P a b (λ s. refl) fa ga la.spelled w la.read la.traced eb fb gb lb.spelled lb.read lb.traced some m s
 
--- a rule that says the same otherwise
+-- A rule that says the same in another way.
 module _ {M A : Type 0} {r : Rule M A} {e : Bool} {f g : Set} (spell : A → Rows M) (may fits : A → Type 0) (ends : A → Rows M → Type 0) (steps : A → Steps M)
     (spelled : (t : A) → spell t ≡ r.spell t) (obeys : (t : A) → may t → r.may t) (allows : (t : A) → r.may t → may t)
     (fits_obeys : (t : A) → fits t → r.fits t) (fits_allows : (t : A) → r.fits t → fits t)
@@ -129,7 +129,7 @@ pub named_fits-laws : {M A B : Type 0} {b : Rule M B} {e : Bool} {f g : Set} (sp
 named_fits-laws {b = b} spell keeps fits to from back there spelled obeys allows fits_obeys fits_allows l =
     said-laws spell keeps fits (λ t z. b.ends (from t) z) (λ t. b.steps (from t)) spelled obeys allows fits_obeys fits_allows (λ t z h. h) (λ t z h. h) (λ t. refl) (mapped-laws to from back there l)
 
--- and where all that may be can be read
+-- And if all trees that may be can be read.
 pub named-laws : {M A B : Type 0} {b : Rule M B} {e : Bool} {f g : Set} (spell : A → Rows M) (keeps : A → Type 0) (to : B → A) (from : A → B)
     → ((t : A) → to (from t) ≡ t) → ((t : B) → from (to t) ≡ t) → ((t : A) → spell t ≡ b.spell (from t))
     → ((t : A) → keeps t → b.may (from t)) → ((t : A) → b.may (from t) → keeps t) → ((t : B) → b.may t → b.fits t)
@@ -141,7 +141,7 @@ stops-of : {M : Type 0} (e : Bool) (f P : Set) → apart f P ≡ true → (ys : 
 stops-of e f P d [] h = tt
 stops-of e f P d (y ∷ ys) h = apart-at f P d y.shape h
 
--- the second never begins as the first
+-- The second never begins as the first does.
 pub never-begins : {M B : Type 0} {b : Rule M B} {eb : Bool} {fb gb : Set} (P : Set) → apart fb P ≡ true → Lawful b eb fb gb → (t : B) → b.may t → Stops P (b.spell t)
 never-begins {b = b} {eb = eb} {fb = fb} P d lb t h = stops-of eb fb P d (b.spell t) (lb.spelled.starts t [] (lb.spelled.follow t [] h tt))
 
@@ -236,7 +236,7 @@ pub stops-none : {M : Type 0} (z : Rows M) → Stops none z
 stops-none [] = tt
 stops-none (z ∷ zs) = refl
 
--- one that doesn't begin with a token of a set: some tree doesn't
+-- A rule that doesn't begin with a token of a set. Some tree doesn't.
 pub unstarted-laws : {M B : Type 0} {b : Rule M B} {eb : Bool} {fb gb : Set} (P : Set) → Lawful b eb fb gb → (some : B) → b.may some → Stops P (b.spell some) → Lawful (unstarted P b) eb fb (union gb (gated eb P))
 unstarted-laws {b = b} {eb = eb} {fb = fb} {gb = gb} P l some m s = record {
   spelled = unstarted-spelled P b eb fb gb l.spelled;
@@ -247,7 +247,7 @@ unstarted-laws {b = b} {eb = eb} {fb = fb} {gb = gb} P l some m s = record {
     traced : IsTraced (unstarted P b)
     traced = unstarted-traced P b eb fb gb l.spelled l.read l.traced some m s
 
--- what is noted behind a rule of which all trees can be read
+-- What is noted after a rule all of whose trees can be read.
 pub noting-laws : {M A : Type 0} {a : Rule M A} {f g : Set} (note : A → Event M) → Lawful a false f g → ((t : A) → a.may t → a.fits t)
     → ((t : A) (y z : Rows M) → a.ends t y → Alike (a.spell t) y z → a.ends t z) → ((t : A) → 0 < length (a.spell t))
     → ((t : A) (z : Rows M) → a.ends t z → IsPlaced (last_row None (a.spell t)) (note t) z) → ((t : A) → is_too_deep (note t) ≡ false) → Lawful (noting note a) false f g

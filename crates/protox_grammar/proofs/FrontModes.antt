@@ -1,4 +1,5 @@
--- The modes of the rows up to a fault that is noted: the notes in front of it tell them, since no brace of an aggregate is noted behind the same row.
+-- The modes of the rows up to a fault that is noted. The notes before it tell them, since no brace
+-- of an aggregate is noted after the same row.
 use Rattle.std.proofs.Common.{◌≡◌, ◌≤◌, ◌<◌, ◌+◌, inl, inr, ◌⊎◌, ℕ, zero, suc, Bool, true, false, ◌||◌, cond, List, [], ◌∷◌, ◌++◌, length, Option, Some, None, Result, Ok, Err, refl, sym, ap, subst, ◌∙◌, arith}
 use Rattle.std.proofs.lemmas.Bool.{cases_Bool}
 use Rattle.std.proofs.lemmas.List.{length-append}
@@ -9,7 +10,7 @@ use Rattle.protox_ast.specs.Places.{Place}
 use Rattle.protox_ast.specs.Spells.{BeginsFile, shapes}
 use Rattle.protox_ast.specs.Tree as t
 use Rattle.protox_grammar.specs.CheckLaws.{levels}
-use Rattle.protox_grammar.specs.MarkLaws.{no_place, placed_steps_by, placed_tokens}
+use Rattle.protox_grammar.specs.TagLaws.{no_place, placed_steps_by, placed_tokens}
 use Rattle.protox_grammar.specs.Noted.{open_behind, trace}
 use Rattle.protox_grammar.specs.Reader.{Refusal}
 use Rattle.protox_grammar.specs.Steps.{Event, ANode, APackage, AKeyword, ADeepBody, ADeeperBody, AnOpenBrace, ACloseBrace, Token, Note, Steps, has_deep, is_too_deep, tokens, until}
@@ -25,9 +26,9 @@ use Rattle.protox_grammar.proofs.PlaceLaws.{noted_alike}
 use Rattle.protox_grammar.proofs.Placing.{ArePlaced, IsPlaced, is_brace, last_row}
 use Rattle.protox_grammar.proofs.StepLists.{EndsDeep, deep-whole, tokens-append, until-all, until-at-most, until-long, until-note}
 
--- ---- the notes behind one row
+-- ---- the notes after one row
 
--- no brace of an aggregate is noted behind a row that is none
+-- After a row that is no brace, no brace of an aggregate is noted.
 none-open : {M : Type 0} (r : Row M) (c : Steps M) (z : Rows M) (w : Bool) → is_brace r.shape ≡ false → ArePlaced (Some r) c z → open_behind w (until 0 c) ≡ w
 none-open r [] z w f p = refl
 none-open r (Token q ∷ c) z w f p = refl
@@ -39,7 +40,7 @@ none-open r (Note (ADeeperBody m) ∷ c) z w f p = refl
 none-open r (Note (AnOpenBrace m) ∷ c) z w f p = absurd (let both : true ≡ false = p.0.3 refl ∙ f in cc)
 none-open r (Note (ACloseBrace m) ∷ c) z w f p = absurd (let both : true ≡ false = p.0.3 refl ∙ f in cc)
 
--- Behind a note that is no brace, none is noted at the same row.
+-- After a note that is no brace, none is noted at the same row.
 note-open : {M : Type 0} (o : Option (Row M)) (e : Event M) (c : Steps M) (z : Rows M) (w : Bool) → IsNoBrace e → ArePlaced o (Note e ∷ c) z → open_behind w (until 0 (Note e ∷ c)) ≡ w
 note-open None e c z w n p = absurd p.0
 note-open (Some r) (ANode x) c z w n p = none-open r c z w (sym (p.0.3 refl)) p.1
@@ -63,7 +64,7 @@ open-append v (Note (ADeeperBody m) ∷ b) j = open-append v b j
 open-append v (Note (AnOpenBrace m) ∷ b) j = open-append true b j
 open-append v (Note (ACloseBrace m) ∷ b) j = open-append false b j
 
--- the steps up to the row behind are these and the notes at their end
+-- The steps up to the next row are these, with the notes at their end.
 until-behind : {M : Type 0} (b : Steps M) (e : Event M) (c : Steps M) → EndsDeep (b ++ (Note e ∷ c)) → until (length (tokens b)) (b ++ (Note e ∷ c)) ≡ b ++ until 0 (Note e ∷ c)
 until-behind [] e c h = refl
 until-behind (Token r ∷ b) e c h = ap (λ u. Token r ∷ u) (until-behind b e c h)
@@ -110,25 +111,25 @@ trace-placed xs = at ((main.file_at no_place levels).read xs) refl
 pub trace-ends : (xs : Rows Place) → EndsDeep (trace levels xs)
 trace-ends xs = stops-ends ((main.file_at no_place levels).read xs) (trace levels xs) ((main.laws no_place levels).traced.stops xs)
 
--- as many rows are taken as are asked for, where there are so many
+-- As many rows are taken as are asked for, if there are so many.
 pub taken-all : {M : Type 0} (n : ℕ) (l : Steps M) → EndsDeep l → n ≤ length (tokens l) → length (tokens (until n l)) ≡ n
 taken-all n l ends h = elim (cases_Bool (has_deep (until n l))) [
   | inl d ↦ let same = deep-whole n l ends d in omega (arith, h, until-at-most n l, ap (λ u. length (tokens u)) same)
   | inr s ↦ taken-until n l s h
 ]
 
--- The tokens begin a file up to each of those that are taken.
+-- Some file begins with the tokens up to each one that is taken.
 pub begins-at : (lexemes : List Lexeme) (n : ℕ) → n ≤ length (tokens (trace levels (placed_tokens lexemes))) → BeginsFile (shapes (rows_of lexemes)) n
 begins-at lexemes n h =
     insides.some-file lexemes n (sym (noted_alike lexemes n).taken ∙ taken-all n (trace levels (placed_tokens lexemes)) (trace-ends (placed_tokens lexemes)) h)
 
 -- ---- modes
 
--- whether an aggregate is open behind so many tokens
+-- Whether an aggregate is open after this many tokens.
 abbrev pub is_open_behind : List Lexeme → ℕ → Bool
 is_open_behind lexemes n = open_behind false (placed_steps_by lexemes n)
 
--- the notes of all steps tell it
+-- The notes of all steps tell this.
 pub mode-of-all : (lexemes : List Lexeme) (w : Place) (n left : ℕ) → length (placed_tokens lexemes) ≡ n + left
     → mode_at false left (told None w (trace levels (placed_tokens lexemes)) (placed_tokens lexemes)) ≡ is_open_behind lexemes n
 mode-of-all lexemes w n left e =
@@ -137,7 +138,7 @@ mode-of-all lexemes w n left e =
     let within : length (tokens (trace levels rows)) ≤ length rows = omega (arith, ap length q.1, length-append (tokens (trace levels rows)) q.0) in
     told-mode None w (trace levels rows) rows false n left e within (trace-ends rows)
 
--- So do those in front of the first fault that is noted, up to the row behind the last one taken.
+-- So do the notes before the first fault, up to the row after the last one taken.
 pub mode-of-front : (lexemes : List Lexeme) (w : Place) (v : FirstOf lexemes w) (n left : ℕ) → length (placed_tokens lexemes) ≡ n + left → n ≤ length (tokens v.before)
     → mode_at false left (told None w v.before (placed_tokens lexemes)) ≡ is_open_behind lexemes n
 mode-of-front lexemes w v n left e h =

@@ -1,4 +1,5 @@
--- Where reading stops, said of the tokens alone: a file that goes on does so with any marks.
+-- Where reading stops, in terms of the tokens alone: a file that begins with them does so with any
+-- tags.
 use Rattle.std.proofs.Common.{◌≡◌, ◌≤◌, ℕ, zero, suc, List, [], ◌∷◌, ◌++◌, map, length, take, drop, Result, Ok, Err, refl, sym, ap, subst, ◌∙◌, append_assoc, arith, inl, inr}
 use Rattle.std.proofs.lemmas.List.{append-nil, length-append}
 use Rattle.std.proofs.lemmas.Bool.{cases_lt}
@@ -9,22 +10,22 @@ use Rattle.protox_ast.specs.Spelling as s
 use Rattle.protox_ast.specs.Spells.{Spells, GoesOn, BeginsFile, shapes, numbered}
 use Rattle.protox_ast.specs.Tree as t
 use Rattle.protox_grammar.specs.Grammar.{TightUnexpected, TightDeep, TightEnd}
-use Rattle.protox_grammar.specs.MarkLaws.{IsSameOutcome}
+use Rattle.protox_grammar.specs.TagLaws.{IsSameOutcome}
 use Rattle.protox_grammar.specs.Reader.{Refusal}
 use Rattle.protox_grammar.specs.Reads.{read}
 use Rattle.protox_grammar.proofs.Main as main
-use Rattle.protox_grammar.proofs.MarkLaws.{same_outcome}
+use Rattle.protox_grammar.proofs.TagLaws.{same_outcome}
 use Rattle.protox_grammar.proofs.Numbers.{shapes-append, shapes-length, shapes-numbered}
 use Rattle.protox_grammar.proofs.StepLists.{take-front}
 use Rattle.protox_grammar.proofs.Stops.{BeginsWith}
 
--- ---- the same file with other marks
+-- ---- the same file with other tags
 
 read-too : {A B : Type 0} (f : t.File A) (other : Result (t.File B) Refusal) → IsSameOutcome (Ok f) other → (g : t.File B) × (other ≡ Ok g)
 read-too f (Ok g) h = (g, refl)
 read-too f (Err e) h = absurd h
 
--- at most so deep
+-- The same for a file that is at most n deep.
 pub remarked : {A B : Type 0} (a : A) (b : B) (n : ℕ) (f : t.File A) → k.KeepsKeywords f → d.depth f ≤ n → (rows : Rows B) → shapes rows ≡ shapes (s.spell f) → (g : t.File B) × Spells rows g × (d.depth g ≤ n)
 remarked a b n f h w rows e =
     let first : read n (s.spell f) ≡ Ok f = (main.accepts_iff a n (s.spell f) f).1 ((refl, h), w) in
@@ -52,14 +53,14 @@ take-none : {A : Type 0} (xs : List A) → take 0 xs ≡ []
 take-none [] = refl
 take-none (x ∷ xs) = refl
 
--- the front of a front
+-- The beginning of a beginning.
 take-take : {A : Type 0} (k n : ℕ) (xs : List A) → k ≤ n → take k xs ++ drop k (take n xs) ≡ take n xs
 take-take zero n xs l = both-same (take 0 xs) [] (drop 0 (take n xs)) (take n xs) (take-none xs) (drop-none (take n xs))
 take-take (suc k) zero xs l = absurd (omega (arith, l))
 take-take (suc k) (suc n) [] l = refl
 take-take (suc k) (suc n) (x ∷ xs) l = ap (λ u. x ∷ u) (take-take k n xs (omega (arith, l)))
 
--- what goes on behind some tokens goes on behind fewer
+-- A file that begins with some tokens begins with fewer of them.
 pub begins-before : (tokens : List Shape) (k n : ℕ) → k ≤ n → BeginsFile tokens n → BeginsFile tokens k
 begins-before tokens k n l b =
     let go = b.1 in (
@@ -74,7 +75,7 @@ begins-before tokens k n l b =
       },
     )
 
--- a file of these rows and any others, at most so deep
+-- A file of these rows and any others that is at most n deep.
 abbrev BeginsWithin : {M : Type 0} → ℕ → Rows M → Type 0
 BeginsWithin {M} levels front = (f : t.File M) × (more : Rows M) × Spells (front ++ more) f × (d.depth f ≤ levels)
 
@@ -106,7 +107,7 @@ module _ {M : Type 0} (m : M) where
   pub spelling-begins : (rows : Rows M) (f : t.File M) → Spells rows f → BeginsFile (shapes rows) (length (shapes rows))
   spelling-begins rows f h = begins-tokens rows rows [] (length (shapes rows)) (sym (append-nil rows)) (shapes-length rows) (f, [], subst (λ u. Spells u f) (sym (append-nil rows)) h)
 
-  -- and spell it with their numbers
+  -- and spell it, with their numbers
   pub spelling-numbered : (rows : Rows M) (f : t.File M) → Spells rows f → (g : t.File ℕ) × Spells (numbered 0 (shapes rows)) g
   spelling-numbered rows f h = let g = remarked m 0 (d.depth f) f h.1 (omega arith) (numbered 0 (shapes rows)) (shapes-numbered 0 (shapes rows) ∙ ap shapes h.0) in (g.0, g.1)
 

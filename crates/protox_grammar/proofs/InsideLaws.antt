@@ -1,4 +1,4 @@
--- Where a file that goes on has a place inside an aggregate.
+-- Whether a file that begins with some tokens is inside an aggregate there.
 use Rattle.std.proofs.Common.{◌≡◌, ◌<◌, ℕ, zero, suc, ◌+◌, Bool, true, false, List, [], ◌∷◌, ◌++◌, length, take, drop, Option, Some, None, refl, sym, ap, subst, ◌∙◌, append_assoc, arith}
 use Rattle.std.proofs.lemmas.List.{append-nil, length-append}
 use Rattle.protox_lexeme.specs.Lexemes.{Lexeme}
@@ -72,7 +72,7 @@ module _ (lexemes : List Lexeme) where
     spells = (ap (numbered 0) (sym (append_assoc (take m all_shapes) (drop m (take (suc m) all_shapes)) go.more) ∙ ap (λ u. u ++ go.more) (take-step m all_shapes)) ∙ go.spells.0, go.spells.1);
   }
 
-  -- behind a string the braces are those before it
+  -- after a string the braces are those before it
   behind-string : (m : ℕ) (f : t.File ℕ) (go : GoesOn (shapes (rows_of lexemes)) (suc m) f) → is_string_row (last_row None (numbered 0 (take (suc m) all_shapes))) ≡ true → is_too_deep_by lexemes (suc m) ≡ false → Same (suc m) f
   behind-string m f go g d =
       let less : m < length all_shapes = omega (arith, go.there, shapes-length (rows_of lexemes)) in
@@ -107,7 +107,8 @@ module _ (lexemes : List Lexeme) where
   same-braces-at zero f go d true e = absurd (no-row true e refl)
   same-braces-at (suc m) f go d true e = behind-string m f go e d
 
-  -- the braces that were noted tell whether a file that goes on has the place inside an aggregate
+  -- the braces that were noted tell whether a file that begins with these tokens is inside an
+  -- aggregate at this place
   told : (n : ℕ) (f : t.File ℕ) (go : GoesOn (shapes (rows_of lexemes)) n f) → is_too_deep_by lexemes n ≡ false
       → (open_behind false (steps_by lexemes n) ≡ true → Holds (IsIn n) (aggregates f)) × (Holds (IsIn n) (aggregates f) → open_behind false (steps_by lexemes n) ≡ true)
   unfolding rule.file
@@ -119,7 +120,7 @@ module _ (lexemes : List Lexeme) where
       let it = tells l false 0 (aggregates f) 0 n None [] count tt (file-placed n f go) (file-marks f (main.may-of 0 31 f go.spells.1)).0 (same.1 ∙ d) in
       (λ h. subst (λ m. Holds (IsIn m) (aggregates f)) zero-plus (it.0 (sym same.0 ∙ h)), λ h. same.0 ∙ it.1 (subst (λ m. Holds (IsIn m) (aggregates f)) (sym zero-plus) h))
 
-  -- ---- a file that goes on where reading got
+  -- ---- a file that begins with what was read
 
   pub some-file : (n : ℕ) → length (tokens (steps_by lexemes n)) ≡ n → (f : t.File ℕ) × GoesOn (shapes (rows_of lexemes)) n f
   some-file n len =

@@ -1,16 +1,17 @@
--- Whether an aggregate is open behind the first tokens of a source, by the steps with their places: exactly where a file that goes on there is inside one.
+-- Whether an aggregate is open after the first tokens of a source, by the steps with places. One is
+-- open exactly when a file that begins with these tokens may be inside one.
 use Rattle.std.proofs.Common.{◌≡◌, ◌↔◌, ◌≤◌, ℕ, zero, suc, Bool, true, false, ◌||◌, cond, List, [], ◌∷◌, length, refl, sym, ap, ◌∙◌, arith}
 use Rattle.protox_lexeme.specs.Lexemes.{Lexeme}
 use Rattle.protox_ast.specs.Fronts.{Inside}
 use Rattle.protox_grammar.specs.CheckLaws.{is_too_deep_by, levels}
-use Rattle.protox_grammar.specs.MarkLaws.{placed_steps_by, placed_tokens}
+use Rattle.protox_grammar.specs.TagLaws.{placed_steps_by, placed_tokens}
 use Rattle.protox_grammar.specs.Noted.{open_behind, trace}
 use Rattle.protox_grammar.specs.Steps.{Token, Note, Steps, has_deep, is_too_deep, tokens, until}
 use Rattle.protox_grammar.proofs.InsideLaws as insides
 use Rattle.protox_grammar.proofs.PlaceLaws.{noted_alike}
 use Rattle.protox_grammar.proofs.StepLists.{until-note}
 
--- Where no body that is too deep is met, so many rows are taken, if there are so many.
+-- If no body is too deep, this many rows are taken, as long as there are enough.
 pub taken-until : {M : Type 0} (n : ℕ) (l : Steps M) → has_deep (until n l) ≡ false → n ≤ length (tokens l) → length (tokens (until n l)) ≡ n
 taken-until zero [] d h = refl
 taken-until (suc n) [] d h = absurd (omega (arith, h))
@@ -22,7 +23,8 @@ taken-until {M} n (Note e ∷ l) d h = ap (λ v. length (tokens v)) (until-note 
     under true k g f = absurd cc
     under false k g f = f g
 
--- An aggregate is open exactly where a file that goes on is inside one, unless reading ended at a body that is too deep.
+-- An aggregate is open exactly when a file that begins with these tokens may be inside one; or
+-- reading ended at a body that is too deep.
 pub mode-inside : (lexemes : List Lexeme) (j : ℕ) → j ≤ length (tokens (trace levels (placed_tokens lexemes))) → is_too_deep_by lexemes j ≡ false → (open_behind false (placed_steps_by lexemes j) ≡ true) ↔ Inside lexemes j
 mode-inside lexemes j le d =
     let alike = noted_alike lexemes j in

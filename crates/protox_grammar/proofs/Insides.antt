@@ -1,7 +1,7 @@
--- A place is inside an aggregate where the braces that were noted up to it say so.
+-- A place is inside an aggregate if the braces that were noted before it say so.
 use Rattle.std.proofs.Common.{◌≡◌, ◌≤◌, ◌<◌, ℕ, zero, suc, ◌+◌, Bool, true, false, ◌||◌, cond, List, [], ◌∷◌, ◌++◌, Option, Some, None, refl, sym, ap, subst, ◌∙◌, arith, inl, inr, ◌⊎◌}
 use Rattle.protox_lexeme.specs.Shapes.{Row, Rows, Shape}
-use Rattle.protox_ast.specs.AggregateWalk.{Braces}
+use Rattle.protox_ast.specs.inner.AggregateWalk.{Braces}
 use Rattle.protox_ast.specs.Fronts.{numbered}
 use Rattle.protox_ast.specs.Keywords.{Each}
 use Rattle.protox_grammar.specs.Reader.{is_string}
@@ -13,7 +13,7 @@ use Rattle.protox_grammar.proofs.Holding.{Holds}
 use Rattle.protox_grammar.proofs.Placing.{event_end, IsPlaced, ArePlaced}
 use Rattle.protox_grammar.proofs.Notes.{brace_notes, brace_pairs}
 
--- the rows are marked with their numbers, from here on
+-- The rows are tagged with their numbers, from i on.
 abbrev pub Counts : ℕ → Steps ℕ → Type 0
 Counts i [] = Unit {0}
 Counts i (Token r ∷ l) = (r.at ≡ i) × Counts (suc i) l
@@ -54,7 +54,7 @@ notes-from (Note (AKeyword x) ∷ l) i last z c b w = notes-from l i last z c b 
 notes-from (Note (ADeepBody x) ∷ l) i last z c b w = notes-from l i last z c b w.1
 notes-from (Note (ADeeperBody x) ∷ l) i last z c b w = notes-from l i last z c b w.1
 
--- the place m stands between the braces
+-- The place m is between the braces.
 abbrev pub IsIn : ℕ → ℕ × ℕ → Type 0
 IsIn m x = (x.0 < m) × (m ≤ x.1)
 
@@ -63,7 +63,7 @@ none-in i [] h a = a
 none-in i (p ∷ ps) h (inl a) = omega (arith, h.0, a.0)
 none-in i (p ∷ ps) h (inr a) = none-in i ps h.1.1 a
 
--- the notes that are to come where an aggregate is open, or none
+-- The notes to come, given whether an aggregate is open.
 abbrev pub Comes : Bool → ℕ → Braces ℕ → List (Bool × ℕ)
 Comes true c ps = (false, c) ∷ brace_pairs ps
 Comes false c ps = brace_pairs ps
@@ -131,7 +131,7 @@ tells (Note (AKeyword x) ∷ l) b c ps i n last z k w e h d = subst (Tells b c p
 tells (Note (ADeepBody x) ∷ l) b c ps i n last z k w e h d = absurd (deep-no n (ADeepBody x) l refl d)
 tells (Note (ADeeperBody x) ∷ l) b c ps i n last z k w e h d = absurd (deep-no n (ADeeperBody x) l refl d)
 
--- ---- behind a string no brace is noted
+-- ---- after a string no brace is noted
 
 behind-string : (l : Steps ℕ) (r : Row ℕ) (z : Rows ℕ) (b : Bool) → is_string r.shape ≡ true → ArePlaced (Some r) l z → open_behind b (until 0 l) ≡ b
 behind-string [] r z b s w = refl
@@ -144,7 +144,7 @@ behind-string (Note (ADeeperBody x) ∷ l) r z b s w = absurd (not-true (sym w.0
 behind-string (Note (AnOpenBrace x) ∷ l) r z b s w = absurd (not-true (sym w.0.1 ∙ s))
 behind-string (Note (ACloseBrace x) ∷ l) r z b s w = absurd (not-true (sym w.0.1 ∙ s))
 
--- the shape of token n of these, if there is one
+-- The shape of token n of these tokens, if there is one.
 abbrev pub IsStringAt : ℕ → Rows ℕ → Type 0
 IsStringAt n [] = Unit {0}
 IsStringAt zero (r ∷ rs) = is_string r.shape ≡ true

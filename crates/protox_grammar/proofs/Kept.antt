@@ -1,8 +1,8 @@
--- What is read of a statement that is no package leaves the first package statement as it was.
+-- Reading a statement that is no package statement keeps the first package statement.
 use Rattle.std.proofs.Common.{codes, ◌≡◌, Bool, true, false, cond, List, [], ◌∷◌, Option, Ok, refl, ap, ◌∙◌, inl, inr}
 use Rattle.protox_lexeme.specs.Shapes.{Rows}
-use Rattle.protox_ast.specs.AggregateWalk as a
-use Rattle.protox_ast.specs.CheckWalk as c
+use Rattle.protox_ast.specs.inner.AggregateWalk as a
+use Rattle.protox_ast.specs.inner.CheckWalk as c
 use Rattle.protox_ast.specs.CheckedNodes.{CheckedNode, AnImport}
 use Rattle.protox_ast.specs.KeywordWalk as k
 use Rattle.protox_ast.specs.Places.{Place}
@@ -50,7 +50,7 @@ module _ (some : Place) where
   some_package : t.Package Place
   some_package = record { keyword = some; name = record { first = ([], some); others = [] }; end = some }
 
-  -- a rule in whose trees no package statement is noted
+  -- a rule whose trees note no package statement
   first-of : {A : Type 0} (rule : Rule Place A) → IsTraced rule → (ns : (x : A) → List (CheckedNode Place)) → ((xs : Rows Place) (x : A × Rows Place) → rule.read xs ≡ Ok x → Says (rule.steps x.0) (ns x.0)) → KeepsFirst rule.read rule.trace
   first-of rule traced ns says p xs x e = ap (first_behind p) (traced.ok xs x e) ∙ kept-of some_package (rule.steps x.0) (ns x.0) (says xs x e) p some
 

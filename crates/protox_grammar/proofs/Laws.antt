@@ -1,4 +1,4 @@
--- The laws of a rule, and of the rules that are made of others.
+-- The laws of a rule, and of rules that are built from others.
 use Rattle.std.proofs.Common.{◌≡◌, Bool, true, false, ◌&&◌, List, [], ◌∷◌, ◌++◌, Option, Some, refl, sym, ap, subst, ◌∙◌, append_assoc, inl, inr, ◌⊎◌}
 use Rattle.protox_lexeme.specs.Shapes.{Shape, Row, Rows}
 use Rattle.protox_grammar.specs.Class.{Set, class, apart, within, union, none}
@@ -13,7 +13,7 @@ pub record IsSpelled {M A : Type 0} (r : Rule M A) (e : Bool) (f g : Set) : Type
   pub starts : (t : A) (z : Rows M) → r.ends t z → Starts e f (r.spell t)
   pub follow : (t : A) (z : Rows M) → r.may t → Stops g z → r.ends t z
   pub ahead : (t : A) (s : Row M) (y z : Rows M) → r.ends t (s ∷ y) → r.ends t (s ∷ z)
-  -- no two trees in one place
+  -- the same rows don't spell two trees
   pub once : (t u : A) (y z : Rows M) → r.ends t y → r.ends u z → r.spell t ++ y ≡ r.spell u ++ z → (t ≡ u) × (y ≡ z)
 
 pub head-same : {A : Type 0} (x y : A) (xs ys : List A) → x ∷ xs ≡ y ∷ ys → (x ≡ y) × (xs ≡ ys)

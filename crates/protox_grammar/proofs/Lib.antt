@@ -3,8 +3,8 @@ pub mod Words
 pub mod Sets
 pub mod Laws
 pub mod Reading
-pub mod Marks
-pub mod MarksOfRules
+pub mod Tags
+pub mod TagsOfRules
 pub mod StepLists
 pub mod Placing
 pub mod EndsDeep
@@ -39,7 +39,7 @@ pub mod NotedFiles
 pub mod Located
 pub mod Stops
 pub mod Main
-pub mod MarkLaws
+pub mod TagLaws
 pub mod Numbers
 pub mod Fronts
 pub mod PassedOver

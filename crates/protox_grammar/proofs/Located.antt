@@ -11,12 +11,13 @@ use Rattle.protox_grammar.proofs.StepLists.{until-note}
 use Rattle.protox_grammar.proofs.Holding.{Holds}
 use Rattle.protox_grammar.proofs.Placing.{event_end, is_run_event, IsPlaced, ArePlaced}
 
--- the row is the last of the node, and a run of strings ends there, whatever of the two comes next
+-- The row is the last of the node. A run of strings ends there, whichever of the two lists of rows
+-- comes next.
 abbrev pub Facts : {M : Type 0} → Row M → CheckedNode M → Rows M → Rows M → Type 0
 Facts r e y z = (r.at ≡ node_end e) × (is_string r.shape ≡ is_run e) × (is_run e ≡ true → (head_in is_string y ≡ false) × (head_in is_string z ≡ false))
 
 module _ {M : Type 0} (Q : CheckedNode M → Type 0) where
-  -- such a node is noted by then, or something is too deep before
+  -- such a node is noted by then, or something before is too deep
   abbrev pub Seen : Option (t.Package M) → M → Steps M → Type 0
   Seen p w l = Holds Q (noted_nodes p w l) ⊎ (has_deep l ≡ true)
 
@@ -69,7 +70,7 @@ module _ {M : Type 0} (Q : CheckedNode M → Type 0) where
     seen = v.seen;
   }
 
-  -- behind a note, where what is seen behind it is seen with it
+  -- after a note, if what is seen after it is seen with it
   note-found : (last : Option (Row M)) (d : Event M) (p q : Option (t.Package M)) (w v : M) (l : Steps M) (y z : Rows M) → ((n : ℕ) → Seen q v (until n l) → Seen p w (until n (Note d ∷ l))) → Found last q v l y z → Found last p w (Note d ∷ l) y z
   note-found last d p q w v l y z up (inl h) = inl (record { here = h.here; last_is = h.last_is; node = h.node; holds = h.holds; facts = h.facts; seen = up 0 h.seen })
   note-found last d p q w v l y z up (inr h) = inr (record { before = h.before; here = h.here; behind = h.behind; node = h.node; parts = h.parts; holds = h.holds; facts = h.facts; seen = up (suc (length h.before)) h.seen })
@@ -81,7 +82,7 @@ module _ {M : Type 0} (Q : CheckedNode M → Type 0) where
   this-found (Some r) d p w l y z e q m i a b s =
       inl (record { here = r; last_is = refl; node = e; holds = q; facts = (a.0 ∙ m, a.1 ∙ i, λ g. (a.2 (i ∙ g), b.2 (i ∙ g))); seen = s })
 
-  -- notes that are no node
+  -- notes that are not of a node
   passed : (d : Event M) (p q : Option (t.Package M)) (w v : M) (l : Steps M) → is_too_deep d ≡ false → ((k : Steps M) → noted_nodes p w (Note d ∷ k) ≡ noted_nodes q v k) → (n : ℕ) → Seen q v (until n l) → Seen p w (until n (Note d ∷ l))
   passed d p q w v l e same n h =
       let c : until n (Note d ∷ l) ≡ Note d ∷ until n l = until-note n d l ∙ ap (λ u. Note d ∷ cond u [] (until n l)) e in
@@ -102,7 +103,7 @@ module _ {M : Type 0} (Q : CheckedNode M → Type 0) where
         ]
       ])
 
-  -- what is too deep
+  -- a body that is too deep
   sunk : (d : Event M) (p : Option (t.Package M)) (w : M) (l : Steps M) → is_too_deep d ≡ true → (n : ℕ) → Seen p w (until n (Note d ∷ l))
   sunk d p w l e n = inr (ap has_deep (until-note n d l) ∙ ap (λ u. u || has_deep (cond u [] (until n l))) e)
 

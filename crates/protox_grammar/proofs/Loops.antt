@@ -3,7 +3,7 @@ use Rattle.std.proofs.Common.{◌≡◌, ℕ, zero, suc, ◌<◌, Bool, true, fa
 use Rattle.protox_lexeme.specs.Shapes.{Shape, Rows}
 use Rattle.protox_grammar.specs.Reader.{Refusal, Reader, ◌>>=◌, head_in, star_at, star, gathered, Consumes}
 
--- one turn, whose two outcomes are known
+-- One turn, whose two outcomes are known.
 abbrev turn : {M A : Type 0} → (Rows M → Result (List A × Rows M) Refusal) → Result (A × Rows M) Refusal → Result (List A × Rows M) Refusal
 turn again read = read >>= λ x. again x.1 >>= λ y. Ok (x.0 ∷ y.0, y.1)
 

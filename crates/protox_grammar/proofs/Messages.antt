@@ -1,4 +1,4 @@
--- The laws of the rules that have messages in them, over the laws of a body.
+-- The laws of the rules with messages in them, given the laws of a body.
 use Rattle.std.proofs.Common.{ℕ, List, true, false, [], ◌∷◌, None, codes, refl, arith}
 use Rattle.protox_grammar.specs.Class.{none, words, union, among, all, just_word, just_mark, but_mark, among_words, mark, word}
 use Rattle.protox_grammar.specs.Reader.{Reader}

@@ -1,4 +1,5 @@
--- The faults of a source's table, each entry's in the mode of its place and one entry behind the other, are those of its lexemes.
+-- The faults in a source's table, each in the mode of its entry, are those of its lexemes, in
+-- order.
 use Rattle.std.proofs.Common.{◌≡◌, ◌↔◌, ◌+◌, ◌<◌, inl, inr, ℕ, zero, suc, Bool, true, false, cond, List, [], ◌∷◌, ◌++◌, length, refl, sym, ap, subst, ◌∙◌, append_assoc, arith, true≢false}
 use Rattle.std.specs.Prelude.{slice_index_or}
 use Rattle.std.proofs.lemmas.Bool.{cases_Bool}
@@ -14,12 +15,12 @@ use Rattle.protox_grammar.proofs.CleanModes.{in-append, in-none, some-entry}
 abbrev Faults : Type 0
 Faults = List ParseErrorKind
 
--- the faults of so many entries in their modes, from entry k on
+-- The faults of so many entries in their modes, from entry k on.
 abbrev pub all_from : List Lexeme → (ℕ → Bool) → ℕ → ℕ → List ParseErrorKind
 all_from lexemes on k zero = []
 all_from lexemes on k (suc n) = faults_in (on k) (slice_index_or (faults_of lexemes) k []) ++ all_from lexemes on (suc k) n
 
--- ---- entries in a list, the first of which is entry n
+-- ---- entries in a list that begins with entry n
 
 abbrev joined : (ℕ → Bool) → ℕ → List Faults → Faults
 joined on n [] = []
@@ -36,7 +37,7 @@ joined-in-front on n ys xs =
 joined-none : (b : Bool) → faults_in b [] ++ [] ≡ []
 joined-none b = ap (λ (v : Faults). v ++ []) (in-none b)
 
--- the entries of a source from entry n on, which are these
+-- The entries of a source, from entry n on.
 all-joined : (lexemes : List Lexeme) (on : ℕ → Bool) (n : ℕ) (fss : List Faults) → ((k i : ℕ) → n + k ≡ i → slice_index_or (faults_of lexemes) i [] ≡ slice_index_or fss k []) → all_from lexemes on n (length fss) ≡ joined on n fss
 all-joined lexemes on n [] h = refl
 all-joined lexemes on n (fs ∷ fss) h =
@@ -56,7 +57,7 @@ entries-length (x ∷ xs) = elim (cases_Bool (is_gap x.shape)) [
   | inr token ↦ ap length (token-faults x xs token) ∙ (ap (λ v. suc v) (entries-length xs) ∙ ap (λ rows. suc (length rows)) (sym (token-rows x xs token)))
 ]
 
--- ---- one lexeme, and those behind it
+-- ---- one lexeme, and the lexemes after it
 
 has-faults : (lexemes : List Lexeme) (n : ℕ) (x : Lexeme) (b : Bool) → ((b ≡ true) ↔ Inside lexemes n) → HasFaults lexemes n x (faults_in b (row_faults x))
 has-faults lexemes n x true told = ((λ inside. refl), (λ outside. absurd (outside (told.0 refl))))
@@ -94,7 +95,7 @@ module _ (lexemes : List Lexeme) (on : ℕ → Bool) (top : ℕ) (told : AreTold
         faults-token n x xs token (omega arith) (faults-from (suc n) xs (omega arith))
   ]
 
--- the faults of all entries in their modes are those of the lexemes, in their order
+-- The faults of all entries in their modes are those of the lexemes, in order.
 pub faults-are : (lexemes : List Lexeme) (on : ℕ → Bool) → AreToldTo lexemes on (suc (length (rows_of lexemes))) → AreFaultsOf lexemes (all_from lexemes on 0 (suc (length (rows_of lexemes))))
 faults-are lexemes on told =
     let m = suc (length (rows_of lexemes)) in

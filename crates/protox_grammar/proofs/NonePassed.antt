@@ -1,4 +1,5 @@
--- Where no fault is noted up to a token, and the tokens up to it are valid, no file that goes on there or before has a wrong node.
+-- If no fault is noted up to a token, and the tokens up to it are valid, no file that begins with
+-- them has a node with a fault there or before.
 use Rattle.std.proofs.Common.{◌≡◌, ◌≤◌, ℕ, zero, suc, Bool, true, false, List, [], ◌∷◌, ◌++◌, length, Option, Some, None, refl, sym, subst, arith, inl, inr}
 use Rattle.std.specs.Prelude.{slice_get}
 use Rattle.protox_fault.specs.declared.error.ParseErrorKind.{ParseErrorKind}
@@ -8,14 +9,14 @@ use Rattle.protox_lexeme.specs.Table.{rows_of}
 use Rattle.protox_ast.proofs.Nothing.{fine-faultless}
 use Rattle.protox_ast.specs.CheckedNodes.{CheckedNode, APackageAgain, ATooDeep}
 use Rattle.protox_ast.specs.Checks.{WrongCheckedNode}
-use Rattle.protox_ast.specs.Fine.{IsFine}
+use Rattle.protox_ast.specs.inner.Fine.{IsFine}
 use Rattle.protox_ast.specs.FirstFault.{NoneIsWrongBefore}
 use Rattle.protox_ast.specs.Keywords.{Each}
 use Rattle.protox_ast.specs.Places.{Place}
 use Rattle.protox_ast.specs.Tree as t
 use Rattle.protox_ast.specs.Truth.{IsWrongBefore, token_span}
 use Rattle.protox_grammar.specs.CheckLaws.{IsNotedBy, is_too_deep_by, levels, noted_by}
-use Rattle.protox_grammar.specs.MarkLaws.{place_at, placed_nodes_by, placed_steps_by, placed_tokens}
+use Rattle.protox_grammar.specs.TagLaws.{place_at, placed_nodes_by, placed_steps_by, placed_tokens}
 use Rattle.protox_grammar.specs.Noted.{noted_nodes, trace}
 use Rattle.protox_grammar.specs.Reader.{head_in}
 use Rattle.protox_grammar.specs.Steps.{ANode, APackage, AKeyword, ADeepBody, ADeeperBody, AnOpenBrace, ACloseBrace, Token, Note, Steps, tokens, until}
@@ -30,13 +31,13 @@ use Rattle.protox_grammar.proofs.StepLists.{until-at-most, until-front, until-un
 
 -- ---- rows that are tokens
 
--- The rows up to this one are tokens. Where there are fewer, all of them are.
+-- The rows up to this one are valid tokens. If there are fewer rows, all of them are.
 abbrev pub AreTokensTo : ℕ → Rows Place → Type 0
 AreTokensTo n [] = Unit {0}
 AreTokensTo zero (r ∷ rs) = is_invalid r.shape ≡ false
 AreTokensTo (suc n) (r ∷ rs) = (is_invalid r.shape ≡ false) × AreTokensTo n rs
 
--- said of each row by its number
+-- The same for each row, by its number.
 pub tokens-to : (n : ℕ) (xs : Rows Place) → ((k : ℕ) (r : Row Place) → k ≤ n → slice_get xs k ≡ Some r → is_invalid r.shape ≡ false) → AreTokensTo n xs
 tokens-to zero [] h = tt
 tokens-to (suc n) [] h = tt
@@ -54,9 +55,10 @@ behind-to zero [] h = tt
 behind-to (suc n) [] h = tt
 behind-to n (r ∷ rs) h = h.1
 
--- ---- nodes that are noted of few rows are fine
+-- ---- nodes that are noted while few rows are taken are fine
 
--- Where no fault is noted, each node that is noted is fine, if the rows behind those that are taken are tokens.
+-- If no fault is noted, each node that is noted is fine, provided that the rows after those taken
+-- are valid tokens.
 pub fine-to : (first : Option (t.Package Place)) (w : Place) (l : Steps Place) (n : ℕ) (xs : Rows Place) → length (tokens l) ≤ n → AreTokensTo n xs → IsFaultless (told first w l xs) → Each IsFine (noted_nodes first w l)
 fine-to first w [] n xs m a h = tt
 fine-to first w (Token r ∷ l) zero xs m a h = absurd (omega (arith, m))
@@ -70,7 +72,7 @@ fine-to first w (Note (ADeeperBody k) ∷ l) n xs m a h = fine-to first w l n xs
 fine-to first w (Note (AnOpenBrace k) ∷ l) n xs m a h = fine-to first w l n xs m a h.1
 fine-to first w (Note (ACloseBrace k) ∷ l) n xs m a h = fine-to first w l n xs m a h.1
 
--- behind another word, too
+-- after another keyword, too
 fine-word : {M : Type 0} (first : Option (t.Package M)) (w v : M) (l : Steps M) → Each IsFine (noted_nodes first w l) → Each IsFine (noted_nodes first v l)
 fine-word first w v [] h = tt
 fine-word first w v (Token r ∷ l) h = fine-word first w v l h
@@ -105,7 +107,7 @@ module _ (lexemes : List Lexeme) (w : Place) (n : ℕ) (valid : AreTokensTo n (p
   fine : Each IsFine (placed_nodes_by lexemes n)
   fine = fine-word None w (place_at lexemes 0) (until n l) (fine-to None w (until n l) n (placed_tokens lexemes) (until-at-most n l) valid none)
 
-  -- a node that is noted before is among those
+  -- a node that is noted earlier is among these
   not-noted : (k : ℕ) (wrong : ParseErrorKind) → k ≤ n → IsNotedBy lexemes k wrong → ⊥
   not-noted k wrong le h =
       let here : Holds (IsWrong wrong) (placed_nodes_by lexemes k) = any-holds (IsWrong wrong) (placed_nodes_by lexemes k) (((noted_alike lexemes k).faults wrong).1 h) in
@@ -122,8 +124,8 @@ module _ (lexemes : List Lexeme) (w : Place) (n : ℕ) (valid : AreTokensTo n (p
   no-deep true h = absurd (too-deep-so n (omega arith) h)
   no-deep false h = refl
 
-  -- Where no fault is noted of the first n tokens, and the rows up to the one behind them are tokens, no node is wrong that ends with one of them,
-  -- and reading didn't end at a body that is too deep.
+  -- If no fault is noted for the first n tokens, and the rows up to the next one are valid tokens,
+  -- no node with a fault ends with one of them. Reading didn't end at a body that is too deep.
   pub none-passed : NoneIsWrongBefore lexemes (suc n) × (is_too_deep_by lexemes n ≡ false)
   none-passed = (
     λ k wrong lt h. elim (none_is_passed_over lexemes k wrong h) [

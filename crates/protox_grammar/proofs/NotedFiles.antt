@@ -1,11 +1,11 @@
--- The nodes that are noted among the steps of a file are those of the file that are checked.
+-- The nodes that are noted among the steps of a file are its checked nodes.
 use Rattle.std.proofs.Common.{◌≡◌, List, [], ◌∷◌, ◌++◌, map, Option, Some, None, refl, sym, ap, subst, ◌∙◌, append_assoc, inl, inr, ◌⊎◌}
 use Rattle.std.specs.List.{flat_map}
 use Rattle.protox_ast.specs.Tree as t
 use Rattle.protox_ast.specs.KeywordWalk as k
-use Rattle.protox_ast.specs.AggregateWalk as a
+use Rattle.protox_ast.specs.inner.AggregateWalk as a
 use Rattle.protox_ast.specs.Fronts.{aggregates}
-use Rattle.protox_ast.specs.CheckWalk as c
+use Rattle.protox_ast.specs.inner.CheckWalk as c
 use Rattle.protox_ast.specs.CheckedNodes.{CheckedNode, APackageAgain}
 use Rattle.protox_ast.proofs.NodesBraced.{nodes-braced}
 use Rattle.protox_ast.proofs.NodesChecked.{nodes-checked}
@@ -18,7 +18,7 @@ use Rattle.protox_grammar.proofs.Braced as braced
 use Rattle.protox_grammar.proofs.Told.{Says, TellsBody, Marks, past, marks-both, tells-braced, syntax-tells, import-tells, enum-tells, extend-tells, message-tells, statements-mark, body-tells}
 use Rattle.protox_grammar.proofs.Holding.{Holds, holds-left, holds-right, holds-either}
 
--- the package statements behind a first one, or behind none
+-- The package statements after a first one, or after none.
 abbrev again : {M : Type 0} → Option (t.Package M) → List (t.Package M) → List (CheckedNode M)
 again None ps = c.package_nodes ps
 again (Some first) ps = map (λ x. APackageAgain first x) ps
@@ -111,7 +111,7 @@ module _ {M : Type 0} (Q : CheckedNode M → Type 0) where
     λ h. s.1 (holds-either Q xs ys h),
   )
 
-  -- a file has the nodes that are noted, where messages may be 31 deep
+  -- the noted nodes of a file are its nodes, if messages may be nested 31 deep
   pub file-noted : (w : M) (f : t.File M) → k.Each (rule.StatementHas k.KeepsMbody) f.statements → Alone (noted_nodes None w (steps 31 f)) (c.checked_nodes f)
   unfolding rule.file
   file-noted w f h =
@@ -133,7 +133,8 @@ module _ {M : Type 0} (Q : CheckedNode M → Type 0) where
         ],
       )
 
--- the braces that are noted are those of the file's aggregates, and of bodies that are too deep first one of level 32 is
+-- The noted braces are those of the file's aggregates. Of the bodies that are too deep the first
+-- has level 32.
 pub file-marks : {M : Type 0} (f : t.File M) → k.Each (rule.StatementHas k.KeepsMbody) f.statements → Marks (Unit {0}) (steps 31 f) (aggregates f)
 unfolding rule.file
 file-marks {M} f h =

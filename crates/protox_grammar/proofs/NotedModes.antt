@@ -1,4 +1,5 @@
--- Whether an aggregate is open at a row, by the notes before it: as the steps of reading say it.
+-- Whether an aggregate is open at a row, by the notes before it. This agrees with the steps of
+-- reading.
 use Rattle.std.proofs.Common.{◌≡◌, ◌≤◌, ◌<◌, ◌+◌, ℕ, zero, suc, Bool, true, false, cond, List, [], ◌∷◌, ◌++◌, length, Option, Some, None, refl, ap, ◌∙◌, arith}
 use Rattle.std.specs.Prelude.{nat_lt, if◌then◌else◌}
 use Rattle.std.proofs.lemmas.Bool.{lt-ltb, le-ltb}
@@ -18,12 +19,13 @@ use Rattle.protox_grammar.specs.declared.note.Noted.{Noted}
 use Rattle.protox_grammar.specs.declared.note.Noted.TheVariants.{Fault, TextFormat}
 use Rattle.protox_grammar.proofs.StepLists.{EndsDeep}
 
--- the mode that is noted, if one is
+-- The mode that is noted, if one is.
 abbrev pub mode_of : Bool → Noted → Bool
 mode_of before (Fault f) = before
 mode_of before (TextFormat on) = on
 
--- The mode of the row from which on so many rows are left: the last that is noted while more are left, the end of the source counted.
+-- The mode of the row from which on `left` rows are left. It is the last mode that is noted while
+-- more are left, with the end of the source counted.
 abbrev pub mode_at : Bool → ℕ → Notes → Bool
 mode_at before left [] = before
 mode_at before left (n ∷ ns) = mode_at (if nat_lt left n.left then mode_of before n.noted else before) left ns
@@ -75,11 +77,11 @@ plain-node (AGroupName x) xs = plain-at-once (group_faults x.0 x.1.span) xs
 plain-node (APackageAgain first again) xs = plain-read (fault.DuplicatePackage (package_span span_of first) (package_span span_of again)) xs
 plain-node (ATooDeep keyword open_at) xs = plain-read (fault.MessageNestingTooDeep keyword.span) xs
 
--- what is noted of a node sets no mode
+-- The notes of a node set no mode.
 past-node : (x : CheckedNode Place) (xs : Rows Place) (b : Bool) (left : ℕ) (more : Notes) → mode_at b left (node_notes x xs ++ more) ≡ mode_at b left more
 past-node x xs b left more = mode-append b left (node_notes x xs) more ∙ ap (λ v. mode_at v left more) (plain-node x xs b left)
 
--- ---- behind the row
+-- ---- after the row
 
 fewer : (xs : Rows Place) (left : ℕ) → length xs < left → length (behind xs) < left
 fewer [] left h = h
@@ -88,7 +90,7 @@ fewer (x ∷ xs) left h = omega (arith, h)
 no-mode : (b on : Bool) (left : ℕ) (xs : Rows Place) → length xs < left → (if nat_lt left (suc (length xs)) then on else b) ≡ b
 no-mode b on left xs h = ap (λ c. cond c on b) (le-ltb left (suc (length xs)) (omega (arith, h)))
 
--- what is noted behind the row doesn't matter
+-- Notes after the row don't matter.
 told-behind : (p : Option (t.Package Place)) (w : Place) (l : Steps Place) (xs : Rows Place) (b : Bool) (left : ℕ) → length xs < left → mode_at b left (told p w l xs) ≡ b
 told-behind p w [] xs b left h = refl
 told-behind p w (Token r ∷ l) xs b left h = told-behind p w l (behind xs) b left (fewer xs left h)
@@ -106,7 +108,8 @@ told-behind p w (Note (ACloseBrace m) ∷ l) xs b left h = ap (λ v. mode_at v l
 some-mode : (b on : Bool) (left : ℕ) (xs : Rows Place) → left ≤ length xs → (if nat_lt left (suc (length xs)) then on else b) ≡ on
 some-mode b on left xs h = ap (λ c. cond c on b) (lt-ltb left (suc (length xs)) (omega (arith, h)))
 
--- An aggregate is open at the row exactly where one is behind the steps that take the rows before it.
+-- An aggregate is open at the row exactly when one is open after the steps that take the rows
+-- before it.
 pub told-mode : (p : Option (t.Package Place)) (w : Place) (l : Steps Place) (xs : Rows Place) (b : Bool) (n left : ℕ) → length xs ≡ n + left → length (tokens l) ≤ length xs → EndsDeep l
     → mode_at b left (told p w l xs) ≡ open_behind b (until n l)
 told-mode p w [] xs b zero left e h d = refl

@@ -19,7 +19,7 @@ use Rattle.protox_grammar.specs.Bodies as rule
 use Rattle.protox_grammar.specs.Steps.{ANode, APackage, AKeyword, ADeepBody, ADeeperBody, AnOpenBrace, ACloseBrace, Token, Note, Steps, tokens, until}
 use Rattle.protox_grammar.specs.Noted.{noted_nodes, steps, trace}
 use Rattle.protox_grammar.specs.CheckLaws.{AllIsNoted, NotedIsTrue, tokens_of, noted_by, steps_by}
-use Rattle.protox_grammar.proofs.Marks.{head-same-shapes}
+use Rattle.protox_grammar.proofs.Tags.{head-same-shapes}
 use Rattle.protox_grammar.proofs.Fronts as fronts
 use Rattle.protox_grammar.proofs.StepLists.{until-all, tokens-append, take-front, until-ends, deep-whole, until-until, until-at-most, until-front}
 use Rattle.protox_grammar.proofs.Main as main
@@ -31,7 +31,7 @@ use Rattle.protox_grammar.proofs.Numbers.{numbered-length, numbered-at, numbered
 use Rattle.protox_grammar.proofs.PassedOver as passed
 use Rattle.protox_grammar.proofs.Placing.{last_row, is_string_row, ArePlaced, last-past, placed-front}
 
--- ---- nodes of a front
+-- ---- nodes at the beginning of a file
 
 pub noted-front : {M : Type 0} (P : CheckedNode M → Type 0) (p : Option (t.Package M)) (w : M) (l j : Steps M) → Holds P (noted_nodes p w l) → Holds P (noted_nodes p w (l ++ j))
 noted-front P p w [] j h = absurd h
@@ -48,9 +48,9 @@ noted-front P p w (Note (ADeeperBody m) ∷ l) j h = noted-front P p w l j h
 noted-front P p w (Note (AnOpenBrace m) ∷ l) j h = noted-front P p w l j h
 noted-front P p w (Note (ACloseBrace m) ∷ l) j h = noted-front P p w l j h
 
--- ---- a file that goes on where reading ended
+-- ---- a file that begins with what was read
 
--- what was read goes on as a file does, with the same steps
+-- Some file begins with what was read, with the same steps.
 pub record Completed (xs : Rows ℕ) : Type 0 where
   pub rest : Rows ℕ
   pub parts : xs ≡ tokens (trace 31 xs) ++ rest
@@ -78,7 +78,7 @@ completed-at xs (Err e) h =
     let v = (main.laws 0 31).traced.halts xs e h in
     record { rest = v.rest; parts = v.parts; placed = v.placed; tree = v.tree; keeps = main.of-may 0 31 v.tree v.tree_may; later = v.later; goes_on = v.goes_on }
 
--- behind the last token nothing more is noted
+-- After the last token nothing more is noted.
 pub all_is_noted : AllIsNoted
 all_is_noted lexemes n h =
     let xs = tokens_of lexemes in

@@ -1,4 +1,4 @@
--- The fault of a wrong node that is noted is true of the source.
+-- The fault of a node that is noted is true of the source.
 use Rattle.std.proofs.Common.{◌≡◌, ℕ, List, sym, subst, inl, inr}
 use Rattle.protox_lexeme.specs.Lexemes.{Lexeme}
 use Rattle.protox_lexeme.specs.Table.{rows_of}

@@ -1,10 +1,10 @@
--- Of a file that is read no fault is noted exactly where nothing is wrong with it.
+-- If a file is read, no fault is noted exactly when no node of it has a fault.
 use Rattle.std.proofs.Common.{◌≡◌, ◌↔◌, ℕ, List, [], ◌∷◌, None, Ok, refl, sym, ap, subst, ◌∙◌, inl, inr}
 use Rattle.protox_lexeme.specs.Shapes.{Rows}
 use Rattle.protox_ast.proofs.Nothing.{nothing-wrong}
 use Rattle.protox_ast.specs.CheckedNodes.{checked_nodes}
 use Rattle.protox_ast.specs.Checks.{NothingWrong}
-use Rattle.protox_ast.specs.Fine.{IsFine}
+use Rattle.protox_ast.specs.inner.Fine.{IsFine}
 use Rattle.protox_ast.specs.KeywordWalk as k
 use Rattle.protox_ast.specs.Keywords.{Each}
 use Rattle.protox_ast.specs.Places.{Place}
@@ -28,7 +28,7 @@ each-by : {A : Type 0} (P : A → Type 0) (xs : List A) → ((x : A) → Holds (
 each-by P [] h = tt
 each-by P (y ∷ ys) h = (h y (inl refl), each-by P ys (λ x e. h x (inr e)))
 
--- the nodes that are noted are all fine, or those of the file
+-- The nodes that are noted are all fine, or they are those of the file.
 each-noted : (w : Place) (f : t.File Place) → k.Each (rule.StatementHas k.KeepsMbody) f.statements → Each IsFine (noted_nodes None w (steps 31 f)) ↔ Each IsFine (checked_nodes f)
 each-noted w f h = (
   λ g. each-by IsFine (checked_nodes f) (λ x e. each-in IsFine (noted_nodes None w (steps 31 f)) x g ((file-noted (λ y. y ≡ x) w f h).1 e)),

@@ -1,6 +1,6 @@
--- The notes among steps as a plain list, and what is read off it.
+-- The notes among steps as a plain list, and what follows from it.
 use Rattle.std.proofs.Common.{◌≡◌, Bool, true, false, List, [], ◌∷◌, ◌++◌, Option, refl, ap}
-use Rattle.protox_ast.specs.AggregateWalk.{Braces}
+use Rattle.protox_ast.specs.inner.AggregateWalk.{Braces}
 use Rattle.protox_ast.specs.Keywords.{Each}
 use Rattle.protox_ast.specs.Tree as t
 use Rattle.protox_grammar.specs.Steps.{Event, ADeepBody, ADeeperBody, AnOpenBrace, ACloseBrace, Token, Note, Steps}
@@ -18,7 +18,7 @@ notes-append (Note e ∷ l) k = ap (λ u. e ∷ u) (notes-append l k)
 
 -- ---- braces of aggregates
 
--- what is noted of aggregates
+-- What is noted of aggregates.
 abbrev pub brace_events : {M : Type 0} → Braces M → List (Event M)
 brace_events [] = []
 brace_events (x ∷ xs) = AnOpenBrace x.0 ∷ (ACloseBrace x.1 ∷ brace_events xs)
@@ -27,7 +27,7 @@ pub events-append : {M : Type 0} (xs ys : Braces M) → brace_events (xs ++ ys) 
 events-append [] ys = refl
 events-append (x ∷ xs) ys = ap (λ u. AnOpenBrace x.0 ∷ (ACloseBrace x.1 ∷ u)) (events-append xs ys)
 
--- the braces among notes, each with whether it opens
+-- The braces among notes, with whether each opens.
 abbrev pub braces_in : {M : Type 0} → List (Event M) → List (Bool × M)
 braces_in [] = []
 braces_in (AnOpenBrace m ∷ es) = (true, m) ∷ braces_in es
@@ -66,7 +66,7 @@ past-braces p w (Note e ∷ l) k h = absurd h.0
 
 -- ---- bodies that are too deep
 
--- the first of these is of level 32
+-- The first of these bodies has level 32.
 abbrev pub IsShallow : {M : Type 0} → List (Event M) → Type 0
 IsShallow [] = Unit {0}
 IsShallow (ADeepBody m ∷ es) = Unit {0}

@@ -1,4 +1,4 @@
--- What is noted of a node lies in the source that its rows stand in.
+-- The notes of a node lie in the source in which its rows stand.
 use Rattle.std.proofs.Common.{◌≡◌, ◌≤◌, ℕ, Bool, true, false, cond, List, [], ◌∷◌, length, Ok, subst, arith}
 use Rattle.protox_fault.specs.Faults.{Span, SpanLiesIn, LiesIn}
 use Rattle.protox_fault.specs.declared.error.ParseErrorKind.{ParseErrorKind}
@@ -31,18 +31,18 @@ others-lie first high last (x ∷ xs) le h = others-lie first high x.1.span xs (
 pub strings-lie : (low high : ℕ) (x : t.Strings Place) → Stand low high (s.strings x) → SpanLiesIn high (strings_span x)
 strings-lie low high x h = others-lie x.first.1.span high x.first.1.span x.others (omega (arith, h.1)) h.2
 
--- so does one that is read of rows
+-- So does a run that is read from rows.
 pub run-lies : (some : Place) (low high : ℕ) (xs : Rows Place) (x : t.Strings Place × Rows Place) → (r.strings).read xs ≡ Ok x → Stand low high xs → SpanLiesIn high (strings_span x.0)
 unfolding r.strings
 run-lies some low high xs x e h = strings-lie low high x.0 (stand-front low high (s.strings x.0) x.1 (subst (Stand low high) ((parts.strings-laws some).read.takes xs x e).parts h))
 
--- and a word
+-- So does a word.
 pub word-lies : (some : Place) (low high : ℕ) (xs : Rows Place) (x : t.Word Place × Rows Place) → (r.ident).read xs ≡ Ok x → Stand low high xs → SpanLiesIn high x.0.1.span
 word-lies some low high xs x e h =
     let k = subst (Stand low high) ((parts.ident-laws some).read.takes xs x e).parts h in
     (omega (arith, k.1), in-order x.0.1.span.end high x.1 k.2)
 
--- and a package statement, from its word to its `;`
+-- So does a package statement, from its keyword to its `;`.
 pub package-lies : (some : Place) (low high : ℕ) (xs : Rows Place) (x : t.Package Place × Rows Place) → (r.«package»).read xs ≡ Ok x → Stand low high xs → SpanLiesIn high (join x.0.keyword.span x.0.end.span)
 unfolding r.«package»
 package-lies some low high xs x e h =
@@ -50,7 +50,7 @@ package-lies some low high xs x e h =
     let m = stand-after x.0.keyword.span.end high (s.fullident x.0.name) (s.sign s.semicolon x.0.end) k.2 in
     (omega (arith, k.1, m.1, m.2.0, m.2.1), m.2.2)
 
--- ---- what is noted of them
+-- ---- the notes of these nodes
 
 faults-lie : (high : ℕ) (so : Bool) (wrong : ParseErrorKind) → LiesIn high wrong → Each (LiesIn high) (cond so [] (wrong ∷ []))
 faults-lie high true wrong h = tt

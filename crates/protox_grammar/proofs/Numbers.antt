@@ -1,4 +1,4 @@
--- Tokens that are marked with their numbers.
+-- Tokens that are tagged with their numbers.
 use Rattle.std.proofs.Common.{◌≡◌, ◌≤◌, ℕ, zero, suc, ◌+◌, List, [], ◌∷◌, ◌++◌, length, take, drop, refl, ap, ◌∙◌, arith}
 use Rattle.protox_fault.specs.Faults.{Span}
 use Rattle.protox_lexeme.specs.Shapes.{Shape, Row, Rows}

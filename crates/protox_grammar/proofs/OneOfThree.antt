@@ -1,4 +1,5 @@
--- Each list of rows spells a file, or ends too soon, or has one row that is unexpected, and just one of these.
+-- Each list of rows spells a file, or ends too soon, or has one unexpected row. Only one of these
+-- holds.
 use Rattle.std.proofs.Common.{◌≡◌, ◌≤◌, ◌<◌, ℕ, zero, suc, List, [], ◌∷◌, ◌++◌, length, Result, Ok, Err, refl, sym, ap, subst, ◌∙◌, append_assoc, arith, inl, inr, ◌⊎◌}
 use Rattle.std.proofs.lemmas.List.{append-nil, length-append}
 use Rattle.std.proofs.lemmas.Bool.{cases_lt}
@@ -15,7 +16,7 @@ use Rattle.protox_grammar.proofs.Fronts as fronts
 use Rattle.protox_grammar.proofs.Main as main
 use Rattle.protox_grammar.proofs.Stops.{TooDeepRow}
 
--- of two fronts of one list the longer goes on with what the shorter has
+-- Of two beginnings of one list, the longer one goes on with what the shorter one lacks.
 longer-front : {A : Type 0} (xs ys zs ws : List A) → xs ++ ys ≡ zs ++ ws → length xs ≤ length zs → (ks : List A) × (zs ≡ xs ++ ks)
 longer-front xs ys zs ws e l = elim (apart-of xs ys zs ws e) [
   | inl c ↦ (c.0 ∷ c.1, c.2)
@@ -25,21 +26,23 @@ longer-front xs ys zs ws e l = elim (apart-of xs ys zs ws e) [
   ]
 ]
 
--- behind one more element
+-- After one more element.
 one-more : {A : Type 0} (xs : List A) (x : A) (ys : List A) → (xs ++ (x ∷ [])) ++ ys ≡ xs ++ (x ∷ ys)
 one-more xs x ys = append_assoc xs (x ∷ []) ys
 
 module _ {M : Type 0} (m : M) where
   -- ---- one of them holds
 
-  -- a file that goes on with one opening `{` goes on with each that comes before
+  -- a file that begins with the rows up to an opening `{` begins with the rows up to each earlier
+  -- row
   goes-on : (xs : Rows M) (x : Row M) (more zs : Rows M) (z : Row M) (ws : Rows M) (f : t.File M) → xs ++ (x ∷ more) ≡ zs ++ (z ∷ ws) → length xs ≤ length zs → (rest : Rows M) → Spells ((zs ++ (z ∷ [])) ++ rest) f
       → (on : Rows M) × Spells (xs ++ (x ∷ on)) f
   goes-on xs x more zs z ws f e l rest h =
       let k = longer-front (xs ++ (x ∷ [])) more (zs ++ (z ∷ [])) ws (one-more xs x more ∙ e ∙ sym (one-more zs z ws)) (omega (arith, l, length-append xs (x ∷ []), length-append zs (z ∷ []))) in
       (k.0 ++ rest, subst (λ rows. Spells rows f) (ap (λ u. u ++ rest) k.1 ∙ append_assoc (xs ++ (x ∷ [])) k.0 rest ∙ one-more xs x (k.0 ++ rest)) h)
 
-  -- Where a body is too deep, the rows are read again, to the depth of a file that goes on with its `{`. If one is too deep then, it comes later.
+  -- If a body is too deep, the rows are read again, as deep as some file that begins with its `{`.
+  -- If a body is too deep then, it comes later.
   later : (n left next : ℕ) (rows : Rows M) (v : TooDeepRow n rows (suc left)) → read (d.depth v.begins.0) rows ≡ Err (Deep (suc next)) → next < left
   later n left next rows v h =
       let w = main.deep m (d.depth v.begins.0) next rows h in
@@ -54,7 +57,7 @@ module _ {M : Type 0} (m : M) where
   abbrev One : Rows M → Type 0
   One rows = IsSpelling rows ⊎ (IsEnded (shapes rows) ⊎ HasUnexpected (shapes rows))
 
-  -- to any depth, where what may be too deep has at most so many rows left
+  -- for any depth, if a body that is too deep has at most this many rows left
   one_at : (turns n : ℕ) (rows : Rows M) → ((left : ℕ) → read n rows ≡ Err (Deep (suc left)) → left < turns) → (result : Result (t.File M) Refusal) → read n rows ≡ result → One rows
   one_at turns n rows few (Ok f) h = inl (f, ((main.accepts_iff m n rows f).0 h).0)
   one_at turns n rows few (Err (Unexpected zero)) h = inr (inl (fronts.ended m n rows h))
@@ -68,13 +71,13 @@ module _ {M : Type 0} (m : M) where
   is-one : (rows : Rows M) → One rows
   is-one rows = one_at (length rows) 0 rows (λ left h. let v = main.deep m 0 left rows h in omega (arith, v.left_is, ap length v.parts, length-append v.front (v.here ∷ v.rest))) (read 0 rows) refl
 
-  -- ---- and no other
+  -- ---- only one of them holds
 
-  -- where the tokens begin a file, none of them is unexpected
+  -- if some file begins with the tokens, none of them is unexpected
   none-unexpected : (ss : List Shape) → BeginsFile ss (length ss) → HasUnexpected ss → ⊥
   none-unexpected ss b h = h.1.2 (fronts.begins-before ss (suc h.0) (length ss) h.1.0 b)
 
-  -- nor is one behind an unexpected token
+  -- no token after an unexpected one is unexpected
   none-behind : (ss : List Shape) (n other : ℕ) → IsUnexpected ss n → IsUnexpected ss other → n < other → ⊥
   none-behind ss n other u v less = u.2 (fronts.begins-before ss (suc n) other less v.1)
 

@@ -1,4 +1,5 @@
--- A body is read and noted behind the word of its message or group, whose place stands in the fault of one that is too deep.
+-- A body is read and noted after the keyword of its message or group. The fault of a body that is
+-- too deep stands at that keyword.
 use Rattle.std.proofs.Common.{◌≡◌, ℕ, Bool, true, false, cond, List, [], ◌∷◌, ◌++◌, length, Option, Result, Ok, Err, refl, sym, ap, subst, ◌∙◌, append-nil, inl, inr, arith}
 use Rattle.protox_fault.specs.Faults.{Span, SpanLiesIn}
 use Rattle.protox_fault.specs.declared.error.ParseErrorKind.TheVariants as fault
@@ -24,7 +25,8 @@ use Rattle.protox_grammar.proofs.Takes.{bind_ok, ok_is}
 use Rattle.protox_grammar.proofs.Telling.{AllLie, Lie, both-lie, cond-lie, then-lie, Voice, silent, noting, NotesOf, notes_of, told-append, past-append, seq_trace, note_trace, fixed-leaves, plain-tells, then-seen}
 use Rattle.protox_grammar.proofs.Tracing.{IsTraced}
 
--- The notes are those that are told of the steps behind a word at this place. They lie in the source that this and the rows stand in.
+-- The notes are those of the steps after a keyword at this place. They lie in the source in which
+-- this place and the rows stand.
 pub record Opened {A B : Type 0} (read : Reader Place A) (trace : Rows Place → Steps Place) (view : A → B) : Type 0 where
   pub code : Reader Place B
   pub notes : Span → Rows Place → Notes
@@ -33,7 +35,7 @@ pub record Opened {A B : Type 0} (read : Reader Place A) (trace : Rows Place →
   pub left : (xs : Rows Place) (x : A × Rows Place) → read xs ≡ Ok x → past (trace xs) xs ≡ x.1
   pub lies : (w : Span) (low high : ℕ) (xs : Rows Place) → SpanLiesIn high w → Stand low high xs → AllLie high (notes w xs)
 
--- ---- what leaves the word as it is
+-- ---- what doesn't change the keyword
 
 abbrev pub Keeps : (Rows Place → Steps Place) → Type 0
 Keeps trace = (w : Place) (xs : Rows Place) → keyword_behind w (trace xs) ≡ w
@@ -49,7 +51,7 @@ each-front : {A : Type 0} (P : A → Type 0) (xs ys : List A) → Each P (xs ++ 
 each-front P [] ys h = tt
 each-front P (x ∷ xs) ys h = (h.0, each-front P xs ys h.1)
 
--- so does a rule in whose trees nothing but braces of aggregates is noted
+-- The same for a rule whose trees note nothing but braces of aggregates.
 module _ {A : Type 0} (r : Rule Place A) (traced : IsTraced r) (bs : A → List (Place × Place)) (braced : (x : A) → Braced (r.steps x) (bs x)) where
   all-braces : (x : A) → Each IsBrace (notes (r.steps x))
   all-braces x = subst (Each IsBrace) (sym (braced x)) (events-braces (bs x))
@@ -77,7 +79,7 @@ keyword-append w (Note (ANode x) ∷ l) k = keyword-append w l k
 keyword-append w (Note (AKeyword m) ∷ l) k = keyword-append m l k
 keyword-append w (Note e ∷ l) k = keyword-append _ l k
 
--- a checked node behind what leaves it
+-- A checked node, after what doesn't change the keyword.
 pub node-keeps : {A : Type 0} (a : Reader Place A) (s : Rows Place → Steps Place) (node : A → Event Place) → ((x : A) (w : Place) → keyword_behind w (Note (node x) ∷ []) ≡ w) → Keeps s → Keeps (note_trace s a node)
 node-keeps {A = A} a s node e h w xs = keyword-append w (s xs) (then_steps (a xs) (λ x. Note (node x.0) ∷ [])) ∙ ap (λ v. keyword_behind v (then_steps (a xs) (λ x. Note (node x.0) ∷ []))) (h w xs) ∙ last (a xs)
   where
@@ -85,7 +87,7 @@ node-keeps {A = A} a s node e h w xs = keyword-append w (s xs) (then_steps (a xs
     last (Ok x) = e x.0 w
     last (Err d) = refl
 
--- ---- what stands before a body, and its word
+-- ---- what stands before a body, and its keyword
 
 abbrev pub before_notes : {C : Type 0} (v : Voice) → NotesOf v → Reader Place C → (Rows Place → Notes) → Rows Place → Notes
 before_notes silent f c g xs = then_notes g (c xs)
@@ -125,7 +127,7 @@ module _ {A B C D : Type 0} {v : Voice} {a : Reader Place A} {b : Reader Place B
       subst (AllLie high) (before-is v x.notes x.code (y.notes w) xs) (both-lie high (notes_of v x.notes xs) (then_notes (y.notes w) (x.code xs)) (x.tells.lies low high xs h)
       (subst (AllLie high) (then-seen f a x.code x.shows (y.notes w) xs) (then-lie v a s x.notes x.tells (y.notes w) high (λ m ys k. y.lies w m high ys e k) low xs h)))
 
-  -- what stands between the word and the body
+  -- what stands between the keyword and the body
   abbrev pub before : Shown v a s f → Keeps s → Opened b u g → Opened {B = C × D} (seq a b) (seq_trace s a u) (λ i. (f i.0, g i.1))
   before x h y = record {
     code = seq x.code y.code;
@@ -136,11 +138,11 @@ module _ {A B C D : Type 0} {v : Voice} {a : Reader Place A} {b : Reader Place B
     lies = before-lie x y;
   }
 
--- what is read, seen further
+-- What is read, with another view.
 abbrev pub body_seen : {A B C : Type 0} {a : Reader Place A} {s : Rows Place → Steps Place} {f : A → B} (to : B → C) → Opened a s f → Opened a s (λ x. to (f x))
 body_seen to x = record { code = mapped to x.code; notes = x.notes; shows = right-shows to x.shows; says = x.says; left = x.left; lies = x.lies }
 
--- a row that stands in a source lies in it, and the rows behind it stand there, too
+-- A row that stands in a source lies in it, and the rows after it stand there too.
 pub fixed-stands : (word : Shape) (low high : ℕ) (xs : Rows Place) (x : Place × Rows Place) → fixed word xs ≡ Ok x → Stand low high xs → SpanLiesIn high x.0.span × Stand x.0.span.end high x.1
 unfolding fixed
 fixed-stands word low high [] x e h = absurd (err-ok x _ e)
@@ -204,7 +206,7 @@ module _ {B D : Type 0} {b : Reader Place B} {u : Rows Place → Steps Place} {g
       at (Ok z) q = let p = fixed-stands (Ident word) low high xs z q h in y.lies z.0.span z.0.span.end high z.1 p.0 p.1
       at (Err d) q = tt
 
-  -- the word and what it opens
+  -- the keyword, and what it opens
   abbrev pub opened_by : Shown {B = Place × D} noting (seq (fixed (Ident word)) b) (seq_trace (word_trace word) (fixed (Ident word)) u) (λ i. (i.0, g i.1))
   opened_by = record {
     code = seq (fixed (Ident word)) y.code;
@@ -215,11 +217,11 @@ module _ {B D : Type 0} {b : Reader Place B} {u : Rows Place → Steps Place} {g
 
 -- ---- bodies
 
--- a body whose notes don't depend on its word
+-- A body whose notes don't depend on its keyword.
 abbrev pub opened : {A B : Type 0} {a : Reader Place A} {s : Rows Place → Steps Place} {f : A → B} → Shown noting a s f → Opened a s f
 opened x = record { code = x.code; notes = λ w. x.notes; shows = x.shows; says = x.tells.says; left = x.tells.left; lies = λ w low high xs e h. x.tells.lies low high xs h }
 
--- one that is too deep is not read
+-- A body that is too deep is not read.
 abbrev pub sunk_notes : Span → Rows Place → Notes
 sunk_notes w [] = []
 sunk_notes w (r ∷ rs) = cond (is_token (Mark s.open_brace) r.shape) (deep_notes w rs) []

@@ -1,12 +1,13 @@
--- Among the steps of a tree a body that is too deep is noted outside of each aggregate, and right behind its `{` no brace of an aggregate is noted.
+-- Among the steps of a tree, a body that is too deep is noted only outside aggregates. Right after
+-- its `{` no brace of an aggregate is noted.
 use Rattle.std.proofs.Common.{◌≡◌, ℕ, zero, suc, Bool, true, false, List, [], ◌∷◌, ◌++◌, Option, Some, None, refl, sym, subst}
 use Rattle.protox_lexeme.specs.Shapes.{Mark, Row, Rows}
 use Rattle.protox_ast.specs.Tree as t
 use Rattle.protox_ast.specs.Spelling as s
 use Rattle.protox_ast.specs.KeywordWalk as k
 use Rattle.protox_ast.specs.DepthWalk as d
-use Rattle.protox_ast.specs.AggregateWalk as a
-use Rattle.protox_ast.specs.AggregateWalk.{Braces}
+use Rattle.protox_ast.specs.inner.AggregateWalk as a
+use Rattle.protox_ast.specs.inner.AggregateWalk.{Braces}
 use Rattle.protox_ast.specs.CheckedNodes.{CheckedNode, ASyntax, AnImport, AReservedName}
 use Rattle.protox_grammar.specs.Rule.{Rule, row, seq}
 use Rattle.protox_grammar.specs.Rules as r
@@ -27,7 +28,8 @@ TakesFirst [] = ⊥
 TakesFirst (Token r ∷ l) = Unit {0}
 TakesFirst (Note e ∷ l) = ⊥
 
--- Where an aggregate is open before these steps, or none: none is open at a body that is too deep, behind which a row is taken, and none at the end.
+-- Given whether an aggregate is open before these steps: none is open at a body that is too deep,
+-- nor at the end. After such a body a row is taken.
 abbrev pub Outside : {M : Type 0} → Bool → Steps M → Type 0
 Outside b [] = b ≡ false
 Outside b (Token r ∷ l) = Outside b l
@@ -76,7 +78,7 @@ outside-many f h (x ∷ xs) = outside-both false (f x) (steps_of_many f xs) (h x
 
 -- ---- where only braces are noted, in pairs
 
--- the notes that are to come where an aggregate is open, or none
+-- The notes to come, given whether an aggregate is open.
 abbrev Comes : {M : Type 0} → Bool → M → Braces M → List (Event M)
 Comes true c bs = ACloseBrace c ∷ brace_events bs
 Comes false c bs = brace_events bs
@@ -149,7 +151,7 @@ module _ {M : Type 0} where
   unfolding r.enum
   enum-outside x = outside-both false (steps_of_many r.enum_element.steps x.elements) ((r.sign s.close_brace).steps x.close_at) (outside-many r.enum_element.steps enum_element-outside x.elements) refl
 
-  -- ---- over the rule of a body
+  -- ---- given the rule of a body
 
   module _ (b : Rule M (t.Mbody M)) (f : (x : t.Mbody M) → Outside false (b.steps x)) where
     group-outside : (x : t.Group M) → Outside false ((rule.group b).steps x)
@@ -241,7 +243,7 @@ module _ {M : Type 0} where
   abbrev deeper : ℕ → Rule M (t.Mbody M)
   deeper n = rule.sealed k.KeepsMbody (λ x. ⊥) rule.deep_read (rule.deep_steps ADeeperBody n) (rule.deep_trace ADeeperBody)
 
-  -- behind the `{` of a body a row is taken
+  -- after the `{` of a body a row is taken
   behind-open : (n : ℕ) (es : t.Elements M) (z : M) → TakesFirst ((rule.elements (deeper n)).steps es ++ (r.sign s.close_brace).steps z)
   behind-open n es z =
       takes-last ((rule.elements (deeper n)).steps es) (row (Mark s.close_brace) z)

@@ -23,7 +23,7 @@ use Rattle.protox_grammar.proofs.Located.{Located, locate}
 use Rattle.protox_grammar.proofs.Numbers.{numbered-append, numbered-length, numbered-at, take-drop, take-length, shapes-length, string-at}
 use Rattle.protox_grammar.proofs.Placing.{last_row, is_string_row, last-past}
 
--- the front and the row behind it, of a source and of a file that goes on there
+-- The beginning and the next row, of a source and of a file that begins as it does.
 module _ (lexemes : List Lexeme) (n : ℕ) (f : t.File ℕ) (go : GoesOn (shapes (rows_of lexemes)) n f) where
   abbrev all_shapes : List Shape
   all_shapes = shapes (rows_of lexemes)
@@ -46,7 +46,7 @@ module _ (lexemes : List Lexeme) (n : ℕ) (f : t.File ℕ) (go : GoesOn (shapes
   pub file-is : s.spell f ≡ front ++ more
   file-is = sym go.spells.0 ∙ numbered-append 0 (take n all_shapes) go.more
 
-  -- what is done up to there is the same, if the rows behind are alike
+  -- the steps up to there are the same, if the next rows are alike
   pub same-steps : (is_string_row (last_row None front) ≡ true → head_in is_string rest ≡ head_in is_string more) → steps_by lexemes n ≡ until n (steps 31 f)
   same-steps alike =
       let l = main.laws 0 31 in

@@ -1,4 +1,4 @@
--- What is noted of tokens with their places is what is noted of tokens with their numbers.
+-- Tokens with their places give the same notes as tokens with their numbers.
 use Rattle.std.proofs.Common.{◌≡◌, ℕ, zero, suc, ◌+◌, Bool, true, false, List, [], ◌∷◌, map, length, None, refl, sym, ap, subst, ◌∙◌, arith}
 use Rattle.std.specs.Prelude.{Any}
 use Rattle.protox_fault.specs.Faults.{Span}
@@ -9,11 +9,11 @@ use Rattle.protox_ast.specs.Spells.{numbered, row_at, shapes}
 use Rattle.protox_ast.specs.Places.{Place, placed_from, later_gaps}
 use Rattle.protox_ast.specs.Truth.{token_span}
 use Rattle.protox_grammar.specs.CheckLaws.{levels, noted_by, steps_by, tokens_of}
-use Rattle.protox_grammar.specs.MarkLaws.{map_marks, map_node, map_steps, no_place, place_at, placed_tokens, placed_steps_by, placed_nodes_by, PlacesAreLookedUp, PlacesHaveSpans, SpansAreLeft, NotedAlike, WrongAlike}
+use Rattle.protox_grammar.specs.TagLaws.{map_tags, map_node, map_steps, no_place, place_at, placed_tokens, placed_steps_by, placed_nodes_by, PlacesAreLookedUp, PlacesHaveSpans, SpansAreLeft, NotedAlike, WrongAlike}
 use Rattle.protox_grammar.specs.Noted.{noted_nodes, open_behind, trace}
 use Rattle.protox_grammar.specs.Steps.{tokens, until, has_deep}
-use Rattle.protox_grammar.proofs.Marks.{same-length}
-use Rattle.protox_grammar.proofs.MarkLaws.{any-map, deep-map, nodes-map, open-map, same_steps, tokens-map, until-map, wrong-map}
+use Rattle.protox_grammar.proofs.Tags.{same-length}
+use Rattle.protox_grammar.proofs.TagLaws.{any-map, deep-map, nodes-map, open-map, same_steps, tokens-map, until-map, wrong-map}
 use Rattle.protox_grammar.proofs.NotedTrue.{all_is_noted}
 
 -- ---- places
@@ -27,18 +27,18 @@ placed-spans first [] gaps n = refl
 placed-spans first (r ∷ rs) gaps zero = refl
 placed-spans first (r ∷ rs) gaps (suc n) = placed-spans false rs (later_gaps gaps) n
 
-placed-bare : (first : Bool) (rows : Rows Span) (gaps : List (List Shape)) → map_marks (λ place. place.span) (placed_from first rows gaps) ≡ rows
+placed-bare : (first : Bool) (rows : Rows Span) (gaps : List (List Shape)) → map_tags (λ place. place.span) (placed_from first rows gaps) ≡ rows
 placed-bare first [] gaps = refl
 placed-bare first (r ∷ rs) gaps = ap (λ u. r ∷ u) (placed-bare false rs (later_gaps gaps))
 
-looked-up : {M : Type 0} (none : M) (ys : Rows M) (k : ℕ) (look : ℕ → M) → ((i j : ℕ) → i ≡ k + j → look i ≡ (row_at none ys j).at) → map_marks look (numbered k (shapes ys)) ≡ ys
+looked-up : {M : Type 0} (none : M) (ys : Rows M) (k : ℕ) (look : ℕ → M) → ((i j : ℕ) → i ≡ k + j → look i ≡ (row_at none ys j).at) → map_tags look (numbered k (shapes ys)) ≡ ys
 looked-up none [] k look h = refl
 looked-up none (y ∷ ys) k look h =
     λ i. record { shape = y.shape; at = h k 0 (omega arith) i } ∷ looked-up none ys (suc k) look (λ i j e. h i (suc j) (omega (arith, e))) i
 
 pub places_are_looked_up : PlacesAreLookedUp
 places_are_looked_up lexemes =
-    ap (λ u. map_marks (place_at lexemes) (numbered 0 u)) (sym (placed-shapes true (rows_of lexemes) (gaps_of lexemes)))
+    ap (λ u. map_tags (place_at lexemes) (numbered 0 u)) (sym (placed-shapes true (rows_of lexemes) (gaps_of lexemes)))
     ∙ looked-up no_place (placed_tokens lexemes) 0 (place_at lexemes) (λ i j e. ap (place_at lexemes) (omega (arith, e)))
 
 pub places_have_spans : PlacesHaveSpans

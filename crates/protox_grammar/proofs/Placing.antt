@@ -1,4 +1,4 @@
--- Where notes stand among steps: each right behind the last row of what is noted.
+-- Where notes stand among steps: each right after the last row that it is about.
 use Rattle.std.proofs.Common.{◌≡◌, Bool, true, false, ◌||◌, [], ◌∷◌, ◌++◌, Option, Some, None, refl, sym, ap, subst, ◌∙◌, append_assoc}
 use Rattle.std.specs.Prelude.{◌==◌}
 use Rattle.std.proofs.lemmas.List.{append-nil}
@@ -10,7 +10,7 @@ use Rattle.protox_grammar.specs.Reader.{head_in, is_string}
 use Rattle.protox_grammar.specs.Steps.{Event, ANode, APackage, AKeyword, ADeepBody, ADeeperBody, AnOpenBrace, ACloseBrace, Token, Note, Steps, is_too_deep, tokens, plainly}
 use Rattle.protox_grammar.proofs.StepLists.{Quiet, tokens-append}
 
--- the last row of what is noted
+-- The last row that a note is about.
 abbrev pub event_end : {M : Type 0} → Event M → M
 event_end (ANode x) = node_end x
 event_end (APackage x) = x.end
@@ -24,7 +24,7 @@ abbrev pub is_run_event : {M : Type 0} → Event M → Bool
 is_run_event (ANode x) = is_run x
 is_run_event _ = false
 
--- the last of these rows, or else the one before
+-- The last of these rows, or else the row before them.
 abbrev pub last_row : {M : Type 0} → Option (Row M) → Rows M → Option (Row M)
 last_row before [] = before
 last_row before (r ∷ rs) = last_row (Some r) rs
@@ -33,7 +33,7 @@ abbrev pub is_string_row : {M : Type 0} → Option (Row M) → Bool
 is_string_row None = false
 is_string_row (Some r) = is_string r.shape
 
--- the event is that of a brace of an aggregate
+-- The event is a brace of an aggregate.
 abbrev pub is_brace_event : {M : Type 0} → Event M → Bool
 is_brace_event (AnOpenBrace m) = true
 is_brace_event (ACloseBrace m) = true
@@ -43,13 +43,14 @@ abbrev pub is_brace : Shape → Bool
 is_brace (Mark b) = (b == s.open_brace) || (b == s.close_brace)
 is_brace _ = false
 
--- A note stands behind the last row of its event. Behind a string only runs of strings are noted, and a run is taken whole. Behind a brace only
--- braces of aggregates are noted, or that a body is too deep.
+-- A note stands after the last row of its event. After a string only runs of strings are noted, and
+-- each run is taken whole. After a brace only braces of aggregates are noted, or that a body is too
+-- deep.
 abbrev pub IsPlaced : {M : Type 0} → Option (Row M) → Event M → Rows M → Type 0
 IsPlaced None e rest = ⊥
 IsPlaced (Some r) e rest = (r.at ≡ event_end e) × (is_string r.shape ≡ is_run_event e) × (is_run_event e ≡ true → head_in is_string rest ≡ false) × (is_too_deep e ≡ false → is_brace_event e ≡ is_brace r.shape)
 
--- so does each note among these steps, behind this row and in front of those
+-- The same for each note among these steps, after this row and before those.
 abbrev pub ArePlaced : {M : Type 0} → Option (Row M) → Steps M → Rows M → Type 0
 ArePlaced last [] z = Unit {0}
 ArePlaced last (Token r ∷ l) z = ArePlaced (Some r) l z

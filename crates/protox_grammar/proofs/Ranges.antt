@@ -47,7 +47,7 @@ module _ {M : Type 0} (m : M) where
       (λ x h. (tt, parts.given-all _ (λ y. tt) x.stop)) (λ x h. tt) (λ x h. h)
       (seq-laws (parts.int-laws m) (optional-laws (just_word (codes "to")) range_end-laws refl) refl)) refl refl
 
-  -- what may not stand behind ranges
+  -- what may not follow ranges
   abbrev unclosed : Set
   unclosed n = not (among_marks (s.open_bracket ∷ s.semicolon ∷ []) n)
 

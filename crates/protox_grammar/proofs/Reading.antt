@@ -10,12 +10,12 @@ use Rattle.protox_grammar.specs.Rule.{Rule, Stops, Starts, seq, nothing, mapped}
 use Rattle.protox_grammar.proofs.Takes.{bind_ok, ok_is}
 use Rattle.protox_grammar.proofs.Laws.{IsSpelled, head-same, ahead-past}
 
--- how many rows are left where the fault stands
+-- How many rows are left at the fault.
 abbrev pub left_of : Refusal → ℕ
 left_of (Unexpected n) = n
 left_of (Deep n) = n
 
--- the rows before a fault begin a tree
+-- Some tree begins with the rows before a fault.
 pub record Begins {M A : Type 0} (r : Rule M A) (xs : Rows M) (left : ℕ) : Type 0 where
   pub front : Rows M
   pub rest : Rows M
@@ -26,7 +26,7 @@ pub record Begins {M A : Type 0} (r : Rule M A) (xs : Rows M) (left : ℕ) : Typ
   pub more : Rows M
   pub goes_on : r.spell tree ≡ front ++ more
 
--- so they do, wherever reading stops
+-- This holds wherever reading stops.
 abbrev pub Viable : {M A : Type 0} → Rule M A → Type 0
 Viable {M} r = (xs : Rows M) (e : Refusal) → r.read xs ≡ Err e → Begins r xs (left_of e)
 
@@ -36,7 +36,7 @@ pub record Took {M A : Type 0} (r : Rule M A) (xs : Rows M) (x : A × Rows M) : 
   pub fits : r.fits x.0
   pub ends : r.ends x.0 x.1
 
--- the trees that a refusal speaks of: where something is too deep, those that can be read
+-- The trees that a refusal is about. If something is too deep, they are those that can be read.
 abbrev pub Concerns : {M A : Type 0} → Rule M A → Refusal → A → Type 0
 Concerns r (Unexpected n) t = Unit {0}
 Concerns r (Deep n) t = r.fits t
@@ -48,10 +48,11 @@ pub record IsRead {M A : Type 0} (r : Rule M A) : Type 0 where
   pub takes : (xs : Rows M) (x : A × Rows M) → r.read xs ≡ Ok x → Took r xs x
   pub again : (t : A) (z : Rows M) → r.fits t → r.ends t z → r.read (r.spell t ++ z) ≡ Ok (t, z)
   pub viable : Viable r
-  -- no tree goes on with a row that was not expected, and none that can be read with one that opens what is too deep
+  -- no tree goes on with an unexpected row, and no tree that can be read goes on with a row that
+  -- opens something too deep
   pub tight : (e : Refusal) (front : Rows M) (s : Row M) (rest : Rows M) → left_of e ≡ suc (length rest) → r.read (front ++ (s ∷ rest)) ≡ Err e
       → (t : A) (z more : Rows M) → Concerns r e t → r.ends t z → r.spell t ++ z ≡ front ++ (s ∷ more) → ⊥
-  -- and where the rows ended too soon, no tree has all of them
+  -- if the rows end too soon, no tree has all of them
   pub short : (xs : Rows M) → r.read xs ≡ Err (Unexpected 0) → (t : A) (z : Rows M) → r.ends t z → r.spell t ++ z ≡ xs → ⊥
 
 abbrev pub failed : (A : Type 0) → Refusal → Result A Refusal
@@ -64,7 +65,7 @@ bind_err (Err d) f e h = inl (err-again d e h)
     err-again : {A B : Type 0} (d e : Refusal) → failed B d ≡ failed B e → failed A d ≡ failed A e
     err-again d e h = cc
 
--- two cuts of one list, with tails of one length
+-- Two cuts of one list, with tails of equal length.
 pub cut-same : {A : Type 0} (ys zs xs ws : List A) → ys ++ xs ≡ zs ++ ws → length xs ≡ length ws → (ys ≡ zs) × (xs ≡ ws)
 cut-same [] [] xs ws e l = (refl, e)
 cut-same [] (z ∷ zs) xs ws e l = absurd (omega (arith, ap length e, length-append zs ws, l))
@@ -90,7 +91,7 @@ ok-err x e h = absurd cc
 pub err-ok : {A : Type 0} (x : A) (e : Refusal) → Err e ≡ Ok x → ⊥
 err-ok x e h = absurd cc
 
--- which way a test went
+-- The way a test went.
 pub chosen : {X : Type 0} (b : Bool) (x y z : X) → cond b x y ≡ z → ((b ≡ true) × (x ≡ z)) ⊎ ((b ≡ false) × (y ≡ z))
 chosen true x y z e = inl (refl, e)
 chosen false x y z e = inr (refl, e)
@@ -123,7 +124,8 @@ module _ {M A B : Type 0} (a : Rule M A) (b : Rule M B) (ea : Bool) (fa ga : Set
   second-concerned (Unexpected n) t c = tt
   second-concerned (Deep n) t c = c.1
 
-  -- the second part fails: the first part is that of every tree, so that the second goes on with the row
+  -- The second part fails. Every tree has the same first part, so that the second part goes on with
+  -- the row.
   seq-tight-second : (d : Refusal) (front : Rows M) (s : Row M) (rest : Rows M) (x : A × Rows M) → left_of d ≡ suc (length rest) → Took a (front ++ (s ∷ rest)) x → b.read x.1 ≡ Err d
       → (t : A × B) (z more : Rows M) → Concerns b d t.1 → a.ends t.0 (b.spell t.1 ++ z) × b.ends t.1 z → (a.spell t.0 ++ b.spell t.1) ++ z ≡ front ++ (s ∷ more) → ⊥
   seq-tight-second d front s rest x l ta k t z more c e h =
@@ -245,7 +247,7 @@ pub true-false : (b : Bool) → b ≡ true → b ≡ false → ⊥
 true-false true p q = absurd cc
 true-false false p q = absurd cc
 
--- rows that begin as others do
+-- Rows that begin as others do.
 pub same-head : {M : Type 0} (p : Shape → Bool) (front : Rows M) (s : Row M) (xs ys : Rows M) → head_in p (front ++ (s ∷ xs)) ≡ head_in p (front ++ (s ∷ ys))
 same-head p [] s xs ys = refl
 same-head p (f ∷ fs) s xs ys = refl

@@ -1,4 +1,4 @@
--- The laws of reading single tokens, and of a token that opens what is too deep.
+-- The laws of reading single tokens, and of a token that opens something too deep.
 use Rattle.std.proofs.Common.{◌≡◌, ℕ, suc, Bool, true, false, cond, [], ◌∷◌, ◌++◌, length, Option, Some, None, Result, Ok, Err, refl, sym, ap, subst, ◌∙◌, arith, inl, inr}
 use Rattle.std.proofs.lemmas.List.{length-append}
 use Rattle.protox_grammar.specs.Reader.{Refusal, Unexpected, Deep}
@@ -165,7 +165,7 @@ module _ {M A : Type 0} (w : Shape) (back : is_token w w ≡ true) (a : Rule M A
   not-deep : (m n : ℕ) → failed (A × Rows M) (Deep m) ≡ failed (A × Rows M) (Unexpected n) → ⊥
   not-deep m n h = absurd cc
 
-  -- where the row is not this token, no tree begins with it
+  -- if the row is not this token, no tree begins with it
   other-row : (n : ℕ) (s : Row M) (rest : Rows M) → reader.too_deep {A = A} w (s ∷ rest) ≡ Err (Unexpected n) → (t : A) (z more : Rows M) → a.spell t ++ z ≡ s ∷ more → ⊥
   unfolding reader.too_deep
   other-row n s rest h t z more e =

@@ -1,4 +1,4 @@
--- What a computed test on sets says of a token.
+-- What a computed test of sets says about a token.
 use Rattle.std.proofs.Common.{◌≡◌, ℕ, zero, suc, ◌<◌, ◌≤◌, Bool, true, false, not, ◌&&◌, ◌||◌, cond, List, [], ◌∷◌, ◌++◌, length, refl, sym, subst, arith, inl, inr}
 use Rattle.std.proofs.lemmas.Bool.{cases_lt}
 use Rattle.protox_lexeme.specs.Shapes.{Shape, Ident, Int, Float, Str, Mark, LineComment, BlockComment, Newline, Invalid, Row, Rows}
@@ -83,7 +83,8 @@ stops-right f g (z ∷ zs) h = (or_false (f (class z.shape)) (g (class z.shape))
 abbrev pub gated : Bool → Set → Set
 gated e f k = e && f k
 
--- after what starts with the one set, or with nothing, comes none of the other
+-- Rows that begin with a row of f don't begin with a row of g. If they may be empty, the rows after
+-- them don't begin so either.
 pub stops-then : {M : Type 0} (e : Bool) (f g : Set) → apart f g ≡ true → (ys zs : Rows M) → Starts e f ys → Stops (gated e g) zs → Stops g (ys ++ zs)
 stops-then e f g d [] [] h k = tt
 stops-then e f g d [] (z ∷ zs) h k = subst (λ b. b && g (class z.shape) ≡ false) h k
@@ -102,7 +103,7 @@ pub starts-within : {M : Type 0} (e : Bool) (f g : Set) → within f g ≡ true 
 starts-within e f g d [] h = h
 starts-within e f g d (y ∷ ys) h = within-at f g d y.shape h
 
--- rows that start with the set don't stop at it
+-- Rows that begin with a row of the set don't stop at it.
 pub clash : {M : Type 0} (P : Set) (ys y zs : Rows M) → Starts false P ys → Stops P zs → ys ++ y ≡ zs → ⊥
 clash P [] y zs h k e = absurd cc
 clash P (r ∷ ys) y [] h k e = absurd cc

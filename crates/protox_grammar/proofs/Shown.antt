@@ -1,4 +1,5 @@
--- What the code reads and notes beside what a rule of the grammar reads and notes, from one term a rule.
+-- What the code reads and notes, compared with what a rule of the grammar reads and notes: one term
+-- for each rule.
 use Rattle.std.proofs.Common.{◌≡◌, ℕ, suc, List, [], ◌∷◌, ◌++◌, map, length, Option, option_map, Result, Ok, Err, inl, inr, refl, sym, ap, subst, ◌∙◌, append-nil, append_assoc}
 use Rattle.protox_lexeme.specs.Shapes.{Shape, Ident, Mark, Rows}
 use Rattle.protox_ast.proofs.Standing.{Stand}
@@ -15,14 +16,14 @@ use Rattle.protox_grammar.proofs.Shows as by_shows
 use Rattle.protox_grammar.proofs.Shows.{Shows, as_is, seq-shows, mapped-shows, either-shows, star-shows, optional-shows, shows-by, left-shows, right-shows}
 use Rattle.protox_grammar.proofs.Telling.{AllLie, Voice, silent, noting, NotesOf, either_of, Tells, Leaves, plain-tells, fixed-leaves, leaf-leaves, seq_trace, both_notes, seq-tells, mapped-tells, choice_trace, choice_notes, choice-tells, nothing-tells, note_trace, note-tells, times_notes, star-tells}
 
--- `code` reads what `read` does, seen by `view`, and `notes` are what is told of its steps.
+-- `code` reads what `read` does, with the view `view`. `notes` are the notes of its steps.
 pub record Shown {A B : Type 0} (v : Voice) (read : Reader Place A) (trace : Rows Place → Steps Place) (view : A → B) : Type 0 where
   pub code : Reader Place B
   pub notes : NotesOf v
   pub shows : Shows view read code
   pub tells : Tells v read trace notes
 
--- of a rule that notes nothing, and of one that does
+-- For a rule that notes nothing, and for a rule that notes something.
 abbrev pub Silent : {A B : Type 0} → Rule Place A → (A → B) → Type 0
 Silent rule view = Shown silent rule.read rule.trace view
 
@@ -55,25 +56,25 @@ module _ {A B C D : Type 0} {j k : Voice} {a : Reader Place A} {b : Reader Place
   }
 
 module _ {A C : Type 0} {v : Voice} {a : Reader Place A} {s : Rows Place → Steps Place} {f : A → C} where
-  -- what is read, seen further
+  -- what is read, with another view
   abbrev pub seen : {D : Type 0} (to : C → D) → Shown v a s f → Shown v a s (λ x. to (f x))
   seen to x = record { code = mapped to x.code; notes = x.notes; shows = right-shows to x.shows; tells = x.tells }
 
-  -- seen by an equal function
+  -- with an equal view
   abbrev pub shown_by : {g : A → C} → ((x : A) → f x ≡ g x) → Shown v a s f → Shown v a s g
   shown_by e x = record { code = x.code; notes = x.notes; shows = shows-by e x.shows; tells = x.tells }
 
-  -- a rule under another name, of which the code sees nothing
+  -- a rule under another name, which the code doesn't see
   abbrev pub renamed : {B : Type 0} (to : A → B) {h : B → C} → ((x : A) → f x ≡ h (to x)) → Shown v a s f → Shown v (mapped to a) s h
   renamed to {h = h} e x = record { code = x.code; notes = x.notes; shows = left-shows to h e x.shows; tells = mapped-tells v a s x.notes to x.tells }
 
-  -- a rule under another name, where the code builds a value of its own
+  -- a rule under another name, for which the code builds a value of its own
   abbrev pub named : {B D : Type 0} (to : A → B) {h : B → D} (to' : C → D) → ((x : A) → to' (f x) ≡ h (to x)) → Shown v a s f → Shown v (mapped to a) s h
   named to {h = h} to' e x = record { code = mapped to' x.code; notes = x.notes; shows = mapped-shows to to' h e x.shows; tells = mapped-tells v a s x.notes to x.tells }
 
--- ---- seen with the rows that it is read from
+-- ---- views that use the rows, too
 
--- what is read, seen with these rows
+-- What is read, with the rows from which it is read.
 abbrev pub mapped_from : {A B : Type 0} → (Rows Place → A → B) → Reader Place A → Reader Place B
 mapped_from f a xs = a xs >>= λ x. Ok (f xs x.0, x.1)
 
@@ -93,7 +94,7 @@ pub mapped_from-shows : {A B C D : Type 0} (rule : Rule Place B) (law : IsRead r
 mapped_from-shows rule law {f = f} {a = a} to to' h same e k = record { same = λ xs. ap (λ v. v >>= see to' xs) (k.same xs) ∙ shown rule law f a to to' h e same xs (a xs) refl }
 
 module _ {A B C D : Type 0} {v : Voice} {a : Reader Place A} {s : Rows Place → Steps Place} {f : A → C} (to : A → B) {h : B → D} where
-  -- as `named`, where the code sees the rows, too
+  -- as `named`, for code that sees the rows, too
   abbrev pub named_from : (rule : Rule Place B) → IsRead rule → ((xs : Rows Place) → rule.read xs ≡ mapped to a xs) → (to' : Rows Place → C → D)
       → ((x : A) (rest : Rows Place) → to' (rule.spell (to x) ++ rest) (f x) ≡ h (to x)) → Shown v a s f → Shown v (mapped to a) s h
   named_from rule law same to' e x = record { code = mapped_from to' x.code; notes = x.notes; shows = mapped_from-shows rule law to to' h same e x.shows; tells = mapped-tells v a s x.notes to x.tells }
@@ -128,7 +129,7 @@ module _ {A C : Type 0} {v : Voice} {a : Reader Place A} {s : Rows Place → Ste
     tells = star-tells (in_set P) v a s x.notes f x.code x.shows x.tells;
   }
 
-  -- what is read again and again, gathered one after another
+  -- what is read again and again, gathered into one value
   abbrev pub gather : {D : Type 0} {h : List A → D} (P : Set) (add : D → C → D) (none : D) → ((xs : List A) → folded add none (map f xs) ≡ h xs) → Shown v a s f
       → Shown v (reader.star (in_set P) a) (λ xs. star_trace (in_set P) a s (suc (length xs)) xs) h
   gather P add none e x = record {
@@ -140,7 +141,7 @@ module _ {A C : Type 0} {v : Voice} {a : Reader Place A} {s : Rows Place → Ste
 
 -- ---- notes
 
--- what is noted once something was read
+-- What is noted after something was read.
 abbrev pub with_note : {A C : Type 0} {a : Reader Place A} {s : Rows Place → Steps Place} {f : A → C} (event : A → Event Place) (check : C → Rows Place → Notes)
     → ((first : Option (t.Package Place)) (w : Place) (x : A) (rest : Rows Place) → told first w (Note (event x) ∷ []) rest ≡ check (f x) rest)
     → ((low high : ℕ) (xs : Rows Place) (x : A × Rows Place) → a xs ≡ Ok x → Stand low high xs → AllLie high (check (f x.0) x.1)) → Shown silent a s f → Shown noting a (note_trace s a event) f
@@ -163,7 +164,7 @@ module _ {A B C : Type 0} {j k : Voice} {a : Reader Place A} {b : Reader Place B
       → Shown (either_of j k) (seq a (reader.star (in_set P) b)) (seq_trace s a (λ xs. star_trace (in_set P) b u (suc (length xs)) xs)) (list_view f g)
   list_of P x y = shown_by (λ t. pushed g (f t.0 ∷ []) t.1) (seen (λ t. folded push (t.0 ∷ []) t.1) (both x (times P y)))
 
--- three readers one after another, the first two taken together
+-- Three readers one after another, with the first two taken together.
 module _ {A B C : Type 0} (a : Reader Place A) (b : Reader Place B) (c : Reader Place C) where
   abbrev rounded : {D : Type 0} → ((A × B) × C → D) → A × (B × C) → D
   rounded f x = f ((x.0, x.1.0), x.1.1)
@@ -205,7 +206,7 @@ module _ {A B C : Type 0} (a : Reader Place A) (b : Reader Place B) (c : Reader 
         kept (Ok x) = refl
         kept (Err e) = refl
 
--- one and more of them, and what comes behind
+-- One, and more of them, and what comes after.
 module _ {A B C D E : Type 0} {j k l : Voice} {a : Reader Place A} {b : Reader Place B} {c : Reader Place D} {s u w : Rows Place → Steps Place} {f : A → C} {g : B → C} {h : D → E} where
   abbrev pub list_then : (P : Set) → Shown j a s f → Shown k b u g → Shown l c w h
       → Shown {B = List C × E} (either_of (either_of j k) l) (seq a (seq (reader.star (in_set P) b) c)) (seq_trace s a (seq_trace (λ xs. star_trace (in_set P) b u (suc (length xs)) xs) (reader.star (in_set P) b) w)) (λ x. (f x.0 ∷ map g x.1.0, h x.1.1))

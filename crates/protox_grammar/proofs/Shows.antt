@@ -1,4 +1,5 @@
--- What the code reads is what the rules read, seen as the tree of the file.
+-- What the code reads is what the rules read, with a view from the trees of the grammar to the
+-- code's values.
 use Rattle.std.proofs.Common.{◌≡◌, ℕ, zero, suc, Bool, true, false, cond, List, [], ◌∷◌, map, length, Some, None, option_map, Result, Ok, Err, refl, sym, ap, ◌∙◌, inl, inr, ◌⊎◌, arith}
 use Rattle.std.proofs.lemmas.List.{length-append}
 use Rattle.protox_lexeme.specs.Shapes.{Shape, Rows}
@@ -18,7 +19,7 @@ paired a y = Ok ((a, y.0), y.1)
 abbrev pub then : {M A B : Type 0} → Reader M B → A × Rows M → Result ((A × B) × Rows M) Refusal
 then b x = b x.1 >>= paired x.0
 
--- the second reader reads what the first does, seen by f
+-- The second reader reads what the first does, with the view f.
 pub record Shows {M A B : Type 0} (f : A → B) (a : Reader M A) (b : Reader M B) : Type 0 where
   pub same : (xs : Rows M) → b xs ≡ mapped f a xs
 
@@ -59,7 +60,7 @@ split : {M A B : Type 0} (b : Bool) (f : A → B) (x y : Result (A × Rows M) Re
 split true f x y = refl
 split false f x y = refl
 
--- tests that say the same of each token say the same of what comes next
+-- Tests that agree on each token agree on the next one.
 pub head-tests : {M : Type 0} (p q : Shape → Bool) → ((s : Shape) → p s ≡ q s) → (xs : Rows M) → head_in p xs ≡ head_in q xs
 head-tests p q same [] = refl
 head-tests p q same (x ∷ xs) = same x.shape
@@ -84,15 +85,15 @@ seen-other : {M A B : Type 0} (f g : A → B) → ((x : A) → f x ≡ g x) → 
 seen-other f g e (Ok x) = ap (λ v. Ok (v, x.1)) (e x.0)
 seen-other f g e (Err d) = refl
 
--- seen by an equal function
+-- With an equal view.
 pub shows-by : {M A B : Type 0} {f g : A → B} {a : Reader M A} {b : Reader M B} → ((x : A) → f x ≡ g x) → Shows f a b → Shows g a b
 shows-by {f = f} {g = g} {a = a} e h = record { same = λ xs. h.same xs ∙ seen-other f g e (a xs) }
 
--- where the first is renamed
+-- If the first is renamed.
 pub left-shows : {M A B C : Type 0} {f : A → C} {a : Reader M A} {c : Reader M C} (to : A → B) (h : B → C) → ((x : A) → f x ≡ h (to x)) → Shows f a c → Shows h (mapped to a) c
 left-shows {f = f} {a = a} to h e k = record { same = λ xs. k.same xs ∙ seen-inl to f h e (a xs) }
 
--- where the second is
+-- If the second is renamed.
 pub right-shows : {M A B C : Type 0} {f : A → B} {a : Reader M A} {b : Reader M B} (to : B → C) → Shows f a b → Shows (λ x. to (f x)) a (mapped to b)
 right-shows {M = M} {A = A} {f = f} {a = a} to k = record { same = λ xs. ap (λ v. v >>= seen to) (k.same xs) ∙ twice (a xs) }
   where
@@ -100,7 +101,7 @@ right-shows {M = M} {A = A} {f = f} {a = a} to k = record { same = λ xs. ap (λ
     twice (Ok x) = refl
     twice (Err e) = refl
 
--- the same reader, written otherwise
+-- The same reader, written in another way.
 pub shows-as : {M A B : Type 0} {f : A → B} {a : Reader M A} {b c : Reader M B} → ((xs : Rows M) → c xs ≡ b xs) → Shows f a b → Shows f a c
 shows-as e h = record { same = λ xs. e xs ∙ h.same xs }
 
@@ -140,7 +141,7 @@ three f g p q r (inr (inr c)) = r c
 pub optional-shows : {M A B : Type 0} {f : A → B} {a : Reader M A} {b : Reader M B} (p q : Shape → Bool) → ((s : Shape) → p s ≡ q s) → Shows f a b → Shows (option_map f) (mapped to_option (either q (mapped inl a) (mapped inr nothing))) (optional p b)
 optional-shows {f = f} p q same h = left-shows to_option (option_map f) (two _ _ (λ x. refl) (λ x. refl)) (either-shows p q same (right-shows Some h) (right-shows (λ u. None) (as_is nothing)))
 
--- what shows a rule that is never empty takes a row
+-- A view of a rule that is never empty takes a row.
 pub shows-eats : {M A B : Type 0} {r : Rule M A} {f g : Set} {h : A → B} {b : Reader M B} → Lawful r false f g → Shows h r.read b → Consumes b
 shows-eats {r = r} {f = f} {h = h} l k xs x e =
     let y = bind_ok (r.read xs) (seen h) x (sym (k.same xs) ∙ e) in

@@ -1,4 +1,5 @@
--- What the code reads and notes of the statements of a file: a package statement behind another is noted, so notes depend on the first.
+-- What the code reads and notes of the statements of a file. A package statement after another one
+-- is noted, so notes depend on the first one.
 use Rattle.std.proofs.Common.{◌≡◌, ◌<◌, ℕ, zero, suc, Bool, true, false, cond, List, [], ◌∷◌, ◌++◌, length, Option, Some, None, option_map, Result, Ok, Err, inl, inr, ◌⊎◌, refl, sym, ap, subst, ◌∙◌, append-nil, arith}
 use Rattle.protox_fault.specs.Faults.{Span, SpanLiesIn}
 use Rattle.protox_fault.specs.declared.error.ParseErrorKind.TheVariants.{DuplicatePackage}
@@ -55,7 +56,7 @@ module _ (some : t.Package Place) where
   still-none None w e = refl
   still-none (Some f) w e = absurd cc
 
-  -- what tells its nodes, whatever comes before and behind, holds no package statement
+  -- steps that note the same nodes, whatever comes before and after, hold no package statement
   pub kept-of : (l : Steps Place) (ns : List (CheckedNode Place)) → Says l ns → (p : Option (t.Package Place)) (w : Place) → first_behind p l ≡ p
   kept-of l ns h (Some f) w = first-stays f l
   kept-of l ns h None w =
@@ -72,8 +73,9 @@ module _ (some : t.Package Place) where
 abbrev pub place_of : Option (t.Package Place) → Option Span
 place_of first = option_map (package_span span_of) first
 
--- The notes are those that are told of the steps behind a first package statement at this place, or behind none; and `next` says which is the first then.
--- They lie in the source that this and the rows stand in, and so does the place of the first.
+-- The notes are those of the steps after a first package statement at this place, or after none.
+-- `next` is the first one then. The notes lie in the source in which this place and the rows stand,
+-- and so does the place of the first one.
 pub record Stated {A B : Type 0} (read : Reader Place A) (trace : Rows Place → Steps Place) (view : A → B) (next : Option Span → B → Option Span) : Type 0 where
   pub code : Reader Place B
   pub notes : Option Span → Rows Place → Notes
@@ -84,7 +86,7 @@ pub record Stated {A B : Type 0} (read : Reader Place A) (trace : Rows Place →
   pub lies : (q : Option Span) (low high : ℕ) (xs : Rows Place) → Given (SpanLiesIn high) q → Stand low high xs → AllLie high (notes q xs)
   pub first_lies : (q : Option Span) (low high : ℕ) (xs : Rows Place) (x : A × Rows Place) → read xs ≡ Ok x → Given (SpanLiesIn high) q → Stand low high xs → Given (SpanLiesIn high) (next q (view x.0))
 
--- the first package statement stays what it was
+-- The first package statement stays the same.
 abbrev pub KeepsFirst : {A : Type 0} → Reader Place A → (Rows Place → Steps Place) → Type 0
 KeepsFirst {A} read trace = (p : Option (t.Package Place)) (xs : Rows Place) (x : A × Rows Place) → read xs ≡ Ok x → first_behind p (trace xs) ≡ p
 
@@ -102,7 +104,7 @@ module _ {A B : Type 0} {v : Voice} {a : Reader Place A} {s : Rows Place → Ste
     first_lies = λ q low high xs y r g k. subst (Given (SpanLiesIn high)) (sym (e q y.0)) g;
   }
 
--- what is noted of a package statement behind a first one
+-- What is noted of a package statement after a first one.
 abbrev pub again_notes : Option Span → Span → Rows Place → Notes
 again_notes None span rest = []
 again_notes (Some first) span rest = package_notes first span rest
@@ -241,7 +243,7 @@ module _ {A B C : Type 0} {a : Reader Place A} {s : Rows Place → Steps Place} 
       let p = bind_ok (a xs) (λ j. Ok (to j.0, j.1)) z e in
       subst (λ v. Given (SpanLiesIn high) (next q v)) (same p.0.0 ∙ ap (λ (j : B × Rows Place). h j.0) (ok_is (to p.0.0, p.0.1) z p.2)) (x.first_lies q low high xs p.0 p.1 i k)
 
-  -- a rule under another name, of which the code sees nothing
+  -- a rule under another name, which the code doesn't see
   abbrev pub stated_renamed : Stated (mapped to a) s h next
   stated_renamed = record {
     code = x.code;
@@ -295,12 +297,12 @@ module _ {A B : Type 0} {a : Reader Place A} {s : Rows Place → Steps Place} {f
           h (next q (f y.0)) m.0 high y.1 (x.first_lies q low high xs y e g k) (subst (Stand m.0 high) (x.left xs y e) m.1)
       at h (Err d) e = tt
 
-  -- what is noted of statements lies in the source that they stand in
+  -- what is noted of statements lies in the source in which they stand
   pub all-lie : (q : Option Span) (low high : ℕ) (xs : Rows Place) → Given (SpanLiesIn high) q → Stand low high xs → AllLie high (stated_notes P next x.code x.notes q xs)
   unfolding stated_notes
   all-lie q low high xs g k = many-lie (suc (length xs)) q low high xs g k
 
-  -- what is told of all statements
+  -- the notes of all statements
   pub all-says : (p : Option (t.Package Place)) (w : Place) (xs : Rows Place) → told p w (star_trace P a s (suc (length xs)) xs) xs ≡ stated_notes P next x.code x.notes (place_of p) xs
   unfolding stated_notes
   all-says p w xs = many-says (suc (length xs)) p w xs

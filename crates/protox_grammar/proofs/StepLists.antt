@@ -1,9 +1,9 @@
--- Lists of steps, until behind so many rows.
+-- Lists of steps, cut after a number of rows.
 use Rattle.std.proofs.Common.{◌≡◌, ℕ, zero, suc, ◌+◌, ◌<◌, ◌≤◌, Bool, true, false, ◌||◌, cond, List, [], ◌∷◌, ◌++◌, length, take, refl, sym, ap, subst, ◌∙◌, arith, inl, inr, ◌⊎◌}
 use Rattle.protox_lexeme.specs.Shapes.{Rows}
 use Rattle.protox_grammar.specs.Steps.{Event, Token, Note, Steps, is_too_deep, tokens, plainly, until, has_deep}
 
--- no note comes first
+-- The first step is no note.
 abbrev pub Quiet : {M : Type 0} → Steps M → Type 0
 Quiet [] = Unit {0}
 Quiet (Token r ∷ l) = Unit {0}
@@ -41,7 +41,7 @@ pub plainly-quiet : {M : Type 0} (rs : Rows M) → Quiet (plainly rs)
 plainly-quiet [] = tt
 plainly-quiet (r ∷ rs) = tt
 
--- what follows so many rows doesn't matter
+-- What follows after n rows doesn't matter.
 pub until-past : {M : Type 0} (n : ℕ) (l k : Steps M) → n ≤ length (tokens l) → Quiet k → until n (l ++ k) ≡ until n l
 until-past zero [] k h q = until-quiet k q
 until-past (suc n) [] k h q = absurd (omega (arith, h))
@@ -61,7 +61,7 @@ pub until-note : {M : Type 0} (n : ℕ) (e : Event M) (l : Steps M) → until n 
 until-note zero e l = refl
 until-note (suc n) e l = refl
 
--- behind the same steps
+-- After the same steps.
 pub until-same : {M : Type 0} (l k j : Steps M) (n total : ℕ) → total ≡ length (tokens l) + n → until n k ≡ until n j → until total (l ++ k) ≡ until total (l ++ j)
 until-same [] k j n total e h = let same : total ≡ n = omega (arith, e) in subst (λ v. until v k ≡ until v j) (sym same) h
 until-same (Token r ∷ l) k j n zero e h = absurd (omega (arith, e))
@@ -81,7 +81,7 @@ deep-until (suc n) (Token r ∷ l) k h = ap (λ v. Token r ∷ v) (deep-until n 
 deep-until n (Note e ∷ l) k h =
     until-note n e (l ++ k) ∙ under-deep e (until n l) (until n (l ++ k)) (is_too_deep e) (λ g. deep-until n l k g) (subst (λ v. has_deep v ≡ true) (until-note n e l) h) ∙ sym (until-note n e l)
 
--- what is too deep is behind so many rows, or before
+-- A body that is too deep stands after n rows, or before.
 or-deep : {M : Type 0} (n : ℕ) (l k : Steps M) (b : Bool) → (has_deep l ≡ true → (has_deep k ≡ true) ⊎ (length (tokens k) ≡ n)) → b || has_deep l ≡ true
     → (b || has_deep (cond b [] k) ≡ true) ⊎ (length (tokens (cond b [] k)) ≡ n)
 or-deep n l k true f g = inl refl
@@ -153,7 +153,7 @@ take-front (suc n) (y ∷ ys) zs h = ap (λ v. y ∷ v) (take-front n ys zs (ome
 
 -- ---- cuts of cuts
 
--- nothing stands behind what is too deep
+-- Nothing follows a body that is too deep.
 abbrev pub EndsDeep : {M : Type 0} → Steps M → Type 0
 EndsDeep [] = Unit {0}
 EndsDeep (Token r ∷ l) = EndsDeep l
@@ -209,7 +209,7 @@ until-at-most n (Note e ∷ l) = subst (λ v. length (tokens v) ≤ n) (sym (unt
     most true k h = omega arith
     most false k h = h
 
--- a until is a front
+-- Steps that are cut are the beginning of the steps.
 pub until-front : {M : Type 0} (n : ℕ) (l : Steps M) → (k : Steps M) × (l ≡ until n l ++ k)
 until-front zero [] = ([], refl)
 until-front (suc n) [] = ([], refl)
@@ -221,7 +221,7 @@ until-front {M} n (Note e ∷ l) = subst (λ u. (k : Steps M) × (Note e ∷ l �
     under e true l c v = (l, refl)
     under e false l c v = (v.0, ap (λ u. Note e ∷ u) v.1)
 
--- ---- what is too deep, at the end alone
+-- ---- a body that is too deep only at the end
 
 neither : (b c : Bool) → b || c ≡ false → (b ≡ false) × (c ≡ false)
 neither true c h = absurd cc
@@ -246,7 +246,7 @@ pub plainly-shallow : {M : Type 0} (xs : Rows M) → has_deep (plainly xs) ≡ f
 plainly-shallow [] = refl
 plainly-shallow (x ∷ xs) = plainly-shallow xs
 
--- where all rows are taken the front is the whole
+-- If all rows are taken, the beginning is the whole.
 pub until-all : {M : Type 0} (n : ℕ) (l : Steps M) → length (tokens l) ≤ n → EndsDeep l → until n l ≡ l
 until-all zero [] h g = refl
 until-all (suc n) [] h g = refl

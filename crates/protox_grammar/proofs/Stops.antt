@@ -1,4 +1,5 @@
--- Where reading stops, said of rows and their marks. What is said of the tokens alone follows in `Fronts`.
+-- Where reading stops, in terms of rows and their tags. `Fronts` says it in terms of the tokens
+-- alone.
 use Rattle.std.proofs.Common.{◌≡◌, ◌<◌, ℕ, suc, [], ◌∷◌, ◌++◌, length}
 use Rattle.protox_lexeme.specs.Shapes.{Row, Rows}
 use Rattle.protox_ast.specs.Nodes.{depth}
@@ -9,7 +10,7 @@ use Rattle.protox_ast.specs.Tree.{File}
 abbrev pub BeginsWith : {M : Type 0} → Rows M → Type 0
 BeginsWith {M} front = (f : File M) × (more : Rows M) × Spells (front ++ more) f
 
--- at this row, behind which there are `left - 1`, no file goes on
+-- No file begins with the rows up to this one, which has `left - 1` rows after it.
 pub record UnexpectedRow {M : Type 0} (rows : Rows M) (left : ℕ) : Type 0 where
   pub front : Rows M
   pub here : Row M
@@ -19,7 +20,7 @@ pub record UnexpectedRow {M : Type 0} (rows : Rows M) (left : ℕ) : Type 0 wher
   pub before : BeginsWith front
   pub with_it : BeginsWith (front ++ (here ∷ [])) → ⊥
 
--- at this row something opens that is too deep
+-- This row opens something that is too deep.
 pub record TooDeepRow {M : Type 0} (n : ℕ) (rows : Rows M) (left : ℕ) : Type 0 where
   pub front : Rows M
   pub here : Row M
@@ -29,7 +30,7 @@ pub record TooDeepRow {M : Type 0} (n : ℕ) (rows : Rows M) (left : ℕ) : Type
   pub begins : BeginsWith (front ++ (here ∷ []))
   pub deeper : (f : File M) (more : Rows M) → Spells (front ++ (here ∷ more)) f → n < depth f
 
--- the rows begin a file and are none
+-- Some file begins with the rows, but they are not yet a file.
 pub record EndedRows {M : Type 0} (rows : Rows M) : Type 0 where
   pub begins : BeginsWith rows
   pub no_file : (f : File M) → Spells rows f → ⊥

@@ -1,11 +1,11 @@
--- The steps of reading a file are those of its tree, and no body in it is too deep.
+-- The steps of reading a file are those of its tree. No body in it is too deep.
 use Rattle.std.proofs.Common.{◌≡◌, ◌≤◌, ℕ, zero, suc, false, List, [], ◌∷◌, Ok, refl, ap, subst, ◌∙◌}
 use Rattle.protox_lexeme.specs.Lexemes.{Lexeme}
 use Rattle.protox_ast.specs.Nodes.{depth}
 use Rattle.protox_ast.specs.Places.{Place}
 use Rattle.protox_ast.specs.Spells.{Spells}
 use Rattle.protox_ast.specs.Tree as t
-use Rattle.protox_grammar.specs.MarkLaws.{no_place, placed_tokens}
+use Rattle.protox_grammar.specs.TagLaws.{no_place, placed_tokens}
 use Rattle.protox_grammar.specs.Noted.{steps, trace}
 use Rattle.protox_grammar.specs.Reads.{read}
 use Rattle.protox_grammar.specs.Steps.{ANode, APackage, AKeyword, ADeepBody, ADeeperBody, AnOpenBrace, ACloseBrace, Token, Note, Steps, until, has_deep}
@@ -14,7 +14,7 @@ use Rattle.protox_grammar.proofs.Main as main
 use Rattle.protox_grammar.proofs.StepLists.{until-note}
 use Rattle.protox_grammar.proofs.Takes.{bind_ok, ok_is}
 
--- steps that note no body that is too deep, up to some row
+-- Steps that note no body that is too deep, up to some row.
 pub none-deep : {M : Type 0} (l : Steps M) (n : ℕ) → has_deep l ≡ false → has_deep (until n l) ≡ false
 none-deep [] zero h = refl
 none-deep [] (suc n) h = refl
@@ -28,7 +28,7 @@ none-deep (Note (ANode x) ∷ l) n h = ap has_deep (until-note n (ANode x) l) �
 none-deep (Note (APackage x) ∷ l) n h = ap has_deep (until-note n (APackage x) l) ∙ none-deep l n h
 none-deep (Note (AKeyword m) ∷ l) n h = ap has_deep (until-note n (AKeyword m) l) ∙ none-deep l n h
 
--- reading takes the steps of the tree
+-- Reading takes the steps of the tree.
 pub record IsTaken (lexemes : List Lexeme) (f : t.File Place) : Type 0 where
   pub same : trace 31 (placed_tokens lexemes) ≡ steps 31 f
   pub shallow : has_deep (trace 31 (placed_tokens lexemes)) ≡ false

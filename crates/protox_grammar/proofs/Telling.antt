@@ -1,4 +1,5 @@
--- What is noted of the steps of readers, as it is noted by the code that reads: each part notes its own, one behind the other.
+-- The notes of a reader's steps, as the code that reads makes them: each part notes its own, one
+-- after another.
 use Rattle.std.proofs.Common.{◌≡◌, ◌<◌, ℕ, zero, suc, ◌-◌, Bool, true, false, cond, List, [], ◌∷◌, ◌++◌, length, take, Option, Some, None, Result, Ok, Err, refl, sym, ap, subst, ◌∙◌, append_assoc, append-nil, arith, inl, inr}
 use Rattle.std.proofs.lemmas.List.{length-append}
 use Rattle.protox_fault.specs.Faults.{LiesIn}
@@ -23,7 +24,7 @@ use Rattle.protox_grammar.proofs.Shows.{Shows}
 abbrev Rows_ : Type 0
 Rows_ = Rows Place
 
--- ---- steps one behind the other
+-- ---- steps one after another
 
 pub told-append : (first : Option (t.Package Place)) (w : Place) (l k : Steps Place) (xs : Rows Place)
     → told first w (l ++ k) xs ≡ told first w l xs ++ told (first_behind first l) (keyword_behind w l) k (past l xs)
@@ -52,9 +53,9 @@ past-plainly : (front rest : Rows Place) → past (plainly front) (front ++ rest
 past-plainly [] rest = refl
 past-plainly (r ∷ rs) rest = past-plainly rs rest
 
--- ---- where what is noted lies
+-- ---- where the notes lie
 
--- a fault that is noted lies in a source of so many bytes
+-- A fault that is noted lies in a source of `size` bytes.
 abbrev pub NotedLies : ℕ → Noted → Type 0
 NotedLies high (Fault f) = LiesIn high f
 NotedLies high (TextFormat on) = Unit {0}
@@ -62,7 +63,7 @@ NotedLies high (TextFormat on) = Unit {0}
 abbrev pub AllLie : ℕ → Notes → Type 0
 AllLie high ns = Each (λ (n : note_type.Note). NotedLies high n.noted) ns
 
--- What is noted of rows that stand in a source lies in it.
+-- The notes of rows that stand in a source lie in it.
 abbrev pub Lie : (Rows Place → Notes) → Type 0
 Lie f = (low high : ℕ) (xs : Rows Place) → Stand low high xs → AllLie high (f xs)
 
@@ -74,7 +75,7 @@ pub cond-lie : (high : ℕ) (b : Bool) (xs ys : Notes) → AllLie high xs → Al
 cond-lie high true xs ys h k = h
 cond-lie high false xs ys h k = k
 
--- rows behind others stand where those do
+-- Rows after others stand where the others do.
 pub past-stand : (l : Steps Place) (low high : ℕ) (xs : Rows Place) → Stand low high xs → (m : ℕ) × Stand m high (past l xs)
 past-stand [] low high xs h = (low, h)
 past-stand (Token r ∷ l) low high [] h = past-stand l low high [] h
@@ -87,7 +88,7 @@ pub data Voice : Type 0 where
   silent : Voice
   noting : Voice
 
--- what a rule notes of the rows that it reads
+-- What a rule notes of the rows that it reads.
 abbrev pub NotesOf : Voice → Type 0
 NotesOf silent = Unit {0}
 NotesOf noting = Rows Place → Notes
@@ -96,13 +97,13 @@ abbrev pub notes_of : (v : Voice) → NotesOf v → Rows Place → Notes
 notes_of silent u xs = []
 notes_of noting f xs = f xs
 
--- whether one of two notes anything
+-- Whether one of two rules notes anything.
 abbrev pub either_of : Voice → Voice → Voice
 either_of silent v = v
 either_of noting v = noting
 
--- The notes are those that are told of the steps, whatever was noted before; the steps go to the rows that are left; and what is noted lies in the
--- source that the rows stand in.
+-- The notes are those of the steps, whatever was noted before. The steps go on to the rows that are
+-- left. The notes lie in the source in which the rows stand.
 pub record Tells {A : Type 0} (v : Voice) (read : Reader Place A) (trace : Rows Place → Steps Place) (notes : NotesOf v) : Type 0 where
   pub says : (first : Option (t.Package Place)) (w : Place) (xs : Rows Place) → told first w (trace xs) xs ≡ notes_of v notes xs
   pub left : (xs : Rows Place) (x : A × Rows Place) → read xs ≡ Ok x → past (trace xs) xs ≡ x.1
@@ -110,7 +111,7 @@ pub record Tells {A : Type 0} (v : Voice) (read : Reader Place A) (trace : Rows 
 
 -- ---- rules without notes
 
--- the rows that are left are the last of those that were there
+-- The rows that are left are the last of the rows that were there.
 abbrev pub Leaves : {A : Type 0} → Reader Place A → Type 0
 Leaves {A} read = (xs : Rows Place) (x : A × Rows Place) → read xs ≡ Ok x → (front : Rows Place) × (xs ≡ front ++ x.1)
 
@@ -155,7 +156,7 @@ leaf-leaves see (r ∷ rs) x e = seen-leaves r rs (see r.shape) x e
 abbrev pub seq_trace : {A : Type 0} → (Rows Place → Steps Place) → Reader Place A → (Rows Place → Steps Place) → Rows Place → Steps Place
 seq_trace s a t xs = s xs ++ then_steps (a xs) (λ x. t x.1)
 
--- the notes of the first, and those of the second, where the first reads as the code does
+-- The notes of the first, and then those of the second, if the first reads as the code does.
 abbrev pub both_notes : {C : Type 0} (j k : Voice) → NotesOf j → Reader Place C → NotesOf k → NotesOf (either_of j k)
 both_notes silent silent f c g = tt
 both_notes silent noting f c g = λ xs. then_notes g (c xs)
@@ -177,11 +178,11 @@ then-same : {A C : Type 0} (view : A → C) (g : Rows Place → Notes) (r : Resu
 then-same view g (Ok x) = refl
 then-same view g (Err e) = refl
 
--- what is read is seen otherwise, and the same rows are left
+-- What is read gets another view, and the same rows are left.
 pub then-seen : {A C : Type 0} (view : A → C) (a : Reader Place A) (c : Reader Place C) → Shows view a c → (g : Rows Place → Notes) (xs : Rows Place) → then_notes g (a xs) ≡ then_notes g (c xs)
 then-seen view a c h g xs = sym (ap (then_notes g) (h.same xs) ∙ then-same view g (a xs))
 
--- the notes of what comes behind a reading
+-- The notes of what comes after a reading.
 pub told-then : {A : Type 0} (v : Voice) (read : Reader Place A) (trace : Rows Place → Steps Place) (notes : NotesOf v) → Tells v read trace notes
     → (k : A × Rows Place → Steps Place) (g : A × Rows Place → Notes)
     → ((first : Option (t.Package Place)) (w : Place) (x : A × Rows Place) → told first w (k x) x.1 ≡ g x)
@@ -204,7 +205,7 @@ checked-then : {A : Type 0} (g : Rows Place → Notes) (r : Result (A × Rows Pl
 checked-then g (Ok x) = refl
 checked-then g (Err e) = refl
 
--- what is noted behind a reading
+-- What is noted after a reading.
 pub after-lie : {A : Type 0} (v : Voice) (a : Reader Place A) (s : Rows Place → Steps Place) (f : NotesOf v) → Tells v a s f → (g : A → Rows Place → Notes) (low high : ℕ) (xs : Rows Place)
     → ((x : A × Rows Place) → a xs ≡ Ok x → (m : ℕ) → Stand m high x.1 → AllLie high (g x.0 x.1)) → Stand low high xs → AllLie high (checked g (a xs))
 after-lie {A = A} v a s f h g low high xs e stands = at (a xs) refl
@@ -286,7 +287,7 @@ module _ {A B C : Type 0} (p : Shape → Bool) (j k : Voice) (a : Reader Place A
 pub nothing-tells : Tells silent (reader.nothing {M = Place}) (λ xs. []) tt
 nothing-tells = record { says = λ first w xs. refl; left = λ xs x e. ap (λ v. v.1) (ok_is (tt, xs) x e); lies = λ low high xs h. tt }
 
--- ---- a note behind what was read
+-- ---- a note after what was read
 
 abbrev pub note_trace : {A : Type 0} → (Rows Place → Steps Place) → Reader Place A → (A → Event Place) → Rows Place → Steps Place
 note_trace s a event xs = s xs ++ then_steps (a xs) (λ x. Note (event x.0) ∷ [])

@@ -14,7 +14,7 @@ use Rattle.protox_ast.specs.Keywords.{scalars}
 use Rattle.protox_grammar.proofs.Sets.{place-le, and_true}
 use Rattle.protox_grammar.proofs.Begin.{place-apart, places, known}
 
--- two tests that say the same
+-- Two tests with the same answers.
 pub same-test : (a b : Bool) → (a ≡ true → b ≡ true) → (b ≡ true → a ≡ true) → a ≡ b
 same-test true b f g = sym (f refl)
 same-test false true f g = g refl
@@ -56,7 +56,7 @@ mark-class b i e l (BlockComment n) = sym (ne_eqb 59 i (λ h. omega (arith, h, l
 mark-class b i e l Newline = sym (ne_eqb 59 i (λ h. omega (arith, h, l)))
 mark-class b i e l Invalid = sym (ne_eqb 59 i (λ h. omega (arith, h, l)))
 
--- none of these words has a class past all words
+-- The class of each of these words is a class of words.
 none-past : (ws : List (List ℕ)) → known ws ≡ true → (n : ℕ) → 38 ≤ n → among (places ws) n ≡ false
 none-past [] h n l = refl
 none-past (w ∷ ws) h n l =

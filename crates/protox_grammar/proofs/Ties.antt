@@ -1,4 +1,4 @@
--- Each rule that has messages in it is its plain form, whatever is said of the bodies in it.
+-- Each rule with messages in it is its plain form, whatever is known of the bodies in it.
 use Rattle.std.proofs.Common.{◌≡◌, ℕ, true, false, List, [], ◌∷◌, ◌++◌, Option, Some, None, codes, refl, ap, inl, inr, ◌⊎◌}
 use Rattle.protox_grammar.specs.Class.{apart, place, keywords, among, just_word, just_mark, but_mark, among_words}
 use Rattle.protox_lexeme.specs.Shapes.{Rows}
@@ -73,7 +73,7 @@ pub type-rest : {M : Type 0} (a c : List ℕ) (ks : List (List ℕ)) (x : t.Fiel
 type-rest a c ks (t.scalar x y) h = tt
 type-rest a c ks (t.named x) h = undotted-rest a c ks x.leading_dot x.name.first.0 h
 
--- ---- each rule is its plain form, whatever is said of the bodies in it
+-- ---- each rule is its plain form, whatever is known of the bodies in it
 
 module _ {M : Type 0} (m : M) (read : Reader M (t.Mbody M)) (steps : t.Mbody M → Steps M) (trace : Rows M → Steps M) (Q : t.Mbody M → Type 0) where
   abbrev bodies : Rule M (t.Mbody M)

@@ -1,4 +1,4 @@
--- The names of classes are those of the words and the marks.
+-- The named classes are those of the keywords and the marks.
 use Rattle.std.proofs.Common.{◌≡◌, refl, codes}
 use Rattle.protox_grammar.specs.Class.{word, mark}
 use Rattle.protox_grammar.specs.Class as class

@@ -1,5 +1,5 @@
--- What is noted among the steps of a tree: its nodes that are checked, the braces of its aggregates, and of the bodies that are too deep
--- first one of level 32.
+-- What is noted among the steps of a tree: its checked nodes, the braces of its aggregates, and
+-- bodies that are too deep, of which the first has level 32.
 use Rattle.std.proofs.Common.{◌≡◌, ◌≤◌, ℕ, zero, suc, ◌+◌, cond, List, [], ◌∷◌, ◌++◌, map, Option, Some, None, refl, sym, ap, subst, ◌∙◌, append_assoc, arith}
 use Rattle.std.proofs.lemmas.Bool.{ne_eqb}
 use Rattle.std.proofs.lemmas.List.{append-nil}
@@ -8,9 +8,9 @@ use Rattle.protox_ast.specs.Tree as t
 use Rattle.protox_ast.specs.Spelling as s
 use Rattle.protox_ast.specs.KeywordWalk as k
 use Rattle.protox_ast.specs.DepthWalk as d
-use Rattle.protox_ast.specs.AggregateWalk as a
-use Rattle.protox_ast.specs.AggregateWalk.{Braces}
-use Rattle.protox_ast.specs.CheckWalk as c
+use Rattle.protox_ast.specs.inner.AggregateWalk as a
+use Rattle.protox_ast.specs.inner.AggregateWalk.{Braces}
+use Rattle.protox_ast.specs.inner.CheckWalk as c
 use Rattle.protox_ast.specs.CheckedNodes.{CheckedNode, ASyntax, AnImport, AReservedName, AGroupName, ATooDeep}
 use Rattle.protox_grammar.specs.Rule.{Rule, seq}
 use Rattle.protox_grammar.specs.Rules as r
@@ -22,17 +22,17 @@ use Rattle.protox_grammar.proofs.Braced as braced
 use Rattle.protox_grammar.proofs.Braced.{Braced}
 use Rattle.protox_grammar.proofs.Levels.{mbody-into}
 
--- these nodes are noted, whatever comes before and behind
+-- These nodes are noted, whatever comes before and after.
 abbrev pub Says : {M : Type 0} → Steps M → List (CheckedNode M) → Type 0
 Says {M} l ns = (p : Option (t.Package M)) (w : M) → (v : M) × ((j : Steps M) → noted_nodes p w (l ++ j) ≡ ns ++ noted_nodes p v j)
 
--- where no node is noted
+-- If no node is noted.
 pub past : {M : Type 0} (p : Option (t.Package M)) (w : M) (l j : Steps M) (bs : Braces M) → Braced l bs → noted_nodes p w (l ++ j) ≡ noted_nodes p w j
 past p w l j bs h = past-braces p w l j (subst (k.Each IsBrace) (sym h) (events-braces bs))
 
--- Of steps under S, which says that they are in no body that is too deep.
+-- For steps under S, which says that they are not in a body that is too deep.
 module _ {M : Type 0} (S : Type 0) where
-  -- these braces are noted, and of bodies that are too deep first one of level 32
+  -- these braces are noted; of the bodies that are too deep the first has level 32
   abbrev pub Marks : Steps M → Braces M → Type 0
   Marks l bs = (brace_notes l ≡ brace_pairs bs) × (S → IsShallow (notes l))
 
@@ -48,7 +48,7 @@ module _ {M : Type 0} (S : Type 0) where
   pub marks-braced : (l : Steps M) (bs : Braces M) → Braced l bs → Marks l bs
   marks-braced l bs h = (ap braces_in h, λ s. subst IsShallow (sym h) (events-shallow bs))
 
-  -- with no aggregate behind
+  -- with no aggregate after it
   pub marks-after : (l j : Steps M) (bs : Braces M) → Marks l bs → Braced j [] → Marks (l ++ j) bs
   marks-after l j bs f h = subst (Marks (l ++ j)) (append-nil bs) (marks-both l j bs [] f (marks-braced j [] h))
 
@@ -67,7 +67,7 @@ module _ {M : Type 0} (S : Type 0) where
           let h = g.0 p e.0 in
           (h.0, λ i. ap (λ u. noted_nodes p w u) (append_assoc l j i) ∙ e.1 (j ++ i) ∙ ap (λ u. ns ++ u) (h.1 i) ∙ sym (append_assoc ns ms (noted_nodes p h.0 i)))
 
-  -- with nothing noted behind, or before
+  -- with nothing noted after it, or before it
   pub tells-after : (l j : Steps M) (ns : List (CheckedNode M)) (bs : Braces M) → Tells l ns bs → Braced j [] → Tells (l ++ j) ns bs
   tells-after l j ns bs f h = (says, marks-after l j bs f.1 h)
     where
@@ -130,7 +130,7 @@ module _ {M : Type 0} (S : Type 0) where
   unfolding r.enum
   enum-tells x = tells-after (steps_of_many r.enum_element.steps x.elements) ((r.sign s.close_brace).steps x.close_at) (c.enum_nodes x) (a.of_enum x) (tells-many r.enum_element.steps c.enum_element_nodes a.of_enum_element enum_element-tells x.elements) refl
 
-  -- ---- over what is noted in a body of this level
+  -- ---- given what is noted in a body of this level
 
   abbrev pub SaysBody : ℕ → t.Mbody M → Steps M → Type 0
   SaysBody level x l = (p : Option (t.Package M)) (w : M) → (v : M) × ((j : Steps M) → noted_nodes p w (l ++ j) ≡ c.body_nodes level w x ++ noted_nodes p v j)
@@ -241,7 +241,7 @@ module _ {M : Type 0} where
   not-that : (level : ℕ) → (level ≡ 32 → ⊥) → (w o : M) → c.deep_nodes level w o ≡ []
   not-that level h w o = ap (λ v. cond v (ATooDeep w o ∷ []) []) (ne_eqb level 32 h)
 
-  -- a body that is none of level 32
+  -- a body whose level is not 32
   body-of : (S : Type 0) (level : ℕ) (o z : M) (es : t.Elements M) (l : Steps M) → (level ≡ 32 → ⊥) → Tells S l (c.elements_nodes (suc level) es) (a.of_elements es) → TellsBody S level (t.mbody_of o es z) l
   body-of S level o z es l far h = (
     λ p v. let e = h.0 p v in (e.0, λ j. e.1 j ∙ ap (λ u. (u ++ c.elements_nodes (suc level) es) ++ noted_nodes p e.0 j) (sym (not-that level far v o))),

@@ -1,4 +1,5 @@
--- The laws of steps: those of reading are those of the tree, also where only the front of the rows is the same.
+-- The laws of steps. The steps of reading are those of the tree, also if only the beginning of the
+-- rows is the same.
 use Rattle.std.proofs.Common.{◌≡◌, ℕ, zero, suc, ◌+◌, ◌≤◌, Bool, true, false, [], ◌∷◌, ◌++◌, length, None, Result, Ok, Err, refl, sym, ap, subst, ◌∙◌, append_assoc, arith, inl, inr, ◌⊎◌}
 use Rattle.std.proofs.lemmas.List.{append-nil, length-append}
 use Rattle.protox_lexeme.specs.Shapes.{Row, Rows}
@@ -12,16 +13,17 @@ use Rattle.protox_grammar.proofs.StepLists.{Quiet, quiet-front, tokens-append, u
 use Rattle.protox_grammar.proofs.EndsDeep.{StopsDeep}
 use Rattle.protox_grammar.proofs.Placing.{last_row, is_string_row, ArePlaced, last-past}
 
--- behind a string either both lists begin with a string or none
+-- After a string both lists begin with a string, or neither does.
 abbrev pub Alike : {M : Type 0} → Rows M → Rows M → Rows M → Type 0
 Alike front rest more = is_string_row (last_row None front) ≡ true → head_in is_string rest ≡ head_in is_string more
 
--- so many rows are left where reading stopped: the one that doesn't fit is among them, and one that opens what is too deep was taken
+-- How many rows are left where reading stopped. A row that doesn't fit is among them. A row that
+-- opens something too deep was taken.
 abbrev pub IsLeft : Refusal → ℕ → Type 0
 IsLeft (Unexpected n) left = n ≡ left
 IsLeft (Deep n) left = n ≡ suc left
 
--- what was read goes on as a tree does, with the same steps
+-- Some tree begins with what was read, with the same steps.
 pub record Halts {M A : Type 0} (r : Rule M A) (xs : Rows M) (e : Refusal) : Type 0 where
   pub rest : Rows M
   pub parts : xs ≡ tokens (r.trace xs) ++ rest
@@ -40,13 +42,14 @@ pub record IsTraced {M A : Type 0} (r : Rule M A) : Type 0 where
   pub ok : (xs : Rows M) (x : A × Rows M) → r.read xs ≡ Ok x → r.trace xs ≡ r.steps x.0
   pub halts : (xs : Rows M) (e : Refusal) → r.read xs ≡ Err e → Halts r xs e
   pub stops : (xs : Rows M) → StopsDeep (r.read xs) (r.trace xs)
-  -- the steps up to the end of a front depend on the front alone, but for a run of strings, which the next row ends
+  -- the steps up to the end of some rows depend only on these rows; except for a run of strings,
+  -- which the next row ends
   pub agrees : (front rest : Rows M) (t : A) (z more : Rows M) → r.ends t z → r.spell t ++ z ≡ front ++ more → Alike front rest more
       → until (length front) (r.trace (front ++ rest)) ≡ until (length front) (r.steps t)
 
 -- ---- where reading stops, some tree goes on
 
--- the rows up to the one that opens what is too deep, and this row, begin a tree
+-- Some tree begins with the rows up to the one that opens something too deep, with this row.
 pub record Opens {M A : Type 0} (r : Rule M A) (xs : Rows M) (left : ℕ) : Type 0 where
   pub front : Rows M
   pub here : Row M
@@ -131,13 +134,13 @@ module _ {M A : Type 0} (r : Rule M A) (e : Bool) (f g : Set) (l : IsSpelled r e
   pub goes : (t : A) (y xs : Rows M) → r.ends t y → xs ≡ r.spell t ++ y → (r.read xs ≡ Ok (t, y)) ⊎ ((n : ℕ) × (r.read xs ≡ Err (Deep n)))
   goes t y xs h q = goes-at t y xs h q (r.read xs) refl
 
-  -- where all trees can be read nothing is too deep
+  -- if all trees can be read, nothing is too deep
   pub never-deep : IsTraced r → ((t : A) → r.may t → r.fits t) → (n : ℕ) (xs : Rows M) → r.read xs ≡ Err (Deep n) → ⊥
   never-deep traced whole n xs h =
       let v = opens-of r traced n xs h in
       rd.tight (Deep n) v.front v.here v.rest v.left_is (ap r.read (sym v.parts) ∙ h) v.tree [] v.more (whole v.tree v.tree_may) (l.follow v.tree [] v.tree_may tt) (append-nil (r.spell v.tree) ∙ v.goes_on)
 
-  -- a tree that ends in the front is read there
+  -- a tree that ends within the rows is read there
   pub not-inside : (front rest : Rows M) (t : A) (z more : Rows M) → r.ends t z → r.spell t ++ z ≡ front ++ more → length front ≤ length (r.spell t)
       → (x : A × Rows M) → r.read (front ++ rest) ≡ Ok x → length front ≤ length (r.spell x.0)
   not-inside front rest t z more h q w x k =
@@ -164,7 +167,7 @@ module _ {M A : Type 0} (a : Rule M A) (ea : Bool) (fa ga : Set) (la : IsSpelled
   took-all : (t : A) → length (tokens (a.steps t)) ≡ length (a.spell t)
   took-all t = ap length (ta.rows t)
 
-  -- past the end of a tree: what follows is read there, or something is too deep before
+  -- after the end of a tree: what follows is read there, or something before is too deep
   pub inside : (front rest : Rows M) (t : A) (z more : Rows M) → a.ends t z → a.spell t ++ z ≡ front ++ more → Alike front rest more
       → (s : Row M) (gs : Rows M) → front ≡ a.spell t ++ (s ∷ gs) → z ≡ (s ∷ gs) ++ more
       → (K : A × Rows M → Steps M) (L : Steps M) → until (length (s ∷ gs)) (K (t, (s ∷ gs) ++ rest)) ≡ until (length (s ∷ gs)) L

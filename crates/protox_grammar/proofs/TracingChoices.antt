@@ -1,4 +1,4 @@
--- The laws of steps for rules that are told apart by the next row.
+-- The laws of steps for rules between which the next row decides.
 use Rattle.std.proofs.Common.{◌≡◌, ℕ, Bool, true, false, cond, [], ◌∷◌, ◌++◌, length, None, Ok, Err, refl, sym, ap, subst, ◌∙◌, inl, inr, ◌⊎◌}
 use Rattle.protox_lexeme.specs.Shapes.{Shape, Rows}
 use Rattle.protox_grammar.specs.Class.{Set, class, within, in_set}
@@ -55,7 +55,7 @@ module _ {M A B : Type 0} (p : Shape → Bool) (P : Set) (a : Rule M A) (b : Rul
         deep = λ n k. ap has_deep h ∙ v.deep n k;
       }
 
-  -- a tree that begins as the rows do, or another where no row was taken
+  -- a tree that begins as the rows do, or another one if no row was taken
   begun : (xs : Rows M) (rest : Rows M) (l : Steps M) → Quiet l → xs ≡ tokens l ++ rest → head_in p xs ≡ false → (tree : B) → b.may tree → (later : Steps M) → b.steps tree ≡ l ++ later
       → (u : B) × (b.may u × Stops P (b.spell u)) × (on : Steps M) × (b.steps u ≡ l ++ on)
   begun xs rest [] quiet parts c tree m later on = (some, (some_may, some_stops), b.steps some, refl)

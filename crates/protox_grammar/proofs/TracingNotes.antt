@@ -1,4 +1,4 @@
--- The laws of steps for a rule with a note behind it, and for one without notes.
+-- The laws of steps for a rule with a note after it, and for a rule without notes.
 use Rattle.std.proofs.Common.{◌≡◌, ℕ, ◌-◌, ◌<◌, ◌≤◌, Bool, false, ◌||◌, [], ◌∷◌, ◌++◌, length, take, None, Result, Ok, Err, refl, sym, ap, subst, ◌∙◌, append_assoc, arith, inl, inr}
 use Rattle.std.proofs.lemmas.List.{append-nil, length-append}
 use Rattle.protox_lexeme.specs.Shapes.{Rows}
@@ -13,7 +13,7 @@ use Rattle.protox_grammar.proofs.Tracing.{Alike, Halts, IsTraced, then-of, then-
 use Rattle.protox_grammar.proofs.EndsDeep.{StopsDeep, stops-shallow}
 use Rattle.protox_grammar.proofs.Placing.{last_row, is_string_row, IsPlaced, ArePlaced, placed-note, placed-plainly}
 
--- ---- a note behind a rule
+-- ---- a note after a rule
 
 module _ {M A : Type 0} (note : A → Event M) (a : Rule M A) (fa ga : Set) (la : IsSpelled a false fa ga) (ra : IsRead a) (ta : IsTraced a)
     (whole : (t : A) → a.may t → a.fits t)

@@ -1,4 +1,5 @@
--- Where the reader of the grammar stops, the fault there is true; of tokens that spell a file none is.
+-- If the reader of the grammar stops, the fault there is true. No such fault is true of tokens that
+-- spell a file.
 use Rattle.std.proofs.Common.{◌≡◌, inl, inr, suc, true, [], ◌∷◌, ◌++◌, length, refl, sym, ap, subst, ◌∙◌, arith, true≢false}
 use Rattle.std.proofs.lemmas.List.{length-append}
 use Rattle.protox_fault.specs.Faults.{Span, span_from}
@@ -11,7 +12,7 @@ use Rattle.protox_ast.specs.Truth.{source_row}
 use Rattle.protox_grammar.specs.TruthLaws.{StopIsTrue, EndIsTrue, NoneIsUnexpected, NoneIsEnded}
 use Rattle.protox_grammar.proofs.Fronts as fronts
 
--- the row behind a front
+-- The row after the first rows.
 row-behind : (front : Rows Span) (here : Row Span) (rest : Rows Span) → source_row (front ++ (here ∷ rest)) (length front) ≡ here
 row-behind [] here rest = refl
 row-behind (x ∷ front) here rest = row-behind front here rest

@@ -1,4 +1,5 @@
--- MACHINERY. The rules of the grammar that hold messages or stand in them, over the rule of a body, and the rule of files.
+-- The rules of the grammar that hold messages or stand in them, given the rule of a
+-- body; and the rule of files. `to_x` and `from_x` turn pairs and choices into trees and back.
 use Rattle.std.specs.Prelude.{◌≤◌, ℕ, zero, suc, if◌then◌else◌, List, [], ◌∷◌, Option, Some, None, ◌⊎◌, codes}
 use Rattle.std.proofs.Common.{inl, inr}
 use Rattle.protox_lexeme.specs.Shapes.{Mark, Rows}
@@ -14,46 +15,57 @@ use Rattle.protox_ast.specs.CheckedNodes.{AGroupName}
 use Rattle.protox_grammar.specs.Rule.{Rule, seq, named_fits, unless, choice, optional, times, noting}
 use Rattle.protox_grammar.specs.Rules.{the, sign, ident, int, list, label, map, normal, option, typename, enum, reserved, extensions, syntax, «import», «package», service}
 
--- ---- what may stand in a message, over what is said of the bodies in it
+-- ---- which trees may stand in a message, given which bodies may
 
 module _ {M : Type 0} (P : t.Mbody M → Type 0) where
+  -- The group keeps the keyword rules, and P holds for its body.
   abbrev pub GroupHas : t.Group M → Type 0
   GroupHas (t.group_of m n e i l b) = k.Given k.KeepsList l × P b
 
+  -- The same for the kind of a field.
   abbrev pub KindHas : t.FieldKind M → Type 0
   KindHas (t.normal x) = k.KeepsNormal x
   KindHas (t.map x) = k.KeepsMap x
   KindHas (t.group x) = GroupHas x
 
+  -- The same for a field. Its type doesn't begin with a label.
   abbrev pub FieldHas : t.Field M → Type 0
   FieldHas (t.field_of l x) = k.BeginsWithNoLabel (t.field_of l x) × KindHas x
 
+  -- The same for an element of a oneof.
   abbrev pub OneofElementHas : t.OneofElement M → Type 0
   OneofElementHas (t.oneof_empty m) = Unit {0}
   OneofElementHas (t.oneof_option x) = k.KeepsOption x
   OneofElementHas (t.oneof_field x) = k.BeginsWithNoOption x × FieldHas x
 
+  -- The same for the elements of a oneof.
   abbrev pub OneofElementsHas : t.OneofElements M → Type 0
   OneofElementsHas t.no_oneof_elements = Unit {0}
   OneofElementsHas (t.oneof_elements e es) = OneofElementHas e × OneofElementsHas es
 
+  -- The same for a oneof.
   abbrev pub OneofHas : t.Oneof M → Type 0
   OneofHas (t.oneof_of m n o es c) = OneofElementsHas es
 
+  -- The same for an element of an extend.
   abbrev pub ExtendElementHas : t.ExtendElement M → Type 0
   ExtendElementHas (t.extend_empty m) = Unit {0}
   ExtendElementHas (t.extend_field x) = FieldHas x
 
+  -- The same for the elements of an extend.
   abbrev pub ExtendElementsHas : t.ExtendElements M → Type 0
   ExtendElementsHas t.no_extend_elements = Unit {0}
   ExtendElementsHas (t.extend_elements e es) = ExtendElementHas e × ExtendElementsHas es
 
+  -- The same for an extend.
   abbrev pub ExtendHas : t.Extend M → Type 0
   ExtendHas (t.extend_of m n o es c) = ExtendElementsHas es
 
+  -- P holds for the body of the message.
   abbrev pub MessageHas : t.Message M → Type 0
   MessageHas (t.message_of m n b) = P b
 
+  -- The same for an element of a message.
   abbrev pub ElementHas : t.Element M → Type 0
   ElementHas (t.empty m) = Unit {0}
   ElementHas (t.field x) = k.BeginsWithNoElement x × FieldHas x
@@ -65,13 +77,16 @@ module _ {M : Type 0} (P : t.Mbody M → Type 0) where
   ElementHas (t.reserved x) = Unit {0}
   ElementHas (t.extensions x) = k.KeepsExtensions x
 
+  -- The same for the elements of a message.
   abbrev pub ElementsHas : t.Elements M → Type 0
   ElementsHas t.no_elements = Unit {0}
   ElementsHas (t.elements e es) = ElementHas e × ElementsHas es
 
+  -- The elements of the body keep the keyword rules, and P holds for the bodies in them.
   abbrev pub MbodyHas : t.Mbody M → Type 0
   MbodyHas (t.mbody_of o es c) = ElementsHas es
 
+  -- The same for a statement of a file.
   abbrev pub StatementHas : t.Statement M → Type 0
   StatementHas (t.an_empty m) = Unit {0}
   StatementHas (t.an_import x) = Unit {0}
@@ -82,14 +97,15 @@ module _ {M : Type 0} (P : t.Mbody M → Type 0) where
   StatementHas (t.an_enum x) = k.KeepsEnum x
   StatementHas (t.a_service x) = k.KeepsService x
 
+  -- The same for a file.
   abbrev pub FileHas : t.File M → Type 0
   FileHas x = k.Each StatementHas x.statements
 
--- a body, read and noted so, after which anything may come
+-- The rule of a body that is read and noted in a given way. Anything may follow it.
 abbrev pub sealed : {M : Type 0} → (t.Mbody M → Type 0) → (t.Mbody M → Type 0) → Reader M (t.Mbody M) → (t.Mbody M → Steps M) → (Rows M → Steps M) → Rule M (t.Mbody M)
 sealed P F read steps trace = record { spell = s.mbody; may = P; fits = F; ends = λ x z. P x; read = read; steps = steps; trace = trace }
 
--- ---- rules of messages, over the rule of a body
+-- ---- the rules of messages, given the rule of a body
 
 abbrev pub to_group : {M : Type 0} → M × (t.Word M × (M × (t.Int M × (Option (t.OptionList M) × t.Mbody M)))) → t.Group M
 to_group x = t.group_of x.0 x.1.0 x.1.1.0 x.1.1.1.0 x.1.1.1.1.0 x.1.1.1.1.1
@@ -205,7 +221,7 @@ unfoldable pub message : {M : Type 0} → Rule M (t.Mbody M) → Rule M (t.Messa
 message b = named_fits s.message (MessageHas b.may) (MessageHas b.fits) to_message from_message
     (seq (noting AKeyword (the (codes "message"))) (seq ident b))
 
--- what begins with a Ident of its own in a message
+-- The elements of a message that begin with a keyword of their own.
 abbrev pub Special : Type 0 → Type 0
 Special M = t.Oneof M ⊎ (t.Enum M ⊎ (t.Message M ⊎ (t.Extend M ⊎ (t.OptionStatement M ⊎ (t.Reserved M ⊎ t.Extensions M)))))
 
@@ -231,6 +247,7 @@ from_element (t.option x) = inr (inl (inr (inr (inr (inr (inl x))))))
 from_element (t.reserved x) = inr (inl (inr (inr (inr (inr (inr (inl x)))))))
 from_element (t.extensions x) = inr (inl (inr (inr (inr (inr (inr (inr x)))))))
 
+-- The rule of such an element.
 abbrev pub special : {M : Type 0} → Rule M (t.Mbody M) → Rule M (Special M)
 special b = choice (just_word (codes "oneof")) (oneof b) (choice (just_word (codes "enum")) enum (choice (just_word (codes "message")) (message b) (choice (just_word (codes "extend")) (extend b) (choice (just_word (codes "option")) option (choice (just_word (codes "reserved")) reserved extensions)))))
 
@@ -255,50 +272,53 @@ to_mbody x = t.mbody_of x.0 x.1.0 x.1.1
 abbrev pub from_mbody : {M : Type 0} → t.Mbody M → M × (t.Elements M × M)
 from_mbody (t.mbody_of o es c) = (o, (es, c))
 
--- a body whose inner bodies follow the rule b
+-- A body whose inner bodies follow the rule b.
 unfoldable pub mbody : {M : Type 0} → Rule M (t.Mbody M) → Rule M (t.Mbody M)
 mbody b = named_fits s.mbody (MbodyHas b.may) (MbodyHas b.fits) to_mbody from_mbody
     (seq (sign s.open_brace) (seq (elements b) (sign s.close_brace)))
 
 -- ---- levels
 
--- a body of at most n levels
+-- The body keeps the keyword rules and has at most n levels.
 abbrev pub FitsMbody : {M : Type 0} → ℕ → t.Mbody M → Type 0
 FitsMbody n b = k.KeepsMbody b × (suc (d.mbody_depth b) ≤ n)
 
--- the `{` of a body
+-- The `{` of a body.
 abbrev pub opening : {M : Type 0} → t.Mbody M → M
 opening (t.mbody_of o es c) = o
 
--- a note behind the first row
+-- A note after the first row.
 abbrev pub behind_first : {M : Type 0} → Event M → Steps M → Steps M
 behind_first e [] = Note e ∷ []
 behind_first e (x ∷ l) = x ∷ (Note e ∷ l)
 
--- a body that is too deep is read up to its `{`
+-- Of a body that is too deep only the `{` is read.
 unfoldable pub deep_read : {M : Type 0} → Reader M (t.Mbody M)
 deep_read xs = reader.too_deep (Mark s.open_brace) xs
 
+-- The steps of reading a body that is too deep: its `{`, and the note.
 unfoldable pub deep_trace : {M : Type 0} → (M → Event M) → Rows M → Steps M
 deep_trace note [] = []
 deep_trace note (r ∷ rs) = if reader.is_token (Mark s.open_brace) r.shape then Token r ∷ (Note (note r.at) ∷ []) else []
 
--- The steps of a body that is too deep go on, with what is noted in it down to n levels, so that no checked node of a file is lost.
+-- The steps of a body that is too deep. They go on into it, down to n levels, so that each checked
+-- node of a file is noted.
 unfoldable pub deep_steps : {M : Type 0} → (M → Event M) → ℕ → t.Mbody M → Steps M
 deep_steps note zero b = behind_first (note (opening b)) (plainly (s.mbody b))
 deep_steps note (suc n) b = behind_first (note (opening b)) ((mbody (sealed k.KeepsMbody (λ x. ⊥) deep_read (deep_steps ADeeperBody n) (deep_trace ADeeperBody))).steps b)
 
--- a body, of which at most n levels can be read
+-- A body of which at most n levels can be read.
 unfoldable pub unsealed : {M : Type 0} → ℕ → Rule M (t.Mbody M)
 unsealed zero = sealed k.KeepsMbody (FitsMbody 0) deep_read (λ b. deep_steps ADeepBody (suc (d.mbody_depth b)) b) (deep_trace ADeepBody)
 unsealed (suc n) = mbody (sealed k.KeepsMbody (FitsMbody n) (unsealed n).read (unsealed n).steps (unsealed n).trace)
 
--- the same, after which anything may come
+-- The same, and anything may follow it.
 abbrev pub mbody_at : {M : Type 0} → ℕ → Rule M (t.Mbody M)
 mbody_at n = sealed k.KeepsMbody (FitsMbody n) (unsealed n).read (unsealed n).steps (unsealed n).trace
 
 -- ---- files
 
+-- A statement of a file, by its kind.
 abbrev pub Form : Type 0 → Type 0
 Form M = M ⊎ (t.Import M ⊎ (t.Package M ⊎ (t.OptionStatement M ⊎ (t.Extend M ⊎ (t.Message M ⊎ (t.Enum M ⊎ t.Service M))))))
 

@@ -9,7 +9,7 @@ pub mod Reads
 pub mod Noted
 pub mod Told
 pub mod CheckLaws
-pub mod MarkLaws
+pub mod TagLaws
 pub mod Grammar
 pub mod OneOfThree
 pub mod TruthLaws

@@ -1,4 +1,4 @@
--- MACHINERY. What is noted while a file is read: the nodes that are checked, and whether an aggregate is open.
+-- What is noted while a file is read: checked nodes, and whether an aggregate is open.
 use Rattle.std.specs.Prelude.{ℕ, List, [], ◌∷◌, Bool, true, false, Option, Some, None}
 use Rattle.protox_lexeme.specs.Shapes.{Rows}
 use Rattle.protox_ast.specs.Tree as t
@@ -6,16 +6,17 @@ use Rattle.protox_ast.specs.CheckedNodes.{CheckedNode, APackageAgain, ATooDeep}
 use Rattle.protox_grammar.specs.Steps.{ANode, APackage, AKeyword, ADeepBody, ADeeperBody, AnOpenBrace, ACloseBrace, Token, Note, Steps}
 use Rattle.protox_grammar.specs.Bodies as rule
 
--- the steps of reading rows as a file, where bodies are read at most n deep
+-- The steps of reading rows as a file. Bodies are read at most n deep.
 abbrev pub trace : {M : Type 0} → ℕ → Rows M → Steps M
 trace n rows = (rule.file (rule.mbody_at n)).trace rows
 
--- the steps of a file, where bodies are read at most n deep
+-- The steps of a file's tree. Bodies are read at most n deep.
 abbrev pub steps : {M : Type 0} → ℕ → t.File M → Steps M
 steps n f = (rule.file (rule.mbody_at n)).steps f
 
--- The checked nodes that are noted: each package statement behind the first is one together with it, and a body that is too deep is one
--- together with the word noted last. Here is the first package statement so far, if there is one, and the last word.
+-- The checked nodes that are noted. A package statement after the first is noted with the first. A
+-- body that is too deep is noted with the keyword before it. `first` is the first package statement
+-- so far, if there is one, and `keyword` the last keyword.
 abbrev pub noted_nodes : {M : Type 0} → Option (t.Package M) → M → Steps M → List (CheckedNode M)
 noted_nodes first keyword [] = []
 noted_nodes first keyword (Token r ∷ l) = noted_nodes first keyword l
@@ -28,7 +29,8 @@ noted_nodes first keyword (Note (ADeeperBody m) ∷ l) = noted_nodes first keywo
 noted_nodes first keyword (Note (AnOpenBrace m) ∷ l) = noted_nodes first keyword l
 noted_nodes first keyword (Note (ACloseBrace m) ∷ l) = noted_nodes first keyword l
 
--- Whether an aggregate is open behind these steps: the brace noted last opens it. Where none is noted, it is as before them.
+-- Whether an aggregate is open after these steps: the last brace that they note opens one. If they
+-- note none, it is as before.
 abbrev pub open_behind : {M : Type 0} → Bool → Steps M → Bool
 open_behind before [] = before
 open_behind before (Token r ∷ l) = open_behind before l

@@ -1,4 +1,5 @@
--- MACHINERY. Rules of a grammar: what spells a tree, which trees there may be, what may follow one, how it is read, and what is noted.
+-- A rule of a grammar: how its trees are spelled, which trees there may be, what may
+-- follow one, how one is read, and what is noted.
 use Rattle.std.specs.Prelude.{◌≡◌, suc, List, [], ◌∷◌, ◌++◌, length, Bool, true, false, if◌then◌else◌, Option, Some, None, ◌⊎◌}
 use Rattle.std.proofs.Common.{inl, inr}
 use Rattle.protox_lexeme.specs.Shapes.{Shape, Row, Rows}
@@ -10,33 +11,36 @@ use Rattle.protox_grammar.specs.Reader as reader
 use Rattle.protox_grammar.specs.Reader.{Reader, head_in}
 use Rattle.protox_grammar.specs.Steps.{Event, Note, Steps, plainly, plain_trace, star_trace, then_steps, steps_of_many, steps_of_option}
 
--- no row of the set comes first
+-- The first row isn't in the set. There may be no row.
 abbrev pub Stops : {M : Type 0} → Set → Rows M → Type 0
 Stops g [] = Unit {0}
 Stops g (r ∷ rs) = g (class r.shape) ≡ false
 
--- a row of the set comes first, or nothing where that may be
+-- The first row is in the set. If `e` is true, there may be no row.
 abbrev pub Starts : {M : Type 0} → Bool → Set → Rows M → Type 0
 Starts e f [] = e ≡ true
 Starts e f (r ∷ rs) = f (class r.shape) ≡ true
 
+-- A rule for trees of type A.
 pub record Rule (M A : Type 0) : Type 1 where
   pub spell : A → Rows M
-  -- the tree is one of the grammar
+  -- the tree belongs to the grammar
   pub may : A → Type 0
-  -- the same, and it can be read
+  -- the tree belongs to the grammar and can be read
   pub fits : A → Type 0
-  -- these rows may come after it
+  -- these rows may follow the tree
   pub ends : A → Rows M → Type 0
   pub read : Reader M A
-  -- the rows of a tree, with what is to be noted among them
+  -- the rows of a tree, and the notes among them
   pub steps : A → Steps M
-  -- the rows that the reader takes, with what is noted among them
+  -- the rows that the reader takes, and the notes among them
   pub trace : Rows M → Steps M
 
+-- A row with this shape and this tag.
 abbrev pub row : {M : Type 0} → Shape → M → Row M
 row s m = record { shape = s; at = m }
 
+-- The rule of one given token.
 abbrev pub fixed : {M : Type 0} → Shape → Rule M M
 fixed w = record {
   spell = λ m. row w m ∷ [];
@@ -48,6 +52,7 @@ fixed w = record {
   trace = plain_trace (reader.fixed w);
 }
 
+-- The rule of one token with a value.
 abbrev pub leaf : {M X : Type 0} → (Shape → Option X) → (X → Shape) → Rule M (X × M)
 leaf see shape = record {
   spell = λ x. row (shape x.0) x.1 ∷ [];
@@ -59,6 +64,7 @@ leaf see shape = record {
   trace = plain_trace (reader.leaf see);
 }
 
+-- One rule, and then another.
 abbrev pub seq : {M A B : Type 0} → Rule M A → Rule M B → Rule M (A × B)
 seq a b = record {
   spell = λ t. a.spell t.0 ++ b.spell t.1;
@@ -70,11 +76,12 @@ seq a b = record {
   trace = λ xs. a.trace xs ++ then_steps (a.read xs) (λ x. b.trace x.1);
 }
 
+-- One function for each side of a choice.
 abbrev pub on_sum {ℓ} : {A B : Type 0} {C : Type ℓ} → (A → C) → (B → C) → A ⊎ B → C
 on_sum f g (inl a) = f a
 on_sum f g (inr b) = g b
 
--- the first where the next token is in the set, and else the second
+-- The first rule if the next token is in the set, else the second.
 abbrev pub either : {M A B : Type 0} → (Shape → Bool) → Set → Rule M A → Rule M B → Rule M (A ⊎ B)
 either p P a b = record {
   spell = on_sum a.spell b.spell;
@@ -86,6 +93,7 @@ either p P a b = record {
   trace = λ xs. if head_in p xs then a.trace xs else b.trace xs;
 }
 
+-- The rule of no tokens.
 abbrev pub nothing : {M : Type 0} → Rule M (Unit {0})
 nothing = record {
   spell = λ t. [];
@@ -97,7 +105,7 @@ nothing = record {
   trace = λ xs. [];
 }
 
--- a rule under other names
+-- A rule with its trees renamed.
 abbrev pub mapped : {M A B : Type 0} → (B → A) → (A → B) → Rule M B → Rule M A
 mapped to from b = record {
   spell = λ t. b.spell (from t);
@@ -109,10 +117,13 @@ mapped to from b = record {
   trace = b.trace;
 }
 
+-- Each tree of the list may be followed by the next, and the last by z. z doesn't begin with a row
+-- of the set.
 abbrev pub Ends : {M A : Type 0} → (A → Rows M) → (A → Rows M → Type 0) → Set → List A → Rows M → Type 0
 Ends spell ends P [] z = Stops P z
 Ends spell ends P (t ∷ ts) z = ends t (many spell ts ++ z) × Ends spell ends P ts z
 
+-- A rule again and again, as long as the next token passes the test.
 abbrev pub star : {M A : Type 0} → (Shape → Bool) → Set → Rule M A → Rule M (List A)
 star p P a = record {
   spell = many a.spell;
@@ -124,7 +135,7 @@ star p P a = record {
   trace = λ xs. star_trace p a.read a.trace (suc (length xs)) xs;
 }
 
--- a rule that is too deep to be read, which begins with this token
+-- A rule that is too deep to be read. It begins with this token.
 abbrev pub too_deep : {M A : Type 0} → Shape → Rule M A → Rule M A
 too_deep w a = record {
   spell = a.spell;
@@ -136,13 +147,14 @@ too_deep w a = record {
   trace = a.trace;
 }
 
--- ---- the forms that the grammar is written in
+-- ---- the forms in which the grammar is written
 
--- the first where the next token is in the set, and else the second, which then doesn't begin so: a keyword rule
+-- The first rule if the next token is in the set, else the second. The second may not begin with
+-- such a token: a keyword rule.
 abbrev pub unless : {M A B : Type 0} → Set → Rule M A → Rule M B → Rule M (A ⊎ B)
 unless P a b = either (in_set P) P a b
 
--- the same where the second never begins so
+-- The same, for a second rule that never begins with such a token.
 abbrev pub choice : {M A B : Type 0} → Set → Rule M A → Rule M B → Rule M (A ⊎ B)
 choice P a b = record {
   spell = on_sum a.spell b.spell;
@@ -154,16 +166,17 @@ choice P a b = record {
   trace = λ xs. if head_in (in_set P) xs then a.trace xs else b.trace xs;
 }
 
--- ends of what may be absent
+-- These rows may follow a tree, or stand where the tree is absent.
 abbrev pub Closes : {M A : Type 0} → (A → Rows M → Type 0) → Set → Option A → Rows M → Type 0
 Closes ends P None z = Stops P z
 Closes ends P (Some t) z = ends t z
 
+-- The left value, if there is one.
 abbrev pub to_option : {A : Type 0} → A ⊎ Unit {0} → Option A
 to_option (inl a) = Some a
 to_option (inr u) = None
 
--- `?`
+-- `?`: the rule, if the next token is in the set.
 abbrev pub optional : {M A : Type 0} → Set → Rule M A → Rule M (Option A)
 optional P a = record {
   spell = maybe a.spell;
@@ -175,11 +188,11 @@ optional P a = record {
   trace = λ xs. if head_in (in_set P) xs then a.trace xs else [];
 }
 
--- `*`
+-- `*`: the rule again and again, as long as the next token is in the set.
 abbrev pub times : {M A : Type 0} → Set → Rule M A → Rule M (List A)
 times P a = star (in_set P) P a
 
--- a rule with a plain spelling and a plain condition of its own
+-- A rule with a plain spelling and a plain condition of its own.
 abbrev pub named : {M A B : Type 0} → (A → Rows M) → (A → Type 0) → (B → A) → (A → B) → Rule M B → Rule M A
 named spell keeps to from b = record {
   spell = spell;
@@ -191,7 +204,7 @@ named spell keeps to from b = record {
   trace = b.trace;
 }
 
--- the same where what can be read is less
+-- The same, where fewer trees can be read.
 abbrev pub named_fits : {M A B : Type 0} → (A → Rows M) → (A → Type 0) → (A → Type 0) → (B → A) → (A → B) → Rule M B → Rule M A
 named_fits spell keeps fits to from b = record {
   spell = spell;
@@ -203,7 +216,7 @@ named_fits spell keeps fits to from b = record {
   trace = b.trace;
 }
 
--- one that doesn't begin with a token of the set: a keyword rule
+-- A rule that doesn't begin with a token of the set: a keyword rule.
 abbrev pub unstarted : {M A : Type 0} → Set → Rule M A → Rule M A
 unstarted P a = record {
   spell = a.spell;
@@ -215,7 +228,7 @@ unstarted P a = record {
   trace = λ xs. if head_in (in_set P) xs then [] else a.trace xs;
 }
 
--- the same rule with a note, once its tree was read
+-- The same rule, with a note after its tree.
 abbrev pub noting : {M A : Type 0} → (A → Event M) → Rule M A → Rule M A
 noting note a = record {
   spell = a.spell;

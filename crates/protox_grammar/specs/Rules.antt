@@ -1,4 +1,5 @@
--- MACHINERY. The rules of the grammar that have no message in them, by combinators, each under its plain spelling and its plain keyword rules.
+-- The rules of the grammar without messages in them. Each has its plain spelling and its
+-- plain keyword rules. `to_x` and `from_x` turn pairs and choices into trees and back.
 use Rattle.std.specs.Prelude.{ℕ, suc, ◌-◌, List, [], ◌∷◌, ◌++◌, if◌then◌else◌, ◌==◌, Ok, Err, Option, Some, None, ◌⊎◌, codes}
 use Rattle.std.proofs.Common.{inl, inr}
 use Rattle.std.specs.Str.{bytes_eq}
@@ -14,7 +15,8 @@ use Rattle.protox_grammar.specs.Steps.{plainly, plain_trace, ANode, AnOpenBrace,
 use Rattle.protox_ast.specs.CheckedNodes.{CheckedNode, ASyntax, AnImport, AReservedName}
 use Rattle.protox_grammar.specs.Rule.{Rule, row, fixed, leaf, seq, named, unless, choice, optional, times, noting}
 
--- up to the brace that closes: the rows before it, which are tokens
+-- Reads up to the brace that closes: all rows before it, which are tokens. `unclosed` braces are
+-- open.
 unfoldable pub balanced_at : {M : Type 0} → ℕ → Reader M (Rows M)
 balanced_at unclosed [] = Err (Unexpected 0)
 balanced_at unclosed (r ∷ rs) =
@@ -23,7 +25,7 @@ balanced_at unclosed (r ∷ rs) =
     then (if unclosed == 0 then Ok ([], r ∷ rs) else (balanced_at (unclosed - 1) rs >>= λ x. Ok (r ∷ x.0, x.1)))
     else (if k.is_significant r.shape then (balanced_at unclosed rs >>= λ x. Ok (r ∷ x.0, x.1)) else reader.refuse (r ∷ rs)))
 
--- what stands between braces, and the one that closes
+-- The rows between braces, and the closing brace.
 abbrev pub closed : {M : Type 0} → Rule M (Rows M × M)
 closed = record {
   spell = λ t. t.0 ++ (row (Mark s.close_brace) t.1 ∷ []);
@@ -35,44 +37,57 @@ closed = record {
   trace = plain_trace (reader.seq (balanced_at 0) (reader.fixed (Mark s.close_brace)));
 }
 
+-- No condition.
 abbrev pub free : {A : Type 0} → A → Type 0
 free x = Unit {0}
 
+-- The rule of a keyword.
 abbrev pub the : {M : Type 0} → List ℕ → Rule M M
 the w = fixed (Ident w)
 
+-- The rule of a mark.
 abbrev pub sign : {M : Type 0} → ℕ → Rule M M
 sign byte = fixed (Mark byte)
 
+-- The rule of an identifier.
 abbrev pub ident : {M : Type 0} → Rule M (t.Word M)
 ident = leaf see_word Ident
 
+-- The rule of an integer.
 abbrev pub integer : {M : Type 0} → Rule M (t.Number M)
 integer = leaf see_integer shape.Int
 
+-- The rule of a float.
 abbrev pub float : {M : Type 0} → Rule M (t.Float M)
 float = leaf see_float shape.Float
 
+-- The rule of a string.
 abbrev pub string : {M : Type 0} → Rule M (t.Text M)
 string = leaf see_text Str
 
+-- The scalar type with this word, if one of these has it.
 abbrev pub find_scalar : List t.Scalar → List ℕ → Option t.Scalar
 find_scalar [] w = None
 find_scalar (x ∷ xs) w = if bytes_eq w (s.scalar_word x) then Some x else find_scalar xs w
 
+-- All scalar types.
 abbrev pub all_scalars : List t.Scalar
 all_scalars = t.double ∷ t.float_type ∷ t.int32 ∷ t.int64 ∷ t.uint32 ∷ t.uint64 ∷ t.sint32 ∷ t.sint64 ∷ t.fixed32 ∷ t.fixed64 ∷ t.sfixed32 ∷ t.sfixed64 ∷ t.bool ∷ t.string ∷ t.bytes ∷ []
 
+-- The scalar type that a token names, if it names one.
 abbrev pub see_scalar : Shape → Option t.Scalar
 see_scalar (Ident w) = find_scalar all_scalars w
 see_scalar _ = None
 
+-- The token that names a scalar type.
 abbrev pub scalar_shape : t.Scalar → Shape
 scalar_shape x = Ident (s.scalar_word x)
 
+-- The rule of a scalar type.
 abbrev pub scalar : {M : Type 0} → Rule M (t.Scalar × M)
 scalar = leaf see_scalar scalar_shape
 
+-- The classes of the words for scalar types.
 abbrev pub scalar_set : Set
 scalar_set = among_words k.scalars
 
@@ -80,7 +95,7 @@ unfoldable pub strings : {M : Type 0} → Rule M (t.Strings M)
 strings = named s.strings free (λ (first, others). record { first = first; others = others }) (λ x. (x.first, x.others))
     (seq string (times (only a_string) string))
 
--- strings that are checked
+-- A run of strings that is checked.
 abbrev pub noted_strings : {M : Type 0} → (t.Strings M → CheckedNode M) → Rule M (t.Strings M)
 noted_strings node = noting (λ x. ANode (node x)) strings
 
@@ -198,7 +213,7 @@ unfoldable pub label : {M : Type 0} → Rule M (t.Label M)
 label = named s.label free to_label from_label
     (choice (just_word (codes "optional")) (the (codes "optional")) (choice (just_word (codes "required")) (the (codes "required")) (the (codes "repeated"))))
 
--- a normal field whose type may still begin with `map` or `group`
+-- The keyword rules of a normal field alone. Its type may still begin with `map` or `group`.
 abbrev pub NormalAlone : {M : Type 0} → t.Normal M → Type 0
 NormalAlone x = k.TypeBeginsWithNone k.scalars x.type × k.Given k.KeepsList x.options
 
@@ -210,7 +225,7 @@ unfoldable pub map : {M : Type 0} → Rule M (t.Map M)
 map = named s.map k.KeepsMap (λ (keyword, (open_at, (key, (comma_at, (value, (close_at, (name, (equals_sign, (number, (options, end)))))))))). record { keyword = keyword; open_at = open_at; key = key; comma_at = comma_at; value = value; close_at = close_at; name = name; equals_sign = equals_sign; number = number; options = options; end = end }) (λ x. (x.keyword, (x.open_at, (x.key, (x.comma_at, (x.value, (x.close_at, (x.name, (x.equals_sign, (x.number, (x.options, x.end)))))))))))
     (seq (the (codes "map")) (seq (sign s.open_angle) (seq type (seq (sign s.comma) (seq type (seq (sign s.close_angle) (seq ident (seq (sign s.equals) (seq int (seq (optional (just_mark s.open_bracket) list) (sign s.semicolon)))))))))))
 
--- `to` comes before both
+-- The end of a range: after `to` stands a number or `max`.
 abbrev pub to_range_end : {M : Type 0} → M × (t.Int M ⊎ M) → t.RangeEnd M
 to_range_end (m, inl x) = t.up_to m x
 to_range_end (m, inr x) = t.up_to_max m x
@@ -253,6 +268,7 @@ unfoldable pub extensions : {M : Type 0} → Rule M (t.Extensions M)
 extensions = named s.extensions k.KeepsExtensions (λ (keyword, (ranges, (options, end))). record { keyword = keyword; ranges = ranges; options = options; end = end }) (λ x. (x.keyword, (x.ranges, (x.options, x.end))))
     (seq (the (codes "extensions")) (seq ranges (seq (optional (just_mark s.open_bracket) list) (sign s.semicolon))))
 
+-- The keyword rules of an enum value alone. Its name may still be `option` or `reserved`.
 abbrev pub EvalueAlone : {M : Type 0} → t.Evalue M → Type 0
 EvalueAlone x = k.Given k.KeepsList x.options
 

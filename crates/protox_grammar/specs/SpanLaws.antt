@@ -1,4 +1,4 @@
--- Where the nodes of a syntax tree stand in the source that its tokens come from.
+-- Where the nodes of a syntax tree stand in the source.
 use Rattle.std.specs.Prelude.{◌≡◌, ℕ, List, length}
 use Rattle.std.specs.Str.{IsUtf8}
 use Rattle.protox_lexeme.specs.Lexemes.{cut}
@@ -9,8 +9,8 @@ use Rattle.protox_ast.specs.Siblings.{FileStands}
 use Rattle.protox_ast.specs.Spelling.{spell}
 use Rattle.protox_ast.specs.Tree as tree
 
--- Where a source's tokens are the spelling of a tree, the nodes of its syntax tree stand in the source: the parts of each one behind the
--- other, each with a byte, within the span of the node.
+-- If the tokens of a source spell a tree, the nodes of its syntax tree stand in the source. The
+-- parts of a node stand within its span, one after another, and each has at least one byte.
 abbrev pub NodesStand : Type 0
 NodesStand = (source : List ℕ) → IsUtf8 source → (f : tree.File Place)
     → placed (table_of (cut 0 source)) ≡ spell f

@@ -1,4 +1,5 @@
--- The classes of tokens by name: each keyword, any other word, the kinds of literals, and each mark.
+-- The classes of tokens by name: each keyword, any other word, the kinds of literals, each mark,
+-- and what is no token.
 use Rattle.std.specs.Prelude.{ℕ}
 
 abbrev pub syntax : ℕ

@@ -1,4 +1,5 @@
--- The laws of the grammar as laws on faults: where its reader stops, the fault there is true of the source; and none is true of tokens that spell a file.
+-- The laws of the grammar as laws about faults. Where the reader stops, the fault there is true of
+-- the source. No such fault is true of tokens that spell a file.
 use Rattle.std.specs.Prelude.{◌≡◌, ℕ, suc, true, false, List, ◌∷◌, ◌++◌, length, Err}
 use Rattle.protox_fault.specs.Faults.{Span}
 use Rattle.protox_lexeme.specs.Lexemes.{Lexeme}
@@ -13,7 +14,8 @@ use Rattle.protox_ast.specs.Truth.{IsTrueOf, is_terminator}
 use Rattle.protox_grammar.specs.Reader.{Unexpected}
 use Rattle.protox_grammar.specs.Reads.{read}
 
--- where reading stops at a token, it is true that this is unexpected, whatever is said of what was expected
+-- If reading stops at a token, it is true that this token is unexpected, whatever text says what
+-- was expected.
 abbrev pub StopIsTrue : Type 0
 StopIsTrue = (lexemes : List Lexeme) (n : ℕ) (front rest : Rows Span) (here : Row Span) (expected : List ℕ)
     → rows_of lexemes ≡ front ++ (here ∷ rest)
@@ -21,20 +23,20 @@ StopIsTrue = (lexemes : List Lexeme) (n : ℕ) (front rest : Rows Span) (here : 
     → is_significant here.shape ≡ true
     → IsTrueOf lexemes (UnexpectedToken here.at expected (printed here.shape))
 
--- where reading stops at the end, it is true that the source ends too soon
+-- If reading stops at the end, it is true that the source ends too soon.
 abbrev pub EndIsTrue : Type 0
 EndIsTrue = (lexemes : List Lexeme) (n : ℕ) (expected : List ℕ)
     → read n (rows_of lexemes) ≡ Err (Unexpected 0)
     → is_terminator expected ≡ false
     → IsTrueOf lexemes (UnexpectedEof expected)
 
--- of tokens that spell a file none is unexpected
+-- If the tokens spell a file, none of them is unexpected.
 abbrev pub NoneIsUnexpected : Type 0
 NoneIsUnexpected = (lexemes : List Lexeme) (f : File Span) (span : Span) (expected found : List ℕ)
     → Spells (rows_of lexemes) f
     → IsTrueOf lexemes (UnexpectedToken span expected found) → ⊥
 
--- and they don't end too soon
+-- If the tokens spell a file, they don't end too soon.
 abbrev pub NoneIsEnded : Type 0
 NoneIsEnded = (lexemes : List Lexeme) (f : File Span) (expected : List ℕ)
     → Spells (rows_of lexemes) f

@@ -1,5 +1,6 @@
-//! The laws of the grammar: each is the contract of a function without a body's work, so that a check of the crate proves it.
-//! A law holds for rows with marks of any type that has a value, as spans or `()`.
+//! The laws of the grammar. Each is the contract of a function that does nothing, so that a check
+//! of the crate proves it. A law holds for rows with tags of any type that has a value, such as
+//! spans or `()`.
 #![tactic(auto)]
 
 ghost use Rattle.protox_grammar.specs.Grammar as grammar;
@@ -7,99 +8,109 @@ ghost use Rattle.protox_grammar.specs.OneOfThree as three;
 ghost use Rattle.protox_grammar.specs.SpanLaws as spans;
 ghost use Rattle.protox_grammar.specs.TruthLaws as truth;
 ghost use Rattle.protox_grammar.specs.CheckLaws as checks;
-ghost use Rattle.protox_grammar.specs.MarkLaws as marks;
+ghost use Rattle.protox_grammar.specs.TagLaws as tags;
 
 pub mod note;
 
-/// No rows are the spelling of two trees that keep the keyword rules.
-pub fn one_tree<M>(_mark: &M)
+/// No rows spell two trees that keep the keyword rules.
+pub fn one_tree<M>(_tag: &M)
     ensures { grammar.OneTree M }
 {}
 
-/// Rows spell a file, or end too soon, or one of them is unexpected: just one of the three, and just one row.
-pub fn one_of_three<M>(_mark: &M)
+/// Rows spell a file, or they end too soon, or one of them is unexpected. Exactly one of the three
+/// holds, and at most one row is unexpected.
+pub fn one_of_three<M>(_tag: &M)
     ensures { three.OneOfThree M }
 {}
 
-/// What is read is the tree that the rows spell, if it is at most so deep.
-pub fn accepts<M>(_mark: &M)
+/// The reader gives a tree exactly when the rows spell it and it is not too deep.
+pub fn accepts<M>(_tag: &M)
     ensures { grammar.AcceptsIff M }
 {}
 
-/// Before a row that isn't expected there is some file, and with it none.
-pub fn unexpected<M>(_mark: &M)
+/// If reading stops at a row, some file begins with the rows before it, but none with these and
+/// that row.
+pub fn unexpected<M>(_tag: &M)
     ensures { grammar.TightUnexpected M }
 {}
 
-/// With a row that opens something too deep there is some file, and each such file is deeper.
-pub fn too_deep<M>(_mark: &M)
+/// If reading stops at a row that opens something too deep, some file begins with the rows up to
+/// it, and each such file is too deep.
+pub fn too_deep<M>(_tag: &M)
     ensures { grammar.TightDeep M }
 {}
 
-/// Rows that ended too soon begin a file and are none.
-pub fn ended<M>(_mark: &M)
+/// If reading stops at the end, some file begins with the rows, but they are not yet a file.
+pub fn ended<M>(_tag: &M)
     ensures { grammar.TightEnd M }
 {}
 
-/// Where reading the tokens of a source stops, the fault there is true of the source.
+/// If reading the tokens of a source stops, the fault there is true of the source.
 pub fn stops_are_true()
     ensures token { truth.StopIsTrue }
     ensures end { truth.EndIsTrue }
 {}
 
-/// Of tokens that spell a file none is unexpected, and they don't end too soon.
+/// If tokens spell a file, none of them is unexpected, and they don't end too soon.
 pub fn spelled_is_expected()
     ensures token { truth.NoneIsUnexpected }
     ensures end { truth.NoneIsEnded }
 {}
 
-/// A wrong node that is noted while the tokens of a source are read is one of a file that goes on there, and its fault is true of the source.
+/// A node that is noted while the tokens of a source are read is a node of some file that begins as
+/// the source does. The fault of the node is true of the source.
 pub fn noted_is_true()
     ensures node { checks.NotedIsTrue }
     ensures fault { checks.NotedIsTrueOf }
 {}
 
-/// A wrong node of a file that goes on behind some tokens is noted by then, unless a body that is too deep was opened before.
+/// Some file begins with the first tokens of a source, and a node that ends with the last of them
+/// has a fault. Then such a node is noted by then; or a body that is too deep was opened before.
 pub fn none_is_passed_over()
     ensures { checks.NoneIsPassedOver }
 {}
 
-/// Where a body that is too deep was opened, its fault is noted.
+/// If a body that is too deep was opened, its fault is noted.
 pub fn too_deep_is_noted()
     ensures { checks.TooDeepIsNoted }
 {}
 
-/// By the last token of a source all is noted that reading it notes.
+/// After the last token of a source, all is noted that reading it notes.
 pub fn all_is_noted()
     ensures { checks.AllIsNoted }
 {}
 
-/// Some file goes on inside an aggregate just where the last brace of an aggregate that was noted opens it.
+/// After some tokens a file may be inside an aggregate exactly when the last brace that was noted
+/// opens one.
 pub fn insides_are_open()
     ensures inside { checks.InsideIsOpen }
     ensures open { checks.OpenIsInside }
 {}
 
-/// Rows of the same shapes are read or refused alike, and the same is noted of them, whatever their marks are.
-pub fn marks_change_nothing<M, N>(_mark: &M, _other: &N)
-    ensures outcome { marks.SameOutcome M N }
-    ensures steps { marks.SameSteps M N }
+/// Rows of the same shapes are read or refused alike, and the same is noted of them, whatever their
+/// tags are.
+pub fn tags_change_nothing<M, N>(_tag: &M, _other: &N)
+    ensures outcome { tags.SameOutcome M N }
+    ensures steps { tags.SameSteps M N }
 {}
 
-/// The tokens of a source with their places are those with their numbers, where each number's place is looked up.
+/// The tokens of a source with their places are the tokens with their numbers, if the place of each
+/// number is looked up.
 pub fn places_are_looked_up()
-    ensures rows { marks.PlacesAreLookedUp }
-    ensures span { marks.PlacesHaveSpans }
-    ensures bare { marks.SpansAreLeft }
+    ensures rows { tags.PlacesAreLookedUp }
+    ensures span { tags.PlacesHaveSpans }
+    ensures bare { tags.SpansAreLeft }
 {}
 
-/// Of the first tokens of a source the same is noted, whether they are marked with their places or with their numbers.
+/// Reading the first tokens of a source notes the same, whether they are tagged with places or with
+/// numbers.
 pub fn places_change_nothing()
-    ensures noted { marks.NotedAlike }
-    ensures wrong { marks.WrongAlike }
+    ensures noted { tags.NotedAlike }
+    ensures wrong { tags.WrongAlike }
 {}
 
-/// The nodes of the syntax tree of a source's tokens stand in the source, the parts of each one behind the other within it.
+/// The nodes of the syntax tree of a source stand in the source. The parts of a node stand within
+/// it, one after another.
 pub fn nodes_stand_in_source()
     ensures { spans.NodesStand }
 {}

@@ -1,4 +1,4 @@
--- What shapes print is cut into the same shapes.
+-- Printed shapes lex to the same shapes.
 use Rattle.std.proofs.Common.{◌≡◌, ℕ, ◌+◌, ◌<◌, Bool, true, false, ◌⊎◌, inl, inr, List, [], ◌∷◌, ◌++◌, length, take, drop, get_or, refl, sym, ap, ◌∙◌, subst, eq-eqb, arith, Some}
 use Rattle.std.proofs.lemmas.Bool.{true≢false, false≢true, and_parts}
 use Rattle.std.proofs.lemmas.Bool.Decides.{nat_tests}
@@ -15,18 +15,18 @@ use Rattle.protox_lexeme.proofs.Margins.{AllPass, head_passes}
 use Rattle.protox_lexeme.proofs.OneKind.{mark_apart}
 use Rattle.protox_lexeme.proofs.ScanMatch as scanned
 
--- ---- what stands behind a shape
+-- ---- what follows a shape
 
--- the end, or a space
+-- The end of the text, or a space.
 abbrev pub AtEnd : List ℕ → Type 0
 AtEnd rest = (rest ≡ []) ⊎ ((more : List ℕ) × (rest ≡ 32 ∷ more))
 
--- a test that neither 0 nor a space passes fails there
+-- A test that neither 0 nor a space passes fails there.
 pub ends_run : (p : ℕ → Bool) (rest : List ℕ) → p 0 ≡ false → p 32 ≡ false → AtEnd rest → p (get_or rest 0 0) ≡ false
 ends_run p rest none space (inl e) = ap (λ t. p (get_or t 0 0)) e ∙ none
 ends_run p rest none space (inr (more, e)) = ap (λ t. p (get_or t 0 0)) e ∙ space
 
--- a run up to there
+-- A run that ends there.
 pub run_to : (p : ℕ → Bool) (s rest : List ℕ) → AllPass p s → p 0 ≡ false → p (get_or rest 0 0) ≡ false → prefix_len p (s ++ rest) ≡ length s
 run_to p [] [] all none stops = refl
 run_to p [] (r ∷ rest) all none stops = rw stops refl
@@ -49,7 +49,7 @@ at_rest (b ∷ s) rest = at_rest s rest
 
 -- ---- one shape
 
--- the first lexeme of the text has the shape, ends behind n bytes, and has no fault
+-- The first lexeme of the text has the shape, ends after n bytes, and has no fault.
 pub record LexesAs (at : ℕ) (text : List ℕ) (n : ℕ) (x : Shape) : Type 0 where
   pub stop : (first_lexeme at text).stop ≡ at + n
   pub shape : (first_lexeme at text).shape ≡ x

@@ -1,4 +1,4 @@
--- What integers and floats print is cut into the same.
+-- Printed integers and floats lex to the same.
 use Rattle.std.proofs.Common.{◌≡◌, ℕ, zero, suc, ◌+◌, ◌%◌, ◌^◌, ◌<◌, ◌≤◌, Bool, true, false, not, ◌&&◌, ◌||◌, ◌==◌, eqb, ltb, ◌⊎◌, inl, inr, List, [], ◌∷◌, ◌++◌, length, take, drop, get_or, refl, sym, ap, ◌∙◌, subst, append-nil, length-append, lt-ltb, arith, Option, Some}
 use Rattle.std.proofs.lemmas.Bool.{cases_Bool, eqb-true}
 use Rattle.std.proofs.lemmas.Bool.Decides.{nat_tests}
@@ -74,7 +74,7 @@ zero_alone rest end =
     let exp : exponent_len (drop (digits_len text) text) ≡ 0 = ap (λ k. exponent_len (drop k text)) size ∙ no_exponent rest (ends_run is_e rest refl refl end) in
     numbers.number_zero text point exp refl ∙ unfold_zero rest end
 
--- digits behind which the text ends are an integer
+-- Digits at the end of the text are an integer.
 digits_number : (s rest : List ℕ) → AllPass is_ascii_digit s → 0 < length s → (eqb (get_or s 0 0) 48 ≡ false) ⊎ (s ≡ 48 ∷ []) → AtEnd rest → number (s ++ rest) ≡ (kind.Integer, length s)
 digits_number s rest all some (inl other) end =
     let text = s ++ rest in
@@ -205,7 +205,7 @@ number_kind text =
       | numbers.at_plain o x z f e ↦ subst P (sym e) (inl refl)
     ]
 
--- where a float fits, the scan finds a number
+-- If a float fits, the scan finds a number.
 number_found : (text : List ℕ) (n : ℕ) → Fits (pattern kind.Float) text n → (p : Kind × ℕ) × (scan text ≡ Some p) × IsNumber p.0
 number_found text n f = elim (numbers.float_bound text n f) [
   | inl h ↦ (number text, scanned.scan_digit text h.0, number_kind text)
@@ -215,7 +215,7 @@ number_found text n f = elim (numbers.float_bound text n f) [
 numeric_not_blank : (b : ℕ) → is_numeric b ≡ true → is_blank b ≡ false
 numeric_not_blank b h = grind (arith, nat_tests)
 
--- a float's word, behind which the text ends, is the longest match
+-- A word of floats at the end of the text is the longest match.
 float_found : (s rest : List ℕ) → IsWordOf (pattern kind.Float) s → AtEnd rest → scan (s ++ rest) ≡ Some (kind.Float, length s)
 float_found s rest word end =
     let text = s ++ rest in
@@ -257,7 +257,7 @@ float_lexes at s rest word suffix whole end =
 
 -- ---- words
 
--- a word of bytes of one kind
+-- A word whose bytes all are of one kind.
 pub word_passes : (q : ℕ → Bool) (p : Pattern) (word : List ℕ) → OnlyIn q p → IsWordOf p word → AllPass q word
 word_passes q p word only w =
     let P : List ℕ → Type 0 = λ t. Fits p t (length word) in

@@ -1,4 +1,4 @@
--- The tokens of a source are cut again from what they print.
+-- The printed tokens of a source lex to the same tokens.
 use Rattle.std.proofs.Common.{◌≡◌, ℕ, zero, suc, ◌+◌, ◌-◌, ◌/◌, ◌%◌, ◌^◌, ◌<◌, Bool, true, false, ◌||◌, ◌==◌, eqb, ltb, leb, ◌⊎◌, inl, inr, List, [], ◌∷◌, ◌++◌, length, take, drop, get_or, refl, sym, ap, ◌∙◌, subst, append_assoc, append-nil, length-append, lt-ltb, eq-eqb, arith, Option, Some, None}
 use Rattle.std.proofs.lemmas.Bool.{cases_Bool, true≢false, eqb-true, ltb-true, leb-true, and_parts}
 use Rattle.std.proofs.lemmas.Bool.Decides.{nat_tests}
@@ -173,7 +173,7 @@ string_bytes quote text h = pieces_added (length text) quote text h
 
 -- ---- floats
 
--- the bytes of a float but its suffix
+-- The bytes of a float, without its suffix.
 abbrev is_core : ℕ → Bool
 is_core b = is_ascii_digit b || (b == 46 || (is_e b || is_sign b))
 
@@ -192,7 +192,8 @@ sign_core b h = grind (arith, nat_tests)
 point_core : In is_core (λ b. b == 46)
 point_core b h = ap is_core (eqb-true b 46 h)
 
--- what a float's word is: digits and a suffix, or one with a point or an exponent, and a suffix or none
+-- A word of floats: digits and a suffix, or a float with a point or an exponent, with or without a
+-- suffix.
 record Core (u : List ℕ) : Type 0 where
   some : 0 < length u
   core : AllPass is_core u
@@ -312,7 +313,8 @@ float_prints w h = elim (kinds_of w h) [
 int_small : (w : List ℕ) → (if value_fits w then integer_value w else 0) < 2 ^ 64
 int_small w = elim (cases_Bool (value_fits w)) [ inl e ↦ rw e (ltb-true (integer_value w) (2 ^ 64) e) | inr e ↦ rw e (omega arith) ]
 
--- a comment, a newline, an invalid character, or a shape that is cut again from what it prints
+-- A comment, a newline, an invalid character, or a shape that comes back when it is printed and
+-- lexed.
 abbrev Prints : Shape → Type 0
 Prints x = (is_gap x ≡ true) ⊎ ((x ≡ Invalid) ⊎ IsPrintable x)
 

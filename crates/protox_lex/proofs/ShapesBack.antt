@@ -1,4 +1,4 @@
--- What a list of shapes prints is cut into the same shapes.
+-- Printed shapes lex to the same shapes.
 use Rattle.std.proofs.Common.{◌≡◌, ℕ, suc, ◌+◌, ◌-◌, Bool, ltb, inl, inr, List, [], ◌∷◌, ◌++◌, length, drop, map, flat_map, refl, sym, ap, ◌∙◌, subst, append-nil, add-zero, arith}
 use Rattle.std.proofs.lemmas.Bool.{cases_Bool, ltb-true, ltb-false}
 use Rattle.protox_lex.specs.LexesBack.{AreBytes, IsPrintable, ArePrintable, spaced}
@@ -23,7 +23,7 @@ shape_lexes at (BlockComment s) rest h end = absurd h
 shape_lexes at Newline rest h end = absurd h
 shape_lexes at Invalid rest h end = absurd h
 
--- the cut of a text that begins with a shape's print
+-- The cut of a text that begins with a printed shape.
 cut_front : (at : ℕ) (text rest : List ℕ) (x : Shape) → LexesAs at (text ++ rest) (length text) x
     → cut at (text ++ rest) ≡ first_lexeme at (text ++ rest) ∷ cut (at + length text) rest
 cut_front at text rest x l =
@@ -57,7 +57,7 @@ cut_blank at text =
           cut_none at (32 ∷ text) (omega arith) ∙ sym (cut_none (at + 1) text nothing)
     ]
 
--- the lexemes have these shapes, and no fault
+-- The lexemes have these shapes and no faults.
 abbrev pub Gives : List Shape → List Lexeme → Type 0
 Gives xs ls = (map (λ l. l.shape) ls ≡ xs) × (flat_map (λ l. l.faults) ls ≡ [])
 
@@ -85,7 +85,7 @@ gives_from at (x ∷ (y ∷ xs)) h =
 pub gives : (xs : List Shape) → ArePrintable xs → Gives xs (cut 0 (spaced xs))
 gives xs h = gives_from 0 xs h
 
--- a string in double quotes, however its bytes are spelled, is one lexeme
+-- A string in double quotes is one lexeme, however its bytes are spelled.
 pub spelled_alone : (spelled : ℕ → List ℕ) → Spells spelled → (s : List ℕ) → AreBytes s
     → (borrowed : Bool)
     × (cut 0 (34 ∷ flat_map spelled s ++ 34 ∷ [])

@@ -1,4 +1,4 @@
--- Rows that name their tokens by number, and gaps that are kept by number.
+-- Rows that refer to their tokens by number, and gaps that are kept by number.
 use Rattle.std.proofs.Common.{◌≡◌, ℕ, zero, suc, ◌+◌, ◌-◌, ◌^◌, ◌<◌, ◌≤◌, inl, inr, List, [], ◌∷◌, ◌++◌, length, length-append, append_assoc, map, set, take, replicate, refl, sym, ap, subst, ◌∙◌, arith, Option, Some, None, Err, eqb, nat_lt, true, false, Result, Ok}
 use Rattle.std.proofs.Math.ListN.{get_or-append}
 use Rattle.std.proofs.Math.Seq.{get_or-append_seam}
@@ -16,19 +16,19 @@ use Rattle.protox_lexeme.specs.declared.token.Token.{Token}
 use Rattle.protox_lexeme.specs.declared.token.Token.TheVariants as variant
 use Rattle.protox_fault.specs.Faults.{Span, span_from}
 use Rattle.protox_lexeme.specs.Shapes.{Shape, Mark, Newline, Row}
-use Rattle.protox_lex.specs.Sharing.{kept_at, shape_at, borrowed_at, borrowed_by, rows_seen, and_row, kept_len, own_len, len_by, row_by, rows_by, IsKept, AreKept, AreMarks, AreClassed, AreShared, AreLines, AreThere, gap_at}
+use Rattle.protox_lex.specs.inner.Sharing.{kept_at, shape_at, borrowed_at, borrowed_by, rows_seen, and_row, kept_len, own_len, len_by, row_by, rows_by, IsKept, AreKept, AreMarks, AreClassed, AreShared, AreLines, AreThere, gap_at}
 use Rattle.protox_lex.specs.TableView.{shapes_of_lent}
 use Rattle.protox_lexeme.specs.TokenClass.{class, no_token}
 use Rattle.protox_lexeme.specs.Tokens.{shape_of, shape_of_result, borrowed_of, borrowed_of_result, holds_none}
 
--- what is kept stays
+-- What is kept stays as it is.
 kept_stays : (tokens more : List KeptToken) (number : ℕ) → number < length tokens → kept_at (tokens ++ more) number ≡ kept_at tokens number
 kept_stays tokens more number l = get_or-append tokens more record { token = Err tt; len = 0; class = no_token } number l
 
 kept_last : (tokens : List KeptToken) (token : KeptToken) → kept_at (tokens ++ token ∷ []) (length tokens) ≡ token
 kept_last tokens token = get_or-append_seam tokens token [] record { token = Err tt; len = 0; class = no_token }
 
--- a row, by what is kept for it
+-- A row, given what is kept for it.
 abbrev row_with : ℕ → Option ℕ → KeptToken → Row Span
 row_with start own token = record { shape = shape_of_result token.token; at = span_from start (start + unwrap_or own token.len) }
 
@@ -41,7 +41,7 @@ rows_stay tokens more (row ∷ rows) h =
 len_stays : (tokens more : List KeptToken) (row : NumberedRow) → row.token < length tokens → len_by (tokens ++ more) row ≡ len_by tokens row
 len_stays tokens more row l = ap (λ k. unwrap_or row.len k.len) (kept_stays tokens more row.token l)
 
--- a row of one more token still ends where it did
+-- With one more token kept, a row still ends where it did.
 is_kept_stays : (tokens : List KeptToken) (token : KeptToken) (row : NumberedRow) → IsKept tokens row → IsKept (tokens ++ token ∷ []) row
 is_kept_stays tokens token row (l, ends) = (omega (arith, l, length-append tokens (token ∷ [])), omega (arith, ends, len_stays tokens (token ∷ []) row l))
 
@@ -55,18 +55,18 @@ own_or_kept len = elim (cases_Bool (nat_lt len (2 ^ 32))) [
   | inr large ↦ rw large refl
 ]
 
--- what is true of a row of the table
+-- What holds for each row of the table.
 pub row_is_kept : (tokens : List KeptToken) (rows : List NumberedRow) (index : ℕ) (row : NumberedRow) → AreKept tokens rows → slice_get rows index ≡ Some row → IsKept tokens row
 row_is_kept tokens rows index row h e =
     let P : NumberedRow → Type 0 = λ r. IsKept tokens r in
     subst P (get_or_from_slice_get rows index row row e) (h index row (slice_get_within rows index row e))
 
--- a row of a token that is kept
+-- A row with a token that is kept.
 rows_known : (tokens : List KeptToken) (rows : List NumberedRow) (row : NumberedRow) (shape : Shape) (len : ℕ) → shape_at tokens row.token ≡ shape → len_by tokens row ≡ len
     → rows_by tokens (rows ++ row ∷ []) ≡ rows_by tokens rows ++ record { shape = shape; at = span_from row.start (row.start + len) } ∷ []
 rows_known tokens rows row shape len e size = map-append (row_by tokens) rows (row ∷ []) ∙ rw (e, size) refl
 
--- a token of such a shape is borrowed
+-- A token of such a shape owns no memory.
 borrowed_token : (t : Token) → holds_none (shape_of t) ≡ true → borrowed_of t ≡ true
 borrowed_token (variant.FloatLiteral f) h = absurd (cc)
 borrowed_token (variant.StringLiteral s) h = absurd (cc)
@@ -100,7 +100,7 @@ HasClass t = t.class ≡ class (shape_of_result t.token)
 pub class_found : (tokens : List KeptToken) (number : ℕ) → AreClassed tokens → number < length tokens → (kept_at tokens number).class ≡ class (shape_at tokens number)
 class_found tokens number h l = h number record { token = Err tt; len = 0; class = no_token } l
 
--- what is borrowed stays so
+-- What owns no memory stays so.
 flags_stay : (tokens more : List KeptToken) (rows : List NumberedRow) → AreKept tokens rows → borrowed_by (tokens ++ more) rows ≡ borrowed_by tokens rows
 flags_stay tokens more [] h = refl
 flags_stay tokens more (row ∷ rows) h =
@@ -113,7 +113,7 @@ flags_push tokens token rows row h e =
     let last : borrowed_at (tokens ++ token ∷ []) row.token ≡ borrowed_of_result token.token = ap (λ k. borrowed_of_result k.token) (ap (kept_at (tokens ++ token ∷ [])) e ∙ kept_last tokens token) in
     map-append (λ r. borrowed_at (tokens ++ token ∷ []) r.token) rows (row ∷ []) ∙ rw (flags_stay tokens (token ∷ []) rows h, last) refl
 
--- a row of one more token
+-- A row with one more token.
 places_push : (tokens : List KeptToken) (token : KeptToken) (rows : List NumberedRow) (start number len : ℕ) → AreKept tokens rows → number ≡ length tokens → token.len ≡ kept_len len
     → rows_by (tokens ++ token ∷ []) (rows ++ record { start = start; token = number; len = own_len len } ∷ []) ≡ rows_by tokens rows ++ record { shape = shape_of_result token.token; at = span_from start (start + len) } ∷ []
 places_push tokens token rows start number len h e size =
@@ -156,13 +156,13 @@ shared_push tokens token rows marks recent start number len s e size ends of = r
   slots = s.slots;
 }
 
--- one more token, and no row of it yet
+-- One more token, which no row has yet.
 pub shared_more : (tokens : List KeptToken) (token : KeptToken) (rows : List NumberedRow) (marks : List (Option ℕ)) (recent : List ℕ) → AreShared tokens rows marks recent
     → HasClass token → AreShared (tokens ++ token ∷ []) rows marks recent
 shared_more tokens token rows marks recent s of =
     record { kept = kept_more tokens token rows s.kept; marks_are = marks_push tokens token marks s.marks_are; classed = All-push HasClass tokens token s.classed of; bytes = s.bytes; slots = s.slots }
 
--- a row of a mark that is kept from now on
+-- A row with a mark that is kept from now on.
 marks_first : (tokens : List KeptToken) (token : KeptToken) (marks : List (Option ℕ)) (byte : ℕ) → AreMarks tokens marks → shape_of_result token.token ≡ Mark byte → byte < length marks
     → AreMarks (tokens ++ token ∷ []) (set marks byte (Some (length tokens)))
 marks_first tokens token marks byte h s l b number e = elim (cases_Bool (eqb b byte)) [
@@ -198,7 +198,7 @@ mark_found tokens marks byte number found are within is some =
 
 -- ---- gaps
 
--- newlines that are lent
+-- Borrowed newlines.
 lines_lent : (lines : List Token) (count : ℕ) → AreLines lines → count ≤ 8 → map shape_of (take count lines) ≡ replicate count Newline
 lines_lent lines count e l = sym (take-map shape_of count lines) ∙ ap (take count) e ∙ take-replicate count 8 Newline l
 
@@ -223,7 +223,7 @@ many_found kept numbers k number lent there is l e =
     lent_is None gap e = absurd (cc)
     lent_is (Some g) gap e = let same : g.now ≡ gap = cc in ap (λ ts. Some (map shape_of ts)) same
 
--- more kept gaps change none
+-- More kept gaps don't change the others.
 gaps_kept : (kept : List (List Token)) (gap : List Token) (numbers : List ℕ) → AreThere numbers kept → map (gap_at (kept ++ gap ∷ [])) numbers ≡ map (gap_at kept) numbers
 gaps_kept kept gap [] h = refl
 gaps_kept kept gap (number ∷ numbers) h =
@@ -255,7 +255,7 @@ there_more numbers kept gap h k d l = let below = h k d l in omega (arith, lengt
 pub there_push : (numbers : List ℕ) (kept : List (List Token)) (number : ℕ) → AreThere numbers kept → number < 8 + length kept → AreThere (numbers ++ number ∷ []) kept
 there_push numbers kept number h l = All-push (λ n. n < 8 + length kept) numbers number h l
 
--- a newline that is kept was one of those behind what is kept
+-- A newline that is kept was among the newlines after what is kept.
 pub newline_kept : (begun : List Token) (token : Token) (count : ℕ) → 0 < count → shape_of token ≡ Newline
     → map shape_of (begun ++ token ∷ []) ++ replicate (count - 1) Newline ≡ map shape_of begun ++ replicate count Newline
 newline_kept begun token zero l e = absurd (omega arith)
@@ -276,7 +276,7 @@ nothing_shared tokens rows marks recent t r m size = record {
   never (suc n) zero number e = absurd (cc)
   never (suc n) (suc byte) number e = never n byte number e
 
--- what is a copy of nothing is nothing
+-- A copy of nothing is nothing.
 pub only_none : (R : Option ℕ → Type 0) → ((n : ℕ) → R (Some n) → ⊥) → (copy : Option ℕ) → R copy → copy ≡ None
 only_none R never None r = refl
 only_none R never (Some n) r = absurd (never n r)

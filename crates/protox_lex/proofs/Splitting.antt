@@ -1,18 +1,18 @@
--- Lists one behind another.
+-- Lists, one after another.
 use Rattle.std.proofs.Common.{◌≡◌, ℕ, zero, suc, ◌+◌, ◌-◌, ◌<◌, ◌≤◌, List, [], ◌∷◌, ◌++◌, length, take, drop, get_or, refl, sym, ap, ◌∙◌, length-append, length-drop, arith, le_refl, le_trans, Some, None}
 use Rattle.std.proofs.lemmas.List.{take-append-le, drop-append-le, length-take-le}
 use Rattle.std.specs.List.{All}
 use Rattle.std.proofs.Math.Seq.{take-length, drop-length}
 use Rattle.std.proofs.lemmas.Option.{slice_get_past}
 use Rattle.std.specs.Prelude.{slice_get, slice_range}
-use Rattle.protox_lex.specs.Grouping.{split, last_end, EndWithin, grouped, empty_and}
+use Rattle.protox_lex.specs.inner.Grouping.{split, last_end, EndWithin, grouped, empty_and}
 
--- the last end lies behind the first beginning, within the items
+-- The last end is at or after the first beginning, and within the items.
 pub last_within : (from size : ℕ) (ends : List ℕ) → EndWithin from size ends → (from ≤ last_end from ends) × (last_end from ends ≤ size)
 last_within from size [] h = (le_refl from, h)
 last_within from size (end ∷ ends) (low, h) = let (a, b) = last_within end size ends h in (le_trans low a, b)
 
--- list k lies within the items, whatever stands for an end that is not there
+-- List k lies within the items, whatever stands for a missing end.
 group_within : (from size : ℕ) (ends : List ℕ) (k d : ℕ) → EndWithin from size ends → k < length ends → (get_or (from ∷ ends) k 0 ≤ get_or ends k d) × (get_or ends k d ≤ size)
 group_within from size [] k d h l = absurd (omega arith)
 group_within from size (end ∷ ends) zero d (low, h) l = let (a, b) = last_within end size ends h in (low, le_trans a b)
@@ -94,7 +94,7 @@ range_empty items from to low high none =
     let nothing = ap length none in
     omega arith
 
--- Where the last ends as the first begins, all are empty.
+-- If the last list ends where the first begins, all are empty.
 pub all_empty : {T : Type 0} (from : ℕ) (items : List T) (ends : List ℕ) → EndWithin from (length items) ends → last_end from ends ≡ from → All (λ xs. xs ≡ []) (split from items ends)
 all_empty from items [] h e k d l = absurd (omega arith)
 all_empty from items (end ∷ ends) (low, h) e zero d l =
@@ -111,7 +111,7 @@ last_of_empty from items (end ∷ ends) (low, h) all =
     let (a, b) = last_within end (length items) ends h in
     last_of_empty end items ends h (λ k d l. all (suc k) d (omega arith)) ∙ range_empty items from end low (le_trans a b) (all zero [] (omega arith))
 
--- ---- behind empty lists
+-- ---- after empty lists
 
 pub all_behind : {T : Type 0} (n : ℕ) (xss : List (List T)) → All (λ xs. xs ≡ []) xss → All (λ xs. xs ≡ []) (empty_and n xss)
 all_behind zero xss all k d l = all k d l

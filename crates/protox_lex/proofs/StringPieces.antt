@@ -85,7 +85,7 @@ some_up_fits p n (b ∷ text) (suc m) some few h =
     let all = run_more p b text passes in
     then_one_rest p (up_to n (one p)) (b ∷ text) m (omega arith) (up_fits p n text m (omega arith) (omega arith))
 
--- ---- what stands at the front of each kind, and its longest match
+-- ---- which pieces of each kind stand at the front, and their longest match
 
 abbrev first : List ℕ → ℕ
 first text = get_or text 0 0
@@ -184,7 +184,7 @@ front_fits quote ShortChar text some (slash, u, digits) =
 front_fits quote LongChar text some (slash, u, digits) =
     escape_fits (λ x. x == 85) (times 8 hex_digit) text 8 slash refl (eq-eqb (second text) 85 u) (times_fits is_ascii_hexdigit 8 (drop 2 text) digits)
 
--- ---- no two kinds stand at one place
+-- ---- no two kinds of pieces stand at one place
 
 -- the kind that may stand at a place, by its first two bytes
 abbrev kind_at : ℕ → List ℕ → PieceKind
@@ -304,7 +304,7 @@ front_longest quote k text q some f = record {
       subst P same bound;
 }
 
--- no kind stands at the front, and the piece is that of no match
+-- No kind stands at the front, so the piece is one without a match.
 record NoFront (quote : ℕ) (text : List ℕ) : Type 0 where
   none : (k : PieceKind) → Front quote k text → ⊥
   is : spec.piece quote text ≡ unmatched text
@@ -312,7 +312,7 @@ record NoFront (quote : ℕ) (text : List ℕ) : Type 0 where
 abbrev Which : ℕ → List ℕ → Type 0
 Which quote text = ((k : PieceKind) × Front quote k text) ⊎ NoFront quote text
 
--- the kind that may stand there does not
+-- The kind that may stand there doesn't.
 refuted : (quote : ℕ) (text : List ℕ) (k : PieceKind) → is_quote quote ≡ true → kind_at quote text ≡ k → (Front quote k text → ⊥) → (l : PieceKind) → Front quote l text → ⊥
 refuted quote text k q here none l f = let P : PieceKind → Type 0 = λ j. Front quote j text in none (subst P (front_kind quote l text q f ∙ here) f)
 
@@ -445,7 +445,7 @@ only_pieces quote text (p ∷ ps) q (some, is, last, more) =
       | inr e ↦ ap (λ t. p ∷ t) (only_pieces quote (drop (spec.piece_len p) text) ps q (more e)) ∙ sym (pieces_more quote text p some same e)
     ]
 
--- ---- invalid pieces that adjoin
+-- ---- invalid pieces right after one another
 
 closed_then : (bad : spec.Bad) (at : ℕ) (rest : List spec.Piece) → begins_wrong rest ≡ false → spec.faults_of bad at rest ≡ spec.closed bad at ++ spec.faults_of None at rest
 closed_then bad at [] h = refl

@@ -1,4 +1,4 @@
--- What a string prints is cut into the same string.
+-- A printed string lexes to the same string.
 use Rattle.std.proofs.Common.{◌≡◌, ℕ, suc, ◌+◌, ◌*◌, ◌/◌, ◌%◌, ◌<◌, true, false, eqb, ltb, leb, ◌⊎◌, inl, inr, List, [], ◌∷◌, ◌++◌, length, take, drop, flat_map, get_or, refl, sym, ap, ◌∙◌, subst, append_assoc, length-append, lt-ltb, arith, Some, None}
 use Rattle.std.proofs.lemmas.Bool.{cases_Bool, true≢false, eqb-true, ltb-true, le-leb, and_parts}
 use Rattle.std.proofs.lemmas.Bool.Decides.{nat_tests}
@@ -19,7 +19,7 @@ use Rattle.protox_lex.proofs.LexesBack.{LexesAs, rest_is, by_scan}
 use Rattle.protox_lexeme.proofs.Literal.{pieces_last, pieces_more}
 use Rattle.protox_lexeme.proofs.ScanMatch as scanned
 
--- the pieces of a literal's text in double quotes: their value, their length, and no fault
+-- The pieces of a literal in double quotes: their value, their length, and no fault.
 record Reads (text bytes : List ℕ) (n : ℕ) : Type 0 where
   value : spec.value_of (spec.pieces 34 text) ≡ bytes
   len : spec.len_of (spec.pieces 34 text) ≡ n
@@ -90,7 +90,7 @@ plain_reads b rest value n h r =
           }
     ]
 
--- how a byte may be spelled within double quotes: as it is, or as an escape
+-- The ways to spell a byte within double quotes: as it is, or as an escape.
 abbrev pub Spells : (ℕ → List ℕ) → Type 0
 Spells spelled = (b : ℕ) → b < 256
     → ((spelled b ≡ b ∷ []) × (spec.is_plain b ≡ true)) ⊎ ((0 < length (spelled b)) × ((rest : List ℕ) → spec.piece 34 (spelled b ++ rest) ≡ spec.adds (b ∷ []) (length (spelled b))))
@@ -113,7 +113,7 @@ spelled_reads spelled spells (b ∷ s) rest h =
     ] in
     subst P (sym (append_assoc (spelled b) (flat_map spelled s) (34 ∷ rest))) (subst Q size here)
 
--- ---- how tokens spell a byte
+-- ---- how a byte is spelled
 
 hex_digit : (d : ℕ) → d < 16 → is_ascii_hexdigit (digit_char d) ≡ true
 hex_digit d h = grind (arith, nat_tests)

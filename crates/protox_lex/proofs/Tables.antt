@@ -43,7 +43,7 @@ faults_of_length (x ∷ xs) = elim (cases_Bool (is_gap x.shape)) [
   | inr row ↦ rw row (let more = faults_of_length xs in omega arith)
 ]
 
--- past the last entry nothing is released
+-- After the last entry nothing is released.
 pub nothing_released : (text_format : Bool) (xss : List (List ParseErrorKind)) (k : ℕ) (errors : List ParseErrorKind) → slice_get xss k ≡ None → errors ≡ errors ++ faults_in text_format (get_or xss k [])
 nothing_released text_format xss k errors none = sym (ap (λ fs. errors ++ fs) (ap (faults_in text_format) (nothing xss k none) ∙ no_faults text_format) ∙ append-nil errors) where
   nothing : (xss : List (List ParseErrorKind)) (k : ℕ) → slice_get xss k ≡ None → get_or xss k [] ≡ []
@@ -85,7 +85,7 @@ hold_gaps (x ∷ xs) =
 pub gaps_held : (gaps : List (List Shape)) (xs : List Lexeme) → gaps ≡ gaps_of xs → HoldGaps gaps
 gaps_held gaps xs e = let P : List (List Shape) → Type 0 = λ gs. HoldGaps gs in subst P (sym e) (hold_gaps xs)
 
--- a gap that is lent
+-- A borrowed gap.
 pub lent_gap : (gaps : List (List Shape)) (k : ℕ) (r : Option (Bor (List Token))) → HoldGaps gaps → option_map shapes_of_lent r ≡ slice_get gaps k → IfSome r (λ gap. IsGap (map shape_of gap.now))
 lent_gap gaps k None h e = tt
 lent_gap gaps k (Some gap) h e = h k (map shape_of gap.now) (sym e)

@@ -1,4 +1,4 @@
--- Shapes that are cut again from what they print.
+-- Shapes that come back when their printed text is lexed.
 use Rattle.std.specs.Prelude.{◌≡◌, ℕ, ◌^◌, ◌<◌, true, false, nat_lt, List, [], ◌∷◌, ◌++◌}
 use Rattle.std.specs.List.{list_all}
 use Rattle.protox_lexeme.specs.declared.scan.Kind.TheVariants as kind
@@ -8,11 +8,13 @@ use Rattle.protox_lexeme.specs.Printed.{printed}
 use Rattle.protox_lexeme.specs.Shapes.{Shape, Ident, Int, Float, Str, Mark}
 use Rattle.protox_lex.specs.Words.{IsWordOf}
 
+-- Every number of the list is a byte.
 abbrev pub AreBytes : List ℕ → Type 0
 AreBytes s = list_all (λ b. nat_lt b 256) s ≡ true
 
--- An identifier is a word of an identifier's pattern, an integer has 64 bits, a float is a float's word that has a point or an exponent and no suffix,
--- a string has bytes, and a mark is one of the marks. No other shape is meant: comments, newlines and invalid characters.
+-- An identifier fits the pattern of identifiers, and an integer has 64 bits. A float fits the
+-- pattern of floats, has a point or an exponent, and has no suffix. A string has bytes, and a mark
+-- is one of the marks. Comments, newlines and invalid characters are left out.
 abbrev pub IsPrintable : Shape → Type 0
 IsPrintable (Ident s) = IsWordOf (pattern kind.Identifier) s
 IsPrintable (Int n) = n < 2 ^ 64
@@ -21,11 +23,12 @@ IsPrintable (Str s) = AreBytes s
 IsPrintable (Mark b) = is_mark b ≡ true
 IsPrintable other = ⊥
 
+-- Every shape of the list is printable.
 abbrev pub ArePrintable : List Shape → Type 0
 ArePrintable [] = Unit {0}
 ArePrintable (x ∷ xs) = IsPrintable x × ArePrintable xs
 
--- the shapes as they print, joined by one space
+-- The shapes as they print, with one space between them.
 abbrev pub spaced : List Shape → List ℕ
 spaced [] = []
 spaced (x ∷ []) = printed x

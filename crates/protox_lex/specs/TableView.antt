@@ -1,4 +1,4 @@
--- What a clause sees of a table and of its tokens.
+-- What contracts see of a table and of its tokens.
 use Rattle.std.specs.Borrow.{Bor}
 use Rattle.std.specs.Prelude.{Bool, true, List, map, ◌++◌, Result, Ok, Err}
 use Rattle.protox_lexeme.specs.declared.token.Token.{Token}
@@ -9,24 +9,25 @@ use Rattle.protox_lexeme.specs.Shapes.{Shape, Invalid}
 use Rattle.protox_lexeme.specs.Table.{Table, in_front, rows_of, borrowed_rows, gaps_of, faults_of}
 use Rattle.protox_lexeme.specs.Tokens.{shape_of, borrowed_of}
 
--- the shape of a token that is lent, or of an invalid one
+-- The shape of a borrowed token, or `Invalid`.
 abbrev pub shape_of_lent : Result (Bor Token) (Unit {0}) → Shape
 shape_of_lent (Ok t) = shape_of t.now
 shape_of_lent (Err e) = Invalid
 
--- whether a token that is lent holds no memory of its own
+-- Whether a borrowed token owns no memory.
 abbrev pub borrowed_of_lent : Result (Bor Token) (Unit {0}) → Bool
 borrowed_of_lent (Ok t) = borrowed_of t.now
 borrowed_of_lent (Err e) = true
 
--- the shapes of tokens that are lent
+-- The shapes of borrowed tokens.
 abbrev pub shapes_of_lent : Bor (List Token) → List Shape
 shapes_of_lent tokens = map shape_of tokens.now
 
+-- The table as contracts see it.
 abbrev pub table_seen : Inside → Table
 table_seen t = record { rows = t.rows.rows; borrowed = t.rows.borrowed; gaps = t.gaps.ended; faults = t.faults.ended }
 
--- the table that a draft becomes where these lexemes are still to come
+-- The table that a draft becomes if these lexemes are still to come.
 abbrev pub finished : TableDraft → List Lexeme → Table
 finished d xs = record {
   rows = d.rows.rows ++ rows_of xs;
@@ -35,6 +36,6 @@ finished d xs = record {
   faults = d.faults.ended ++ in_front d.faults.begun (faults_of xs);
 }
 
--- the table of a draft whose last gap has ended
+-- The table of a draft whose last gap has ended.
 abbrev pub ended_table : TableDraft → Table
 ended_table d = record { rows = d.rows.rows; borrowed = d.rows.borrowed; gaps = d.gaps.ended; faults = d.faults.ended }

@@ -1,9 +1,9 @@
--- Patterns as sets of words.
+-- Patterns, read as sets of words.
 use Rattle.std.specs.Prelude.{◌≡◌, ℕ, true, List, [], ◌∷◌, ◌++◌, ◌⊎◌}
 use Rattle.std.specs.List.{list_all}
 use Rattle.protox_lexeme.specs.Pattern.{Pattern, one, many, ◌⋅◌, ◌∣◌, maybe}
 
--- The word is of the pattern.
+-- The word belongs to the pattern.
 abbrev pub IsWordOf : Pattern → List ℕ → Type 0
 IsWordOf (one p) word = (b : ℕ) × (p b ≡ true) × (word ≡ b ∷ [])
 IsWordOf (many p) word = list_all p word ≡ true

@@ -1,4 +1,4 @@
-//! Lists that stand one behind another in one vector.
+//! Several lists in one vector.
 ghost use Rattle.std.specs.Prelude.{◌≡◌, ◌↔◌, IsTrue, ◌<◌, ◌≤◌, ◌^◌, ◌++◌, ◌∷◌, [], length, slice_get, slice_index, true, OnOk, OnErr};
 ghost use Rattle.std.specs.List.{All};
 ghost use Rattle.std.specs.Option.{option_copied};
@@ -6,8 +6,8 @@ ghost use Rattle.std.specs.Option.{option_copied};
 use std::alloc::{AllocError, Global};
 use std::marker::Model;
 
-/// Lists one behind another, and where each ends. What stands behind the last end is a list that
-/// has begun.
+/// Lists, stored one after another, and where each of them ends. What stands after the last end is
+/// a list that has begun.
 #[derive(Drop)]
 pub(crate) struct Groups<T> {
     items: Vec<T>,
@@ -16,7 +16,7 @@ pub(crate) struct Groups<T> {
 
 impl<T> Model for Groups<T> {
     ghost use Rattle.std.specs.Prelude.{length};
-    ghost use Rattle.protox_lex.specs.Grouping.{Grouped, grouped_code, grouped, EndWithin};
+    ghost use Rattle.protox_lex.specs.inner.Grouping.{Grouped, grouped_code, grouped, EndWithin};
 
     ghost Value = { Grouped T };
 
@@ -36,7 +36,7 @@ fn start_of(ends: &[usize], index: usize) -> usize
 }
 
 impl<T> Groups<T> {
-    /// No list, and an empty one that has begun. It takes no memory.
+    /// No lists, and an empty list that has begun. It takes no memory.
     pub(crate) fn new(alloc: Global) -> Groups<T>
         ensures { result ≡ record { ended = []; begun = [] } }
     {
@@ -46,7 +46,7 @@ impl<T> Groups<T> {
         }
     }
 
-    /// Whether nothing was ever added, not even an end.
+    /// True only if nothing was ever added, not even an end.
     pub(crate) fn is_new(&self) -> bool
         ensures yes { result ≡ true → self.now ≡ record { ended = []; begun = [] } }
     {
@@ -54,7 +54,7 @@ impl<T> Groups<T> {
     }
 
     #[tactic(auto, using(crate::proofs::Splitting::group_starts, crate::proofs::Splitting::group_ends, crate::proofs::Splitting::group_is, crate::proofs::Splitting::no_group))]
-    /// List `index`, or None past the last that has ended.
+    /// List `index`, counted from 0. None if that list hasn't ended.
     pub(crate) fn get(&self, index: usize) -> Option<&[T]>
         ensures { option_copied result ≡ slice_get self.now.ended index }
     {
@@ -85,7 +85,7 @@ impl<T> Groups<T> {
     }
 
     #[tactic(auto, using(crate::proofs::Splitting::end_within, crate::proofs::Splitting::grouped_end))]
-    /// Ends the list that has begun. On `AllocError` nothing has changed.
+    /// Ends the list that has begun. On `AllocError` nothing changes.
     pub(crate) fn end(&mut self) -> Result<(), AllocError>
         ensures err { OnErr result (self.new ≡ self.old) }
         ensures ok { OnOk result (self.new ≡ record { ended = self.old.ended ++ self.old.begun ∷ []; begun = [] }) }
@@ -97,7 +97,7 @@ impl<T> Groups<T> {
 
 impl<T: Drop> Groups<T> {
     #[tactic(auto, using(crate::proofs::Splitting::append_within, crate::proofs::Splitting::grouped_append))]
-    /// Appends an item to the list that has begun. On `AllocError` nothing has changed.
+    /// Appends an item to the list that has begun. On `AllocError` nothing changes.
     pub(crate) fn push(&mut self, item: T) -> Result<(), AllocError>
         ensures err { OnErr result (self.new ≡ self.old) }
         ensures ok { OnOk result (self.new ≡ record self.old { begun = self.old.begun ++ item ∷ [] }) }

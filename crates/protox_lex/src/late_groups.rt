@@ -1,4 +1,4 @@
-//! Groups of which the first are mostly empty.
+//! Groups whose first lists are mostly empty.
 ghost use Rattle.std.specs.Prelude.{◌≡◌, ◌↔◌, IsTrue, ◌++◌, ◌∷◌, [], slice_get, OnOk};
 ghost use Rattle.std.specs.List.{All};
 ghost use Rattle.std.specs.Option.{option_copied};
@@ -7,7 +7,7 @@ use crate::groups::Groups;
 use std::alloc::{AllocError, Global};
 use std::marker::Model;
 
-/// Groups. The empty lists in front of the first item are counted, and take no memory.
+/// Groups of lists. The empty lists before the first item are only counted, and take no memory.
 #[derive(Drop)]
 pub(crate) struct LateGroups<T> {
     empty: usize,
@@ -15,7 +15,7 @@ pub(crate) struct LateGroups<T> {
 }
 
 impl<T> Model for LateGroups<T> {
-    ghost use Rattle.protox_lex.specs.Grouping.{Grouped, grouped_code, behind_empty};
+    ghost use Rattle.protox_lex.specs.inner.Grouping.{Grouped, grouped_code, behind_empty};
 
     ghost Value = { Grouped T };
 
@@ -25,7 +25,7 @@ impl<T> Model for LateGroups<T> {
 }
 
 impl<T> LateGroups<T> {
-    /// No list, and an empty one that has begun.
+    /// No lists, and an empty list that has begun.
     pub(crate) fn new(alloc: Global) -> LateGroups<T>
         ensures { result ≡ record { ended = []; begun = [] } }
     {
@@ -36,7 +36,7 @@ impl<T> LateGroups<T> {
     }
 
     #[tactic(auto, using(crate::proofs::Splitting::get_empty, crate::proofs::Splitting::get_behind))]
-    /// List `index`, or None past the last that has ended.
+    /// List `index`, counted from 0. None if that list hasn't ended.
     pub(crate) fn get(&self, index: usize) -> Option<&[T]>
         ensures { option_copied result ≡ slice_get self.now.ended index }
     {

@@ -1,5 +1,5 @@
-//! Laws of the definitions that the contracts cite. Each is a function that does nothing, or nothing
-//! but compare: its contract is the law.
+//! Laws of the definitions that contracts cite. Each is a function that does nothing, or only
+//! compares two values. Its contract is the law.
 ghost use Rattle.std.specs.Prelude.{◌≡◌, ◌⊎◌, ◌↔◌, IsTrue, ◌+◌, ◌++◌, ◌∷◌, [], ℕ, Bool, true, false, if◌then◌else◌, List, Some, None, codes, drop, length, take, map, flat_map, slice_get};
 ghost use Rattle.std.specs.Cow.{cow_str_bytes};
 ghost use Rattle.std.specs.List.{All};
@@ -23,48 +23,48 @@ ghost use Rattle.protox_lex.specs.Words.{IsWordOf};
 use crate::lex::*;
 use std::alloc::Global;
 
-/// Each text has one cut into lexemes, and `cut` is it.
+/// Each text can be cut into lexemes in one way only, and `cut` gives this cut.
 #[tactic(auto, using(protox_lexeme::proofs::Cut::cut_is_cut, protox_lexeme::proofs::Cut::only_cut))]
 pub fn one_cut()
     ensures is { (source : List ℕ) → spec.IsCut 0 source (spec.cut 0 source) }
     ensures only { (source : List ℕ) (lexemes : List spec.Lexeme) → spec.IsCut 0 source lexemes → lexemes ≡ spec.cut 0 source }
 {}
 
-/// The front of a text fits a pattern exactly where it is a word of it.
+/// The first n bytes of a text fit a pattern exactly when they are a word of it.
 #[tactic(auto, using(crate::proofs::WordsOf::fits_word, crate::proofs::WordsOf::word_fits))]
 pub fn fits_is_word()
     ensures fits { (p : Pattern) (text : List ℕ) (n : ℕ) → Fits p text n → IsWordOf p (take n text) }
     ensures word { (p : Pattern) (word rest : List ℕ) → IsWordOf p word → Fits p (word ++ rest) (length word) }
 {}
 
-/// The rows of a source stand in it, one behind the other, and each has a byte.
+/// The rows of a source stand in it, each after the one before, and each has at least one byte.
 #[tactic(auto, using(protox_lexeme::proofs::Places::stand))]
 pub fn rows_stand_in_source()
     ensures { (source : List ℕ) → IsUtf8 source → StandBetween 0 (length source) (rows_of (spec.cut 0 source)) }
 {}
 
-/// Each fault of a source's table lies in the source.
+/// Each fault in the table of a source lies in the source.
 #[tactic(auto, using(protox_lexeme::proofs::Places::lie))]
 pub fn faults_lie_in_source()
     ensures { (source : List ℕ) → IsUtf8 source → All (All (LiesIn (length source))) (faults_of (spec.cut 0 source)) }
 {}
 
-/// There is a gap before each row and one behind the last, and each gap has its list of faults.
+/// There is a gap before each row and one after the last row. Each gap has a list of faults.
 #[tactic(auto, using(crate::proofs::Tables::gaps_of_length, crate::proofs::Tables::faults_of_length))]
 pub fn gaps_surround_rows()
     ensures gaps { (lexemes : List spec.Lexeme) → length (gaps_of lexemes) ≡ length (rows_of lexemes) + 1 }
     ensures faults { (lexemes : List spec.Lexeme) → length (faults_of lexemes) ≡ length (rows_of lexemes) + 1 }
 {}
 
-/// A string literal's text has one cut into pieces, and each piece is the longest match of the piece
-/// table.
+/// The text of a string literal can be cut into pieces in one way only. Each piece is the longest
+/// match in the table of pieces.
 #[tactic(auto, using(crate::proofs::StringPieces::pieces_are, crate::proofs::StringPieces::only_pieces))]
 pub fn pieces_are_longest()
     ensures is { (quote : ℕ) (text : List ℕ) → is_quote quote ≡ true → IsPieces quote text (pieces quote text) }
     ensures only { (quote : ℕ) (text : List ℕ) (ps : List Piece) → is_quote quote ≡ true → IsPieces quote text ps → ps ≡ pieces quote text }
 {}
 
-/// Invalid pieces that adjoin are one fault, of the first one's kind.
+/// Invalid pieces right after one another are one fault. Its kind is that of the first.
 #[tactic(auto, using(crate::proofs::StringPieces::adjoining))]
 pub fn invalid_pieces_adjoin()
     ensures { (at : ℕ) (is_escape : Bool) (n : ℕ) (more rest : List Piece) → all_wrong more ≡ true → begins_wrong rest ≡ false
@@ -72,8 +72,8 @@ pub fn invalid_pieces_adjoin()
         ≡ (let span = span_from at (at + n + len_of more) in if is_escape then InvalidStringEscape span else InvalidStringCharacters span) ∷ string_faults None (at + n + len_of more) rest }
 {}
 
-/// Identifiers, integers, floats, strings and marks, printed and joined by one space, are cut into
-/// the same again, without a fault in either mode.
+/// Identifiers, integers, floats, strings and marks, printed with one space between them, are lexed
+/// to the same again. They have no fault, in text format or outside it.
 #[tactic(auto, using(crate::proofs::ShapesBack::gives))]
 pub fn printed_forms_lex_back()
     ensures { (xs : List Shape) → ArePrintable xs → (map (λ x. x.shape) (spec.cut 0 (spaced xs)) ≡ xs) × (flat_map (λ x. x.faults) (spec.cut 0 (spaced xs)) ≡ []) }
@@ -85,28 +85,29 @@ pub fn rows_are_printable()
     ensures { (source : List ℕ) → AreBytes source → All (λ row. (row.shape ≡ Invalid) ⊎ IsPrintable row.shape) (rows_of (spec.cut 0 source)) }
 {}
 
-/// A string that is printed in double quotes is one lexeme of its bytes, without a fault.
+/// A string that is printed in double quotes lexes to one string with the same bytes, without a
+/// fault.
 #[tactic(auto, using(crate::proofs::ShapesBack::string_alone))]
 pub fn strings_lex_back()
     ensures { (s : List ℕ) → AreBytes s → (borrowed : Bool) × (spec.cut 0 (printed (Str s)) ≡ record { start = 0; stop = length (printed (Str s)); shape = Str s; borrowed = borrowed; faults = [] } ∷ []) }
 {}
 
-/// Tokens are equal exactly where their kinds and values are: places do not count, nor whether a
-/// text is borrowed.
+/// Two tokens are equal exactly when their kinds and values are. Their places don't count, nor
+/// whether a text is borrowed.
 pub fn tokens_are_equal_by_shape(a: &Token<'_>, b: &Token<'_>) -> bool
     ensures { IsTrue result ↔ (shape_of a.now ≡ shape_of b.now) }
 {
     a == b
 }
 
-/// Floats are equal exactly where their texts are.
+/// Two floats are equal exactly when their texts are.
 pub fn floats_are_equal_by_text(a: &EqFloat<'_>, b: &EqFloat<'_>) -> bool
     ensures { IsTrue result ↔ (cow_str_bytes a.now.0 ≡ cow_str_bytes b.now.0) }
 {
     *a == *b
 }
 
-// The next of lexemes that take no memory.
+// The next lexeme, where no lexeme takes memory.
 fn next_of_free<'a>(lexer: &mut Lexer<'a>) -> Option<Result<Token<'a>, ()>>
     requires live { lexer.old.failed ≡ false }
     requires free { TakeNone lexer.old.text_format lexer.old.left }
@@ -135,7 +136,7 @@ pub fn five_lexemes(alloc: Global) -> [Option<Result<Token<'static>, ()>>; 5]
     [first, second, third, fourth, fifth]
 }
 
-/// Each constant of a keyword is its own name in small letters.
+/// The value of each constant of a keyword is its own name in small letters.
 pub fn keywords_are_their_names()
     ensures statements { (SYNTAX.now ≡ codes "syntax") × (PACKAGE.now ≡ codes "package") × (IMPORT.now ≡ codes "import") × (WEAK.now ≡ codes "weak") × (PUBLIC.now ≡ codes "public") × (ENUM.now ≡ codes "enum") × (OPTION.now ≡ codes "option") × (SERVICE.now ≡ codes "service") × (RPC.now ≡ codes "rpc") × (STREAM.now ≡ codes "stream") × (RETURNS.now ≡ codes "returns") × (EXTEND.now ≡ codes "extend") × (MESSAGE.now ≡ codes "message") }
     ensures fields { (OPTIONAL.now ≡ codes "optional") × (REQUIRED.now ≡ codes "required") × (REPEATED.now ≡ codes "repeated") × (MAP.now ≡ codes "map") × (ONEOF.now ≡ codes "oneof") × (GROUP.now ≡ codes "group") }

@@ -1,5 +1,5 @@
-//! Tokens, and the words that the grammar of Protocol Buffers names: each constant is its own name
-//! in small letters.
+//! Tokens, the lexer, the table of tokens, and the keywords. The value of each constant is its own
+//! name in small letters.
 
 pub use crate::token_table::TokenTable;
 pub use protox_lexeme::lexer::Lexer;

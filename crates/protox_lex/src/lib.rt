@@ -1,4 +1,4 @@
-//! Cuts a Protocol Buffers source into tokens.
+//! Cuts a Protocol Buffers source into tokens, and keeps them in a table.
 #![tactic(auto)]
 
 mod groups;

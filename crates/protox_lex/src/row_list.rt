@@ -1,11 +1,12 @@
-//! Rows in little memory, whatever their numbers are.
+//! Rows that take little memory.
 ghost use Rattle.std.specs.Prelude.{◌≡◌, ◌<◌, ◌≤◌, ◌^◌, ◌++◌, ◌∷◌, [], length, slice_get, OnOk, OnErr, IfSome};
-ghost use Rattle.protox_lex.specs.RowList.{widened};
+ghost use Rattle.protox_lex.specs.inner.RowList.{widened};
 
 use std::alloc::{AllocError, Global};
 use std::marker::Model;
 
-/// Where a row begins, and the number of its token. Its length is that of its token, unless it has one of its own.
+/// Where a row begins, and the number of its token. The length of the row is that of its token,
+/// unless the row has its own.
 #[derive(Clone, Copy)]
 pub(crate) struct NumberedRow {
     pub start: usize,
@@ -20,7 +21,7 @@ pub(crate) struct NarrowRow {
     pub token: u32,
 }
 
-/// Rows. Each takes 8 bytes, up to the first that needs more; that and those behind it are wide.
+/// Rows. Each takes 8 bytes, up to the first that needs more. That row and all later ones are wide.
 #[derive(Drop)]
 pub(crate) struct RowList {
     narrow: Vec<NarrowRow>,
@@ -31,7 +32,7 @@ pub(crate) struct RowList {
 impl Model for RowList {
     ghost use Rattle.std.specs.Prelude.{List};
     ghost use Rattle.protox_lex.specs.declared.row_list.NumberedRow.{NumberedRow};
-    ghost use Rattle.protox_lex.specs.RowList.{listed, AreNarrow};
+    ghost use Rattle.protox_lex.specs.inner.RowList.{listed, AreNarrow};
 
     ghost Value = { List NumberedRow };
 
@@ -40,7 +41,7 @@ impl Model for RowList {
     ghost invariant = { λ l. AreNarrow l.wide_from l.wide.items };
 }
 
-// The least number that has no room in 4 bytes.
+// The least number that doesn't fit in 4 bytes.
 const TOO_LARGE: usize = 0x1_0000_0000;
 
 #[inline(always)]
@@ -54,7 +55,7 @@ fn widened(row: NarrowRow) -> NumberedRow
     }
 }
 
-// The row in 8 bytes, if it begins before `wide_from` and has room in them.
+// The row in 8 bytes, if it begins before `wide_from` and fits.
 #[inline(always)]
 fn narrowed(row: NumberedRow, wide_from: usize) -> Option<NarrowRow>
     requires { wide_from ≤ 2 ^ 32 }
@@ -80,7 +81,7 @@ fn wide_row(wide: &[NumberedRow], index: usize) -> Option<NumberedRow>
 }
 
 impl RowList {
-    /// No row. It takes no memory.
+    /// No rows. It takes no memory.
     pub(crate) fn new(alloc: Global) -> RowList
         ensures { result ≡ [] }
     {
@@ -91,14 +92,14 @@ impl RowList {
         }
     }
 
-    /// How many rows there are.
+    /// The number of rows.
     pub(crate) fn len(&self) -> usize
         ensures { result ≡ length self.now }
     {
         self.narrow.len() + self.wide.len()
     }
 
-    /// A row, or None past the last.
+    /// Row `index`, counted from 0. None after the last.
     #[inline(always)]
     pub(crate) fn get(&self, index: usize) -> Option<NumberedRow>
         ensures { result ≡ slice_get self.now index }
@@ -110,7 +111,7 @@ impl RowList {
         }
     }
 
-    // Appends a wide row. Those behind it are wide too.
+    // Appends a wide row. All later rows are wide too.
     #[inline(never)]
     fn push_wide(
         &mut self,
@@ -126,7 +127,7 @@ impl RowList {
         Ok(())
     }
 
-    /// Appends a row. On `AllocError` nothing has changed.
+    /// Appends a row. On `AllocError` the rows are unchanged.
     #[inline(always)]
     pub(crate) fn push(&mut self, row: NumberedRow) -> Result<(), AllocError>
         ensures ok { OnOk result (self.new ≡ self.old ++ row ∷ []) }

@@ -2,7 +2,7 @@
 ghost use Rattle.std.specs.Prelude.{◌≡◌, ◌++◌, ◌∷◌, [], map, replicate, slice_get, IfOk, OnOk, OnErr};
 ghost use Rattle.std.specs.Option.{option_map};
 ghost use Rattle.protox_lexeme.specs.Shapes.{Newline};
-ghost use Rattle.protox_lex.specs.Sharing.{AreLines};
+ghost use Rattle.protox_lex.specs.inner.Sharing.{AreLines};
 ghost use Rattle.protox_lex.specs.TableView.{shapes_of_lent};
 ghost use Rattle.protox_lexeme.specs.Tokens.{shape_of};
 
@@ -11,11 +11,11 @@ use protox_lexeme::token::Token;
 use std::alloc::{AllocError, Global};
 use std::marker::Model;
 
-// A gap of fewer newlines than this and of nothing else is not kept.
+// A gap of fewer newlines than this, and nothing else, is not kept.
 const LINES: usize = 8;
 
-/// Gaps. Most are of a few newlines at most: those take 4 bytes. Behind the first number that needs more, each gap is
-/// kept, and its number is wide.
+/// Gaps. Most have only a few newlines, and take 4 bytes. As soon as a number needs more than 4
+/// bytes, each later gap is kept and has a wide number.
 #[derive(Drop)]
 pub(crate) struct SharedGaps<'a> {
     lines: Vec<Token<'a>>,
@@ -28,9 +28,9 @@ pub(crate) struct SharedGaps<'a> {
 
 impl<'a> Model for SharedGaps<'a> {
     ghost use Rattle.std.specs.Prelude.{◌++◌};
-    ghost use Rattle.protox_lex.specs.Grouping.{Grouped};
+    ghost use Rattle.protox_lex.specs.inner.Grouping.{Grouped};
     ghost use Rattle.protox_lexeme.specs.Shapes.{Shape};
-    ghost use Rattle.protox_lex.specs.Sharing.{gaps_by, AreGaps};
+    ghost use Rattle.protox_lex.specs.inner.Sharing.{gaps_by, AreGaps};
 
     ghost Value = { Grouped Shape };
 
@@ -39,7 +39,7 @@ impl<'a> Model for SharedGaps<'a> {
     ghost invariant = { λ g. AreGaps g.lines.items (g.numbers.items ++ g.wide.items) g.kept g.wide.items g.keeps };
 }
 
-// The newlines that gaps are lent from.
+// The newlines from which gaps are borrowed.
 fn newlines<'a>(alloc: Global) -> Result<Vec<Token<'a>>, AllocError>
     ensures { IfOk result (λ lines. AreLines lines.items) }
 {
@@ -55,7 +55,7 @@ fn newlines<'a>(alloc: Global) -> Result<Vec<Token<'a>>, AllocError>
     ]?)
 }
 
-// Keeps so many newlines.
+// Keeps `count` newlines.
 #[tactic(auto, using(crate::proofs::Sharing::newline_kept))]
 fn keep_newlines(kept: &mut Groups<Token<'_>>, count: usize) -> Result<(), AllocError>
     ensures ended { kept.new.ended ≡ kept.old.ended }
@@ -69,7 +69,7 @@ fn keep_newlines(kept: &mut Groups<Token<'_>>, count: usize) -> Result<(), Alloc
     Ok(())
 }
 
-// A number, or None past the last.
+// The number at `index`, counted from 0. None after the last.
 #[inline(always)]
 fn number_at(narrow: &[u32], wide: &[usize], index: usize) -> Option<usize>
     ensures { result ≡ slice_get (narrow.now ++ wide.now) index }
@@ -98,7 +98,7 @@ fn push_number(
 }
 
 impl<'a> SharedGaps<'a> {
-    /// No gap, and an empty one that has begun.
+    /// No gaps, and an empty gap that has begun.
     pub(crate) fn new(alloc: Global) -> Result<SharedGaps<'a>, AllocError>
         ensures { IfOk result (λ gaps. gaps ≡ record { ended = []; begun = [] }) }
     {
@@ -112,7 +112,7 @@ impl<'a> SharedGaps<'a> {
         })
     }
 
-    /// Gap `index`, or None past the last that has ended.
+    /// Gap `index`, counted from 0. None if that gap hasn't ended.
     pub(crate) fn get(&self, index: usize) -> Option<&[Token<'a>]>
         ensures { option_map shapes_of_lent result ≡ slice_get self.now.ended index }
     {
@@ -124,7 +124,7 @@ impl<'a> SharedGaps<'a> {
         }
     }
 
-    // Appends a newline that is kept, as no more are counted.
+    // Appends a newline that is kept, since no more can be counted.
     #[inline(never)]
     fn keep_newline(&mut self) -> Result<(), AllocError>
         ensures { OnOk result (self.new ≡ record self.old { begun = self.old.begun ++ Newline ∷ [] }) }

@@ -5,7 +5,7 @@ ghost use Rattle.protox_fault.specs.Faults.{span_from};
 ghost use Rattle.protox_lexeme.specs.Lexicon.{is_mark};
 ghost use Rattle.protox_lexeme.specs.Shapes.{Mark};
 ghost use Rattle.protox_lexeme.specs.TokenClass.{class};
-ghost use Rattle.protox_lex.specs.Sharing.{shape_at, len_at, kept_len, own_len, and_row, AreMarks};
+ghost use Rattle.protox_lex.specs.inner.Sharing.{shape_at, len_at, kept_len, own_len, and_row, AreMarks};
 ghost use Rattle.protox_lex.specs.TableView.{shape_of_lent, borrowed_of_lent};
 ghost use Rattle.protox_lexeme.specs.Tokens.{shape_of, shape_of_result, borrowed_of_result, holds_none};
 
@@ -18,8 +18,8 @@ use protox_lexeme::token::{Token, mark_of};
 use std::alloc::{AllocError, Global};
 use std::marker::Model;
 
-/// A token, how many bytes it has in the source, and its class. A length that has no room in 4 bytes is kept
-/// with its rows, and here as 0.
+/// A token, its length in the source in bytes, and its class. A length that doesn't fit in 4 bytes
+/// is kept with the rows, and is 0 here.
 #[derive(Drop)]
 pub(crate) struct KeptToken<'a> {
     pub token: Result<Token<'a>, ()>,
@@ -30,7 +30,8 @@ pub(crate) struct KeptToken<'a> {
 // How many words and integers are remembered.
 const SLOTS: usize = 4096;
 
-/// Rows. Each mark is kept once, and no word or integer that is equal to one that is remembered.
+/// Rows. Equal tokens share what is kept of them: each mark is kept once, and so is a word or an
+/// integer while it is remembered.
 #[derive(Drop)]
 pub(crate) struct SharedRows<'a> {
     rows: RowList,
@@ -40,7 +41,7 @@ pub(crate) struct SharedRows<'a> {
 }
 
 impl<'a> Model for SharedRows<'a> {
-    ghost use Rattle.protox_lex.specs.Sharing.{RowsSeen, rows_seen, AreShared};
+    ghost use Rattle.protox_lex.specs.inner.Sharing.{RowsSeen, rows_seen, AreShared};
 
     ghost Value = { RowsSeen };
 
@@ -49,8 +50,8 @@ impl<'a> Model for SharedRows<'a> {
     ghost invariant = { λ s. AreShared s.tokens.items s.rows s.marks.items s.recent.items };
 }
 
-/// Where the number of a token is remembered that is spelled by the first `len` bytes. Any place
-/// would do, but words that share one are kept more often.
+/// The slot in which the number of a token is remembered, by the first `len` bytes of the text. Any
+/// slot would do, but tokens that share a slot are kept more often.
 #[inline(always)]
 pub(crate) fn slot_of(text: &[u8], len: usize) -> usize
     ensures { result < 4096 }
@@ -61,7 +62,7 @@ pub(crate) fn slot_of(text: &[u8], len: usize) -> usize
     (first * 61 + middle * 197 + last * 7 + len % SLOTS * 389) % SLOTS
 }
 
-// What is kept is this token, of that length.
+// Whether what is kept is this token with this length.
 #[inline(always)]
 fn is_kept(kept: &KeptToken<'_>, token: &Token<'_>, len: usize) -> bool
     ensures equal { result ≡ true → shape_of_result kept.now.token ≡ shape_of token.now }
@@ -71,7 +72,7 @@ fn is_kept(kept: &KeptToken<'_>, token: &Token<'_>, len: usize) -> bool
         && matches!(&kept.token, Ok(known) if tokens_are_equal_by_shape(known, token))
 }
 
-// The number of a token that is equal to this one, if that one is remembered there.
+// The number of a token that is equal to this one, if the slot remembers one.
 #[inline(always)]
 fn known(
     tokens: &[KeptToken<'_>],
@@ -94,7 +95,7 @@ fn known(
     }
 }
 
-// The number of the mark that is this byte, if it is kept with this length.
+// The number of the mark with this byte, if one of this length is kept.
 #[inline(always)]
 #[tactic(auto, using(crate::proofs::Sharing::mark_found))]
 fn known_mark(tokens: &[KeptToken<'_>], marks: &[Option<u32>], byte: u8, len: usize) -> Option<u32>
@@ -113,14 +114,14 @@ fn known_mark(tokens: &[KeptToken<'_>], marks: &[Option<u32>], byte: u8, len: us
     }
 }
 
-// The length as it is kept with a token.
+// The length as it is kept with a token: 0 if it doesn't fit in 4 bytes.
 fn kept_len(len: usize) -> u32
     ensures { result ≡ kept_len len }
 {
     u32::try_from(len).unwrap_or(0)
 }
 
-// The length as it is kept with a row.
+// The length as it is kept with a row: only if it doesn't fit in 4 bytes.
 fn own_len(len: usize) -> Option<usize>
     ensures { result ≡ own_len len }
 {
@@ -130,7 +131,7 @@ fn own_len(len: usize) -> Option<usize>
     }
 }
 
-// A token as it is kept: its class is found once.
+// A token as it is kept, with its class.
 fn kept_token<'a>(token: Result<Token<'a>, ()>, len: usize) -> KeptToken<'a>
     ensures token { result.token ≡ token.entry }
     ensures len { result.len ≡ kept_len len }
@@ -141,7 +142,7 @@ fn kept_token<'a>(token: Result<Token<'a>, ()>, len: usize) -> KeptToken<'a>
     KeptToken { token, len, class }
 }
 
-// The mark that is this byte, as it is kept.
+// The mark with this byte, as it is kept.
 fn kept_mark(byte: u8, len: usize) -> KeptToken<'static>
     requires { is_mark byte ≡ true }
     ensures shape { shape_of_result result.token ≡ Mark byte }
@@ -154,7 +155,7 @@ fn kept_mark(byte: u8, len: usize) -> KeptToken<'static>
     }
 }
 
-// Appends a row of a token that is kept.
+// Appends a row with a token that is kept.
 #[inline(always)]
 fn push_known(rows: &mut RowList, number: u32, start: usize) -> Result<(), AllocError>
     ensures ok { OnOk result (rows.new ≡ rows.old ++ record { start = start; token = number; len = None } ∷ []) }
@@ -167,14 +168,14 @@ fn push_known(rows: &mut RowList, number: u32, start: usize) -> Result<(), Alloc
     })
 }
 
-// The number of the token that is kept next.
+// The number of the next token to be kept.
 fn next_number(tokens: &[KeptToken<'_>]) -> usize
     ensures { result ≡ length tokens.now }
 {
     tokens.len()
 }
 
-// Appends a row of the token that is kept last.
+// Appends a row with the token that was kept last.
 fn push_last(rows: &mut RowList, number: usize, start: usize, len: usize) -> Result<(), AllocError>
     ensures ok { OnOk result (rows.new ≡ rows.old ++ record { start = start; token = number; len = own_len len } ∷ []) }
     ensures err { OnErr result (rows.new ≡ rows.old) }
@@ -187,7 +188,7 @@ fn push_last(rows: &mut RowList, number: usize, start: usize, len: usize) -> Res
 }
 
 impl<'a> SharedRows<'a> {
-    /// No row.
+    /// No rows.
     pub(crate) fn new(alloc: Global) -> Result<SharedRows<'a>, AllocError>
         ensures { IfOk result (λ rows. rows ≡ record { rows = []; borrowed = [] }) }
     {
@@ -199,14 +200,14 @@ impl<'a> SharedRows<'a> {
         })
     }
 
-    /// How many rows there are.
+    /// The number of rows.
     pub(crate) fn len(&self) -> usize
         ensures { result ≡ length self.now.rows }
     {
         self.rows.len()
     }
 
-    /// The token of a row, or `Err(())` for an invalid one. None past the last.
+    /// The token of row `index`, or `Err(())` for an invalid one. None after the last row.
     pub(crate) fn token(&self, index: usize) -> Option<Result<&Token<'a>, ()>>
         ensures value { option_map shape_of_lent result ≡ option_map (λ row. row.shape) (slice_get self.now.rows index) }
         ensures borrowed { option_map borrowed_of_lent result ≡ slice_get self.now.borrowed index }
@@ -218,7 +219,7 @@ impl<'a> SharedRows<'a> {
         }
     }
 
-    /// The class of a row's token. None past the last.
+    /// The class of the token of row `index`. None after the last row.
     #[tactic(auto, using(crate::proofs::Sharing::class_found))]
     pub(crate) fn class(&self, index: usize) -> Option<u8>
         ensures { result ≡ option_map (λ row. class row.shape) (slice_get self.now.rows index) }
@@ -227,7 +228,7 @@ impl<'a> SharedRows<'a> {
         Some(self.tokens[row.token].class)
     }
 
-    /// The span of a row, or None past the last.
+    /// The span of row `index`. None after the last row.
     pub(crate) fn span(&self, index: usize) -> Option<Span>
         ensures { result ≡ option_map (λ row. row.at) (slice_get self.now.rows index) }
     {
@@ -256,7 +257,7 @@ impl<'a> SharedRows<'a> {
         Ok(())
     }
 
-    // Appends a row of a mark that is not kept yet.
+    // Appends a row with a mark that is not kept yet.
     #[inline(never)]
     #[tactic(auto, using(crate::proofs::Sharing::rows_push))]
     fn push_first_mark(&mut self, byte: u8, start: usize, len: usize) -> Result<(), AllocError>
@@ -273,7 +274,7 @@ impl<'a> SharedRows<'a> {
         Ok(())
     }
 
-    /// Appends a row of a mark.
+    /// Appends a row with a mark.
     #[inline(always)]
     #[tactic(auto, using(crate::proofs::Sharing::mark_push, crate::proofs::Sharing::shared_known))]
     pub(crate) fn push_mark(&mut self, byte: u8, start: usize, len: usize) -> Result<(), AllocError>
@@ -287,7 +288,7 @@ impl<'a> SharedRows<'a> {
         }
     }
 
-    // Appends a row of a word or integer that is not remembered, and remembers it.
+    // Appends a row with a word or an integer that is not remembered, and remembers it.
     #[inline(never)]
     fn push_first(
         &mut self,
@@ -307,7 +308,7 @@ impl<'a> SharedRows<'a> {
         self.push(Ok(token), start, len)
     }
 
-    /// Appends a row of a word or an integer. A slot is where its number is remembered.
+    /// Appends a row with a word or an integer. `slot` is where its number is remembered.
     #[inline(always)]
     #[tactic(auto, using(crate::proofs::Sharing::known_push, crate::proofs::Sharing::shared_known))]
     pub(crate) fn push_plain(

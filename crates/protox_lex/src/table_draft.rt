@@ -1,4 +1,4 @@
-//! The table of a source as far as that has been cut.
+//! The table of a source while the source is cut into lexemes.
 ghost use Rattle.std.specs.Prelude.{◌≡◌, ◌<◌, ◌≤◌, ◌+◌, ◌-◌, ◌^◌, ◌∷◌, ◌++◌, [], List, length, slice_index, true, false, Some, OnOk, IfOk};
 ghost use Rattle.std.specs.Str.{IsCharBoundary};
 ghost use Rattle.protox_fault.specs.Faults.{span_from};
@@ -8,7 +8,7 @@ ghost use Rattle.protox_lexeme.specs.Lexicon.{is_mark, is_quote, IsLineOpener};
 ghost use Rattle.protox_lexeme.specs.Scanning as scanned;
 ghost use Rattle.protox_lexeme.specs.Shapes.{Mark, Newline};
 ghost use Rattle.protox_lexeme.specs.Table.{is_gap, table_of, invalid_faults};
-ghost use Rattle.protox_lex.specs.Sharing.{and_row};
+ghost use Rattle.protox_lex.specs.inner.Sharing.{and_row};
 ghost use Rattle.protox_lex.specs.TableView.{finished, ended_table};
 ghost use Rattle.protox_lexeme.specs.Tokens.{shape_of, shape_of_result, borrowed_of_result, holds_none};
 
@@ -22,7 +22,7 @@ use protox_lexeme::scan::{Kind, scan};
 use protox_lexeme::token::Token;
 use std::alloc::{AllocError, Global};
 
-/// A table as far as the source has been cut.
+/// A table, as far as the source has been cut.
 #[derive(Drop)]
 pub(crate) struct TableDraft<'a> {
     pub rows: SharedRows<'a>,
@@ -55,7 +55,7 @@ fn add_invalid(
 }
 
 impl<'a> TableDraft<'a> {
-    // A row begins: the gap before it ends, and the faults of both.
+    // Ends the gap before a row, and the list of faults of both.
     #[inline(always)]
     fn end_gap(&mut self) -> Result<(), AllocError>
         ensures rows { OnOk result (self.new.rows ≡ self.old.rows) }
@@ -66,7 +66,7 @@ impl<'a> TableDraft<'a> {
         self.faults.end()
     }
 
-    // A comment or a newline, with its faults.
+    // Adds a comment or a newline, with its faults.
     fn add_gap(&mut self, token: Token<'a>, faults: Vec<LexemeFault>) -> Result<(), AllocError>
         ensures rows { OnOk result (self.new.rows ≡ self.old.rows) }
         ensures gaps { OnOk result (self.new.gaps ≡ record self.old.gaps { begun = self.old.gaps.begun ++ shape_of token.entry ∷ [] }) }
@@ -76,7 +76,7 @@ impl<'a> TableDraft<'a> {
         self.faults.append(faults)
     }
 
-    // Any other lexeme, with its faults.
+    // Adds any other lexeme, with its faults.
     fn add_row(
         &mut self,
         token: Result<Token<'a>, ()>,
@@ -95,7 +95,7 @@ impl<'a> TableDraft<'a> {
         self.rows.push(token, start, stop - start)
     }
 
-    // The lexeme that begins at `start`. Answers where it ends.
+    // Adds a lexeme that begins at `start`. Answers where it ends.
     fn add(&mut self, start: usize, found: Found<'a>) -> Result<usize, AllocError>
         requires { start ≤ found.stop }
         ensures value { OnOk result ((xs : List spec.Lexeme) → finished self.new xs ≡ finished self.old (lexeme_of start found.entry ∷ xs)) }
@@ -113,7 +113,7 @@ impl<'a> TableDraft<'a> {
         Ok(stop)
     }
 
-    // The lexeme of `len` bytes at the front, which has no fault and whose token is known. Answers
+    // Adds a lexeme without a fault, of `len` bytes at the front, whose token is known. Answers
     // where it ends.
     #[inline(always)]
     fn add_plain(
@@ -135,7 +135,7 @@ impl<'a> TableDraft<'a> {
         Ok(stop)
     }
 
-    // A mark, which has `len` bytes. Answers where it ends.
+    // Adds a mark of `len` bytes. Answers where it ends.
     #[inline(always)]
     fn add_mark(&mut self, byte: u8, start: usize, len: usize) -> Result<usize, AllocError>
         requires fits { start + len < 2 ^ 64 }
@@ -149,7 +149,7 @@ impl<'a> TableDraft<'a> {
         Ok(stop)
     }
 
-    // A newline, which has `len` bytes. Answers where it ends.
+    // Adds a newline of `len` bytes. Answers where it ends.
     #[inline(always)]
     fn add_newline(&mut self, start: usize, len: usize) -> Result<usize, AllocError>
         requires { start + len < 2 ^ 64 }
@@ -160,7 +160,7 @@ impl<'a> TableDraft<'a> {
         Ok(start + len)
     }
 
-    // The lexeme of a kind, of which `len` bytes match.
+    // Reads and adds a lexeme of this kind, of which `len` bytes match. Answers where it ends.
     #[inline(never)]
     fn read_kind(
         &mut self,
@@ -188,8 +188,9 @@ impl<'a> TableDraft<'a> {
         self.add(start, found)
     }
 
-    // The lexeme at the front of a text that begins at `start`. What is frequent stands in the loop that
-    // calls this, and the rest is called, so that the loop stays short.
+    // Reads and adds the lexeme at the front of a text that begins at `start`. Answers where it
+    // ends. Frequent kinds are handled in the loop that calls this. All others are called, so that
+    // the loop stays short.
     #[inline(always)]
     #[tactic(auto, using(protox_lexeme::proofs::Boundaries::scan_boundary, protox_lexeme::proofs::Boundaries::scan_mark, protox_lexeme::proofs::Boundaries::scan_quote, protox_lexeme::proofs::Boundaries::scan_line, protox_lexeme::proofs::Boundaries::scan_block), unfolding(protox_lexeme::specs::Lexemes::first_lexeme))]
     fn read(&mut self, alloc: Global, text: &'a str, start: usize) -> Result<usize, AllocError>
@@ -212,7 +213,7 @@ impl<'a> TableDraft<'a> {
     }
 }
 
-// Cuts a source into lexemes.
+// Cuts a source into lexemes. The last gap has not ended.
 fn draft<'a>(alloc: Global, source: &'a str) -> Result<TableDraft<'a>, AllocError>
     ensures { IfOk result (λ d. finished d [] ≡ table_of (spec.cut 0 source.entry.now)) }
 {
@@ -232,7 +233,7 @@ fn draft<'a>(alloc: Global, source: &'a str) -> Result<TableDraft<'a>, AllocErro
     Ok(draft)
 }
 
-/// The table of a source, whose last gap has ended.
+/// The table of a source, with its last gap ended.
 pub(crate) fn ended_draft<'a>(alloc: Global, source: &'a str) -> Result<TableDraft<'a>, AllocError>
     ensures { IfOk result (λ d. ended_table d ≡ table_of (spec.cut 0 source.entry.now)) }
 {

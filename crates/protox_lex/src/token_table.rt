@@ -1,4 +1,4 @@
-//! The table of a source: its tokens, and the comments and newlines before each.
+//! The table of a source: its tokens, and the comments and newlines before each of them.
 ghost use Rattle.std.specs.Prelude.{◌≡◌, ◌↔◌, IsTrue, ◌++◌, [], length, map, slice_get, slice_index_or, OnOk, OnErr, IfOk, IfSome, IsOk};
 ghost use Rattle.std.specs.List.{All};
 ghost use Rattle.std.specs.Option.{option_map};
@@ -21,7 +21,7 @@ use protox_lexeme::token::Token;
 use std::alloc::{AllocError, Global};
 use std::marker::Model;
 
-/// The rows of a source, which it borrows, and the gaps between them.
+/// The rows of a source and the gaps between them. It borrows the source.
 #[derive(Drop)]
 pub struct TokenTable<'a> {
     rows: SharedRows<'a>,
@@ -44,7 +44,7 @@ impl<'a> Model for TokenTable<'a> {
 }
 
 impl<'a> TokenTable<'a> {
-    /// The table of a source of any size. `AllocError` only where a growth was refused.
+    /// The table of a source of any length, or `AllocError` if memory runs out.
     #[tactic(auto, using(crate::proofs::Tables::gaps_held))]
     pub fn new(alloc: Global, source: &'a str) -> Result<TokenTable<'a>, AllocError>
         ensures { IfOk result (λ table. table ≡ table_of (spec.cut 0 source.entry.now)) }
@@ -53,14 +53,15 @@ impl<'a> TokenTable<'a> {
         Ok(TokenTable { rows, gaps, faults })
     }
 
-    /// How many rows there are.
+    /// The number of rows.
     pub fn rows(&self) -> usize
         ensures { result ≡ length self.now.rows }
     {
         self.rows.len()
     }
 
-    /// The token of row `k`, or `Err(())` for an invalid one. None from `rows()` on.
+    /// The token of row `k`, counted from 0, or `Err(())` for an invalid one. None from `rows()`
+    /// on.
     pub fn row(&self, k: usize) -> Option<Result<&Token<'a>, ()>>
         ensures value { option_map shape_of_lent result ≡ option_map (λ row. row.shape) (slice_get self.now.rows k) }
         ensures borrowed { option_map borrowed_of_lent result ≡ slice_get self.now.borrowed k }
@@ -68,21 +69,22 @@ impl<'a> TokenTable<'a> {
         self.rows.token(k)
     }
 
-    /// The class of row `k`, a number of `protox_lexeme::class`. None from `rows()` on.
+    /// The class of row `k`: a constant of `protox_lexeme::class`. None from `rows()` on.
     pub fn class(&self, k: usize) -> Option<u8>
         ensures { result ≡ option_map (λ row. class row.shape) (slice_get self.now.rows k) }
     {
         self.rows.class(k)
     }
 
-    /// The span of row `k`. None from `rows()` on.
+    /// The span of row `k`, in byte offsets. None from `rows()` on.
     pub fn span(&self, k: usize) -> Option<Span>
         ensures { result ≡ option_map (λ row. row.at) (slice_get self.now.rows k) }
     {
         self.rows.span(k)
     }
 
-    /// The comments and newlines before row `k`, or at `rows()` those before the end. None past it.
+    /// The comments and newlines before row `k`; at `rows()` those before the end of the source.
+    /// None after that.
     pub fn gap(&self, k: usize) -> Option<&[Token<'a>]>
         ensures value { option_map shapes_of_lent result ≡ slice_get self.now.gaps k }
         ensures gap { IfSome result (λ gap. IsGap (map shape_of gap.now)) }
@@ -90,7 +92,8 @@ impl<'a> TokenTable<'a> {
         self.gaps.get(k)
     }
 
-    /// Whether no row and no gap has a fault, in text format or outside it: `release` has nothing to append.
+    /// Whether no row and no gap has a fault, whether in text format or not. Then `release` never
+    /// appends anything.
     pub fn is_faultless(&self) -> bool
         ensures { IsTrue result ↔ All (λ faults. faults ≡ []) self.now.faults }
     {
@@ -98,8 +101,9 @@ impl<'a> TokenTable<'a> {
     }
 
     #[tactic(auto, using(crate::proofs::Tables::nothing_released))]
-    /// Appends the faults of gap `k` and of row `k`, as in text format or outside it. Past `rows()`
-    /// there are none. On `AllocError` the list is unchanged.
+    /// Appends the faults of gap `k` and then those of row `k`. In text format a `#` comment and a
+    /// float suffix are none. After `rows()` there are no faults. On `AllocError` the list is
+    /// unchanged.
     pub fn release(
         &self,
         alloc: Global,

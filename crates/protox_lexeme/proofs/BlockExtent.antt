@@ -17,7 +17,7 @@ use Rattle.protox_lexeme.proofs.Boundaries.{run_utf8, blank_ascii}
 use Rattle.protox_lexeme.proofs.Each.{Every}
 use Rattle.protox_lexeme.proofs.Nesting.{marks_at, no_marks}
 
--- a mark stands in the text, behind the opener, and one that closes has the bytes of `*/`
+-- A `/*` or `*/` stands in the text after the opening. One that closes has the bytes of `*/`.
 abbrev pub Lies : List ℕ → Mark → Type 0
 Lies text (opens at) = (2 ≤ at) × (at + 2 ≤ length text)
 Lies text (closes at) = (2 ≤ at) × (at + 2 ≤ length text) × (get_or text at 0 ≡ 42) × (get_or text (at + 1) 0 ≡ 47)
@@ -54,7 +54,7 @@ marks_lie_from (suc n) text at low h =
 pub marks_lie : (text : List ℕ) → Every (Lies text) (marks_of text)
 marks_lie text = marks_lie_from (length text) text 2 (le_refl 2) (omega arith)
 
--- P holds of the marks up to the ending, and of the one that closes it
+-- P holds for the `/*` and `*/` up to the end of the comment, and for the `*/` that ends it.
 abbrev pub EndLies : (Mark → Type 0) → Option Ending → Type 0
 EndLies P None = Unit {0}
 EndLies P (Some e) = Every P e.before × P (closes e.at)
@@ -83,7 +83,7 @@ ending_lies text =
     let h = marks_lie text in
     or_lies (Lies text) (closed (marks_of text) 0) (last_closed (marks_of text)) (closed_lies (Lies text) (marks_of text) 0 h) (last_lies (Lies text) (marks_of text) h)
 
--- where the mark of the ending stands
+-- Where the last `*/` of the comment stands.
 pub mark_within : (text : List ℕ) (r : Option ℕ) → r ≡ option_map (λ e. e.at) (ending (marks_of text)) → IfSome r (λ k. (2 ≤ k) × (k + 2 ≤ length text) × (get_or text k 0 ≡ 42))
 mark_within text r same =
     let P : Option ℕ → Type 0 = λ o. IfSome o (λ k. (2 ≤ k) × (k + 2 ≤ length text) × (get_or text k 0 ≡ 42)) in
@@ -102,7 +102,7 @@ to_bounds text (Some e) (before, at) some =
 pub len_bounds : (text : List ℕ) → 2 ≤ length text → (2 ≤ len_to text (ending (marks_of text))) × (len_to text (ending (marks_of text)) ≤ length text)
 len_bounds text some = to_bounds text (ending (marks_of text)) (ending_lies text) some
 
--- What follows it is text.
+-- What follows the comment is valid UTF-8.
 to_utf8 : (text : List ℕ) (end : Option Ending) → EndLies (Lies text) end → IsUtf8 text → IsUtf8 (drop (len_to text end) text)
 to_utf8 text None h u = IsUtf8-drop text (length text) u (IsCharBoundary-end text)
 to_utf8 text (Some e) (before, at) u =
@@ -133,7 +133,7 @@ content_is (f ∷ faults) mark text e same = rw (some_not_zero (length faults)) 
 abbrev comment_of : ℕ → ℕ → List ℕ → Bool → List ParseErrorKind → Lexeme
 comment_of start stop value borrowed faults = record { start = start; stop = stop; shape = BlockComment value; borrowed = borrowed; faults = faults }
 
--- the lexeme that ends so
+-- The lexeme with this end.
 abbrev comment_to : ℕ → List ℕ → Option Ending → Lexeme
 comment_to start text end =
     let faults = faults_to start (marks_of text) end in
@@ -164,7 +164,7 @@ no_content : (start : ℕ) (text : List ℕ) (fs : List ParseErrorKind)
 no_content start text [] = refl
 no_content start text (f ∷ fs) = refl
 
--- where no mark ends it
+-- The lexeme without an end.
 pub found_none : (start : ℕ) (text value : List ℕ) (borrowed : Bool) (faults : List ParseErrorKind) → None ≡ option_map (λ e. e.at) (ending (marks_of text))
     → faults ≡ faults_to start (marks_of text) (ending (marks_of text)) → value ≡ comment_text [] → borrowed ≡ is_one_line []
     → comment_of start (start + length text) value borrowed faults ≡ block_comment start text

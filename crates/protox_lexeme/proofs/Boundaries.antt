@@ -1,4 +1,4 @@
--- A lexeme ends where a character does.
+-- A lexeme ends at the end of a character.
 use Rattle.std.proofs.Common.{◌≡◌, ℕ, zero, suc, ◌+◌, ◌-◌, ◌<◌, ◌≤◌, Bool, true, false, ◌==◌, eqb, ltb, inl, inr, List, [], ◌∷◌, length, drop, get_or, refl, sym, ap, ◌∙◌, subst, drop-drop, length-drop, add-zero, zero-add, arith, Option, Some}
 use Rattle.std.proofs.lemmas.Bool.{cases_Bool, true≢false, ltb-true, ltb-false, eqb-true}
 use Rattle.std.proofs.lemmas.Bool.Decides.{nat_tests}
@@ -148,7 +148,7 @@ float_ascii = (
   ),
 )
 
--- What follows a lexeme's longest match is text.
+-- What follows the longest match of a lexeme is valid UTF-8.
 pub longest_utf8 : (kind : Kind) (text : List ℕ) (n : ℕ) → IsLongest pattern kind text n → IsUtf8 text → IsUtf8 (drop n text)
 longest_utf8 Identifier text n h u = fits_utf8 (pattern Identifier) text n (letter_ascii, word_ascii) u h.fits
 longest_utf8 Integer text n h u = fits_utf8 (pattern Integer) text n integer_ascii u h.fits
@@ -169,13 +169,13 @@ longest_utf8 Newline text n h u = fits_utf8 (pattern Newline) text n (byte_ascii
 pub longest_boundary : (kind : Kind) (text : List ℕ) (n : ℕ) → IsLongest pattern kind text n → n ≤ length text → IsUtf8 text → IsCharBoundary text n
 longest_boundary kind text n h within u = IsCharBoundary-from_drop text n within (longest_utf8 kind text n h u)
 
--- the same of what the scan finds
+-- The same for the match that the scan finds.
 pub scan_boundary : (text : List ℕ) (kind : Kind) (n : ℕ) → scan text ≡ Some (kind, n) → n ≤ length text → IsUtf8 text → IsCharBoundary text n
 scan_boundary text kind n e within u =
     let P : Option (Kind × ℕ) → Type 0 = λ r. MatchOption r ((k : Kind) (m : ℕ) → Fits (pattern k) text m → ⊥) (λ p. IsLongest pattern p.0 text p.1) in
     longest_boundary kind text n (subst P e (scan_longest text)) within u
 
--- A text may be cut behind its first character.
+-- A text may be cut after its first character.
 pub char_boundary : (text rest next : List ℕ) (c n : ℕ) → IsUtf8 text → rest ≡ text → rest ≡ encode_utf8 c ++ next → n ≡ len_utf8 c → IsCharBoundary text n
 char_boundary text rest next c n u same parts size =
     let P : ℕ → Type 0 = λ k. IsCharBoundary text k in
@@ -245,7 +245,7 @@ scan_block text kind n e block =
     let next : eqb (get_or text 1 0) 42 ≡ true = ap (λ v. eqb v 42) (sym (get_or_after_one text 0 0)) ∙ c in
     (omega (arith, length-drop 1 text), eqb-true (get_or text 1 0) 42 next)
 
--- A text may be cut behind an ASCII byte.
+-- A text may be cut after an ASCII byte.
 pub ascii_boundary : (text : List ℕ) (n : ℕ) → IsUtf8 text → 0 < n → n ≤ length text → get_or text (n - 1) 0 < 128 → IsCharBoundary text n
 ascii_boundary text n u some within ascii =
     let P : ℕ → Type 0 = λ k. IsCharBoundary text k in

@@ -16,7 +16,7 @@ use Rattle.protox_lexeme.proofs.Fitting.{fits_within}
 use Rattle.protox_lexeme.proofs.OneKind.{one_kind}
 use Rattle.protox_lexeme.proofs.ScanMatch.{scan_longest}
 
--- no pattern matches nothing
+-- No pattern matches the empty text.
 pub fits_some : (kind : Kind) (text : List ℕ) (n : ℕ) → Fits (pattern kind) text n → 1 ≤ n
 fits_some Identifier text n (i, j, e, (is_one, h), f) = omega arith
 fits_some Integer text n (inl (is_one, h)) = omega arith
@@ -35,12 +35,12 @@ fits_some LineComment text n (i, j, e, inr (is_one, h), f) = omega arith
 fits_some BlockComment text n (i, j, e, (is_one, h), f) = omega arith
 fits_some Newline text n (is_one, h) = omega arith
 
--- a comment has a byte, if the text has one
+-- A comment has at least one byte, if the text has one.
 block_moves : (at : ℕ) (text : List ℕ) (end : Option Ending) → 1 ≤ length text → at < at + len_to text end
 block_moves at text None h = omega arith
 block_moves at text (Some e) h = omega arith
 
--- each lexeme has a byte
+-- Each lexeme has at least one byte.
 pub lexeme_moves : (kind : Kind) (at : ℕ) (text : List ℕ) (n : ℕ) → 1 ≤ n → n ≤ length text → at < (lexeme kind at text n).stop
 lexeme_moves Identifier at text n h l = omega arith
 lexeme_moves Integer at text n h l = omega arith
@@ -76,7 +76,7 @@ unfolding cut_from
 cut_end zero at text h = refl
 cut_end (suc n) at text h = rw (le-ltb (blanks text) (length text) h) refl
 
--- how many lexemes are allowed makes no difference, once there are as many as bytes
+-- The bound on the number of lexemes doesn't matter if it is at least the number of bytes.
 cut_same : (n m at : ℕ) (text : List ℕ) → length text ≤ n → length text ≤ m → cut_from n at text ≡ cut_from m at text
 cut_same zero m at text h k = cut_end zero at text (omega arith) ∙ sym (cut_end m at text (omega arith))
 cut_same (suc n) zero at text h k = cut_end (suc n) at text (omega arith) ∙ sym (cut_end zero at text (omega arith))
@@ -148,7 +148,7 @@ first_start at text = go (scan text) where
   go None = refl
   go (Some p) = lexeme_start p.0 at text p.1
 
--- ---- there is one cut
+-- ---- there is only one cut
 
 lexeme_unique : (at : ℕ) (text : List ℕ) (x y : Lexeme) → IsLexeme at text x → IsLexeme at text y → x ≡ y
 lexeme_unique at text x y (inl (k, n, h, e)) (inl (l, m, g, f)) =

@@ -1,4 +1,4 @@
--- A lexeme ends within its text, and what follows it is text.
+-- A lexeme ends within its text, and what follows it is valid UTF-8.
 use Rattle.std.proofs.Common.{◌≡◌, ℕ, zero, suc, ◌+◌, ◌-◌, ◌<◌, ◌≤◌, Bool, true, false, eqb, ltb, leb, inl, inr, List, [], ◌∷◌, length, take, drop, get_or, refl, sym, ap, ◌∙◌, subst, length-drop, length-take, get_or-drop, add_assoc, arith, le_refl, le_trans, Option, Some, None}
 use Rattle.std.proofs.lemmas.Bool.{cases_Bool, true≢false, false≢true, eqb-true, ltb-true, leb-true}
 use Rattle.std.proofs.lemmas.Bool.Decides.{nat_tests}
@@ -34,7 +34,7 @@ simple_len : (r : Option ℕ) → spec.piece_len (spec.simple_piece r) ≤ 2
 simple_len None = omega arith
 simple_len (Some b) = omega arith
 
--- h hex digits stand behind the first two bytes
+-- h hexadecimal digits follow the first two bytes.
 hex_room : (text : List ℕ) (n : ℕ) → 1 ≤ n → n ≤ spec.hex_len text → 2 + n ≤ length text
 hex_room text n some all =
     let digits = prefix_len-le-length is_ascii_hexdigit (drop 2 text) in omega (arith, length-drop 2 text)
@@ -93,7 +93,7 @@ escape_within [] some = absurd (omega arith)
 escape_within (b ∷ []) some = alone_within b
 escape_within (b ∷ (d ∷ text)) some = two_within (b ∷ (d ∷ text)) (omega arith)
 
--- a piece ends within the text, and the last one is an ASCII byte
+-- A piece ends within the text. The last piece is an ASCII byte.
 record Ends (text : List ℕ) (p : spec.Piece) : Type 0 where
   within : spec.piece_len p ≤ length text
   last : spec.is_last p ≡ true → (spec.piece_len p ≡ 1) × (get_or text 0 0 < 128)
@@ -175,7 +175,7 @@ piece_ends quote text ascii some =
       ]
     ]
 
--- The pieces end within the text, and where they end before its end, the last byte is ASCII.
+-- The pieces end within the text. If they end before the end of the text, their last byte is ASCII.
 abbrev EndAscii : List ℕ → ℕ → Type 0
 EndAscii text n = (n ≤ length text) × (n < length text → (1 ≤ n) × (get_or text (n - 1) 0 < 128))
 
@@ -206,7 +206,8 @@ pieces_end_ascii (suc count) quote (b ∷ text) ascii h =
 
 -- ---- lexemes
 
--- The lexeme at a place stands in the text from there on, has a byte, and what follows it is text.
+-- The lexeme at a place stands in the text from there on and has at least one byte. What follows it
+-- is valid UTF-8.
 pub record Stands (at : ℕ) (text : List ℕ) (x : Lexeme) : Type 0 where
   pub start : x.start ≡ at
   pub some : at < x.stop

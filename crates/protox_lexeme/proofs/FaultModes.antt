@@ -1,4 +1,5 @@
--- Which faults a lexeme may have, and that one of text format stands alone in its lexeme.
+-- Which faults a lexeme may have. A fault that counts only outside text format is the only fault of
+-- its lexeme.
 use Rattle.std.proofs.Common.{◌≡◌, ℕ, ◌+◌, ◌-◌, Bool, true, false, cond, ◌⊎◌, inl, inr, List, [], ◌∷◌, ◌++◌, drop, take, get_or, refl, sym, ap, ◌∙◌, subst, append-nil, Option, Some, None}
 use Rattle.std.specs.Prelude.{codes}
 use Rattle.std.specs.List.{AllByRecursion as Each}
@@ -17,7 +18,7 @@ use Rattle.protox_lexeme.proofs.Modes.{integer_in_mode, string_in_mode, block_in
 
 -- ---- each lexeme of a cut
 
--- what holds of each lexeme at each place holds of those of a cut
+-- What holds for each lexeme at each place holds for the lexemes of a cut.
 each_from : (P : Lexeme → Type 0) → ((at : ℕ) (text : List ℕ) (x : Lexeme) → IsLexeme at text x → P x) → (at : ℕ) (text : List ℕ) (xs : List Lexeme) → IsCut at text xs → Each P xs
 each_from P h at text [] is_cut = tt
 each_from P h at text (x ∷ xs) is_cut = (h _ _ x is_cut.1, each_from P h x.stop (drop (x.stop - at) text) xs is_cut.2)
@@ -25,7 +26,7 @@ each_from P h at text (x ∷ xs) is_cut = (h _ _ x is_cut.1, each_from P h x.sto
 pub each_of_cut : (P : Lexeme → Type 0) → ((at : ℕ) (text : List ℕ) (x : Lexeme) → IsLexeme at text x → P x) → (source : List ℕ) → Each P (cut 0 source)
 each_of_cut P h source = each_from P h 0 source (cut 0 source) (cut_is_cut 0 source)
 
--- by its kind, or as one invalid character
+-- By its kind, or for an invalid character.
 by_kind : (P : Lexeme → Type 0) → ((kind : Kind) (at : ℕ) (text : List ℕ) (n : ℕ) → P (lexeme kind at text n)) → ((start stop : ℕ) → P (record { start = start; stop = stop; shape = Invalid; borrowed = true; faults = [] }))
     → (at : ℕ) (text : List ℕ) (x : Lexeme) → IsLexeme at text x → P x
 by_kind P h none at text x (inl (kind, n, longest, same)) = subst P (sym same) (h kind at text n)
@@ -56,7 +57,7 @@ invalid-alone source = each_of_cut IsBare (by_kind IsBare bare_kind (λ start st
 
 -- ---- the kinds of faults
 
--- a fault that a lexeme has by itself
+-- A fault that a lexeme has by itself.
 abbrev pub IsOwnKind : ParseErrorKind → Type 0
 IsOwnKind (IntegerOutOfRange span) = Unit {0}
 IsOwnKind (InvalidStringCharacters span) = Unit {0}
@@ -69,7 +70,7 @@ IsOwnKind (FloatSuffixOutsideTextFormat span) = Unit {0}
 IsOwnKind (UnexpectedEof expected) = (expected ≡ codes "string terminator") ⊎ (expected ≡ codes "comment terminator")
 IsOwnKind _ = ⊥
 
--- one of those, or that it is an invalid character
+-- Such a fault, or the fault of an invalid character.
 abbrev pub IsRowKind : Lexeme → ParseErrorKind → Type 0
 IsRowKind x (InvalidToken span) = (x.shape ≡ Invalid) × (span ≡ span_from x.start x.stop)
 IsRowKind x wrong = IsOwnKind wrong
@@ -117,7 +118,7 @@ kind_own Newline at text n = tt
 abbrev HasOwn : Lexeme → Type 0
 HasOwn x = Each IsOwnKind x.faults
 
--- Each fault of a lexeme is of such a kind.
+-- Each fault of a lexeme is of one of these kinds.
 pub own-kinds : (source : List ℕ) → Each (λ x. Each IsOwnKind x.faults) (cut 0 source)
 own-kinds source = each_of_cut HasOwn (by_kind HasOwn kind_own (λ start stop. tt)) source
 
@@ -136,15 +137,16 @@ invalid_row x _ e = tt
 row_own : (x : Lexeme) → HasOwn x → Each (IsRowKind x) (row_faults x)
 row_own x h = each_append (IsRowKind x) x.faults _ (own_rows x x.faults h) (invalid_row x x.shape refl)
 
--- Each fault of a row or a gap is one of its lexeme, or says that the lexeme is an invalid character.
+-- Each fault of a row or a gap is a fault of its lexeme, or says that the lexeme is an invalid
+-- character.
 pub kinds-of : (source : List ℕ) → Each (λ x. Each (IsRowKind x) (row_faults x)) (cut 0 source)
 kinds-of source =
     let P : Lexeme → Type 0 = λ x. Each (IsRowKind x) (row_faults x) in
     each_of_cut P (λ at text x is_lexeme. row_own x (by_kind HasOwn kind_own (λ start stop. tt) at text x is_lexeme)) source
 
--- ---- faults of text format
+-- ---- faults that count only outside text format
 
--- All are faults in text format, or none is.
+-- All faults count only outside text format, or none does.
 abbrev pub IsAlike : List ParseErrorKind → Type 0
 IsAlike fs = (faults_in true fs ≡ fs) ⊎ (faults_in true fs ≡ [])
 
@@ -176,7 +178,7 @@ row_alike_by _ span fs bare h = subst IsAlike (sym (append-nil fs)) h
 row_alike : (at : ℕ) (text : List ℕ) (x : Lexeme) → IsLexeme at text x → IsAlike (row_faults x)
 row_alike at text x h = row_alike_by x.shape (span_from x.start x.stop) x.faults (by_kind IsBare bare_kind (λ start stop e. refl) at text x h) (by_kind IsAlikeOwn kind_alike (λ start stop. inl refl) at text x h)
 
--- A fault of text format stands alone in its lexeme.
+-- Such a fault is the only one of its lexeme.
 pub alike-in-mode : (source : List ℕ) → Each (λ x. IsAlike (row_faults x)) (cut 0 source)
 alike-in-mode source = let P : Lexeme → Type 0 = λ x. IsAlike (row_faults x) in each_of_cut P row_alike source
 
@@ -185,7 +187,7 @@ alike_first fs h false f rest e = (rest, e)
 alike_first fs (inl all) true f rest e = (rest, sym all ∙ e)
 alike_first fs (inr none) true f rest e = let bad : [] ≡ f ∷ rest = sym none ∙ e in absurd (cc)
 
--- The first fault of a lexeme in a mode is its first.
+-- The first fault of a lexeme that counts in a mode is its first fault.
 pub first-in-mode : (source : List ℕ)
     → Each (λ x. (b : Bool) (f : ParseErrorKind) (rest : List ParseErrorKind) → faults_in b (row_faults x) ≡ f ∷ rest → (more : List ParseErrorKind) × (row_faults x ≡ f ∷ more)) (cut 0 source)
 first-in-mode source =

@@ -26,7 +26,8 @@ use Rattle.protox_lexeme.proofs.Literal.{piece_some}
 abbrev pub twice : ℕ → ℕ
 twice n = n + n
 
--- The place of a fault, so that of two that begin at one place the range of an integer comes last.
+-- The key of a fault: its place. If two faults begin at one place, the range fault of an integer
+-- comes last.
 abbrev pub key : ParseErrorKind → Option ℕ
 key (IntegerOutOfRange span) = Some (suc (twice span.start))
 key wrong = option_map (λ s. twice s.start) (span_of wrong)
@@ -34,7 +35,7 @@ key wrong = option_map (λ s. twice s.start) (span_of wrong)
 abbrev pub keys : List ParseErrorKind → List (Option ℕ)
 keys fs = map key fs
 
--- The keys that there are rise, from one number on and below another.
+-- The keys of the faults rise, from one number on and below another.
 abbrev pub Rise : ℕ → ℕ → List (Option ℕ) → Type 0
 Rise low high [] = low ≤ high
 Rise low high (None ∷ ks) = Rise low high ks
@@ -50,7 +51,7 @@ rise_joined low mid high [] ls h r = rise_lower low mid high ls h r
 rise_joined low mid high (None ∷ ks) ls h r = rise_joined low mid high ks ls h r
 rise_joined low mid high (Some k ∷ ks) ls h r = (h.0, rise_joined (suc k) mid high ks ls h.1 r)
 
--- the faults have places between two
+-- The places of the faults lie between two places.
 abbrev pub RiseWithin : ℕ → ℕ → List ParseErrorKind → Type 0
 RiseWithin low high fs = Rise low high (keys fs)
 
@@ -65,7 +66,7 @@ octal_not_x b h = grind (arith, nat_tests)
 digit_not_x : (b : ℕ) → is_ascii_digit b ≡ true → is_x b ≡ false
 digit_not_x b h = grind (arith, nat_tests)
 
--- an integer of two bytes has no prefix of two
+-- An integer of two bytes has no prefix of two bytes.
 second_not_x : (text : List ℕ) (n : ℕ) → Fits (pattern Integer) text n → n ≡ 2 → is_x (get_or text 1 0) ≡ false
 second_not_x text n (inl f) two = absurd (omega (arith, f.0))
 second_not_x text n (inr (inl f)) two =
@@ -84,7 +85,7 @@ second_not_x text n (inr (inr (inr f))) two =
 not_one : (n : ℕ) → 2 ≤ n → eqb n 1 ≡ false
 not_one n h = grind (arith, nat_tests)
 
--- behind the prefix stands a digit
+-- A digit stands after the prefix.
 prefix_below : (text : List ℕ) (n : ℕ) → 1 ≤ n → n ≤ length text → (n ≡ 2 → is_x (get_or text 1 0) ≡ false) → prefix_of (take n text) < n
 prefix_below text zero some within x = absurd (omega arith)
 prefix_below [] (suc n) some within x = absurd (omega arith)
@@ -108,7 +109,7 @@ both_rise false false at prefix to end high h = (omega arith, h)
 
 -- ---- strings
 
--- the invalid pieces so far begin before a place
+-- The run of invalid pieces begins before this place.
 abbrev BeginsFrom : ℕ → spec.Bad → ℕ → Type 0
 BeginsFrom low None at = low ≤ twice at
 BeginsFrom low (Some o) at = (low ≤ twice o.1) × (o.1 < at)
@@ -158,7 +159,7 @@ abbrev place : CommentMark → ℕ
 place (opens at) = at
 place (closes at) = at
 
--- marks stand one behind the other, from one place on and before another
+-- The `/*` and `*/` stand one after another, from one place on and before another.
 abbrev MarksRise : ℕ → ℕ → List CommentMark → Type 0
 MarksRise low high [] = low ≤ high
 MarksRise low high (m ∷ ms) = (low ≤ place m) × MarksRise (suc (place m)) high ms
@@ -182,7 +183,7 @@ marks_rise at high (b ∷ (c ∷ text)) h =
       | inr e ↦ elim (cases_Bool (eqb b 42 && eqb c 47)) [ inl f ↦ rw (e, f) (le_refl at, two) | inr f ↦ rw (e, f) next ]
     ]
 
--- those before the ending stand before it
+-- Those before the end of the comment stand before it.
 abbrev EndRise : ℕ → ℕ → Option Ending → Type 0
 EndRise low high None = Unit {0}
 EndRise low high (Some e) = MarksRise low e.at e.before × (e.at < high)

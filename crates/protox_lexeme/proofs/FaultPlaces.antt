@@ -35,7 +35,7 @@ prefix_within (b ∷ (c ∷ word)) =
       | inr e ↦ rw e (omega arith)
     ]
 
--- a byte that passes is one of the text, if 0 does not pass
+-- If 0 doesn't pass, a byte that passes stands in the text.
 passes_inside : (p : ℕ → Bool) (text : List ℕ) (n : ℕ) → p 0 ≡ false → p (get_or text n 0) ≡ true → n < length text
 passes_inside p [] n z h = absurd (false≢true (sym z ∙ h))
 passes_inside p (b ∷ text) zero z h = omega arith
@@ -69,7 +69,7 @@ hash_lie size at word whole = if_one size (get_or word 0 0 == 35) _ (λ e. (omeg
 
 -- ---- strings
 
--- the invalid pieces so far begin before a place
+-- The run of invalid pieces begins before this place.
 abbrev BeginsBefore : spec.Bad → ℕ → Type 0
 BeginsBefore None at = Unit {0}
 BeginsBefore (Some o) at = o.1 ≤ at

@@ -1,4 +1,4 @@
--- No fault that has a place stands twice among those of a source's lexemes.
+-- No fault with a place is twice among the faults of a source's lexemes.
 use Rattle.std.proofs.Common.{◌≡◌, ℕ, suc, ◌+◌, ◌-◌, ◌<◌, inl, inr, List, [], ◌∷◌, drop, flat_map, refl, sym, ap, ◌∙◌, subst, append-nil, le_refl, arith, Option, Some, None}
 use Rattle.std.proofs.lemmas.Str.{len_utf8_bounds}
 use Rattle.std.specs.Option.{option_map}
@@ -29,7 +29,7 @@ kind_row LineComment at text n = append-nil (lexeme LineComment at text n).fault
 kind_row BlockComment at text n = append-nil (lexeme BlockComment at text n).faults
 kind_row Newline at text n = refl
 
--- the faults of a lexeme that is not before a place stand in it
+-- The lexeme ends after `at`, and the keys of its faults rise between `at` and its end.
 abbrev pub RowRises : ℕ → Lexeme → Type 0
 RowRises at x = (at < x.stop) × RiseWithin (twice at) (twice x.stop) (row_faults x)
 
@@ -55,16 +55,16 @@ rows_rise at text (x ∷ xs) is_cut =
 
 -- ---- none twice
 
--- the one isn't the other, if it has a place
+-- The two differ, if the first has a place.
 abbrev pub IsApart : ParseErrorKind → ParseErrorKind → Type 0
 IsApart f g = (s : Span) → span_of f ≡ Some s → g ≡ f → ⊥
 
--- No fault that has a place stands twice.
+-- No fault with a place is twice in the list.
 abbrev pub AreOnce : List ParseErrorKind → Type 0
 AreOnce [] = Unit {0}
 AreOnce (f ∷ fs) = Each (IsApart f) fs × AreOnce fs
 
--- a fault with a place has a key
+-- A fault with a place has a key.
 keyed : (f : ParseErrorKind) (s : Span) → span_of f ≡ Some s → (k : ℕ) × (key f ≡ Some k)
 keyed (IntegerOutOfRange span) s e = (suc (twice span.start), refl)
 keyed f s e = (twice s.start, ap (option_map (λ v. twice v.start)) e)
@@ -72,7 +72,7 @@ keyed f s e = (twice s.start, ap (option_map (λ v. twice v.start)) e)
 no_key : (f : ParseErrorKind) → key f ≡ None → (s : Span) → span_of f ≡ Some s → ⊥
 no_key f none s e = let (k, is) = keyed f s e in let bad : None ≡ Some k = sym none ∙ is in absurd (cc)
 
--- a list whose keys are above a fault's has it not
+-- A list whose keys are above that of a fault doesn't hold the fault.
 apart : (f : ParseErrorKind) (k low high : ℕ) (fs : List ParseErrorKind) → key f ≡ Some k → k < low → RiseWithin low high fs → Each (IsApart f) fs
 apart f k low high [] e h r = tt
 apart f k low high (g ∷ gs) e h r = go (key g) refl r (λ from above rest. apart f k from high gs e above rest) where
@@ -92,6 +92,6 @@ rising_once low high (f ∷ fs) r = go (key f) refl r (λ from rest. rising_once
   go None is r rest = (none_apart f is fs, rest low r)
   go (Some k) is r rest = (apart f k (suc k) high fs is (le_refl _) r.1, rest (suc k) r.1)
 
--- No fault that has a place stands twice among those of a source's lexemes.
+-- No fault with a place is twice among the faults of a source's lexemes.
 pub faults-once : (source : List ℕ) → AreOnce (flat_map row_faults (cut 0 source))
 faults-once source = let (high, r) = rows_rise 0 source (cut 0 source) (cut_is_cut 0 source) in rising_once 0 high (flat_map row_faults (cut 0 source)) r

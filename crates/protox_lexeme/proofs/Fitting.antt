@@ -1,4 +1,4 @@
--- What a front that fits says of the bytes.
+-- What is known of the bytes at the front of a text that fits a pattern.
 use Rattle.std.proofs.Common.{◌≡◌, ℕ, zero, suc, ◌+◌, ◌-◌, ◌≤◌, Bool, true, false, ltb, inl, inr, List, [], ◌∷◌, length, drop, get_or, refl, sym, ◌∙◌, subst, length-drop, le_trans, arith}
 use Rattle.std.proofs.lemmas.Bool.{cases_Bool, true≢false, false≢true, ltb-true, ltb-false}
 use Rattle.std.proofs.lemmas.List.Sums.{prefix_len_passes, prefix_len-le-length}
@@ -9,7 +9,7 @@ use Rattle.protox_lexeme.specs.Pattern.{Pattern, one, many, ◌⋅◌, ◌∣◌
 pub first_passes : (p : ℕ → Bool) (text : List ℕ) → 1 ≤ prefix_len p text → p (get_or text 0 0) ≡ true
 first_passes p text h = prefix_len_passes p text 0 0 (omega arith)
 
--- a first byte that passes, where 0 does not
+-- The first byte passes, if 0 doesn't.
 pub passes_first : (p : ℕ → Bool) (text : List ℕ) → p 0 ≡ false → p (get_or text 0 0) ≡ true → 1 ≤ prefix_len p text
 passes_first p [] z h = absurd (false≢true (sym z ∙ h))
 passes_first p (b ∷ text) z h = rw h (omega arith)
@@ -28,7 +28,7 @@ some_fits p (c ∷ text) n low high =
     let whole : n ≤ 1 + prefix_len p text = rw passes at high in
     (1, n - 1, omega arith, (refl, omega arith), omega arith)
 
--- a run that ends at a byte that does not pass is whole
+-- A run is whole if it ends before a byte that doesn't pass.
 pub run_ends : (p : ℕ → Bool) (text : List ℕ) (i : ℕ) → i ≤ prefix_len p text → p (get_or text i 0) ≡ false → i ≡ prefix_len p text
 run_ends p text i h stops =
     elim (cases_Bool (ltb i (prefix_len p text))) [
@@ -49,7 +49,7 @@ one_then_empty p q n (i, j, e, (is_one, h), f) = absurd (omega arith)
 pub then_one : (p : ℕ → Bool) (q : Pattern) (b : ℕ) (text : List ℕ) (m : ℕ) → p b ≡ true → Fits q text m → Fits (one p ⋅ q) (b ∷ text) (suc m)
 then_one p q b text m passes f = (1, m, omega arith, (refl, rw passes (omega arith)), f)
 
--- no run begins at a byte that does not pass
+-- No run begins with a byte that doesn't pass.
 pub no_run : (p : ℕ → Bool) (text : List ℕ) → p (get_or text 0 0) ≡ false → prefix_len p text ≡ 0
 no_run p [] h = refl
 no_run p (b ∷ text) h = rw h
@@ -57,7 +57,7 @@ no_run p (b ∷ text) h = rw h
 pub run_more : (p : ℕ → Bool) (b : ℕ) (text : List ℕ) → p b ≡ true → prefix_len p (b ∷ text) ≡ suc (prefix_len p text)
 run_more p b text h = rw h (omega arith)
 
--- the same of a text that is not taken apart
+-- The same for a text as a whole.
 pub one_then_rest : (p : ℕ → Bool) (q : Pattern) (text : List ℕ) (n : ℕ) → Fits (one p ⋅ q) text n
     → (m : ℕ) × (n ≡ suc m) × (p (get_or text 0 0) ≡ true) × Fits q (drop 1 text) m
 one_then_rest p q [] n f = absurd (one_then_empty p q n f)
@@ -66,7 +66,7 @@ one_then_rest p q (b ∷ text) n f = one_then p q b text n f
 pub then_one_rest : (p : ℕ → Bool) (q : Pattern) (text : List ℕ) (m : ℕ) → 1 ≤ prefix_len p text → Fits q (drop 1 text) m → Fits (one p ⋅ q) text (suc m)
 then_one_rest p q text m starts f = (1, m, omega arith, (refl, starts), f)
 
--- a front that fits lies within the text
+-- A front that fits is no longer than the text.
 pub fits_within : (p : Pattern) (text : List ℕ) (n : ℕ) → Fits p text n → n ≤ length text
 fits_within (one p) text n (is_one, starts) = let within = prefix_len-le-length p text in omega arith
 fits_within (many p) text n run = le_trans run (prefix_len-le-length p text)
@@ -81,7 +81,7 @@ fits_within (maybe a) text n (inr f) = fits_within a text n f
 
 -- ---- bytes of one kind
 
--- what passes p passes q, and what passes any test of a pattern
+-- Whatever passes p passes q. Then the same for all tests of a pattern: what passes one passes q.
 abbrev pub In : (ℕ → Bool) → (ℕ → Bool) → Type 0
 In q p = (b : ℕ) → p b ≡ true → q b ≡ true
 

@@ -1,17 +1,17 @@
--- The table that keywords are looked for in.
+-- The table in which keywords are looked up.
 use Rattle.std.proofs.Common.{◌≡◌, ◌<◌, ◌≤◌, ℕ, zero, suc, Bool, true, false, ◌&&◌, ◌⊎◌, inl, inr, List, [], ◌∷◌, length, get_or, eqb, refl, sym, ap, subst, ◌∙◌, arith}
 use Rattle.std.proofs.lemmas.Bool.{cases_Bool, cases_lt, eqb-true, and_parts}
 use Rattle.std.specs.Prelude.{slice_index_or}
 use Rattle.std.specs.Str.{bytes_eq}
 use Rattle.std.proofs.lemmas.Slice.Eq.{bytes_eq-Decides}
 use Rattle.protox_lexeme.specs.TokenClass.{keywords, place}
-use Rattle.protox_lexeme.specs.WordSlot.{candidate}
+use Rattle.protox_lexeme.specs.inner.WordSlot.{candidate}
 use Rattle.protox_lexeme.proofs.ByteTable.{agree_below, agree_at}
 
 abbrev pub keyword : ℕ → List ℕ
 keyword k = slice_index_or keywords k []
 
--- the table says of a keyword its place, which is its own
+-- The table gives for a keyword its own index.
 abbrev is_right : ℕ → Bool
 is_right k = eqb (candidate (keyword k)) k && eqb (place keywords (keyword k)) k
 
@@ -48,11 +48,11 @@ place-same (w ∷ ws) t k e l = elim (cases_Bool (bytes_eq t w)) [
       rw more (place-same ws t (place ws t) refl (omega (arith, l, more)))
 ]
 
--- the word that the table says
+-- The word that the table gives.
 pub keyword-found : (t : List ℕ) (k : ℕ) → k < 38 → t ≡ keyword k → k ≡ place keywords t
 keyword-found t k l e = sym (ap (place keywords) e ∙ place-right k l)
 
--- a word that the table says another of, or none
+-- A word for which the table gives another word, or none.
 pub none-found : (t : List ℕ) (k : ℕ) → k ≡ candidate t → (k < 38 → t ≡ keyword k → ⊥) → 38 ≡ place keywords t
 none-found t k e never = elim (cases_lt (place keywords t) 38) [
   | inl below ↦

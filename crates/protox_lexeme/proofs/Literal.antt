@@ -1,4 +1,4 @@
--- A literal, a piece at a time.
+-- A literal, piece by piece.
 use Rattle.std.proofs.Common.{◌≡◌, ℕ, zero, suc, ◌+◌, ◌<◌, ◌≤◌, Bool, true, false, not, ◌&&◌, ltb, leb, eqb, inl, inr, List, [], ◌∷◌, ◌++◌, length, take, drop, get_or, refl, sym, ap, ◌∙◌, subst, append_assoc, length-append, length-drop, drop-drop, add_assoc, add-zero, append-nil, lt-ltb, arith, le_refl, Option, Some, None, Result, Ok, Err, IfOk}
 use Rattle.std.proofs.lemmas.Bool.{cases_Bool}
 use Rattle.std.proofs.lemmas.List.Folds.{length-prefix_len}
@@ -39,7 +39,7 @@ pub finished_wrong : (start at : ℕ) (old new : Reading) (is_escape : Bool) (n 
     → finished start new (at + n) ps ≡ finished start old at (spec.wrong is_escape n ∷ ps)
 finished_wrong start at old new is_escape n ps value borrowed bad faults = rw (value, borrowed, bad, faults, add_assoc) refl
 
--- each piece has a byte
+-- Each piece has at least one byte.
 
 byte_some : (v n : ℕ) → 1 ≤ n → 1 ≤ spec.piece_len (spec.byte_piece v n)
 byte_some v n h = elim (cases_Bool (leb v 255)) [ inl e ↦ rw e h | inr e ↦ rw e h ]
@@ -181,7 +181,7 @@ some_last [] [] f e = absurd (cc)
 some_last [] (y ∷ ys) f e = absurd (cc)
 some_last (x ∷ xs) ys f e = absurd (cc)
 
--- a literal that a newline or the end cuts off has a fault
+-- A literal that ends at a newline or at the end of the text has a fault.
 pub break_faulty : (start at : ℕ) (r : Reading) → (finished start r at (spec.breaks ∷ [])).faults ≡ [] → ⊥
 break_faulty start at r e = some_last r.faults (spec.closed r.bad at) (UnterminatedString (span_from at (at + 1))) e
 

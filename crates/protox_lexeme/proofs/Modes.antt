@@ -1,4 +1,4 @@
--- Integers, string literals and block comments have no fault of the mode.
+-- Integers, strings and block comments have the same faults in each mode.
 use Rattle.std.proofs.Common.{◌≡◌, ◌∙◌, sym, zero, suc, arith, ◌<◌, ℕ, ◌+◌, length, Bool, true, false, not, cond, List, [], ◌∷◌, ◌++◌, refl, get_or, drop, take, ap, Option, Some, None}
 use Rattle.std.specs.Prelude.{filter}
 use Rattle.std.proofs.lemmas.List.{take_more}
@@ -82,7 +82,7 @@ pub faults_in_step : (text_format : Bool) (xs : List ParseErrorKind) (i : ℕ) (
     → faults_in text_format (take (i + 1) xs) ≡ faults_in text_format (take i xs) ++ faults_in text_format (get_or xs i d ∷ [])
 faults_in_step text_format xs i d h = ap (faults_in text_format) (take_more xs i d h) ∙ faults_in_append text_format (take i xs) (get_or xs i d ∷ [])
 
--- where no fault is one in the mode, the next one is none
+-- If no fault counts in the mode, the next one doesn't.
 pub none_in_step : (text_format : Bool) (xs : List ParseErrorKind) (i : ℕ) (d : ParseErrorKind) → i < length xs → faults_in text_format xs ≡ [] → faults_in text_format (get_or xs i d ∷ []) ≡ []
 none_in_step text_format [] i d h e = absurd (omega arith)
 none_in_step text_format (x ∷ xs) zero d h e = front_nil (faults_in text_format (x ∷ [])) (faults_in text_format xs) (sym (faults_in_append text_format (x ∷ []) xs) ∙ e)

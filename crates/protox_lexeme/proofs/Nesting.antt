@@ -1,4 +1,4 @@
--- The marks of a block comment.
+-- The `/*` and `*/` of a block comment.
 use Rattle.std.proofs.Common.{◌≡◌, ℕ, zero, suc, ◌+◌, ◌-◌, ◌<◌, ◌≤◌, ◌==◌, ◌&&◌, ◌⊎◌, inl, inr, List, [], ◌∷◌, ◌++◌, length, drop, get_or, refl, sym, ap, ◌∙◌, append_assoc, append-nil, add-one, drop-cons, arith, Option, Some, None}
 use Rattle.std.specs.Prelude.{codes, if◌then◌else◌}
 use Rattle.std.specs.Option.{option_map, option_or}
@@ -7,7 +7,7 @@ use Rattle.protox_fault.specs.declared.error.ParseErrorKind.TheVariants.{Unexpec
 use Rattle.protox_lexeme.specs.BlockComments.{Mark, opens, closes, Ending, marks, behind, closed, last_closed, ending, nested_fault, nested_faults, faults_to}
 use Rattle.protox_lexeme.specs.declared.block_comment.Mark as code
 use Rattle.protox_lexeme.specs.declared.block_comment.Mark.TheVariants as variant
-use Rattle.protox_lexeme.specs.Nesting.{in_front, run}
+use Rattle.protox_lexeme.specs.inner.Nesting.{in_front, run}
 
 pub run_opens : (start at : ℕ) (ms : List Mark) (inner : ℕ) (last : Option ℕ) (settled since : List ParseErrorKind)
     → run start (opens at ∷ ms) inner last settled since ≡ run start ms (inner + 1) last settled (since ++ nested_fault start at ∷ [])
@@ -20,7 +20,7 @@ run_closes start at ms (suc inner) last settled since h =
     let same : inner ≡ suc inner - 1 = omega arith in
     ap (λ n. run start ms n (Some at) (settled ++ since) []) same
 
--- what the marks that are to come make of it, by where the comment ends
+-- What the `/*` and `*/` to come lead to, given where the comment ends.
 abbrev outcome : ℕ → List Mark → Option ℕ → List ParseErrorKind → List ParseErrorKind → Option Ending → Option Ending → Option ℕ × List ParseErrorKind
 outcome start ms last settled since (Some e) f = (Some e.at, (settled ++ since) ++ nested_faults start e.before)
 outcome start ms last settled since None (Some e) = (Some e.at, (settled ++ since) ++ nested_faults start e.before)
@@ -60,11 +60,11 @@ outcome_ending start ms (Some e) f = refl
 outcome_ending start ms None (Some f) = refl
 outcome_ending start ms None None = refl
 
--- Read from the first on, the marks give where the comment ends, and its faults.
+-- Read from the first on, they give the end of the comment and its faults.
 pub run_ending : (start : ℕ) (ms : List Mark) → run start ms 0 None [] [] ≡ (option_map (λ e. e.at) (ending ms), faults_to start ms (ending ms))
 run_ending start ms = run_is start ms 0 None [] [] ∙ outcome_ending start ms (closed ms 0) (last_closed ms)
 
--- A comment without a fault has no mark before the one that closes it.
+-- A comment without a fault has no `/*` or `*/` before the `*/` that closes it.
 pub faultless : (start : ℕ) (ms : List Mark) → faults_to start ms (ending ms) ≡ [] → (k : ℕ) × (rest : List Mark) × (ms ≡ closes k ∷ rest)
 faultless start [] h = absurd (cc)
 faultless start (closes k ∷ ms) h = (k, ms, refl)
@@ -74,18 +74,18 @@ faultless start (opens k ∷ ms) h = absurd (go (closed ms 1) (last_closed ms) h
   go None (Some f) h = absurd (cc)
   go None None h = absurd (cc)
 
--- where no level is open, a mark that closes ends the comment
+-- If no level is open, a `*/` ends the comment.
 pub run_ends : (start at : ℕ) (ms : List Mark) (inner : ℕ) (last : Option ℕ) (settled since : List ParseErrorKind) → inner ≡ 0 → run start (closes at ∷ ms) inner last settled since ≡ (Some at, settled ++ since)
 run_ends start at ms zero last settled since h = refl
 run_ends start at ms (suc inner) last settled since h = absurd (omega arith)
 
--- a mark that opens a level is none that closes one
+-- A `/*` is no `*/`.
 pub no_open : (mark : Option code.Mark) (at : ℕ) (ms : List Mark) (k : ℕ) (rest : List Mark) → in_front mark at ms ≡ closes k ∷ rest → (mark ≡ Some variant.Closes) ⊎ (mark ≡ None)
 no_open (Some variant.Opens) at ms k rest h = absurd (cc)
 no_open (Some variant.Closes) at ms k rest h = inl refl
 no_open None at ms k rest h = inr refl
 
--- ---- marks at a place
+-- ---- `/*` and `*/` at a place
 
 two_more : (bytes : List ℕ) (at : ℕ) → at + 1 < length bytes → drop at bytes ≡ get_or bytes at 0 ∷ (get_or bytes (at + 1) 0 ∷ drop (at + 2) bytes)
 two_more bytes at h =
@@ -97,7 +97,7 @@ two_more bytes at h =
     let past : suc (suc at) ≡ at + 2 = omega arith in
     one ∙ ap (λ t. get_or bytes at 0 ∷ t) (two ∙ ap (λ k. get_or bytes k 0 ∷ drop (suc (suc at)) bytes) same ∙ ap (λ k. get_or bytes (at + 1) 0 ∷ drop k bytes) past)
 
--- the marks from a place on, by the two bytes there
+-- The `/*` and `*/` from a place on, by the two bytes there.
 pub marks_at : (bytes : List ℕ) (at : ℕ) → at + 1 < length bytes
     → marks at (drop at bytes)
     ≡ (if get_or bytes at 0 == 47 && get_or bytes (at + 1) 0 == 42 then opens at ∷ marks (at + 2) (drop (at + 2) bytes)

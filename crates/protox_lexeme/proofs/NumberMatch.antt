@@ -41,7 +41,7 @@ module _ (text : List ℕ) where
   unfolding number
   number_plain h e z f = rw (h, e, z, f)
 
--- which of the equations holds
+-- Which of the equations holds.
 pub data Case (text : List ℕ) : Type 0 where
   at_point : after text ≡ 46 → number text ≡ (Float, digits_len text + 1 + fraction_len (drop (digits_len text + 1) text)) → Case text
   at_exponent : eqb (after text) 46 ≡ false → 1 ≤ exponent_len (drop (digits_len text) text)
@@ -105,7 +105,7 @@ zero_octal b text =
 pub nonzero_digit : (b : ℕ) → is_nonzero b ≡ true → (is_ascii_digit b ≡ true) × (eqb b 48 ≡ false)
 nonzero_digit b h = (grind (arith, nat_tests), grind (arith, nat_tests))
 
--- A number that does not begin with 0 has all its digits.
+-- A number that doesn't begin with 0 takes all its digits.
 pub whole_le : (text : List ℕ) → eqb (first text) 48 ≡ false → digits_len text ≤ number_len text
 whole_le text nonzero = elim (number_case text) [
   | at_point p e ↦ let n = ap size_of e in omega arith
@@ -142,7 +142,7 @@ e_apart b h = (grind (arith, nat_tests), grind (arith, nat_tests))
 pub f_not_digit : (b : ℕ) → is_f b ≡ true → is_ascii_digit b ≡ false
 f_not_digit b h = (f_apart b h).0
 
--- 0, and then a byte that is no digit, no point and no e
+-- 0, and then a byte that is no digit, no point and no e.
 pub lone_zero : (text : List ℕ) → is_ascii_digit (first text) ≡ false → eqb (first text) 46 ≡ false → is_e (first text) ≡ false
     → number (48 ∷ text) ≡ zero_number (48 ∷ text)
 lone_zero text d p e =
@@ -207,7 +207,7 @@ exponent_le text i j run rest =
     let whole = ap size_of (number_exponent text there (omega arith)) in
     omega arith
 
--- each way in which an integer fits is no longer than the number
+-- However an integer fits, it is no longer than the number.
 pub integer_bound : (text : List ℕ) (n : ℕ) → Fits (pattern Integer) text n → (is_ascii_digit (first text) ≡ true) × (n ≤ number_len text)
 integer_bound [] n (inl f) = absurd (omega arith)
 integer_bound [] n (inr (inl f)) = absurd (one_then_empty (λ x. x == 48) (some is_octal) n f)

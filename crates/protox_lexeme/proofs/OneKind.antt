@@ -15,11 +15,11 @@ use Rattle.protox_lexeme.proofs.Fitting.{first_passes, some_bounds, run_ends, no
 use Rattle.protox_lexeme.proofs.Numbers.{digits_begin, exponent_bounds}
 use Rattle.protox_lexeme.proofs.NumberMatch.{nonzero_digit, octal_digits, e_apart, f_not_digit}
 
--- an integer has digits alone, or an x behind its first byte
+-- An integer has only digits, or an x as its second byte.
 abbrev is_integer : List ℕ → ℕ → Bool
 is_integer text n = is_x (get_or text 1 0) || leb n (digits_len text)
 
--- the kind that n bytes at the front may be of
+-- The kind that the first n bytes may have.
 abbrev kind_of : List ℕ → ℕ → Kind
 kind_of text n =
     let b = first text in
@@ -64,7 +64,7 @@ integer_is (b ∷ text) n (inr (inr (inr f))) =
 lt-leb-false : (a b : ℕ) → b < a → leb a b ≡ false
 lt-leb-false a b h = elim (cases_Bool (leb a b)) [ inl e ↦ absurd (let k = leb-true a b e in omega arith) | inr e ↦ e ]
 
--- digits that stop before n, and no x, are no integer
+-- Digits that stop before n, without an x, are no integer.
 not_integer : (text : List ℕ) (n : ℕ) → is_x (get_or text 1 0) ≡ false → digits_len text < n → is_integer text n ≡ false
 not_integer text n x h = rw (x, lt-leb-false n (digits_len text) h) refl
 
@@ -80,7 +80,7 @@ e_not_x b h = grind (arith, nat_tests)
 f_not_x : (b : ℕ) → is_f b ≡ true → is_x b ≡ false
 f_not_x b h = grind (arith, nat_tests)
 
--- the byte behind the first, where a run of i digits is followed by a byte that is no x
+-- The second byte, if i digits are followed by a byte that is no x.
 second_not_x : (text : List ℕ) (i : ℕ) → 1 ≤ i → i ≤ digits_len text → is_x (get_or text i 0) ≡ false → is_x (get_or text 1 0) ≡ false
 second_not_x text (suc zero) low high x = x
 second_not_x text (suc (suc i)) low high x = digit_not_x (get_or text 1 0) (prefix_len_passes is_ascii_digit text 1 0 (omega arith))

@@ -15,11 +15,11 @@ use Rattle.protox_lexeme.proofs.Each.{Every, every_append, all_every}
 use Rattle.protox_lexeme.proofs.FaultPlaces.{lexeme_lie}
 use Rattle.std.proofs.lemmas.Str.{IsUtf8-drop}
 
--- what stands behind the blanks is text
+-- What stands after the blanks is valid UTF-8.
 after_blanks : (text : List ℕ) → IsUtf8 text → IsUtf8 (drop (blanks text) text)
 after_blanks text u = IsUtf8-drop text (blanks text) u (blanks_boundary text (blanks text) refl u)
 
--- the lexeme behind the blanks
+-- The lexeme after the blanks.
 behind_blanks : (at : ℕ) (text : List ℕ) (x : Lexeme) (xs : List Lexeme) → IsCut at text (x ∷ xs) → IsUtf8 text → Stands (at + blanks text) (drop (blanks text) text) x
 behind_blanks at text x xs (some, is_lexeme, rest) u =
     lexeme_stands (at + blanks text) (drop (blanks text) text) x is_lexeme (after_blanks text u) (omega (arith, length-drop (blanks text) text))
@@ -50,7 +50,7 @@ stand_from at low text (x ∷ xs) is_cut u h =
       | inr row ↦ rw row (omega (arith, s.start), omega (arith, s.start, s.some), next x.stop (le_refl x.stop))
     ]
 
--- The rows of a source stand in it, one behind the other.
+-- The rows of a source stand in it, one after another.
 pub stand : (source : List ℕ) → IsUtf8 source → StandBetween 0 (length source) (rows_of (cut 0 source))
 stand source u = let P : ℕ → Type 0 = λ k. StandBetween 0 k (rows_of (cut 0 source)) in let e : 0 + length source ≡ length source = omega arith in
     subst P e (stand_from 0 0 source (cut 0 source) (cut_is_cut 0 source) u (le_refl 0))
@@ -78,7 +78,7 @@ lie_from size at text (x ∷ xs) is_cut u h =
           rw row (every_append (LiesIn size) x.faults _ own (invalid_lie size x.shape (span_from x.start x.stop) (omega (arith, s.start, s.some), omega (arith, s.within, length-drop (blanks text) text))), next)
     ]
 
--- Each fault that the table of a source holds lies in it.
+-- Each fault in the table of a source lies in the source.
 pub lie : (source : List ℕ) → IsUtf8 source → All (All (LiesIn (length source))) (faults_of (cut 0 source))
 lie source u =
     all_every (Every (LiesIn (length source))) (All (LiesIn (length source))) (faults_of (cut 0 source)) (λ fs h. all_every (LiesIn (length source)) (LiesIn (length source)) fs (λ f k. k) h)

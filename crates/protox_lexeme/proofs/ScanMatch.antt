@@ -1,4 +1,4 @@
--- What the scan finds is the longest match.
+-- The scan finds the longest match.
 use Rattle.std.proofs.Common.{◌≡◌, ℕ, ◌+◌, ◌≤◌, true, false, ◌==◌, eqb, eq-eqb, ◌&&◌, ◌⊎◌, inl, inr, List, [], ◌∷◌, drop, get_or, refl, sym, ap, ◌∙◌, subst, get_or-drop, add-zero, arith, le_refl, Option, Some, None}
 use Rattle.std.proofs.lemmas.Bool.{cases_Bool, true≢false, false≢true, eqb-true, and_parts}
 use Rattle.std.proofs.lemmas.Bool.Decides.{nat_tests}
@@ -113,7 +113,7 @@ module _ (text : List ℕ) where
   unfolding scan
   scan_newline h = rw h refl
 
--- marks, and what begins nothing
+-- Marks, and bytes that begin nothing.
 neq-eqb : (a b : ℕ) → (a ≡ b → ⊥) → eqb a b ≡ false
 neq-eqb a b other = elim (cases_Bool (eqb a b)) [ inl e ↦ absurd (other (eqb-true a b e)) | inr e ↦ e ]
 
@@ -248,7 +248,7 @@ point_fits text p d =
     let some_digits = passes_first is_ascii_digit t refl here in
     (1, fraction_len t, refl, (refl, starts_with text 46 refl p), (n, tail_len (drop n t), refl, some_fits is_ascii_digit t n some_digits (le_refl n), ending_fits (drop n t)))
 
--- What the scan finds fits its kind.
+-- The match that the scan finds fits its kind.
 scan_fits : (text : List ℕ) → MatchOption (scan text) (Unit {0}) (λ p. Fits (pattern p.0) text p.1)
 scan_fits text =
     let P : Option (Kind × ℕ) → Type 0 = λ r. MatchOption r (Unit {0}) (λ p. Fits (pattern p.0) text p.1) in
@@ -265,7 +265,7 @@ scan_fits text =
       | at_other l d q h k n e ↦ subst P (sym e) tt
     ]
 
--- The scan finds the longest match, and nothing where no pattern matches.
+-- The scan finds the longest match, or nothing if no pattern matches.
 pub scan_longest : (text : List ℕ)
     → MatchOption (scan text) ((kind : Kind) (m : ℕ) → Fits (pattern kind) text m → ⊥) (λ p. IsLongest pattern p.0 text p.1)
 scan_longest text = go (scan text) (scan_fits text) (λ kind m f. scan_bound kind text m f) where

@@ -1,4 +1,4 @@
--- The faults of a table's rows stand in the order of their places, row by row.
+-- The faults of a table stand in the order of their places, row by row.
 use Rattle.std.proofs.Common.{◌≡◌, ℕ, zero, suc, ◌+◌, ◌-◌, ◌≤◌, Bool, true, false, cond, inl, inr, List, [], ◌∷◌, ◌++◌, drop, filter, refl, sym, subst, append-nil, le_refl, arith, Option, Some, None}
 use Rattle.std.proofs.lemmas.Bool.{cases_Bool}
 use Rattle.std.specs.Prelude.{slice_index_or}
@@ -11,7 +11,7 @@ use Rattle.protox_lexeme.proofs.Cut.{cut_is_cut}
 use Rattle.protox_lexeme.proofs.FaultOrder.{twice, key, keys, Rise, RiseWithin, rise_lower, within_joined}
 use Rattle.protox_lexeme.proofs.FaultsOnce.{row_rises}
 
--- each list of faults has places behind those of the one before it
+-- The places of each list of faults come after those of the list before it.
 abbrev pub AreInOrder : ℕ → List (List ParseErrorKind) → Type 0
 AreInOrder low [] = Unit {0}
 AreInOrder low (fs ∷ fss) = (mid : ℕ) × RiseWithin low mid fs × AreInOrder mid fss
@@ -26,7 +26,7 @@ place_first : (low : ℕ) (fss : List (List ParseErrorKind)) (r : AreInOrder low
 place_first low [] r = refl
 place_first low (fs ∷ fss) r = refl
 
--- List k has places up to those of the next.
+-- The places of list k come before those of the next list.
 pub list_rises : (low : ℕ) (fss : List (List ParseErrorKind)) (r : AreInOrder low fss) (k : ℕ) → RiseWithin (place_of low fss r k) (place_of low fss r (suc k)) (slice_index_or fss k [])
 list_rises low [] r k = le_refl low
 list_rises low (fs ∷ fss) r zero = let P : ℕ → Type 0 = λ n. RiseWithin low n fs in subst P (sym (place_first r.0 fss r.2)) r.1
@@ -36,7 +36,7 @@ front_in_order : (low mid : ℕ) (fs : List ParseErrorKind) (fss : List (List Pa
 front_in_order low mid fs [] h r = tt
 front_in_order low mid fs (gs ∷ fss) h r = (r.0, within_joined low mid r.0 fs gs h r.1, r.2)
 
--- a gap is no invalid character
+-- A comment or a newline is no invalid character.
 pub gap_faults : (x : Lexeme) → is_gap x.shape ≡ true → row_faults x ≡ x.faults
 gap_faults x gap = go x.shape gap where
   go : (shape : Shape) → is_gap shape ≡ true → x.faults ++ invalid_faults shape (span_from x.start x.stop) ≡ x.faults
@@ -62,7 +62,7 @@ table_in_order source = in_order 0 0 source (cut 0 source) (cut_is_cut 0 source)
 
 -- ---- fewer faults
 
--- Where some are left out, those left rise.
+-- The order stays if some are left out.
 pub filter_rises : (p : ParseErrorKind → Bool) (low high : ℕ) (fs : List ParseErrorKind) → RiseWithin low high fs → RiseWithin low high (filter p fs)
 filter_rises p low high [] r = r
 filter_rises p low high (f ∷ fs) r = go (p f) (key f) refl r (λ from rest. filter_rises p from high fs rest) where

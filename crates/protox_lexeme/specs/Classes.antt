@@ -1,4 +1,4 @@
--- The sets of bytes in which the code finds runs.
+-- The sets of bytes that the code looks for.
 use Rattle.std.specs.Prelude.{ℕ, Bool}
 use Rattle.std.specs.Char.{is_ascii_alphabetic, is_ascii_digit, is_ascii_hexdigit}
 use Rattle.protox_lexeme.specs.declared.bytes.Class.{Class}
@@ -6,6 +6,7 @@ use Rattle.protox_lexeme.specs.declared.bytes.Class.TheVariants.{Blank, Letter, 
 use Rattle.protox_lexeme.specs.Strings.{is_plain}
 use Rattle.protox_lexeme.specs.Lexicon.{is_blank, is_letter, is_word, is_octal, is_e, is_sign, is_f, is_x, is_quote, is_mark, is_not_newline}
 
+-- Whether a byte is in the set of that name.
 abbrev pub class_test : Class → ℕ → Bool
 class_test Blank = is_blank
 class_test Letter = is_letter

@@ -1,10 +1,10 @@
--- What a clause sees of a lexeme that the code has read.
+-- What contracts see of a lexeme that the code has read.
 use Rattle.std.specs.Prelude.{ℕ}
 use Rattle.protox_lexeme.specs.declared.found.Found.{Found}
 use Rattle.protox_lexeme.specs.Lexemes.{Lexeme}
 use Rattle.protox_lexeme.specs.Tokens.{shape_of_result, borrowed_of_result}
 
--- the lexeme, which begins at `start`
+-- The lexeme, which begins at `start`.
 abbrev pub lexeme_of : ℕ → Found → Lexeme
 lexeme_of start f = record {
   start = start;

@@ -1,4 +1,4 @@
--- What a clause sees of a fault as the lexer keeps it.
+-- What contracts see of a fault as the lexer keeps it.
 use Rattle.std.specs.Prelude.{codes}
 use Rattle.protox_fault.specs.declared.error.ParseErrorKind.{ParseErrorKind}
 use Rattle.protox_fault.specs.declared.error.ParseErrorKind.TheVariants.{InvalidToken, IntegerOutOfRange, InvalidStringCharacters, UnterminatedString, InvalidStringEscape, NestedBlockComment, NoSpaceBetweenIntAndIdent, HashCommentOutsideTextFormat, FloatSuffixOutsideTextFormat, UnexpectedEof}
@@ -7,7 +7,7 @@ use Rattle.protox_lexeme.specs.declared.lexeme_fault.FaultKind.TheVariants as ki
 use Rattle.protox_lexeme.specs.declared.lexeme_fault.LexemeFault.TheInside.{Inside}
 use Rattle.protox_fault.specs.Faults.{Span}
 
--- the fault of a kind at a place; that the source ends too soon has no place
+-- The fault of a kind at a place. A source that ends too soon has a fault without a place.
 abbrev pub fault_of : FaultKind → Span → ParseErrorKind
 fault_of kind.InvalidToken span = InvalidToken span
 fault_of kind.IntegerOutOfRange span = IntegerOutOfRange span
@@ -21,6 +21,6 @@ fault_of kind.FloatSuffixOutsideTextFormat span = FloatSuffixOutsideTextFormat s
 fault_of kind.EndInString span = UnexpectedEof (codes "string terminator")
 fault_of kind.EndInComment span = UnexpectedEof (codes "comment terminator")
 
--- the fault as it is told
+-- The fault as it is reported.
 abbrev pub fault_seen : Inside → ParseErrorKind
 fault_seen f = fault_of f.kind f.span

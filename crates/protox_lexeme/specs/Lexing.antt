@@ -1,10 +1,10 @@
--- What a clause sees of a lexer.
+-- What contracts see of a lexer.
 use Rattle.std.specs.Prelude.{drop}
 use Rattle.protox_lexeme.specs.declared.lexer.Lexer.TheInside.{Inside}
 use Rattle.protox_lexeme.specs.Lexemes.{cut}
 use Rattle.protox_lexeme.specs.State.{State}
 
--- the lexer has cut off what stands before `at`
+-- The state of a lexer that has read everything before `at`.
 abbrev pub state_of : Inside → State
 state_of a = record {
   source = a.source.now;

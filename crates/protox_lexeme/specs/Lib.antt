@@ -2,14 +2,11 @@ pub mod Shapes
 pub mod LexemeFaults
 pub mod Tokens
 pub mod TokenClass
-pub mod WordSlot
 pub mod Printed
 pub mod Pattern
 pub mod Lexicon
 pub mod Strings
 pub mod BlockComments
-pub mod Nesting
-pub mod Kept
 pub mod Lexemes
 pub mod State
 pub mod Classes
@@ -19,3 +16,4 @@ pub mod Lexing
 pub mod Pieces
 pub mod Table
 pub mod Gaps
+pub mod inner

@@ -1,4 +1,4 @@
--- What a clause sees of a piece.
+-- What contracts see of a piece of a string literal.
 use Rattle.std.specs.Prelude.{ℕ, ◌+◌, ◌<◌, ◌≤◌, Bool, slice_index, ◌&&◌, nat_lt, length, ◌++◌, List, [], ◌∷◌, take, encode_utf8}
 use Rattle.protox_lexeme.specs.declared.piece.Piece.{Piece}
 use Rattle.protox_lexeme.specs.declared.piece.Piece.TheVariants as code
@@ -10,7 +10,7 @@ use Rattle.protox_lexeme.specs.Shapes.{Str}
 use Rattle.protox_lexeme.specs.Tokens.{is_borrowed_slice}
 use Rattle.protox_lexeme.specs.Strings as spec
 
--- the piece at the front of a text
+-- The piece at the front of a text.
 abbrev pub piece_of : List ℕ → Piece → spec.Piece
 piece_of text (code.Run n) = spec.run (take n text)
 piece_of text (code.Byte b n) = spec.adds (b ∷ []) n
@@ -19,7 +19,7 @@ piece_of text (code.Wrong is_escape n) = spec.wrong is_escape n
 piece_of text code.Ends = spec.ends
 piece_of text code.Breaks = spec.breaks
 
--- the piece has a byte, and lies in the text
+-- The piece has at least one byte and lies within the text.
 abbrev pub IsWithin : List ℕ → Piece → Type 0
 IsWithin text (code.Run n) = (1 ≤ n) × (n ≤ length text)
 IsWithin text (code.Byte b n) = (1 ≤ n) × (n ≤ length text)
@@ -28,13 +28,14 @@ IsWithin text (code.Wrong is_escape n) = (1 ≤ n) × (n ≤ length text)
 IsWithin text code.Ends = 1 ≤ length text
 IsWithin text code.Breaks = 1 ≤ length text
 
--- a literal as far as it has been read
+-- A literal as far as it has been read.
 pub record Reading : Type 0 where
   pub value : List ℕ
   pub borrowed : Bool
   pub bad : spec.Bad
   pub faults : List ParseErrorKind
 
+-- The part of a literal that the code has read.
 abbrev pub reading_of : Reader → Reading
 reading_of r = record {
   value = cow_slice_items r.value;
@@ -43,7 +44,7 @@ reading_of r = record {
   faults = r.faults.items;
 }
 
--- the literal, where these pieces are still to come
+-- The whole literal: what has been read, and these pieces still to come.
 abbrev pub finished : ℕ → Reading → ℕ → List spec.Piece → Lexeme
 finished start r at ps = record {
   start = start;
@@ -53,7 +54,7 @@ finished start r at ps = record {
   faults = r.faults ++ spec.faults_of r.bad at ps;
 }
 
--- the last piece ends in an ASCII byte
+-- If the piece is the last one, it is a single ASCII byte.
 abbrev pub IsAsciiIfLast : List ℕ → Piece → Type 0
 IsAsciiIfLast text code.Ends = slice_index text 0 < 128
 IsAsciiIfLast text code.Breaks = slice_index text 0 < 128

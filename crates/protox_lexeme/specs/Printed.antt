@@ -7,11 +7,12 @@ use Rattle.protox_lexeme.specs.declared.token.Token.{Token}
 use Rattle.protox_lexeme.specs.declared.token.Token.TheVariants as token
 use Rattle.protox_lexeme.specs.Shapes.{Shape, Ident, Int, Float, Str, Mark, LineComment, BlockComment, Newline, Invalid}
 
--- two lower case hex digits
+-- A byte as two hexadecimal digits, in small letters.
 abbrev pub hex_pair : ℕ → List ℕ
 hex_pair b = digit_char (b / 16) ∷ digit_char (b % 16) ∷ []
 
--- how a byte of a string is printed
+-- A byte of a string as it is printed. Quotes, backslashes and bytes outside printable ASCII become
+-- escapes.
 abbrev pub printed_byte : ℕ → List ℕ
 printed_byte b =
     if b == 9 then codes "\\t"
@@ -23,6 +24,7 @@ printed_byte b =
     else if is_in_range 32 126 b then b ∷ []
     else 92 ∷ 120 ∷ hex_pair b
 
+-- A token as it is printed. A line comment begins with `//`, and a string stands in double quotes.
 abbrev pub printed : Shape → List ℕ
 printed (Ident s) = s
 printed (Int n) = decimal n
@@ -34,7 +36,7 @@ printed (BlockComment s) = codes "/*" ++ s ++ codes "*/"
 printed Newline = 10 ∷ []
 printed Invalid = []
 
--- a mark or a newline
+-- The token has no value: it is a mark or a newline.
 abbrev pub HasNoValue : Token → Type 0
 HasNoValue (token.Ident s) = ⊥
 HasNoValue (token.IntLiteral n) = ⊥

@@ -1,7 +1,7 @@
 -- Tokens as data.
 use Rattle.std.specs.Prelude.{ℕ, List}
 
--- a token without its place: texts and strings by their bytes, a mark by its byte
+-- A token without its place. Texts and strings are lists of bytes, and a mark is its byte.
 pub data Shape : Type 0 where
   Ident : List ℕ → Shape
   Int : ℕ → Shape
@@ -13,11 +13,11 @@ pub data Shape : Type 0 where
   Newline : Shape
   Invalid : Shape
 
--- a token with a mark: its place, or nothing
+-- A token with its tag: a place, or nothing.
 pub record Row (M : Type 0) : Type 0 where
   pub shape : Shape
   pub at : M
 
--- tokens in order
+-- Tokens in order, each with its tag.
 abbrev pub Rows : Type 0 → Type 0
 Rows M = List (Row M)

@@ -1,4 +1,4 @@
--- What a clause sees of a token.
+-- What contracts see of a token.
 use Rattle.std.specs.Prelude.{ℕ, Bool, true, false, Result, Ok, Err}
 use Rattle.std.specs.Cow.{cow_str_bytes, cow_slice_items}
 use Rattle.std.specs.declared.alloc.Global.{Global}
@@ -10,7 +10,7 @@ use Rattle.protox_lexeme.specs.declared.token.Token.{Token}
 use Rattle.protox_lexeme.specs.declared.token.Token.TheVariants as token
 use Rattle.protox_lexeme.specs.Shapes.{Shape, Ident, Int, Float, Str, Mark, LineComment, BlockComment, Newline, Invalid}
 
--- the token as data
+-- The token as data.
 abbrev pub shape_of : Token → Shape
 shape_of (token.Ident s) = Ident s.now
 shape_of (token.IntLiteral n) = Int n
@@ -36,20 +36,22 @@ shape_of (token.LineComment s) = LineComment (cow_str_bytes s)
 shape_of (token.BlockComment s) = BlockComment (cow_str_bytes s)
 shape_of token.Newline = Newline
 
--- that of a token or of an invalid lexeme
+-- The shape of a token, or `Invalid` for an invalid lexeme.
 abbrev pub shape_of_result : Result Token (Unit {0}) → Shape
 shape_of_result (Ok t) = shape_of t
 shape_of_result (Err e) = Invalid
 
+-- Whether a text is a piece of another one, and owns no memory.
 abbrev pub is_borrowed_str : CowStr Global → Bool
 is_borrowed_str (text.Borrowed s) = true
 is_borrowed_str (text.Owned s) = false
 
+-- Whether bytes are a piece of others, and own no memory.
 abbrev pub is_borrowed_slice : CowSlice ℕ Global → Bool
 is_borrowed_slice (slice.Borrowed s) = true
 is_borrowed_slice (slice.Owned s) = false
 
--- The token holds no memory of its own.
+-- Whether the token owns no memory.
 abbrev pub borrowed_of : Token → Bool
 borrowed_of (token.FloatLiteral f) = is_borrowed_str f.0
 borrowed_of (token.StringLiteral s) = is_borrowed_slice s
@@ -57,7 +59,7 @@ borrowed_of (token.LineComment s) = is_borrowed_str s
 borrowed_of (token.BlockComment s) = is_borrowed_str s
 borrowed_of _ = true
 
--- Every token of this shape is such a one.
+-- Whether no token of this shape owns memory.
 abbrev pub holds_none : Shape → Bool
 holds_none (Float t) = false
 holds_none (Str t) = false
@@ -65,6 +67,7 @@ holds_none (LineComment t) = false
 holds_none (BlockComment t) = false
 holds_none _ = true
 
+-- Whether a token or an invalid lexeme owns no memory.
 abbrev pub borrowed_of_result : Result Token (Unit {0}) → Bool
 borrowed_of_result (Ok t) = borrowed_of t
 borrowed_of_result (Err e) = true

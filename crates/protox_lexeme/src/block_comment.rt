@@ -7,7 +7,7 @@ ghost use Rattle.protox_lexeme.specs.Lexemes as lexemes;
 ghost use Rattle.protox_lexeme.specs.Lexemes.{blanks};
 ghost use Rattle.protox_lexeme.specs.Found.{lexeme_of};
 ghost use Rattle.protox_lexeme.specs.declared.block_comment.Mark.TheVariants as code;
-ghost use Rattle.protox_lexeme.specs.Nesting.{in_front, read_len, run, run_out};
+ghost use Rattle.protox_lexeme.specs.inner.Nesting.{in_front, read_len, run, run_out};
 
 use crate::bytes::{Class, run_len};
 use crate::comment_text::comment_text;
@@ -24,7 +24,7 @@ pub(crate) enum Mark {
     Closes,
 }
 
-// Two bytes stand at a place.
+// Whether these two bytes stand at `at`.
 fn stand_at(bytes: &[u8], at: usize, first: u8, second: u8) -> bool
     requires { at + 1 < length bytes.now }
     ensures { result ≡ (slice_index bytes.now at == first && slice_index bytes.now (at + 1) == second) }
@@ -32,7 +32,7 @@ fn stand_at(bytes: &[u8], at: usize, first: u8, second: u8) -> bool
     bytes[at] == first && bytes[at + 1] == second
 }
 
-// The mark at a place, if there is one.
+// The `/*` or `*/` at `at`, if there is one.
 #[tactic(auto, using(crate::proofs::Nesting::marks_at))]
 fn mark_at(bytes: &[u8], at: usize) -> Option<Mark>
     requires { at + 1 < length bytes.now }
@@ -47,8 +47,8 @@ fn mark_at(bytes: &[u8], at: usize) -> Option<Mark>
     }
 }
 
-/// The levels of a comment as far as its marks have been read: how many are open within it, where
-/// the last of them was closed, the faults up to there, and those since.
+/// The levels of a comment as far as it has been read: how many are open within it, where the last
+/// one was closed, the faults up to there, and the faults since.
 #[derive(Drop)]
 struct Levels {
     inner: usize,
@@ -58,7 +58,7 @@ struct Levels {
 }
 
 impl Levels {
-    // At a mark that opens a level.
+    // Reads a `/*`.
     #[tactic(auto, using(crate::proofs::Nesting::run_opens))]
     fn open(&mut self, start: usize, at: usize) -> Result<(), AllocError>
         requires fits { start + (at + 2) < 2 ^ 64 }
@@ -74,7 +74,7 @@ impl Levels {
         Ok(())
     }
 
-    // At a mark that closes a level within the comment.
+    // Reads a `*/` that closes a level within the comment.
     #[tactic(auto, using(crate::proofs::Nesting::run_closes))]
     fn close(&mut self, start: usize, at: usize) -> Result<(), AllocError>
         requires { 0 < self.old.inner }
@@ -87,7 +87,7 @@ impl Levels {
         Ok(())
     }
 
-    // The mark closes the comment.
+    // Whether this is the `*/` that closes the comment.
     fn end_at(&self, mark: Option<Mark>) -> bool
         ensures yes { result ≡ true → (mark ≡ Some code.Closes) × (self.now.inner ≡ 0) }
         ensures no { result ≡ false → mark ≡ Some code.Closes → 0 < self.now.inner }
@@ -95,7 +95,7 @@ impl Levels {
         matches!(mark, Some(Mark::Closes)) && self.inner == 0
     }
 
-    // Reads the mark at a place, or a byte that is of none. Answers how many bytes that are.
+    // Reads a `/*` or `*/`, or a byte of neither. Answers how many bytes that are.
     fn take(&mut self, mark: Option<Mark>, start: usize, at: usize) -> Result<usize, AllocError>
         requires fits { start + (at + 2) < 2 ^ 64 }
         requires few { self.old.inner ≤ at }
@@ -118,7 +118,7 @@ impl Levels {
         }
     }
 
-    // The faults of a comment that ends here, at its own mark.
+    // The faults of a comment that its own `*/` closes.
     fn end(self) -> Result<Vec<LexemeFault>, AllocError>
         ensures ok { IfOk result (λ v. v.items ≡ self.settled.items ++ self.since.items) }
         ensures free { self.since.items ≡ [] → IsOk result }
@@ -132,7 +132,7 @@ impl Levels {
         Ok(settled)
     }
 
-    // The mark at which a comment ends that nothing closes, if there is one, and its faults.
+    // The last `*/` of a comment that nothing closes, if there is one, and the comment's faults.
     fn run_out(self) -> Result<(Option<usize>, Vec<LexemeFault>), AllocError>
         ensures { IfOk result (λ r. (r.0, r.1.items) ≡ run_out self.last self.settled.items self.since.items) }
     {
@@ -156,7 +156,7 @@ impl Levels {
     }
 }
 
-// The mark at which the comment at the front ends, if there is one, and its faults.
+// The `*/` at which the comment at the front ends, if there is one, and the comment's faults.
 #[tactic(auto, using(crate::proofs::Nesting::run_ending, crate::proofs::BlockExtent::mark_within))]
 fn read_marks(
     alloc: Global,
@@ -187,7 +187,7 @@ fn read_marks(
     levels.run_out()
 }
 
-// What stands between the marks of a comment, or nothing where it has a fault.
+// The content between `/*` and `*/`. A comment with a fault has none.
 #[tactic(auto, using(crate::proofs::Boundaries::ascii_boundary))]
 fn content<'a>(text: &'a str, mark: usize, faults: &[LexemeFault]) -> &'a str
     requires opener { slice_index text.now 1 < 128 }
@@ -203,7 +203,7 @@ fn content<'a>(text: &'a str, mark: usize, faults: &[LexemeFault]) -> &'a str
     }
 }
 
-// How many blanks stand at a place.
+// How many blanks stand at `at`.
 fn blanks_at(text: &str, at: usize) -> usize
     requires { at ≤ length text.now }
     ensures len { result ≡ blanks (drop at text.now) }
@@ -212,7 +212,7 @@ fn blanks_at(text: &str, at: usize) -> usize
     run_len(&text.as_bytes()[at..], Class::Blank)
 }
 
-/// The block comment at the front.
+/// Reads the block comment at the front of the text.
 #[tactic(auto, using(crate::proofs::BlockExtent::len_boundary, crate::proofs::BlockExtent::len_bounds))]
 pub(crate) fn read_block_comment(
     alloc: Global,

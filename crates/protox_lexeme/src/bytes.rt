@@ -6,7 +6,7 @@ ghost use Rattle.protox_lexeme.specs.Lexemes.{blanks};
 ghost use Rattle.protox_lexeme.specs.Lexicon.{is_word};
 ghost use Rattle.protox_lexeme.specs.Classes.{class_test};
 
-/// The byte at `index`, or 0 past the end.
+/// The byte at `index`, or 0 at and after the end.
 pub fn byte_at(text: &[u8], index: usize) -> u8
     ensures { result ≡ slice_index text.now index }
 {
@@ -33,7 +33,8 @@ pub(crate) enum Class {
     Plain,
 }
 
-// Each byte of a word at its own place, and a point at every other: one look tells.
+// Each byte of a word stands at its own index, and a point at every other index. So one look tells
+// whether a byte belongs to a word.
 static WORD_BYTES: [u8; 256] = *b"\
     ................................\
     ................0123456789......\
@@ -80,7 +81,7 @@ pub(crate) fn is_in(class: Class, b: u8) -> bool
     }
 }
 
-/// How many bytes at the front are of the class.
+/// How many bytes at the front are in the set.
 pub(crate) fn run_len(text: &[u8], class: Class) -> usize
     ensures len { result ≡ prefix_len (class_test class) text.now }
     ensures within { result ≤ length text.now }
@@ -88,7 +89,7 @@ pub(crate) fn run_len(text: &[u8], class: Class) -> usize
     text.iter().take_while(|b| is_in(class, **b)).count()
 }
 
-/// What follows the first `n` bytes, of which the last is ASCII.
+/// The text after its first `n` bytes. The last of these must be ASCII.
 #[tactic(auto, using(crate::proofs::Boundaries::ascii_boundary))]
 pub(crate) fn skip(text: &str, n: usize) -> &str
     requires some { 0 < n }
@@ -99,7 +100,7 @@ pub(crate) fn skip(text: &str, n: usize) -> &str
     &text[n..]
 }
 
-/// The blanks at the front, and what follows them.
+/// How many blanks stand at the front, and the text after them.
 #[tactic(auto, using(crate::proofs::Boundaries::blanks_boundary))]
 pub fn skip_blanks(text: &str) -> (usize, &str)
     ensures len { result.0 ≡ blanks text.now }

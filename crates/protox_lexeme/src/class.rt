@@ -1,134 +1,194 @@
-//! The classes of tokens, by which a rule of the grammar chooses what comes next: each keyword, any other word, the kinds of literals, each
-//! mark, and what is no token. A class is a number, as the grammar's rules name sets of them by numbers.
+//! The classes of tokens, by which a rule of the grammar chooses what comes next. There is one for
+//! each keyword, one for all other words, one for each kind of literal, one for each mark, and one
+//! for what is no token. A class is a number, so that tests are fast.
 
 ghost use Rattle.std.specs.Prelude.{◌≡◌, ◌<◌, [], slice_index_or};
 ghost use Rattle.protox_lexeme.specs.TokenClass.{class, place, keywords};
 ghost use Rattle.protox_lexeme.specs.Tokens.{shape_of, shape_of_result};
-ghost use Rattle.protox_lexeme.specs.WordSlot.{candidate, word_slot};
+ghost use Rattle.protox_lexeme.specs.inner.WordSlot.{candidate, word_slot};
 
 use crate::bytes::byte_at;
 use crate::token::Token;
 
+/// The keyword `syntax`.
 pub const SYNTAX: u8 = 0;
 
+/// The keyword `package`.
 pub const PACKAGE: u8 = 1;
 
+/// The keyword `import`.
 pub const IMPORT: u8 = 2;
 
+/// The keyword `weak`.
 pub const WEAK: u8 = 3;
 
+/// The keyword `public`.
 pub const PUBLIC: u8 = 4;
 
+/// The keyword `enum`.
 pub const ENUM: u8 = 5;
 
+/// The keyword `option`.
 pub const OPTION: u8 = 6;
 
+/// The keyword `service`.
 pub const SERVICE: u8 = 7;
 
+/// The keyword `rpc`.
 pub const RPC: u8 = 8;
 
+/// The keyword `stream`.
 pub const STREAM: u8 = 9;
 
+/// The keyword `returns`.
 pub const RETURNS: u8 = 10;
 
+/// The keyword `extend`.
 pub const EXTEND: u8 = 11;
 
+/// The keyword `message`.
 pub const MESSAGE: u8 = 12;
 
+/// The keyword `optional`.
 pub const OPTIONAL: u8 = 13;
 
+/// The keyword `required`.
 pub const REQUIRED: u8 = 14;
 
+/// The keyword `repeated`.
 pub const REPEATED: u8 = 15;
 
+/// The keyword `map`.
 pub const MAP: u8 = 16;
 
+/// The keyword `oneof`.
 pub const ONEOF: u8 = 17;
 
+/// The keyword `group`.
 pub const GROUP: u8 = 18;
 
+/// The keyword `double`.
 pub const DOUBLE: u8 = 19;
 
+/// The keyword `float`.
 pub const FLOAT_WORD: u8 = 20;
 
+/// The keyword `int32`.
 pub const INT32: u8 = 21;
 
+/// The keyword `int64`.
 pub const INT64: u8 = 22;
 
+/// The keyword `uint32`.
 pub const UINT32: u8 = 23;
 
+/// The keyword `uint64`.
 pub const UINT64: u8 = 24;
 
+/// The keyword `sint32`.
 pub const SINT32: u8 = 25;
 
+/// The keyword `sint64`.
 pub const SINT64: u8 = 26;
 
+/// The keyword `fixed32`.
 pub const FIXED32: u8 = 27;
 
+/// The keyword `fixed64`.
 pub const FIXED64: u8 = 28;
 
+/// The keyword `sfixed32`.
 pub const SFIXED32: u8 = 29;
 
+/// The keyword `sfixed64`.
 pub const SFIXED64: u8 = 30;
 
+/// The keyword `bool`.
 pub const BOOL: u8 = 31;
 
+/// The keyword `string`.
 pub const STRING_WORD: u8 = 32;
 
+/// The keyword `bytes`.
 pub const BYTES: u8 = 33;
 
+/// The keyword `reserved`.
 pub const RESERVED: u8 = 34;
 
+/// The keyword `extensions`.
 pub const EXTENSIONS: u8 = 35;
 
+/// The keyword `to`.
 pub const TO: u8 = 36;
 
+/// The keyword `max`.
 pub const MAX: u8 = 37;
 
+/// Any word that is no keyword.
 pub const OTHER_WORD: u8 = 38;
 
+/// An integer.
 pub const INTEGER: u8 = 39;
 
+/// A float.
 pub const FLOAT: u8 = 40;
 
+/// A string.
 pub const STRING: u8 = 41;
 
+/// The mark `.`.
 pub const DOT: u8 = 42;
 
+/// The mark `-`.
 pub const MINUS: u8 = 43;
 
+/// The mark `+`.
 pub const PLUS: u8 = 44;
 
+/// The mark `(`.
 pub const LEFT_PAREN: u8 = 45;
 
+/// The mark `)`.
 pub const RIGHT_PAREN: u8 = 46;
 
+/// The mark `{`.
 pub const LEFT_BRACE: u8 = 47;
 
+/// The mark `}`.
 pub const RIGHT_BRACE: u8 = 48;
 
+/// The mark `[`.
 pub const LEFT_BRACKET: u8 = 49;
 
+/// The mark `]`.
 pub const RIGHT_BRACKET: u8 = 50;
 
+/// The mark `<`.
 pub const LEFT_ANGLE_BRACKET: u8 = 51;
 
+/// The mark `>`.
 pub const RIGHT_ANGLE_BRACKET: u8 = 52;
 
+/// The mark `,`.
 pub const COMMA: u8 = 53;
 
+/// The mark `=`.
 pub const EQUALS: u8 = 54;
 
+/// The mark `:`.
 pub const COLON: u8 = 55;
 
+/// The mark `;`.
 pub const SEMICOLON: u8 = 56;
 
+/// The mark `/`.
 pub const FORWARD_SLASH: u8 = 57;
 
+/// What is no token: an invalid character, a comment or a newline.
 pub const INVALID: u8 = 59;
 
-// A perfect hash: at each slot the class of the one keyword that can stand there, else that of other
-// words. So one keyword at most is compared.
+// A perfect hash: each slot has the class of the one keyword that can stand there, or that of other
+// words. So a word is compared with one keyword at most.
 static KEYWORD_AT: [u8; 128] = [
     38, 38, 38, 38, 38, 38, 38, 38, 38, 38, 37, 38, 38, 20, 33, 38, 38, 2, 38, 38, 35, 38, 38, 38,
     38, 38, 38, 38, 38, 38, 38, 38, 38, 38, 10, 38, 38, 38, 38, 19, 38, 11, 38, 38, 38, 38, 38, 38,
@@ -138,7 +198,7 @@ static KEYWORD_AT: [u8; 128] = [
     38, 18, 38, 38, 38, 38, 36,
 ];
 
-// The place of a word, by its first byte, its middle one, its last one and its length.
+// The slot of a word: by its first, middle and last byte and its length.
 fn place_of(word: &[u8]) -> usize
     ensures value { result ≡ word_slot word.now }
     ensures within { result < 128 }
@@ -149,7 +209,7 @@ fn place_of(word: &[u8]) -> usize
     (first + middle * 2 + last * 5 + word.len() % 128) % 128
 }
 
-// The only class of a keyword that the word may have.
+// The only keyword that the word can be, by its class.
 fn candidate(word: &str) -> u8
     ensures { result ≡ candidate word.now }
 {
@@ -219,7 +279,7 @@ fn class_of_word(word: &str) -> u8
     }
 }
 
-/// The class of a token. A comment and a newline have that of what is no token.
+/// The class of a token. Comments and newlines have the class of what is no token.
 pub fn class_of(token: &Token<'_>) -> u8
     ensures { result ≡ class (shape_of token.now) }
 {

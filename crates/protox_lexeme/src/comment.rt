@@ -1,4 +1,4 @@
-//! Comments.
+//! Line comments.
 ghost use Rattle.std.specs.Prelude.{◌≡◌, ◌<◌, ◌≤◌, ◌+◌, ◌-◌, ◌^◌, ◌&&◌, not, length, take, drop, slice_index, true, [], IfOk, IsOk};
 ghost use Rattle.std.specs.Cow.{cow_str_bytes};
 ghost use Rattle.std.specs.Str.{IsCharBoundary};
@@ -15,7 +15,7 @@ use crate::token::Token;
 use std::alloc::{AllocError, Global};
 use std::borrow::CowStr;
 
-// The text of a line comment, whose `\r\n` is made `\n`.
+// The text of a line comment, with `\n` for a `\r\n` at its end.
 fn line_text(alloc: Global, body: &str) -> Result<CowStr<'_>, AllocError>
     ensures value { IfOk result (λ t. cow_str_bytes t ≡ spec.line_text body.now) }
     ensures borrowed { IfOk result (λ t. is_borrowed_str t ≡ not (spec.ends_crlf body.now)) }
@@ -32,7 +32,7 @@ fn line_text(alloc: Global, body: &str) -> Result<CowStr<'_>, AllocError>
     }
 }
 
-// What follows `//` or `#`.
+// What follows the `//` or `#`.
 fn line_body(word: &str) -> &str
     requires { IsLineOpener word.now (length word.now) }
     ensures { result.now ≡ spec.line_body word.now }
@@ -44,7 +44,7 @@ fn line_body(word: &str) -> &str
     }
 }
 
-// The fault of a comment that begins with `#`, outside text format.
+// The fault of a comment that begins with `#`. In text format it is none.
 fn hash_faults(
     alloc: Global,
     word: &str,
@@ -66,7 +66,7 @@ fn hash_faults(
     Ok(faults)
 }
 
-/// The line comment of `len` bytes at the front.
+/// Reads the line comment of `len` bytes at the front of the text.
 pub(crate) fn read_line_comment(
     alloc: Global,
     text: &str,

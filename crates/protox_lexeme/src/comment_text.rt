@@ -4,15 +4,15 @@ ghost use Rattle.std.specs.Cow.{cow_str_bytes};
 ghost use Rattle.std.specs.Str.{chars};
 ghost use Rattle.std.specs.String.{string_bytes};
 ghost use Rattle.protox_lexeme.specs.BlockComments as spec;
-ghost use Rattle.protox_lexeme.specs.Kept.{after, finished};
+ghost use Rattle.protox_lexeme.specs.inner.Kept.{after, finished};
 ghost use Rattle.protox_lexeme.specs.Tokens.{is_borrowed_str};
 
 use crate::bytes::{Class, run_len};
 use std::alloc::{AllocError, Global};
 use std::borrow::CowStr;
 
-/// What is kept of a text so far. `fresh` says that white space alone stands behind the last
-/// newline, and `held` that a carriage return is still to be written, unless a newline follows.
+/// The text of a comment so far. `fresh` says that only white space stands after the last newline.
+/// `held` says that a carriage return was read but not written: it is dropped if a newline follows.
 #[derive(Drop)]
 struct Kept {
     text: String,
@@ -21,7 +21,7 @@ struct Kept {
 }
 
 impl Kept {
-    // Writes the carriage return that is held, unless a newline follows it.
+    // Writes the carriage return that is held, unless `c` is a newline.
     fn release(&mut self, c: char) -> Result<(), AllocError>
         ensures text { OnOk result ((cs : List ℕ) → after (string_bytes self.new.text) false (c ∷ cs) ≡ after (string_bytes self.old.text) self.old.held (c ∷ cs)) }
         ensures fresh { self.new.fresh ≡ self.old.fresh }
@@ -45,7 +45,7 @@ impl Kept {
         self.text.push(c)
     }
 
-    // Writes a character, unless it is of the margin of a line.
+    // Writes a character, unless it belongs to the margin of a line.
     fn take(&mut self, c: char) -> Result<(), AllocError>
         ensures { OnOk result ((cs : List ℕ) → finished self.new cs ≡ finished self.old (c ∷ cs)) }
     {
@@ -63,7 +63,7 @@ impl Kept {
         self.put(c)
     }
 
-    // At the end of the text.
+    // Ends the text.
     fn end(self) -> Result<String, AllocError>
         ensures { IfOk result (λ s. string_bytes s ≡ finished self []) }
     {
@@ -75,7 +75,7 @@ impl Kept {
     }
 }
 
-// The text without the margins of its lines, each `\r\n` made `\n`.
+// The text without the margins of its lines, and with each `\r\n` as `\n`.
 fn without_margins(alloc: Global, content: &str) -> Result<String, AllocError>
     ensures { IfOk result (λ s. string_bytes s ≡ spec.comment_text content.now) }
 {
@@ -90,7 +90,7 @@ fn without_margins(alloc: Global, content: &str) -> Result<String, AllocError>
     kept.end()
 }
 
-/// The text of a block comment that has this between its marks.
+/// The text of a block comment that has this content between `/*` and `*/`.
 #[tactic(auto, using(crate::proofs::Margins::one_line))]
 pub(crate) fn comment_text(alloc: Global, content: &str) -> Result<CowStr<'_>, AllocError>
     ensures value { IfOk result (λ t. cow_str_bytes t ≡ spec.comment_text content.now) }

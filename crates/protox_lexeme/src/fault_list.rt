@@ -6,7 +6,7 @@ use crate::lexeme_fault::LexemeFault;
 use protox_fault::error::ParseErrorKind;
 use std::alloc::{AllocError, Global};
 
-// Appends a fault as it is told, if it is a fault in the mode.
+// Appends the fault as it is reported, if it counts in this mode.
 fn tell_one(
     alloc: Global,
     told: &mut Vec<ParseErrorKind>,
@@ -23,7 +23,7 @@ fn tell_one(
     Ok(())
 }
 
-// Those of the faults that are faults in the mode, as they are told.
+// Those faults that count in this mode, as they are reported.
 #[tactic(auto, using(crate::proofs::Modes::faults_in_step, crate::proofs::Modes::none_in_step))]
 fn told(
     alloc: Global,
@@ -40,8 +40,8 @@ fn told(
     Ok(told)
 }
 
-/// Appends those of the faults that are faults in the mode, as they are told. On `AllocError` the
-/// list is unchanged.
+/// Appends those faults that count in this mode, as they are reported. On `AllocError` the list is
+/// unchanged.
 pub fn tell(
     alloc: Global,
     errors: &mut Vec<ParseErrorKind>,

@@ -1,4 +1,4 @@
-//! Lexemes as they are read.
+//! Reading lexemes.
 ghost use Rattle.std.specs.Prelude.{◌≡◌, ◌<◌, ◌≤◌, ◌+◌, ◌-◌, ◌^◌, ℕ, List, [], length, take, drop, slice_index, true, false, Some, None, IfOk, IsOk, IfSome, IsSome};
 ghost use Rattle.std.specs.Char.{len_utf8};
 ghost use Rattle.std.specs.Str.{chars, IsCharBoundary};
@@ -19,11 +19,14 @@ use crate::string::read_string;
 use crate::token::{Token, mark_of};
 use std::alloc::{AllocError, Global};
 
-/// A token, where it ends, and its faults.
+/// A lexeme that was read.
 #[derive(Drop)]
 pub struct Found<'a> {
+    /// The token, or `Err` for an invalid character.
     pub token: Result<Token<'a>, ()>,
+    /// The offset after its last byte.
     pub stop: usize,
+    /// Its faults, in order.
     pub faults: Vec<LexemeFault>,
 }
 
@@ -52,7 +55,7 @@ fn first_char_len(text: &str) -> usize
     }
 }
 
-/// An invalid character.
+/// An invalid lexeme of one character.
 #[inline(never)]
 pub fn invalid(alloc: Global, text: &str, start: usize) -> Found<'_>
     requires some { 0 < length text.now }
@@ -69,7 +72,7 @@ pub fn invalid(alloc: Global, text: &str, start: usize) -> Found<'_>
     }
 }
 
-// The first `len` bytes.
+// The first `len` bytes of the text.
 fn front(text: &str, len: usize) -> &str
     requires within { len ≤ length text.now }
     requires boundary { IsCharBoundary text.now len }
@@ -78,8 +81,8 @@ fn front(text: &str, len: usize) -> &str
     &text[..len]
 }
 
-/// The token of a lexeme that has no fault and is read fast: an identifier or an integer. None where
-/// `read_kind` has to look.
+/// The token of an identifier or an integer without a fault. None if `read_kind` has to read the
+/// lexeme.
 #[inline(always)]
 pub fn plain_token(text: &str, kind: Kind, len: usize) -> Option<Token<'_>>
     requires within { len ≤ length text.now }
@@ -95,7 +98,7 @@ pub fn plain_token(text: &str, kind: Kind, len: usize) -> Option<Token<'_>>
     }
 }
 
-/// The lexeme of a kind, of which `len` bytes match.
+/// Reads the lexeme at the front of the text. `scan` has found its kind and its `len` bytes.
 pub fn read_kind(
     alloc: Global,
     text: &str,
@@ -133,7 +136,7 @@ pub fn read_kind(
     }
 }
 
-/// The lexeme at the front.
+/// Reads the lexeme at the front of the text.
 #[tactic(auto, using(crate::proofs::Boundaries::scan_boundary, crate::proofs::Boundaries::scan_mark, crate::proofs::Boundaries::scan_quote, crate::proofs::Boundaries::scan_line, crate::proofs::Boundaries::scan_block), unfolding(crate::specs::Lexemes::first_lexeme))]
 pub(crate) fn read_lexeme(
     alloc: Global,

@@ -1,4 +1,4 @@
-//! Faults of lexemes, as they are kept until they are told.
+//! Faults of lexemes, as they are kept until they are reported.
 ghost use Rattle.std.specs.Prelude.{◌≡◌, IfOk};
 ghost use Rattle.protox_fault.specs.Faults.{is_of_mode};
 ghost use Rattle.protox_lexeme.specs.LexemeFaults.{fault_of};
@@ -8,7 +8,7 @@ use protox_fault::error::{ParseErrorKind, Span};
 use std::alloc::{AllocError, Global};
 use std::marker::Model;
 
-/// What is wrong with a lexeme. The last two say that the source ends within it.
+/// What is wrong with a lexeme. The last two say that the source ends in a string or a comment.
 #[derive(Clone, Copy)]
 pub(crate) enum FaultKind {
     InvalidToken,
@@ -24,8 +24,8 @@ pub(crate) enum FaultKind {
     EndInComment,
 }
 
-/// A fault of a lexeme: kind and span only. The `ParseErrorKind` is made when it is reported, and
-/// contracts see that one.
+/// A fault of a lexeme: kind and span only. The `ParseErrorKind` is made when the fault is
+/// reported. Contracts see that.
 #[derive(Drop)]
 pub struct LexemeFault {
     pub(crate) kind: FaultKind,
@@ -42,7 +42,7 @@ impl Model for LexemeFault {
     ghost view = { fault_seen };
 }
 
-// The source ends where this was expected.
+// The fault that the source ends where this was expected.
 fn unexpected_end(alloc: Global, expected: &str) -> Result<ParseErrorKind, AllocError>
     ensures { IfOk result (λ fault. fault ≡ ParseErrorKind.UnexpectedEof expected.now) }
 {
@@ -75,7 +75,7 @@ fn fault_at(alloc: Global, kind: FaultKind, span: Span) -> Result<ParseErrorKind
 }
 
 impl LexemeFault {
-    /// No token begins with the character at this place.
+    /// The fault that no token begins with the character at this span.
     pub fn invalid_token(span: Span) -> LexemeFault
         ensures { result ≡ ParseErrorKind.InvalidToken span }
     {
@@ -85,14 +85,14 @@ impl LexemeFault {
         }
     }
 
-    /// The fault as it is told.
+    /// The fault as it is reported.
     pub(crate) fn told(&self, alloc: Global) -> Result<ParseErrorKind, AllocError>
         ensures { IfOk result (λ fault. fault ≡ self.now) }
     {
         fault_at(alloc, self.kind, self.span.start..self.span.end)
     }
 
-    /// Whether it is a fault outside aggregates alone.
+    /// Whether it is a fault only outside aggregates.
     pub(crate) fn is_of_mode(&self) -> bool
         ensures { result ≡ is_of_mode self.now }
     {

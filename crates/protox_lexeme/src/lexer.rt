@@ -16,7 +16,7 @@ use protox_fault::error::{ParseErrorKind, Span};
 use std::alloc::{AllocError, Global};
 use std::marker::Model;
 
-/// Cuts a text into lexemes: tokens, comments, newlines, and characters that begin none of these.
+/// Cuts a source into lexemes: tokens, comments, newlines and invalid characters.
 #[derive(Drop)]
 pub struct Lexer<'a> {
     alloc: Global,
@@ -44,7 +44,8 @@ impl<'a> Model for Lexer<'a> {
 }
 
 impl<'a> Token<'a> {
-    /// A lexer at the start of the source, in the mode of source files. It takes no memory: `alloc` serves later growths.
+    /// A lexer at the start of the source, not in text format. It takes no memory; later growth
+    /// takes it from `alloc`.
     pub fn lexer(alloc: Global, source: &'a str) -> Lexer<'a>
         ensures { result ≡ record { source = source.entry.now; left = spec.cut 0 source.entry.now; start = 0; stop = 0; errors = []; text_format = false; failed = false } }
     {
@@ -61,7 +62,8 @@ impl<'a> Token<'a> {
     }
 }
 
-// The lexeme at the front, with its faults added to `errors` as the mode has it.
+// Reads the lexeme at the front of the text. Adds those of its faults to `errors` that count in
+// this mode.
 fn read_into<'a>(
     alloc: Global,
     errors: &mut Vec<ParseErrorKind>,
@@ -88,8 +90,9 @@ fn read_into<'a>(
 }
 
 impl<'a> Lexer<'a> {
-    /// The next lexeme, `Err(())` for an invalid character, and None at the end. Its faults are added to `errors`. After
-    /// `AllocError` span and faults are as before, and every call answers `AllocError`.
+    /// The next lexeme, `Err(())` for an invalid character, or None at the end. The faults of the
+    /// lexeme are added to `errors`. On `AllocError` span and faults stay as they were, and every
+    /// later call answers `AllocError` too.
     pub fn next(&mut self) -> Result<Option<Result<Token<'a>, ()>>, AllocError>
         ensures ok { IfOk result (λ r. Answers self.old r self.new) }
         ensures err { OnErr result (self.new ≡ record self.old { failed = true }) }
@@ -119,21 +122,23 @@ impl<'a> Lexer<'a> {
         }
     }
 
-    /// The span of the last lexeme, in bytes: `0..0` before the first. The end and want of memory leave it as it is.
+    /// The span of the last lexeme, in byte offsets, or `0..0` before the first. It stays at the
+    /// end of the source, and when memory runs out.
     pub fn span(&self) -> Span
         ensures { result ≡ record { start = self.now.start; end = self.now.stop } }
     {
         self.start..self.stop
     }
 
-    /// The faults of the lexemes so far, in order. An invalid character has none here.
+    /// The faults of the lexemes so far, in order. An invalid character adds none.
     pub fn errors(&self) -> &[ParseErrorKind]
         ensures { result.now ≡ self.now.errors }
     {
         &self.errors
     }
 
-    /// Whether `#` comments and float suffixes are allowed in what is cut from now on, as they are in an aggregate.
+    /// Switches text format on or off for the lexemes to come. In text format, as in an aggregate,
+    /// `#` comments and float suffixes are no faults.
     pub fn set_text_format_mode(&mut self, text_format: bool)
         ensures { self.new ≡ record self.old { text_format = text_format } }
     {

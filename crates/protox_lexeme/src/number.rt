@@ -29,7 +29,7 @@ fn digit_value(byte: u8) -> u64
     }
 }
 
-// The number that the digits write, if it fits.
+// The value of the digits, or None if it doesn't fit in 64 bits.
 pub(crate) fn digits_value(digits: &[u8], radix: u64) -> Option<u64>
     requires { 1 ≤ radix }
     ensures { result ≡ (if nat_lt (digits_value radix digits.now) (2 ^ 64) then Some (digits_value radix digits.now) else None) }
@@ -71,14 +71,14 @@ fn radix_of(word: &[u8]) -> u64
     }
 }
 
-// The integer that the word writes, if it fits.
+// The value of the integer, or None if it doesn't fit in 64 bits.
 fn integer_value(word: &[u8]) -> Option<u64>
     ensures { result ≡ (if spec.value_fits word.now then Some (spec.integer_value word.now) else None) }
 {
     digits_value(&word[prefix_of(word)..], radix_of(word))
 }
 
-// The fault of a letter right behind an integer.
+// Adds the fault of a letter or `_` right after an integer.
 fn check_space(
     faults: &mut Vec<LexemeFault>,
     bytes: &[u8],
@@ -102,7 +102,7 @@ fn check_space(
     Ok(())
 }
 
-// The value of an integer, or 0 and a fault where it does not fit.
+// The value of an integer. If it doesn't fit in 64 bits, it is 0 and a fault is added.
 fn value_or_fault(
     faults: &mut Vec<LexemeFault>,
     word: &[u8],
@@ -125,8 +125,8 @@ fn value_or_fault(
     }
 }
 
-/// The value of the integer of `len` bytes at the front, where it surely has no fault. None where
-/// `read_integer` has to look.
+/// The value of the integer of `len` bytes at the front, if it has no fault. None if `read_integer`
+/// has to read it.
 #[inline(never)]
 pub(crate) fn faultless_value(bytes: &[u8], len: usize) -> Option<u64>
     requires { len ≤ length bytes.now }
@@ -138,7 +138,7 @@ pub(crate) fn faultless_value(bytes: &[u8], len: usize) -> Option<u64>
     integer_value(&bytes[..len])
 }
 
-/// The integer of `len` bytes at the front.
+/// Reads the integer of `len` bytes at the front of the text.
 pub(crate) fn read_integer(
     alloc: Global,
     text: &str,
@@ -162,7 +162,7 @@ pub(crate) fn read_integer(
     })
 }
 
-// The fault of a float with a suffix, outside text format.
+// The fault of a float with a suffix. In text format it is none.
 fn suffix_faults(
     alloc: Global,
     word: &str,
@@ -184,7 +184,7 @@ fn suffix_faults(
     Ok(faults)
 }
 
-// The text of a float: without a suffix, and with `.0` where it is digits alone.
+// The text of a float: without its suffix, and with `.0` added to mere digits.
 fn float_text(alloc: Global, word: &str) -> Result<CowStr<'_>, AllocError>
     requires { 0 < length word.now }
     ensures value { IfOk result (λ t. cow_str_bytes t ≡ spec.float_text word.now) }
@@ -206,7 +206,7 @@ fn float_text(alloc: Global, word: &str) -> Result<CowStr<'_>, AllocError>
     }
 }
 
-/// The float of `len` bytes at the front.
+/// Reads the float of `len` bytes at the front of the text.
 pub(crate) fn read_float(
     alloc: Global,
     text: &str,

@@ -7,9 +7,9 @@ ghost use Rattle.protox_lexeme.specs.Strings as spec;
 use crate::bytes::{Class, byte_at, is_in, run_len};
 use crate::number::digits_value;
 
-/// A piece of a literal: a run of bytes that stand for themselves, a byte or a character that an
-/// escape or a quote stands for, an invalid piece and whether it begins with a backslash (each with
-/// its length), the closing quote, and a newline.
+/// A piece of a literal: a run of plain bytes; a byte or a character for which an escape or a quote
+/// stands; an invalid piece, with whether it begins with a backslash (each with its length); the
+/// closing quote; a newline.
 #[derive(Clone, Copy)]
 pub(crate) enum Piece {
     Run(usize),
@@ -110,7 +110,7 @@ fn char_escape(len: usize, text: &[u8]) -> Piece
     }
 }
 
-// What a backslash begins.
+// The piece that begins with a backslash.
 #[tactic(auto, unfolding(crate::specs::Strings::escape))]
 fn escape(text: &[u8]) -> Piece
     requires { slice_index text.now 0 ≡ 92 }
@@ -134,7 +134,7 @@ fn escape(text: &[u8]) -> Piece
     }
 }
 
-// The piece at the front.
+// The piece at the front of the text, in a literal with this quote.
 #[tactic(auto, unfolding(crate::specs::Strings::piece))]
 pub(crate) fn read_piece(quote: u8, text: &[u8]) -> Piece
     requires some { 0 < length text.now }

@@ -6,6 +6,7 @@ ghost use Rattle.protox_lexeme.specs.Scanning as spec;
 
 use crate::bytes::{Class, byte_at, is_in, run_len};
 
+/// The kind of a lexeme.
 #[derive(Clone, Copy)]
 pub enum Kind {
     Identifier,
@@ -63,7 +64,7 @@ fn suffix_len(text: &[u8]) -> usize
     }
 }
 
-// An exponent and a suffix, where they are there.
+// The length of an exponent and a suffix at the front. Each may be missing.
 #[tactic(auto, unfolding(crate::specs::Scanning::tail_len))]
 fn tail_len(text: &[u8]) -> usize
     ensures value { result ≡ spec.tail_len text.now }
@@ -82,7 +83,7 @@ fn fraction_len(text: &[u8]) -> usize
     digits + tail_len(&text[digits..])
 }
 
-// A number that begins with 0 and has neither point nor exponent.
+// A number that begins with 0 and has no point and no exponent.
 #[tactic(auto, unfolding(crate::specs::Scanning::zero_number))]
 fn zero_number(text: &[u8]) -> (Kind, usize)
     requires { 0 < length text.now }
@@ -120,7 +121,7 @@ fn number(text: &[u8]) -> (Kind, usize)
     }
 }
 
-// The line at the front, with its newline.
+// The length of the line at the front, with its newline.
 fn line_len(text: &[u8]) -> usize
     ensures value { result ≡ spec.line_len text.now }
     ensures within { result ≤ length text.now }
@@ -133,7 +134,7 @@ fn line_len(text: &[u8]) -> usize
     }
 }
 
-// What begins with a point: a float or a mark.
+// A lexeme that begins with a point: a float or a mark.
 #[inline(never)]
 #[tactic(auto, using(crate::proofs::ScanMatch::scan_point), unfolding(crate::specs::Scanning::scan))]
 fn point(text: &[u8]) -> (Kind, usize)
@@ -148,7 +149,7 @@ fn point(text: &[u8]) -> (Kind, usize)
     }
 }
 
-// What begins with a slash: a comment or a mark.
+// A lexeme that begins with a slash: a comment or a mark.
 #[inline(never)]
 #[tactic(auto, using(crate::proofs::ScanMatch::scan_slash), unfolding(crate::specs::Scanning::scan))]
 fn slash(text: &[u8]) -> (Kind, usize)
@@ -163,7 +164,7 @@ fn slash(text: &[u8]) -> (Kind, usize)
     }
 }
 
-// What begins with a mark.
+// A lexeme that begins with a mark.
 #[inline(always)]
 #[tactic(auto, using(crate::proofs::ScanMatch::scan_mark))]
 fn marked(text: &[u8]) -> (Kind, usize)
@@ -178,7 +179,8 @@ fn marked(text: &[u8]) -> (Kind, usize)
     }
 }
 
-// The kind of what stands at the front, and how many bytes it has. What is frequent is tried first.
+/// The kind of the longest match at the front, and its length in bytes. None if nothing matches. A
+/// string or a block comment is matched up to its opening alone. Frequent kinds are tried first.
 #[inline(always)]
 #[tactic(auto, using(crate::proofs::ScanMatch::scan_letter, crate::proofs::ScanMatch::scan_newline, crate::proofs::ScanMatch::scan_digit, crate::proofs::ScanMatch::scan_quote, crate::proofs::ScanMatch::scan_hash, crate::proofs::ScanMatch::scan_other), unfolding(crate::specs::Scanning::scan))]
 pub fn scan(text: &[u8]) -> Option<(Kind, usize)>

@@ -1,4 +1,4 @@
-//! String literals, read a piece at a time.
+//! String literals, read piece by piece.
 ghost use Rattle.std.specs.Prelude.{◌≡◌, ◌<◌, ◌≤◌, ◌+◌, ◌-◌, ◌^◌, ◌++◌, ◌∷◌, ◌&&◌, ℕ, List, [], not, nat_lt, map, OnOk, length, take, drop, slice_index, true, false, Some, None, IfOk, IsOk, IfSome, IsSome};
 ghost use Rattle.protox_lexeme.specs.Strings as spec;
 ghost use Rattle.std.specs.Cow.{cow_slice_items};
@@ -18,7 +18,8 @@ use crate::token::Token;
 use std::alloc::{AllocError, Global};
 use std::borrow::CowSlice;
 
-/// A literal as far as it has been read. `bad` is where adjoining invalid pieces begin, and whether the first begins with a backslash.
+/// A literal as far as it has been read. `bad` is a run of invalid pieces at its end: whether the
+/// first begins with a backslash, and where it begins.
 #[derive(Drop)]
 struct Reader<'a> {
     value: CowSlice<'a, u8>,
@@ -26,7 +27,7 @@ struct Reader<'a> {
     faults: Vec<LexemeFault>,
 }
 
-// A run of plain bytes is borrowed where nothing stands before it.
+// Adds a run of plain bytes. It is borrowed if nothing stands before it.
 fn add_run<'a>(
     alloc: Global,
     value: CowSlice<'a, u8>,
@@ -68,7 +69,7 @@ fn add_bytes<'a>(
     Ok(CowSlice::Owned(items))
 }
 
-// The fault of the invalid pieces that end at a place.
+// Adds the fault of a run of invalid pieces that ends at `at`.
 fn close(
     faults: &mut Vec<LexemeFault>,
     bad: Option<(bool, usize)>,
@@ -91,7 +92,7 @@ fn close(
     Ok(())
 }
 
-// Adds a run after the invalid pieces before it.
+// Adds a run of plain bytes. Invalid pieces before it end there.
 #[tactic(auto, using(crate::proofs::Literal::closed_nil, crate::proofs::Literal::finished_run))]
 fn take_run<'a>(
     alloc: Global,
@@ -118,7 +119,7 @@ fn take_run<'a>(
     })
 }
 
-// Adds the bytes of a piece of `len` bytes after the invalid pieces before it.
+// Adds a piece of `len` bytes that stands for these bytes. Invalid pieces before it end there.
 fn take_bytes<'a>(
     alloc: Global,
     reader: Reader<'a>,
@@ -142,7 +143,7 @@ fn take_bytes<'a>(
     })
 }
 
-// The literal that ends at a place.
+// The literal, which ends at `stop`.
 fn found<'a>(value: CowSlice<'a, u8>, faults: Vec<LexemeFault>, stop: usize) -> Found<'a>
     ensures value { (start : ℕ) → lexeme_of start result ≡ record { start = start; stop = stop; shape = shape.Str (cow_slice_items value.entry); borrowed = is_borrowed_slice value.entry; faults = faults.items } }
     ensures stop { result.stop ≡ stop }
@@ -154,7 +155,7 @@ fn found<'a>(value: CowSlice<'a, u8>, faults: Vec<LexemeFault>, stop: usize) -> 
     }
 }
 
-// At the closing quote.
+// Ends the literal at its closing quote.
 fn end<'a>(reader: Reader<'a>, at: usize) -> Result<Found<'a>, AllocError>
     requires { at + 1 < 2 ^ 64 }
     ensures value { IfOk result (λ f. (start : ℕ) → lexeme_of start f ≡ finished start (reading_of reader.entry) at (spec.ends ∷ [])) }
@@ -170,7 +171,7 @@ fn end<'a>(reader: Reader<'a>, at: usize) -> Result<Found<'a>, AllocError>
     Ok(found(value, faults, at + 1))
 }
 
-// At a newline.
+// Ends the literal at a newline.
 fn break_off<'a>(reader: Reader<'a>, at: usize) -> Result<Found<'a>, AllocError>
     requires { at + 1 < 2 ^ 64 }
     ensures value { IfOk result (λ f. (start : ℕ) → lexeme_of start f ≡ finished start (reading_of reader.entry) at (spec.breaks ∷ [])) }
@@ -189,7 +190,7 @@ fn break_off<'a>(reader: Reader<'a>, at: usize) -> Result<Found<'a>, AllocError>
     Ok(found(value, faults, at + 1))
 }
 
-// At the end of the text.
+// Ends the literal at the end of the text.
 fn run_out<'a>(reader: Reader<'a>, at: usize) -> Result<Found<'a>, AllocError>
     ensures value { IfOk result (λ f. (start : ℕ) → lexeme_of start f ≡ finished start (reading_of reader.entry) at []) }
     ensures stop { IfOk result (λ f. f.stop ≡ at) }
@@ -221,7 +222,7 @@ fn take_wrong<'a>(reader: Reader<'a>, is_escape: bool, len: usize, at: usize) ->
     }
 }
 
-// Adds a piece that does not end the literal. Its length comes with it.
+// Adds a piece that doesn't end the literal. Answers its length too.
 fn take_piece<'a>(
     alloc: Global,
     reader: Reader<'a>,
@@ -250,7 +251,7 @@ fn take_piece<'a>(
     }
 }
 
-// The literal at the front of bytes.
+// Reads the literal at the front of the bytes.
 fn read_literal(alloc: Global, bytes: &[u8], start: usize) -> Result<Found<'_>, AllocError>
     requires some { 0 < length bytes.now }
     requires ascii { slice_index bytes.now 0 < 128 }
@@ -283,7 +284,7 @@ fn read_literal(alloc: Global, bytes: &[u8], start: usize) -> Result<Found<'_>, 
     run_out(reader, start + at)
 }
 
-/// The literal at the front.
+/// Reads the literal at the front of the text.
 #[tactic(auto, using(crate::proofs::Boundaries::last_boundary))]
 pub(crate) fn read_string(alloc: Global, text: &str, start: usize) -> Result<Found<'_>, AllocError>
     requires some { is_quote (slice_index text.now 0) ≡ true }

@@ -1,4 +1,4 @@
-//! Tokens, how they print, and which are equal.
+//! Tokens, and how they print.
 ghost use Rattle.std.specs.Prelude.{◌≡◌, ◌<◌, ◌∷◌, true, IfSome, IsSome, Some, flat_map};
 ghost use Rattle.std.specs.Char.{digit_char};
 ghost use Rattle.std.specs.Fmt.{DisplaysOnOk};
@@ -10,20 +10,21 @@ ghost use Rattle.protox_lexeme.specs.Tokens.{shape_of, borrowed_of};
 use std::borrow::{CowSlice, CowStr};
 use std::fmt;
 
-/// The text of a float literal. Two are equal where their texts are.
+/// The text of a float literal. Two are equal if their texts are.
 #[derive(PartialEq, Eq, Drop)]
 pub struct EqFloat<'a>(pub CowStr<'a>);
 
-/// A token. A text is a part of the source as it stands there wherever it can be.
+/// A token. Its text is borrowed from the source wherever possible.
 #[derive(PartialEq, Eq, Drop)]
 pub enum Token<'a> {
-    /// A word: a letter or `_`, then letters, digits and `_`. A keyword is one too.
+    /// A word: a letter or `_`, then letters, digits and `_`. Keywords are words too.
     Ident(&'a str),
-    /// An integer, decimal, octal or hexadecimal; 0 where it is too large.
+    /// A decimal, octal or hexadecimal integer. It is 0 if the literal is too large.
     IntLiteral(u64),
-    /// A float: its text without the suffix `f`, with `.0` behind an integer.
+    /// The text of a float, without the suffix `f`. Digits without a point or an exponent get `.0`
+    /// added.
     FloatLiteral(EqFloat<'a>),
-    /// A string: the bytes that it stands for, without those of invalid parts.
+    /// The bytes for which a string stands. Invalid parts add none.
     StringLiteral(CowSlice<'a, u8>),
     /// The mark `.`.
     Dot,
@@ -57,16 +58,17 @@ pub enum Token<'a> {
     Semicolon,
     /// The mark `/`.
     ForwardSlash,
-    /// A comment from `//` or `#` to the end of its line: what stands behind these, the newline with it.
+    /// The text of a comment that begins with `//` or `#`: all that follows, with the newline at
+    /// its end.
     LineComment(CowStr<'a>),
-    /// A comment between `/*` and `*/`: what stands between, without the margin of its lines; nothing where it has a
-    /// fault.
+    /// The text of a comment between `/*` and `*/`, without the margins of its lines. It is empty
+    /// if the comment has a fault.
     BlockComment(CowStr<'a>),
     /// The end of a line.
     Newline,
 }
 
-/// The mark that is this byte, or None.
+/// The mark with this byte, or None.
 #[inline(always)]
 pub fn mark_of(byte: u8) -> Option<Token<'static>>
     ensures shape { IfSome result (λ t. shape_of t ≡ shape.Mark byte) }
@@ -96,7 +98,7 @@ pub fn mark_of(byte: u8) -> Option<Token<'static>>
 }
 
 impl Token<'_> {
-    /// The identifier that is this word.
+    /// The identifier with this word.
     pub fn keyword(word: &'static str) -> Token<'static>
         ensures { shape_of result ≡ shape.Ident word.now }
     {

@@ -1,4 +1,5 @@
--- The spans of a tree reach no further than the end of its source, and it has no more like siblings anywhere than its source has bytes.
+-- The spans of a tree end within its source, and nowhere does it have more siblings than the source
+-- has bytes.
 use Rattle.std.proofs.Common.{ℕ, ◌+◌, ◌<◌, ◌≤◌, List, [], ◌∷◌, map, flat_map, Option, Some, None, arith}
 use Rattle.protox_fault.specs.Faults.{Span}
 use Rattle.protox_ast.specs.Basics.{Each}
@@ -19,7 +20,7 @@ use Rattle.protox_ast.specs.declared.ast.Package.{Package}
 use Rattle.protox_ast.specs.declared.ast.Reserved.{Reserved}
 use Rattle.protox_ast.proofs.LevelsStand.{declarations-stand}
 use Rattle.protox_ast.proofs.SpansStand.{each-front, each-back}
-use Rattle.protox_locate.specs.Bounds.{total, greatest, reach, extensions_reach, reserved_reach, reaches, import_reach, package_reach, syntax_reach, file_item_reach, file_reach, extensions_weight, reserved_weight, weights, file_item_weight, file_weight}
+use Rattle.protox_locate.specs.inner.Bounds.{total, greatest, reach, extensions_reach, reserved_reach, reaches, import_reach, package_reach, syntax_reach, file_item_reach, file_reach, extensions_weight, reserved_weight, weights, file_item_weight, file_weight}
 use Rattle.protox_locate.proofs.FitsParts.{max-fits, max-holds, from-zero, spans-back, few, Holds, SpanFits, Stands, each-fits, parts-fit, far-fits, place-fits, type-name-fits, list-fits, options-fit, reserved-fits, extensions-fit, enum-fits, service-fits, totals-hold, list-holds, reserved-holds, extensions-hold, enum-holds, service-holds}
 use Rattle.protox_ast.proofs.Keeps.{Keeps, Pairs, message_has, extend_has}
 
@@ -109,7 +110,7 @@ module _ (n : ℕ) where
   package-fits None h = omega arith
   package-fits (Some x) h = h.0
 
-  -- ---- how many like siblings it has
+  -- ---- how many siblings it has
 
   abbrev KindHolds : ℕ → places.OfKind → Type 0
   KindHolds weight k = (whole : Span) → whole.start < whole.end → Stands n (k.inside whole) → Holds whole weight
@@ -195,6 +196,6 @@ file-reaches n file f s =
     (max-fits _ _ n (far-fits n (λ (x : Import). x.span) import_siblings import_reach (import-fits n) file.imports (each-fits n 0 n (map (λ (x : Import). x.span) file.imports) (omega arith) d.imports) d.in_imports)
     (max-fits _ _ n (nodes-fit n (map file_item_reach file.items) (map file_node file.items) (items-fit n file.items) (each-fits n 0 n (node_spans (map file_node file.items)) (omega arith) d.items) d.in_items) (options-fit n file.options (each-fits n 0 n (map (λ (x : OptionStatement). x.span) file.options) (omega arith) d.options))))))
 
--- Neither is more than the bytes of the source that the parts of the file stand in.
+-- Neither number is above that of the bytes in which the parts of the file stand.
 pub file-fits : (n : ℕ) (file : File) → reach file.span ≤ n → FileStands n file → (file_weight file ≤ n) × (file_reach file ≤ n)
 file-fits n file f s = (file-weighs n file s, file-reaches n file f s)

@@ -1,4 +1,5 @@
--- In blocks and statements that stand in a source, spans reach no further than its end, and a part holds no more like siblings than bytes.
+-- For blocks and statements that stand in a source: spans end within it, and a part has no more
+-- siblings than bytes.
 use Rattle.std.proofs.Common.{ℕ, ◌+◌, ◌<◌, ◌≤◌, List, [], ◌∷◌, ◌++◌, max, length, map, flat_map, Option, Some, None, arith}
 use Rattle.protox_fault.specs.Faults.{Span}
 use Rattle.protox_ast.specs.Basics.{Each, last}
@@ -23,7 +24,7 @@ use Rattle.protox_ast.specs.declared.ast.ReservedRangeEnd.TheVariants as range_e
 use Rattle.protox_ast.specs.declared.ast.Service.{Service}
 use Rattle.protox_ast.specs.declared.ast.TypeName.{TypeName}
 use Rattle.protox_ast.proofs.SpansStand.{each-front, each-back, spans-order, spans-wider}
-use Rattle.protox_locate.specs.Bounds.{total, greatest, reach, span_reach, place_reach, body_reach, list_reach, options_reach, range_reach, kind_reach, reserved_reach, extensions_reach, value_reach, enum_reach, method_reach, service_reach, list_weight, kind_weight, reserved_weight, extensions_weight, value_weight, enum_weight, method_weight, service_weight}
+use Rattle.protox_locate.specs.inner.Bounds.{total, greatest, reach, span_reach, place_reach, body_reach, list_reach, options_reach, range_reach, kind_reach, reserved_reach, extensions_reach, value_reach, enum_reach, method_reach, service_reach, list_weight, kind_weight, reserved_weight, extensions_weight, value_weight, enum_weight, method_weight, service_weight}
 
 -- ---- spans one behind the other
 
@@ -35,7 +36,7 @@ pub spans-back : (low high : ℕ) (xs ys : List Span) → SpansStand low high (x
 spans-back low high [] ys h = h
 spans-back low high (x ∷ xs) ys h = spans-wider x.end high low high ys (omega (arith, h.0, h.1)) (omega arith) (spans-back x.end high xs ys h.2)
 
--- Each has a byte, so there are no more of them than bytes.
+-- Each part has a byte, so there are no more parts than bytes.
 pub few : {A : Type 0} (span : A → Span) (low high : ℕ) (xs : List A) → SpansStand low high (map span xs) → low + length xs ≤ high
 few span low high [] h = omega (arith, h)
 few span low high (x ∷ xs) h = omega (arith, h.0, h.1, few span (span x).end high xs h.2)
@@ -51,7 +52,7 @@ max-holds low a b high h k = omega (arith, h, k)
 pub from-zero : (a n : ℕ) → 0 + a ≤ n → a ≤ n
 from-zero a n h = omega (arith, h)
 
--- what a part of this span may weigh
+-- the limit of the weight of a part with this span
 abbrev pub Holds : Span → ℕ → Type 0
 Holds span weight = span.start + weight ≤ span.end
 
@@ -74,7 +75,7 @@ module _ (n : ℕ) where
   pub parent-fits : {s : Siblings} → SiblingsStand 0 n s → SpanFits s.parent
   parent-fits {s} h = omega (arith, h.to, spans-order s.parent.start s.parent.end s.children h.parts)
 
-  -- of parts that each reach no further
+  -- parts whose spans end within the source
   pub far-fits : {A : Type 0} (span : A → Span) (inside : A → List Siblings) (far : A → ℕ) → ((x : A) → SpanFits (span x) → Stands (inside x) → far x ≤ n)
       → (xs : List A) → Each SpanFits (map span xs) → Stands (flat_map inside xs) → greatest (map far xs) ≤ n
   far-fits span inside far one [] h k = omega arith
@@ -176,7 +177,7 @@ module _ (n : ℕ) where
 
   -- ---- how many
 
-  -- of parts of which none weighs more than its length
+  -- parts whose weight is no more than their length
   pub totals-hold : {A : Type 0} (span : A → Span) (inside : A → List Siblings) (weight : A → ℕ) → ((x : A) → (span x).start < (span x).end → Stands (inside x) → Holds (span x) (weight x))
       → (low high : ℕ) (xs : List A) → SpansStand low high (map span xs) → Stands (flat_map inside xs) → low + total (map weight xs) ≤ high
   totals-hold span inside weight one low high [] h k = omega (arith, h)

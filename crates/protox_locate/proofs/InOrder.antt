@@ -1,4 +1,5 @@
--- The locations of a file that stands in its source are in order: by their paths, and at one path by where they start.
+-- If a file stands in its source, its locations are in order: by path, and for one path by where
+-- they start.
 use Rattle.std.proofs.Common.{◌≡◌, ℕ, zero, suc, ◌+◌, ◌-◌, ◌<◌, ◌≤◌, true, false, List, [], ◌∷◌, ◌++◌, take, refl, ap, sym, ◌∙◌, arith, subst}
 use Rattle.std.specs.Prelude.{pos, if◌then◌else◌, ◌==◌}
 use Rattle.std.specs.Ordering.{int_cmp, is_lt, ordering_then}
@@ -23,7 +24,7 @@ data Further (la lb sa sb : ℕ) : Type 0 where
   same_line : la ≡ lb → sa ≡ sb → Further la lb sa sb
   later_line : la < lb → Further la lb sa sb
 
--- the first m bytes of a text at i, where the line began at d
+-- the first m bytes of a text at i, if its line began at d
 from-start : (d i m : ℕ) (bs : List ℕ) → Further 0 (newlines (take m bs)) d (behind_last d i (take m bs))
 from-start d i zero bs = same_line refl refl
 from-start d i (suc m) [] = same_line refl refl
@@ -48,7 +49,7 @@ further d i (suc n) (suc m) (b ∷ bs) l =
       | false ↦ further d (i + 1) n m bs (omega (arith, l))
     ]
 
--- a line begins no later than where one is
+-- a line begins no later than any of its bytes
 begins : (d i n : ℕ) (bs : List ℕ) → d ≤ i → behind_last d i (take n bs) ≤ i + n
 begins d i zero bs l = omega (arith, l)
 begins d i (suc n) [] l = omega (arith, l)
@@ -83,7 +84,7 @@ starts-so : (source : List ℕ) (a b : Location) (x y : Span) → a.span ≡ spa
 starts-so source a b x y e f l =
     subst (λ p. ComesBefore p (take 2 b.span)) (sym (ap (take 2) e ∙ front source x)) (subst (ComesBefore (pos (line source x.start) ∷ pos (column source x.start) ∷ [])) (sym (ap (take 2) f ∙ front source y)) (places-rise source x.start y.start l))
 
--- ---- what stands in a source
+-- ---- trees that stand in a source
 
 rises-too : (xs : List Span) → StartsRise xs → RiseBy (λ a b. a < b) xs
 rises-too [] h = tt

@@ -4,7 +4,7 @@ use Rattle.std.specs.Prelude.{ℤ, codes, if◌then◌else◌}
 use Rattle.protox_ast.specs.Options.{has_name, without_first}
 use Rattle.protox_ast.specs.declared.ast.OptionBody.{OptionBody}
 use Rattle.protox_locate.specs.LocationWords.{Part, nth}
-use Rattle.protox_locate.specs.Walk.{Emits, ToCome, left, left_of}
+use Rattle.protox_locate.specs.inner.Walk.{Emits, ToCome, left, left_of}
 use Rattle.protox_locate.specs.declared.context.Context.{Context}
 use Rattle.protox_locate.proofs.Numbered.{starts, ends, steps, one_sibling, drop_more}
 

@@ -1,10 +1,10 @@
--- Like siblings, one after another, and what loops over them add.
+-- Siblings, one after another, and what loops over them add.
 use Rattle.std.proofs.Common.{◌≡◌, ℕ, ◌+◌, ◌<◌, List, [], ◌∷◌, ◌++◌, length, map, flat_map, drop, get_or, refl, ap, sym, ◌∙◌, arith, append_assoc, append-nil, length-append, subst, add-one, suc, Result, Ok, Err}
 use Rattle.std.specs.Prelude.{OnOk}
 use Rattle.std.specs.Prelude.{ℤ}
 use Rattle.std.proofs.Math.Seq.{drop-cons}
 use Rattle.protox_locate.specs.LocationWords.{Path, Part, part, nth, each_at, numbered}
-use Rattle.protox_locate.specs.Walk.{Emits, Numbers, ToAdd, ToCome}
+use Rattle.protox_locate.specs.inner.Walk.{Emits, Numbers, ToAdd, ToCome}
 use Rattle.protox_locate.specs.declared.context.Context.{Context}
 
 pub drop_more : {A : Type 0} (xs : List A) (i : ℕ) (x : A) → i < length xs → x ≡ get_or xs i x → drop i xs ≡ x ∷ drop (i + 1) xs
@@ -41,7 +41,7 @@ one_sibling old new tag n at e = record {
 pub no_sibling : (old : Context) (tag : ℤ) (n : ℕ) → Numbers old old tag n n []
 no_sibling old tag n = record { located = record { path = refl; locations = sym (append-nil old.locations) }; counted = omega arith }
 
--- ---- a loop over what brings siblings: its start, its steps, its end
+-- ---- a loop over parts that bring siblings: its start, its steps, its end
 
 pub starts : (old : Context) (tag : ℤ) (n : ℕ) (all : List Part) → ToCome old old tag n n all all
 starts old tag n all = record { path = refl; locations = refl; counted = refl }
@@ -79,7 +79,7 @@ module _ {A : Type 0} (old mid new : Context) (tag : ℤ) (first n m : ℕ) (all
       (subst (λ l. ToCome old mid tag first n all (map at l)) (drop_more xs i x lt is) t) (one_sibling mid new tag n (at x) e)
 
 module _ {A B : Type 0} (f : A → B) (old mid new : Context) (tag : ℤ) (first n m : ℕ) (all : List Part) (xs : List A) (i : ℕ) (x : A) where
-  -- the same, where it is worked out before what it brings
+  -- the same, if it is computed before the siblings it brings
   pub some_more : (kind : B → List Part) → ToCome old mid tag first n all (flat_map kind (map f (drop i xs))) → Numbers mid new tag n m (kind (f x)) → x ≡ get_or xs i x → i < length xs
       → ToCome old new tag first m all (flat_map kind (map f (drop (i + 1) xs)))
   some_more kind t s is lt =
@@ -92,7 +92,7 @@ module _ {A B : Type 0} (f : A → B) (old mid new : Context) (tag : ℤ) (first
       steps old mid new tag first n (n + 1) all (own (f x) ∷ []) (map own (map f (drop (i + 1) xs)))
       (subst (λ l. ToCome old mid tag first n all (map own (map f l))) (drop_more xs i x lt is) t) (one_sibling mid new tag n (own (f x)) e)
 
--- ---- a loop over what stands at one path
+-- ---- a loop over parts at one path
 
 each_at_append : (path : Path) (xs ys : List Part) → each_at path (xs ++ ys) ≡ each_at path xs ++ each_at path ys
 each_at_append path [] ys = refl

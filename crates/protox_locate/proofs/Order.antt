@@ -1,4 +1,5 @@
--- Locations in the order of their paths: what stands under ascending tags of a path is in order.
+-- Locations in the order of their paths. Parts below a path with ascending field numbers are in
+-- order.
 use Rattle.std.proofs.Common.{◌≡◌, ℕ, ◌+◌, ◌<◌, ◌≤◌, List, [], ◌∷◌, ◌++◌, length, refl, ap, sym, ◌∙◌, arith, append_assoc, append-nil, subst, Ordering, Less}
 use Rattle.std.specs.Prelude.{ℤ, pos}
 use Rattle.std.specs.Ordering.{int_cmp, is_lt, ordering_then}
@@ -94,11 +95,11 @@ module _ (Same : Location → Location → Type 0) where
     fits = omega (arith, a.fits, b.fits);
   }
 
-  -- one location at a tag
+  -- one location at a field number
   pub leaf : (path : Path) (t low high : ℕ) (l : Location) → l.path ≡ path ++ pos t ∷ [] → low ≤ t → t < high → Run path low high (l ∷ [])
   leaf path t low high l e a b = record { order = (tt, tt); below = (record { tag = t; rest = []; is = e; lower = a; upper = b }, tt); fits = omega (arith, a, b) }
 
-  -- one part at a tag
+  -- one part at a field number
   pub part_at : (path : Path) (t low high : ℕ) (at : Part) → Good at → low ≤ t → t < high → Run path low high (at (path ++ pos t ∷ []))
   part_at path t low high at g a b = record {
     order = g.order (path ++ pos t ∷ []);
@@ -107,14 +108,14 @@ module _ (Same : Location → Location → Type 0) where
     fits = omega (arith, a, b);
   }
 
-  -- like siblings, below the path of all of them
+  -- siblings, below the path that they share
   siblings : (path : Path) (tag : ℤ) (n high : ℕ) (ats : List Part) → Each Good ats → n + length ats ≤ high → Run (path ++ tag ∷ []) n high (numbered path tag n ats)
   siblings path tag n high [] g le = none (path ++ tag ∷ []) n high (omega (arith, le))
   siblings path tag n high (at ∷ more) g le =
       let here : Run (path ++ tag ∷ []) n (n + 1) (at (nth path tag n)) = subst (λ p. Run (path ++ tag ∷ []) n (n + 1) (at p)) (append_assoc path (tag ∷ []) (pos n ∷ [])) (part_at (path ++ tag ∷ []) n n (n + 1) at g.0 (omega arith) (omega arith)) in
       joined (path ++ tag ∷ []) n (n + 1) high (at (nth path tag n)) (numbered path tag (n + 1) more) here (siblings path tag (n + 1) high more g.1 (omega (arith, le)))
 
-  -- each stands at the path, and before those behind it by what is asked of one path
+  -- each at the path, and before those behind it by the order asked for one path
   abbrev pub AtOne : Path → List Location → Type 0
   AtOne p [] = Unit {0}
   AtOne p (l ∷ ls) = (l.path ≡ p) × Each (Same l) ls × AtOne p ls
@@ -143,7 +144,7 @@ module _ (Same : Location → Location → Type 0) where
       each_both (From p) ls rest (each_so (λ (l : Location). l.path ≡ p) (From p) ls (λ l e. record { rest = []; is = e ∙ sym (append-nil p) }) (at_path p ls a))
       (each_so (Below p low high) (From p) rest (λ x b. record { rest = pos b.tag ∷ b.rest; is = b.is }) r.below)
 
-  -- statements that stand at the path of a tag, and then what stands below it
+  -- statements at the path of a field number, and then the parts below it
   pub statements : (path : Path) (tag low high from to : ℕ) (ls rest : List Location) → AtOne (path ++ pos tag ∷ []) ls → Run (path ++ pos tag ∷ []) low high rest → from ≤ tag → tag < to
       → Run path from to (ls ++ rest)
   statements path tag low high from to ls rest a r l h = record {
@@ -159,7 +160,7 @@ module _ (Same : Location → Location → Type 0) where
   and_siblings path tag from to ls ats a g l h =
       statements path tag 0 (length ats) from to ls (numbered path (pos tag) 0 ats) a (siblings path (pos tag) 0 (length ats) ats g (omega arith)) l h
 
-  -- like siblings at a tag
+  -- siblings at a field number
   pub all_at : (path : Path) (tag from to : ℕ) (ats : List Part) → Each Good ats → from ≤ tag → tag < to → Run path from to (numbered path (pos tag) 0 ats)
   all_at path tag from to ats g l h = and_siblings path tag from to [] ats tt g l h
 

@@ -370,7 +370,7 @@ module _ (numbers : Span → List ℤ) (Same : Location → Location → Type 0)
   words-fine words h [] = tt
   words-fine words h (x ∷ xs) = each_both Fine (words x.kind) (flat_map (λ (x : Import). words x.kind) xs) (h x.kind) (words-fine words h xs)
 
-  -- what stands in a file but the file itself
+  -- the parts of a file without the file itself
   abbrev others : File → Part
   others file path =
       package_locations numbers path file.«package»

@@ -1,4 +1,4 @@
--- The parts of a tree, each in order from its path on, where the places of statements of one kind rise.
+-- The parts of a tree are in order from their paths on, if statements of one kind rise.
 use Rattle.std.proofs.Common.{◌≡◌, ℕ, ◌<◌, ◌≤◌, Bool, true, false, List, [], ◌∷◌, ◌++◌, map, flat_map, Option, Some, None, refl, ap, sym, arith, subst}
 use Rattle.std.specs.Prelude.{ℤ, pos, if◌then◌else◌, codes, find}
 use Rattle.protox_fault.specs.Faults.{Span}
@@ -48,7 +48,7 @@ pub each_all : {A : Type 0} (P : A → Type 0) (xs : List A) → ((x : A) → P 
 each_all P [] h = tt
 each_all P (x ∷ xs) h = (h x, each_all P xs h)
 
--- what stands in a source, as far as the order asks: the starts of like siblings rise
+-- how a tree stands in a source, as far as the order needs it: the starts of siblings rise
 pub record Standing (Later : ℕ → ℕ → Type 0) (Stands : List Siblings → Type 0) : Type 0 where
   pub first : (s : Siblings) (ss : List Siblings) → Stands (s ∷ ss) → RiseBy Later s.children
   pub rest : (s : Siblings) (ss : List Siblings) → Stands (s ∷ ss) → Stands ss

@@ -1,4 +1,4 @@
--- Where the parts of an enum stand, from its path on.
+-- The locations of an enum's parts. Paths begin at the enum's path.
 use Rattle.std.specs.Prelude.{List, ◌∷◌, ◌++◌, map, ℤ}
 use Rattle.protox_fault.specs.Faults.{Span}
 use Rattle.protox_ast.specs.declared.ast.Enum.{Enum}
@@ -9,6 +9,7 @@ use Rattle.protox_locate.specs.LocationWords.{Part, part, siblings_at, commented
 use Rattle.protox_ast.specs.Options.{listed}
 
 module _ (numbers : Span → List ℤ) where
+  -- the locations of an enum value
   abbrev pub enum_value_locations : EnumValue → Part
   enum_value_locations value path =
       commented numbers path value.span value.comments
@@ -16,6 +17,7 @@ module _ (numbers : Span → List ℤ) where
       ∷ bare numbers (part path value_tag.NUMBER) value.number.span
       ∷ option_list numbers (part path value_tag.OPTIONS) value.options (listed value.options)
 
+  -- the locations of an enum
   abbrev pub enum_locations : Enum → Part
   enum_locations enum path =
       commented numbers path enum.span enum.comments

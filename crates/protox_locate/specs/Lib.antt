@@ -3,5 +3,4 @@ pub mod EnumLocations
 pub mod ServiceLocations
 pub mod FieldLocations
 pub mod Locations
-pub mod Bounds
-pub mod Walk
+pub mod inner

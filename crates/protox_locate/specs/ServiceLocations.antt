@@ -1,4 +1,4 @@
--- Where the parts of a service stand, from its path on.
+-- The locations of a service's parts. Paths begin at the service's path.
 use Rattle.std.specs.Prelude.{List, [], ◌∷◌, ◌++◌, map, Option, Some, None, ℤ}
 use Rattle.protox_fault.specs.Faults.{Span}
 use Rattle.protox_ast.specs.Names.{type_name_span}
@@ -10,11 +10,12 @@ use Rattle.protox_descriptor.specs.declared.tag.service.TheConstants as service_
 use Rattle.protox_locate.specs.LocationWords.{Path, Part, part, siblings_at, commented, bare, option_statements}
 
 module _ (numbers : Span → List ℤ) where
-  -- a word `stream`, if it stands there
+  -- the word `stream`, if it is there
   abbrev pub stream_locations : Path → Option Span → List Location
   stream_locations path None = []
   stream_locations path (Some span) = bare numbers path span ∷ []
 
+  -- the locations of a method
   abbrev pub method_locations : Method → Part
   method_locations method path =
       commented numbers path method.span method.comments
@@ -25,6 +26,7 @@ module _ (numbers : Span → List ℤ) where
       ++ (stream_locations (part path method_tag.CLIENT_STREAMING) method.client_streaming
       ++ stream_locations (part path method_tag.SERVER_STREAMING) method.server_streaming))
 
+  -- the locations of a service
   abbrev pub service_locations : Service → Part
   service_locations service path =
       commented numbers path service.span service.comments

@@ -1,11 +1,11 @@
-//! Where the walk over a tree is, and what it has located.
+//! The position in the tree while it is walked, and the locations so far.
 
 ghost use Rattle.std.specs.Prelude.{◌≡◌, ◌≤◌, ◌++◌, ◌∷◌, [], ℤ, pos, length, IfOk, OnOk, List};
 ghost use Rattle.std.specs.Option.{option_copied};
-ghost use Rattle.protox_locate.specs.Bounds.{reach};
+ghost use Rattle.protox_locate.specs.inner.Bounds.{reach};
 ghost use Rattle.protox_places.specs.Lines.{numbers_at};
 ghost use Rattle.protox_locate.specs.LocationWords.{bare, commented, part};
-ghost use Rattle.protox_locate.specs.Walk.{Emits};
+ghost use Rattle.protox_locate.specs.inner.Walk.{Emits};
 
 use protox_ast::ast::Comments;
 use protox_descriptor::descriptor::source_code_info::Location;
@@ -14,8 +14,8 @@ use protox_fault::error::Span;
 use protox_places::lines::LineResolver;
 use std::alloc::{AllocError, Global};
 
-/// The path to the part that is read, the locations so far, and the line in which the last of them starts:
-/// the next one is looked for there first.
+/// The path to the current part, the locations so far, and the line in which the last of them
+/// starts. The next one is looked for there first.
 #[derive(Drop)]
 pub(crate) struct Context {
     pub path: Items<i32>,
@@ -49,7 +49,7 @@ fn copied(alloc: Global, texts: &[Text]) -> Result<Items<Text>, AllocError>
 }
 
 impl Context {
-    /// The path of a file, and no location.
+    /// The path of a file (empty), and no location.
     pub fn new(alloc: Global) -> Context
         ensures path { result.path ≡ [] }
         ensures locations { result.locations ≡ [] }
@@ -61,7 +61,7 @@ impl Context {
         }
     }
 
-    /// Adds the place of a part, whose path is the current one and then `tags`.
+    /// Adds a location without comments. Its path is the current one and then `tags`.
     pub fn add(
         &mut self,
         alloc: Global,
@@ -77,7 +77,8 @@ impl Context {
         self.locations.push(Location::bare(path, span))
     }
 
-    /// Adds the place of a declaration with its comments. Its path is the current one and then `tags`.
+    /// Adds the location of a declaration with its comments. Its path is the current one and then
+    /// `tags`.
     pub fn add_with(
         &mut self,
         alloc: Global,
@@ -98,7 +99,7 @@ impl Context {
         self.locations.push(location)
     }
 
-    /// Goes down to a child: its tag, and how many like siblings stand before it.
+    /// Goes down to a child: its field number, and its index among its siblings.
     pub fn enter(&mut self, tag: i32, index: usize) -> Result<(), AllocError>
         requires { index ≤ 2147483647 }
         ensures path { OnOk result (self.new.path ≡ self.old.path ++ tag ∷ pos index ∷ []) }
@@ -108,7 +109,7 @@ impl Context {
         self.path.push(index as i32)
     }
 
-    /// Goes back up.
+    /// Goes back up from a child.
     pub fn leave(&mut self)
         requires { 2 ≤ length self.old.path }
         ensures path { (front : List ℤ) (tag index : ℤ) → self.old.path ≡ front ++ tag ∷ index ∷ [] → self.new.path ≡ front }
@@ -118,7 +119,7 @@ impl Context {
         self.path.truncate(len - 2);
     }
 
-    /// Goes down to a part that has no like siblings.
+    /// Goes down to a part that has no siblings.
     pub fn enter_part(&mut self, tag: i32) -> Result<(), AllocError>
         ensures path { OnOk result (self.new.path ≡ part self.old.path tag) }
         ensures locations { self.new.locations ≡ self.old.locations }
@@ -126,7 +127,7 @@ impl Context {
         self.path.push(tag)
     }
 
-    /// Goes back up from there.
+    /// Goes back up from such a part.
     pub fn leave_part(&mut self)
         requires { 1 ≤ length self.old.path }
         ensures path { (front : List ℤ) (tag : ℤ) → self.old.path ≡ part front tag → self.new.path ≡ front }

@@ -1,11 +1,11 @@
-//! The locations of the declarations that stand in a file, kind by kind.
+//! The locations of a file's declarations, one kind after another.
 
 ghost use Rattle.std.specs.Prelude.{◌≡◌, ◌≤◌, ◌+◌, flat_map, map, IfOk, OnOk};
-ghost use Rattle.protox_locate.specs.Bounds.{file_item_reach, file_item_weight, greatest, total};
+ghost use Rattle.protox_locate.specs.inner.Bounds.{file_item_reach, file_item_weight, greatest, total};
 ghost use Rattle.protox_places.specs.Lines.{numbers_at};
 ghost use Rattle.protox_locate.specs.LocationWords.{each_at, part, siblings_at};
 ghost use Rattle.protox_locate.specs.Locations.{item_blocks, item_enums, item_extensions, item_messages, item_services};
-ghost use Rattle.protox_locate.specs.Walk.{Emits, Numbers};
+ghost use Rattle.protox_locate.specs.inner.Walk.{Emits, Numbers};
 
 use crate::context::Context;
 use crate::enums::enum_at;
@@ -17,7 +17,7 @@ use protox_descriptor::tag::file::{ENUM_TYPE, EXTENSION, MESSAGE_TYPE, SERVICE};
 use protox_places::lines::LineResolver;
 use std::alloc::{AllocError, Global};
 
-/// The messages, those of groups in `extend` blocks among them.
+/// Adds the locations of the messages, with those of groups in `extend` statements.
 #[tactic(auto, using(crate::proofs::Numbered::walk))]
 pub(crate) fn locate_messages(
     alloc: Global,
@@ -71,7 +71,7 @@ fn messages_of(
     }
 }
 
-/// The enums.
+/// Adds the locations of the enums.
 #[tactic(auto, using(crate::proofs::Numbered::walk))]
 pub(crate) fn locate_enums(
     alloc: Global,
@@ -93,7 +93,7 @@ pub(crate) fn locate_enums(
     Ok(())
 }
 
-/// The services.
+/// Adds the locations of the services.
 #[tactic(auto, using(crate::proofs::Numbered::walk))]
 pub(crate) fn locate_services(
     alloc: Global,
@@ -117,7 +117,7 @@ pub(crate) fn locate_services(
     Ok(())
 }
 
-/// The `extend` blocks, at the path of all extensions.
+/// Adds the locations of the `extend` statements, all at the path of the list of extensions.
 #[tactic(auto, using(crate::proofs::Numbered::walk))]
 pub(crate) fn locate_blocks(
     alloc: Global,
@@ -136,7 +136,7 @@ pub(crate) fn locate_blocks(
     Ok(())
 }
 
-/// The extensions, of all `extend` blocks together.
+/// Adds the locations of the extensions of all `extend` statements.
 #[tactic(auto, using(crate::proofs::Numbered::walk))]
 pub(crate) fn locate_extensions(
     alloc: Global,

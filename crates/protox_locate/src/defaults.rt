@@ -1,12 +1,12 @@
-//! The locations of a field's options: its default, its `json_name` and the others.
+//! The locations of a field's options: `default`, `json_name` and the others.
 
 ghost use Rattle.std.specs.Prelude.{◌≡◌, ◌≤◌, ◌∷◌, codes, find, length, map, OnOk, Some, [], false, not, ◌&&◌};
 ghost use Rattle.protox_ast.specs.Options.{default_of, has_name as is_called, json_name_of, options_left};
-ghost use Rattle.protox_locate.specs.Bounds.{body_reach, greatest, list_reach, list_weight, reach};
+ghost use Rattle.protox_locate.specs.inner.Bounds.{body_reach, greatest, list_reach, list_weight, reach};
 ghost use Rattle.protox_locate.specs.FieldLocations.{defaulted, json_named};
 ghost use Rattle.protox_places.specs.Lines.{numbers_at};
 ghost use Rattle.protox_locate.specs.LocationWords.{bare, option_body, option_list, part, siblings_at};
-ghost use Rattle.protox_locate.specs.Walk.{Emits, left};
+ghost use Rattle.protox_locate.specs.inner.Walk.{Emits, left};
 
 use crate::context::Context;
 use protox_ast::ast::{Boxed, Opt, OptionBody, OptionList};
@@ -15,14 +15,14 @@ use protox_descriptor::tag::field::{DEFAULT_VALUE, JSON_NAME, OPTIONS};
 use protox_places::lines::LineResolver;
 use std::alloc::{AllocError, Global};
 
-// Whether it is the first of that name, where one was taken before or not.
+// Whether this is the first option of that name. `taken` says whether one came before.
 fn takes(taken: bool, body: &OptionBody, name: &str) -> bool
     ensures { result ≡ not taken && is_called name.now body.now }
 {
     if taken { false } else { body.has_name(name) }
 }
 
-/// The value of the default, if there is one.
+/// Adds the location of the value of `default`, if there is one.
 pub(crate) fn locate_default(
     alloc: Global,
     lines: &LineResolver,
@@ -56,7 +56,7 @@ fn default_in(
     Ok(())
 }
 
-/// The option `json_name`, if there is one, and then its value.
+/// Adds the location of the option `json_name`, if there is one, and then that of its value.
 pub(crate) fn locate_json_name(
     alloc: Global,
     lines: &LineResolver,
@@ -104,7 +104,7 @@ fn add_json_name(
     context.add(alloc, lines, &[JSON_NAME], &value)
 }
 
-/// The brackets, if there are any, and the options in them that are neither the default nor `json_name`.
+/// Adds the location of the brackets, if there are any, and those of the other options.
 pub(crate) fn locate_others(
     alloc: Global,
     lines: &LineResolver,

@@ -1,11 +1,11 @@
 //! The locations of enums.
 
 ghost use Rattle.std.specs.Prelude.{◌≡◌, ◌≤◌, map, OnOk};
-ghost use Rattle.protox_locate.specs.Bounds.{enum_reach, enum_weight, greatest, total, value_reach, value_weight};
+ghost use Rattle.protox_locate.specs.inner.Bounds.{enum_reach, enum_weight, greatest, total, value_reach, value_weight};
 ghost use Rattle.protox_locate.specs.EnumLocations.{enum_locations, enum_value_locations};
 ghost use Rattle.protox_places.specs.Lines.{numbers_at};
 ghost use Rattle.protox_locate.specs.LocationWords.{nth, siblings_at};
-ghost use Rattle.protox_locate.specs.Walk.{Emits};
+ghost use Rattle.protox_locate.specs.inner.Walk.{Emits};
 
 use crate::context::Context;
 use crate::options::{locate_list, locate_options};
@@ -16,7 +16,7 @@ use protox_descriptor::tag::enum_value as value_tag;
 use protox_places::lines::LineResolver;
 use std::alloc::{AllocError, Global};
 
-/// An enum, by its tag and its number.
+/// Adds the locations of an enum. Its path is the current one with this field number and index.
 pub(crate) fn enum_at(
     alloc: Global,
     lines: &LineResolver,

@@ -4,12 +4,12 @@ ghost use Rattle.std.specs.Prelude.{◌≡◌, ◌≤◌, ◌+◌, ◌++◌, ◌
 ghost use Rattle.protox_ast.specs.Names.{type_name_span};
 ghost use Rattle.protox_ast.specs.Steps.{of_extend, of_field, of_kind};
 ghost use Rattle.protox_ast.specs.declared.ast.Field.{out-Field};
-ghost use Rattle.protox_locate.specs.Bounds.{greatest, place_reach, reach, reaches, total, weights};
+ghost use Rattle.protox_locate.specs.inner.Bounds.{greatest, place_reach, reach, reaches, total, weights};
 ghost use Rattle.protox_locate.specs.FieldLocations.{from_number, itself, label_locations, labelled, type_tag_of, typed};
 ghost use Rattle.protox_places.specs.Lines.{numbers_at};
 ghost use Rattle.protox_locate.specs.LocationWords.{bare, nth, part};
 ghost use Rattle.protox_locate.specs.Locations.{location_steps};
-ghost use Rattle.protox_locate.specs.Walk.{Emits, Numbers};
+ghost use Rattle.protox_locate.specs.inner.Walk.{Emits, Numbers};
 
 use crate::context::Context;
 use crate::defaults::{locate_default, locate_json_name, locate_others};
@@ -19,8 +19,8 @@ use protox_descriptor::tag::message::FIELD;
 use protox_places::lines::LineResolver;
 use std::alloc::{AllocError, Global};
 
-/// Fields that stand one after another, the first of which has the number `first`. Answers that of
-/// the next.
+/// Adds the locations of these fields. The first has the index `first`. Answers the index behind
+/// the last.
 #[tactic(auto, using(crate::proofs::Numbered::walk))]
 pub(crate) fn fields_in(
     alloc: Global,
@@ -42,7 +42,7 @@ pub(crate) fn fields_in(
     Ok(next)
 }
 
-/// A field of a message or a oneof.
+/// Adds the locations of a field of a message or a oneof.
 pub(crate) fn locate_field(
     alloc: Global,
     lines: &LineResolver,
@@ -63,7 +63,7 @@ pub(crate) fn locate_field(
     Ok(())
 }
 
-/// The fields of an `extend`, the first of which has the number `first`. Answers that of the next.
+/// Adds the locations of the fields of an `extend`. Indices as for `fields_in`.
 pub(crate) fn extensions_in(
     alloc: Global,
     lines: &LineResolver,
@@ -130,7 +130,7 @@ fn locate_extension(
     Ok(())
 }
 
-// The field itself and its name.
+// Adds the locations of the field itself and of its name.
 fn locate_front(
     alloc: Global,
     lines: &LineResolver,
@@ -161,7 +161,7 @@ fn locate_itself(
     }
 }
 
-// The number and what follows it, in the order of the tags.
+// Adds the locations of the number and of what follows it, in the order of their field numbers.
 fn locate_from_number(
     alloc: Global,
     lines: &LineResolver,

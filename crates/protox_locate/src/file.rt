@@ -1,12 +1,12 @@
-//! The locations of files.
+//! The locations of a file.
 
 ghost use Rattle.std.specs.Prelude.{◌≡◌, ◌≤◌, length, IfOk, OnOk};
 ghost use Rattle.protox_ast.specs.Siblings.{FileStands};
-ghost use Rattle.protox_locate.specs.Bounds.{file_reach, file_weight, package_reach, syntax_reach};
+ghost use Rattle.protox_locate.specs.inner.Bounds.{file_reach, file_weight, package_reach, syntax_reach};
 ghost use Rattle.protox_places.specs.Lines.{numbers_at, span_numbers};
 ghost use Rattle.protox_locate.specs.Locations.{file_at, file_from_blocks, file_locations, package_locations, syntax_locations};
 ghost use Rattle.protox_places.specs.Order.{AreByPath, InOrder, StartsBefore};
-ghost use Rattle.protox_locate.specs.Walk.{Emits};
+ghost use Rattle.protox_locate.specs.inner.Walk.{Emits};
 
 use crate::context::Context;
 use crate::declarations::{
@@ -21,16 +21,17 @@ use protox_fault::error::Span;
 use protox_places::lines::LineResolver;
 use std::alloc::{AllocError, Global};
 
-/// Where each part of the file stands in `source`, in the order of the paths. Or `AllocError`.
+/// The locations of all parts of a file, in the order of their paths. `source` is the text that the
+/// tree was parsed from. `AllocError` if memory runs out.
 ///
-/// Lines and columns count from 0, and columns in bytes. No number of a path and no offset of a span is
-/// to be above that of an `i32`, which holds of each tree that a source of so many bytes gives.
+/// Lines and columns are from 0; columns count bytes. Needs that the numbers of paths and the
+/// offsets of spans fit an `i32`. They do for each tree that `parse_file` answers.
 pub fn locate_file(alloc: Global, source: &str, ast: &File) -> Result<SourceCodeInfo, AllocError>
     requires length { length source.now ≤ 2147483647 }
     requires room { file_weight ast.now ≤ 2147483647 }
     requires reach { file_reach ast.now ≤ 2147483647 }
     ensures located { IfOk result (λ info. info.location ≡ file_locations (span_numbers source.now) ast.now) }
-    // They are in order where the nodes of the tree stand in the source, as those of each accepted source do.
+    // They are in order if the tree's nodes stand in the source. Those of each accepted source do.
     ensures in_order { IfOk result (λ info. FileStands (length source.now) ast.now → InOrder StartsBefore info.location) }
     ensures by_path { IfOk result (λ info. FileStands (length source.now) ast.now → AreByPath info.location) }
 {
@@ -63,7 +64,7 @@ fn locate_parts(
     locate_from_blocks(alloc, lines, context, ast)
 }
 
-// What stands in a file, from the `extend` blocks on.
+// Adds the locations in a file, from its `extend` statements on.
 fn locate_from_blocks(
     alloc: Global,
     lines: &LineResolver,

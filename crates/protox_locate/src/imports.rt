@@ -2,11 +2,11 @@
 
 ghost use Rattle.std.specs.Prelude.{◌≡◌, ◌≤◌, flat_map, length, map, OnOk};
 ghost use Rattle.protox_ast.specs.declared.ast.Import as import_type;
-ghost use Rattle.protox_locate.specs.Bounds.{greatest, import_reach};
+ghost use Rattle.protox_locate.specs.inner.Bounds.{greatest, import_reach};
 ghost use Rattle.protox_places.specs.Lines.{numbers_at};
 ghost use Rattle.protox_locate.specs.LocationWords.{siblings_at};
 ghost use Rattle.protox_locate.specs.Locations.{import_locations, public_words, weak_words};
-ghost use Rattle.protox_locate.specs.Walk.{Emits};
+ghost use Rattle.protox_locate.specs.inner.Walk.{Emits};
 
 use crate::context::Context;
 use protox_ast::ast::{Import, ImportKind};
@@ -14,7 +14,7 @@ use protox_descriptor::tag::file::{DEPENDENCY, PUBLIC_DEPENDENCY, WEAK_DEPENDENC
 use protox_places::lines::LineResolver;
 use std::alloc::{AllocError, Global};
 
-/// The import statements.
+/// Adds the locations of the import statements.
 #[tactic(auto, using(crate::proofs::Numbered::walk))]
 pub(crate) fn locate_imports(
     alloc: Global,
@@ -35,7 +35,7 @@ pub(crate) fn locate_imports(
     Ok(())
 }
 
-/// The words `public`, numbered among themselves.
+/// Adds the locations of the words `public`, numbered among themselves.
 #[tactic(auto, using(crate::proofs::Numbered::walk))]
 pub(crate) fn locate_public_words(
     alloc: Global,
@@ -57,7 +57,7 @@ pub(crate) fn locate_public_words(
     Ok(())
 }
 
-/// The words `weak`, numbered among themselves.
+/// Adds the locations of the words `weak`, numbered among themselves.
 #[tactic(auto, using(crate::proofs::Numbered::walk))]
 pub(crate) fn locate_weak_words(
     alloc: Global,

@@ -1,12 +1,12 @@
-//! The locations of what stands in a message, but for the messages in it.
+//! The locations of what is in a message, without its nested messages.
 
 ghost use Rattle.std.specs.Prelude.{◌≡◌, ◌≤◌, ◌+◌, flat_map, map, IfOk, OnOk};
 ghost use Rattle.protox_ast.specs.Steps.{of_item, of_oneof};
-ghost use Rattle.protox_locate.specs.Bounds.{greatest, reaches, total, weights};
+ghost use Rattle.protox_locate.specs.inner.Bounds.{greatest, reaches, total, weights};
 ghost use Rattle.protox_places.specs.Lines.{numbers_at};
 ghost use Rattle.protox_locate.specs.LocationWords.{each_at, nth, part};
 ghost use Rattle.protox_locate.specs.Locations.{all_of, location_steps};
-ghost use Rattle.protox_locate.specs.Walk.{Emits, Numbers};
+ghost use Rattle.protox_locate.specs.inner.Walk.{Emits, Numbers};
 
 use crate::context::Context;
 use crate::enums::enum_at;
@@ -18,7 +18,7 @@ use protox_descriptor::tag::oneof as oneof_tag;
 use protox_places::lines::LineResolver;
 use std::alloc::{AllocError, Global};
 
-/// The fields, those of oneofs among them.
+/// Adds the locations of the fields, those of oneofs among them.
 #[tactic(auto, using(crate::proofs::Numbered::walk))]
 pub(crate) fn locate_fields(
     alloc: Global,
@@ -64,7 +64,7 @@ fn fields_of(
     }
 }
 
-/// The enums.
+/// Adds the locations of the enums.
 #[tactic(auto, using(crate::proofs::Numbered::walk))]
 pub(crate) fn locate_enums(
     alloc: Global,
@@ -108,7 +108,7 @@ fn enums_of(
     }
 }
 
-/// The `extend` blocks, at the path of all extensions.
+/// Adds the locations of the `extend` statements, all at the path of the list of extensions.
 #[tactic(auto, using(crate::proofs::Numbered::walk))]
 pub(crate) fn locate_blocks(
     alloc: Global,
@@ -127,7 +127,7 @@ pub(crate) fn locate_blocks(
     Ok(())
 }
 
-/// The extensions, of all `extend` blocks together.
+/// Adds the locations of the extensions of all `extend` statements.
 #[tactic(auto, using(crate::proofs::Numbered::walk))]
 pub(crate) fn locate_extensions(
     alloc: Global,
@@ -168,7 +168,7 @@ fn extensions_of(
     }
 }
 
-/// The oneofs.
+/// Adds the locations of the oneofs.
 #[tactic(auto, using(crate::proofs::Numbered::walk))]
 pub(crate) fn locate_oneofs(
     alloc: Global,

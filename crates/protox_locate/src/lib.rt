@@ -1,4 +1,4 @@
-//! Where in the source each part of a file stands.
+//! The location in the source of each part of a file.
 #![tactic(auto)]
 
 mod context;

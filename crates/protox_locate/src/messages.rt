@@ -1,12 +1,12 @@
-//! The locations of messages, kind by kind of what stands in them.
+//! The locations of messages, one kind of part after another.
 
 ghost use Rattle.std.specs.Prelude.{◌≡◌, ◌≤◌, ◌+◌, map, IfOk, OnOk};
 ghost use Rattle.protox_ast.specs.Steps.{of_body, of_field, of_item, of_message};
 ghost use Rattle.protox_ast.specs.declared.ast.MessageBody.{out-MessageBody};
-ghost use Rattle.protox_locate.specs.Bounds.{greatest, reaches, total, weights};
+ghost use Rattle.protox_locate.specs.inner.Bounds.{greatest, reaches, total, weights};
 ghost use Rattle.protox_places.specs.Lines.{numbers_at};
 ghost use Rattle.protox_locate.specs.Locations.{all_of, from_blocks, location_steps, messages_of as all_messages};
-ghost use Rattle.protox_locate.specs.Walk.{Emits, Numbers};
+ghost use Rattle.protox_locate.specs.inner.Walk.{Emits, Numbers};
 
 use crate::context::Context;
 use crate::items::{locate_blocks, locate_enums, locate_extensions, locate_fields, locate_oneofs};
@@ -17,7 +17,7 @@ use protox_descriptor::tag::message::{NAME, NESTED_TYPE, OPTIONS, RESERVED_NAME,
 use protox_places::lines::LineResolver;
 use std::alloc::{AllocError, Global};
 
-/// A message, whose path is the current one.
+/// Adds the locations of a message. Its path is the current one.
 #[cycle(messages)]
 pub(crate) fn locate_message(
     alloc: Global,
@@ -53,7 +53,7 @@ fn locate_body(
     locate_from_blocks(alloc, lines, context, ast)
 }
 
-// What stands in a body, from the `extend` blocks on.
+// Adds the locations in a body, from the `extend` statements on.
 fn locate_from_blocks(
     alloc: Global,
     lines: &LineResolver,
@@ -85,7 +85,7 @@ fn locate_from_blocks(
     )
 }
 
-// The nested messages, those of groups and the entries of maps among them.
+// Adds the locations of the nested messages, with those of groups and of map entries.
 #[cycle(messages)]
 #[tactic(auto, using(crate::proofs::Numbered::walk))]
 fn locate_messages(
@@ -151,8 +151,8 @@ fn messages_of(
     }
 }
 
-/// The messages that fields bring, the first of which has the number `first`. Answers that of the
-/// next.
+/// Adds the locations of the messages made for fields. The first has the index `first`. Answers the
+/// index behind the last.
 #[cycle(messages)]
 #[tactic(auto, using(crate::proofs::Numbered::walk))]
 pub(crate) fn messages_in(

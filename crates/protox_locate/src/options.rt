@@ -2,10 +2,10 @@
 
 ghost use Rattle.std.specs.Prelude.{◌≡◌, ◌≤◌, ◌∷◌, map, length, OnOk};
 ghost use Rattle.protox_ast.specs.Options.{listed};
-ghost use Rattle.protox_locate.specs.Bounds.{body_reach, greatest, list_reach, list_weight, options_reach, reach};
+ghost use Rattle.protox_locate.specs.inner.Bounds.{body_reach, greatest, list_reach, list_weight, options_reach, reach};
 ghost use Rattle.protox_places.specs.Lines.{numbers_at};
 ghost use Rattle.protox_locate.specs.LocationWords.{bare, each_at, option_body, option_list, option_place, option_statement, option_statements, part, siblings_at};
-ghost use Rattle.protox_locate.specs.Walk.{Emits};
+ghost use Rattle.protox_locate.specs.inner.Walk.{Emits};
 
 use crate::context::Context;
 use protox_ast::ast::{Boxed, Opt, Option as OptionStatement, OptionBody, OptionList};
@@ -13,7 +13,8 @@ use protox_descriptor::tag::UNINTERPRETED_OPTION;
 use protox_places::lines::LineResolver;
 use std::alloc::{AllocError, Global};
 
-/// Option statements, whose path is the current one and then the tag.
+/// Adds the locations of option statements. Their path is the current one and then the field
+/// number.
 pub(crate) fn locate_options(
     alloc: Global,
     lines: &LineResolver,
@@ -69,8 +70,8 @@ fn number_statements(
     Ok(())
 }
 
-/// Options in brackets, if there are any, and all of them. The list's path is the current one and
-/// then the tag.
+/// Adds the locations of options in brackets and of the brackets, if there are any. The path of the
+/// list is the current one and then the field number.
 pub(crate) fn locate_list(
     alloc: Global,
     lines: &LineResolver,

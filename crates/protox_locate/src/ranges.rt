@@ -1,14 +1,14 @@
-//! The locations of what a message or an enum sets aside, and of extension ranges.
+//! The locations of reserved statements and of extension ranges.
 
 ghost use Rattle.std.specs.Prelude.{◌≡◌, ◌≤◌, ◌+◌, ◌++◌, ◌∷◌, flat_map, map, length, IfOk, OnOk};
 ghost use Rattle.protox_ast.specs.Options.{listed};
 ghost use Rattle.protox_ast.specs.Ranges.{kind_names, kind_ranges};
 ghost use Rattle.protox_ast.specs.declared.ast.Extensions as extensions_type;
 ghost use Rattle.protox_ast.specs.declared.ast.Reserved as reserved_type;
-ghost use Rattle.protox_locate.specs.Bounds.{extensions_reach, extensions_weight, greatest, kind_reach, kind_weight, list_reach, list_weight, name_reach, range_reach, reserved_reach, reserved_weight, total};
+ghost use Rattle.protox_locate.specs.inner.Bounds.{extensions_reach, extensions_weight, greatest, kind_reach, kind_weight, list_reach, list_weight, name_reach, range_reach, reserved_reach, reserved_weight, total};
 ghost use Rattle.protox_places.specs.Lines.{numbers_at};
 ghost use Rattle.protox_locate.specs.LocationWords.{each_at, extension_range, extensions_statement, extensions_statements, name_statement, name_statements, nth, option_list, part, range_locations, range_statement, range_statements, reserved_name, siblings_at};
-ghost use Rattle.protox_locate.specs.Walk.{Emits, Numbers};
+ghost use Rattle.protox_locate.specs.inner.Walk.{Emits, Numbers};
 
 use crate::context::Context;
 use crate::options::locate_list;
@@ -37,7 +37,7 @@ fn locate_range(
 
 // ---- reserved statements
 
-/// The statements that set ranges aside, and the ranges.
+/// Adds the locations of the statements that reserve ranges, and of the ranges.
 pub(crate) fn locate_ranges(
     alloc: Global,
     lines: &LineResolver,
@@ -136,7 +136,7 @@ fn ranges_in(
     Ok(next)
 }
 
-/// The statements that set names aside, and the names.
+/// Adds the locations of the statements that reserve names, and of the names.
 pub(crate) fn locate_names(
     alloc: Global,
     lines: &LineResolver,
@@ -235,7 +235,7 @@ fn names_in(
 
 // ---- extensions statements
 
-/// The `extensions` statements, and their ranges.
+/// Adds the locations of the `extensions` statements, and of their ranges.
 pub(crate) fn locate_extension_ranges(
     alloc: Global,
     lines: &LineResolver,

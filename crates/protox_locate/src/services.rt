@@ -1,11 +1,11 @@
 //! The locations of services.
 
 ghost use Rattle.std.specs.Prelude.{◌≡◌, ◌≤◌, map, OnOk};
-ghost use Rattle.protox_locate.specs.Bounds.{greatest, method_reach, method_weight, service_reach, service_weight, span_reach, total};
+ghost use Rattle.protox_locate.specs.inner.Bounds.{greatest, method_reach, method_weight, service_reach, service_weight, span_reach, total};
 ghost use Rattle.protox_places.specs.Lines.{numbers_at};
 ghost use Rattle.protox_locate.specs.LocationWords.{part, siblings_at};
 ghost use Rattle.protox_locate.specs.ServiceLocations.{method_locations, service_locations, stream_locations};
-ghost use Rattle.protox_locate.specs.Walk.{Emits};
+ghost use Rattle.protox_locate.specs.inner.Walk.{Emits};
 
 use crate::context::Context;
 use crate::options::locate_options;
@@ -16,7 +16,7 @@ use protox_fault::error::Span;
 use protox_places::lines::LineResolver;
 use std::alloc::{AllocError, Global};
 
-/// A service, whose path is the current one.
+/// Adds the locations of a service. Its path is the current one.
 pub(crate) fn locate_service(
     alloc: Global,
     lines: &LineResolver,

@@ -6,7 +6,7 @@ use Rattle.protox_ast.specs.KeywordWalk as k
 use Rattle.protox_ast.specs.Places.{Place}
 use Rattle.protox_grammar.specs.Reader.{Reader, Refusal, Unexpected, mapped, ◌>>=◌}
 use Rattle.protox_grammar.specs.Rules as r
-use Rattle.protox_options.specs.Options as options
+use Rattle.protox_options.specs.inner.Options as options
 
 abbrev pub printed_from : Bool → Rows Place → List ℕ
 printed_from true xs = ast.aggregate_text xs

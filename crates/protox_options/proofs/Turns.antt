@@ -6,7 +6,7 @@ use Rattle.protox_grammar.specs.Rules as r
 use Rattle.protox_grammar.proofs.Forms.{mark-laws, seq-laws}
 use Rattle.protox_grammar.proofs.Options as options
 use Rattle.protox_grammar.proofs.Shows.{shows-eats}
-use Rattle.protox_options.specs.Options.{here, more_part, more_body}
+use Rattle.protox_options.specs.inner.Options.{here, more_part, more_body}
 
 pub more_part-eats : Consumes (more_part).code
 more_part-eats = shows-eats (seq-laws (mark-laws here s.dot) (options.part-laws here) refl) (more_part).shows

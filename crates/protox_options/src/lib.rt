@@ -1,4 +1,4 @@
-//! Reads options: their names, their values with aggregates, lists of them and option statements.
+//! Reads options: names, values with aggregates, lists and option statements.
 #![tactic(auto)]
 
 pub mod options;

@@ -1,9 +1,9 @@
-//! Options, lists of them, and option statements.
+//! Reading options, lists of them, and option statements.
 
 ghost use Rattle.std.specs.Prelude.{◌≡◌};
-ghost use Rattle.protox_rows.specs.Outcome.{Gives};
-ghost use Rattle.protox_rows.specs.Notes.{Adds};
-ghost use Rattle.protox_options.specs.Options as rule;
+ghost use Rattle.protox_rows.specs.inner.Outcome.{Gives};
+ghost use Rattle.protox_rows.specs.inner.Notes.{Adds};
+ghost use Rattle.protox_options.specs.inner.Options as rule;
 
 use crate::values::value;
 use protox_ast::ast::{Boxed, Option as OptionStatement, OptionBody, OptionList, OptionNamePart};
@@ -18,7 +18,7 @@ use protox_rows::rows::{Unread, comments_between, span_between};
 use std::alloc::Global;
 
 /// part = ident | "(" typename ")"
-#[tactic(auto, unfolding(crate::specs::Options::part))]
+#[tactic(auto, unfolding(crate::specs::inner::Options::part))]
 fn part(alloc: Global, rows: &mut Unread<'_, '_>) -> Result<OptionNamePart, Refused>
     ensures { Gives (λ x. x) result rows.new ((rule.part).code rows.old) }
 {
@@ -32,7 +32,7 @@ fn part(alloc: Global, rows: &mut Unread<'_, '_>) -> Result<OptionNamePart, Refu
     Ok(OptionNamePart::Extension(name, span_between(&open, &close)))
 }
 
-#[tactic(auto, unfolding(crate::specs::Options::more_part))]
+#[tactic(auto, unfolding(crate::specs::inner::Options::more_part))]
 fn more_part(alloc: Global, rows: &mut Unread<'_, '_>) -> Result<OptionNamePart, Refused>
     ensures { Gives (λ x. x) result rows.new ((rule.more_part).code rows.old) }
 {
@@ -41,7 +41,7 @@ fn more_part(alloc: Global, rows: &mut Unread<'_, '_>) -> Result<OptionNamePart,
 }
 
 /// part ("." part)*
-#[tactic(auto, unfolding(crate::specs::Options::name))]
+#[tactic(auto, unfolding(crate::specs::inner::Options::name))]
 fn name(alloc: Global, rows: &mut Unread<'_, '_>) -> Result<Items<OptionNamePart>, Refused>
     ensures { Gives (λ x. x) result rows.new ((rule.name).code rows.old) }
 {
@@ -56,7 +56,7 @@ fn name(alloc: Global, rows: &mut Unread<'_, '_>) -> Result<Items<OptionNamePart
 }
 
 /// body = part ("." part)* "=" value
-#[tactic(auto, unfolding(crate::specs::Options::body, crate::specs::Options::name))]
+#[tactic(auto, unfolding(crate::specs::inner::Options::body, crate::specs::inner::Options::name))]
 fn body(
     alloc: Global,
     notes: &mut Vec<Note>,
@@ -71,7 +71,7 @@ fn body(
     Ok(OptionBody { name, value })
 }
 
-#[tactic(auto, unfolding(crate::specs::Options::more_body))]
+#[tactic(auto, unfolding(crate::specs::inner::Options::more_body))]
 fn more_body(
     alloc: Global,
     notes: &mut Vec<Note>,
@@ -85,7 +85,7 @@ fn more_body(
 }
 
 /// body ("," body)*
-#[tactic(auto, unfolding(crate::specs::Options::bodies))]
+#[tactic(auto, unfolding(crate::specs::inner::Options::bodies))]
 fn bodies(
     alloc: Global,
     notes: &mut Vec<Note>,
@@ -105,7 +105,7 @@ fn bodies(
 }
 
 /// list = "[" body ("," body)* "]"
-#[tactic(auto, unfolding(crate::specs::Options::list, crate::specs::Options::bodies))]
+#[tactic(auto, unfolding(crate::specs::inner::Options::list, crate::specs::inner::Options::bodies))]
 fn list(
     alloc: Global,
     notes: &mut Vec<Note>,
@@ -122,7 +122,7 @@ fn list(
 }
 
 /// list?
-#[tactic(auto, unfolding(crate::specs::Options::list_if_any))]
+#[tactic(auto, unfolding(crate::specs::inner::Options::list_if_any))]
 pub fn list_if_any(
     alloc: Global,
     notes: &mut Vec<Note>,
@@ -139,7 +139,7 @@ pub fn list_if_any(
 }
 
 /// option = "option" body ";"
-#[tactic(auto, unfolding(crate::specs::Options::option))]
+#[tactic(auto, unfolding(crate::specs::inner::Options::option))]
 pub fn option(
     alloc: Global,
     notes: &mut Vec<Note>,
@@ -161,7 +161,7 @@ pub fn option(
     })
 }
 
-/// What may stand behind a number, where a list may.
+/// What is expected after a list of options, or where such a list may stand.
 pub fn after_list(options: &Option<Boxed<OptionList>>) -> Expected {
     match options {
         Some(_) => Expected::Semicolon,

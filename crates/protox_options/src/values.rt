@@ -1,4 +1,4 @@
-//! Values of options.
+//! Reading the values of options.
 
 ghost use Rattle.std.specs.Prelude.{◌≡◌, ◌<◌, ◌+◌, ◌^◌, ◌∷◌, ◌++◌, [], None, Some, IfOk, OnOk};
 ghost use Rattle.protox_ast.specs.Keywords.{is_significant};
@@ -9,9 +9,9 @@ ghost use Rattle.protox_grammar.specs.Token as token;
 ghost use Rattle.protox_lexeme.specs.Printed.{printed};
 ghost use Rattle.protox_lexeme.specs.Shapes.{Mark};
 ghost use Rattle.protox_lexeme.specs.Tokens.{shape_of};
-ghost use Rattle.protox_rows.specs.Outcome.{Gives};
-ghost use Rattle.protox_rows.specs.Notes.{Adds};
-ghost use Rattle.protox_options.specs.Options as rule;
+ghost use Rattle.protox_rows.specs.inner.Outcome.{Gives};
+ghost use Rattle.protox_rows.specs.inner.Notes.{Adds};
+ghost use Rattle.protox_options.specs.inner.Options as rule;
 
 use protox_ast::ast::{Float, Ident, Int, OptionValue, String as Literal};
 use protox_descriptor::values::{Items, Text};
@@ -36,7 +36,7 @@ pub(crate) enum Unsigned {
 }
 
 /// constant = ident | integer | float
-#[tactic(auto, unfolding(crate::specs::Options::constant))]
+#[tactic(auto, unfolding(crate::specs::inner::Options::constant))]
 fn constant(
     alloc: Global,
     rows: &mut Unread<'_, '_>,
@@ -56,7 +56,7 @@ fn constant(
     Ok(Unsigned::Float(text, span))
 }
 
-// A literal's text behind its minus sign.
+// The text of a literal, with a minus sign.
 fn negated(alloc: Global, text: &Text) -> Result<Text, AllocError>
     ensures { IfOk result (λ t. t ≡ 45 ∷ text.now) }
 {
@@ -127,7 +127,7 @@ fn signed(
     }
 }
 
-// Behind a sign only a number is said to be left.
+// What is expected of a constant. After a sign only a number is named.
 fn after_sign(minus: &Option<Span>) -> Expected {
     match minus {
         Some(_) => Expected::Numeric,
@@ -135,7 +135,7 @@ fn after_sign(minus: &Option<Span>) -> Expected {
     }
 }
 
-// How many braces are open behind a token, or None where it is the one that closes the aggregate.
+// How many braces are open after a token. None if the token closes the aggregate.
 fn open_behind(unclosed: usize, token: &Token<'_>) -> Option<usize>
     requires { unclosed + 1 < 2 ^ 64 }
     ensures { result ≡ rule.open_behind unclosed (shape_of token.now) }
@@ -156,7 +156,7 @@ fn is_significant(token: &Token<'_>) -> bool
     }
 }
 
-// Adds a token behind those so far.
+// Adds a token to the text. All but the first have a space in front.
 fn print_on(
     alloc: Global,
     text: &mut Text,
@@ -172,12 +172,12 @@ fn print_on(
     text.push_str(alloc, printed.as_str())
 }
 
-/// The text up to the brace that closes: its tokens, with a space between each two.
-#[tactic(auto, unfolding(crate::specs::Options::inside), using(crate::proofs::Aggregates::goes, crate::proofs::Aggregates::closes, crate::proofs::Aggregates::barred, crate::proofs::Aggregates::ended))]
+/// The text up to the brace that closes the aggregate: its tokens, with a space between each two.
+#[tactic(auto, unfolding(crate::specs::inner::Options::inside), using(crate::proofs::Aggregates::goes, crate::proofs::Aggregates::closes, crate::proofs::Aggregates::barred, crate::proofs::Aggregates::ended))]
 fn inside(alloc: Global, rows: &mut Unread<'_, '_>) -> Result<Text, Refused>
     ensures { Gives (λ x. x) result rows.new (rule.inside rows.old) }
 {
-    // More braces than rows can't be open, so their number fits.
+    // At most as many braces are open as there are rows, so their number fits.
     let _most = rows.len();
     let mut text = Text::new(alloc);
     let mut first = true;
@@ -202,7 +202,7 @@ fn inside(alloc: Global, rows: &mut Unread<'_, '_>) -> Result<Text, Refused>
     Err(refused(rows, Expected::RightBrace))
 }
 
-// A brace of an aggregate, behind which the tokens are seen otherwise.
+// Takes a brace of an aggregate. The tokens after `{` are in text format.
 #[tactic(auto, unfolding(protox_grammar::specs::Reader::fixed))]
 fn brace<'t, 'a>(
     notes: &mut Vec<Note>,
@@ -226,7 +226,7 @@ fn brace<'t, 'a>(
     }
 }
 
-// Where an aggregate may begin, any constant may stand.
+// What is expected in place of a brace. Where an aggregate may begin, any constant may stand.
 fn brace_expected(opens: bool) -> Expected {
     if opens {
         Expected::Constant
@@ -235,8 +235,8 @@ fn brace_expected(opens: bool) -> Expected {
     }
 }
 
-/// What stands between the braces, and the one that closes.
-#[tactic(auto, unfolding(crate::specs::Options::closed, crate::specs::Options::noted_closed))]
+/// Reads what stands between the braces, and the closing brace.
+#[tactic(auto, unfolding(crate::specs::inner::Options::closed, crate::specs::inner::Options::noted_closed))]
 fn closed<'t, 'a>(
     alloc: Global,
     notes: &mut Vec<Note>,
@@ -251,7 +251,7 @@ fn closed<'t, 'a>(
 }
 
 /// "{" tokens whose braces match "}"
-#[tactic(auto, unfolding(crate::specs::Options::aggregate, crate::specs::Options::opened))]
+#[tactic(auto, unfolding(crate::specs::inner::Options::aggregate, crate::specs::inner::Options::opened))]
 fn aggregate(
     alloc: Global,
     notes: &mut Vec<Note>,
@@ -278,7 +278,7 @@ fn sees_constant(rows: &Unread<'_, '_>) -> bool
 }
 
 /// value = "-"? constant | string+ | "{" tokens whose braces match "}"
-#[tactic(auto, unfolding(crate::specs::Options::value))]
+#[tactic(auto, unfolding(crate::specs::inner::Options::value))]
 pub(crate) fn value(
     alloc: Global,
     notes: &mut Vec<Note>,

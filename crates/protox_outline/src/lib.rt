@@ -1,4 +1,4 @@
-//! The outline of a file: a line for each declaration, in the order of the source.
+//! The outline of a file: one line for each declaration, in the order of the source.
 #![tactic(auto)]
 
 use protox_descriptor::descriptor::source_code_info::Location;
@@ -10,7 +10,7 @@ use protox_report::shown::push_shown;
 use std::alloc::{AllocError, Global};
 use std::io::{self, Write};
 
-// What a path leads to so far.
+// What the path read so far leads to.
 #[derive(Clone, Copy)]
 enum Place<'a> {
     File(&'a FileDescriptorProto),
@@ -20,7 +20,7 @@ enum Place<'a> {
     Leaf,
 }
 
-// A declaration: what it is, its name, and what stands in it.
+// A declaration: its kind, its name, and what it contains.
 #[derive(Clone, Copy)]
 struct Declared<'a> {
     kind: &'static str,
@@ -28,7 +28,8 @@ struct Declared<'a> {
     place: Place<'a>,
 }
 
-// The declaration of a message, an enum and so on, where there is one.
+// The message at this index as a declaration, if there is one; the next functions do the same for
+// enums and services.
 fn message_at(messages: &Items<DescriptorProto>, index: usize) -> Option<Declared<'_>> {
     let message = messages.get(index)?;
     Some(Declared {
@@ -64,7 +65,7 @@ fn leaf<'a>(kind: &'static str, name: Option<&'a Text>) -> Option<Declared<'a>> 
     })
 }
 
-// The declarations of a message, by the numbers of its fields in descriptor.proto.
+// The declaration in a message at a field number of descriptor.proto and an index.
 fn in_message(message: &DescriptorProto, tag: i32, index: usize) -> Option<Declared<'_>> {
     match tag {
         2 => leaf("field", message.field.get(index)?.name.as_ref()),
@@ -76,7 +77,7 @@ fn in_message(message: &DescriptorProto, tag: i32, index: usize) -> Option<Decla
     }
 }
 
-// The declaration to which one step of a path leads.
+// The declaration to which one more step of a path leads.
 fn step<'a>(place: Place<'a>, tag: i32, index: usize) -> Option<Declared<'a>> {
     match (place, tag) {
         (Place::File(file), 4) => message_at(&file.message_type, index),
@@ -94,8 +95,8 @@ fn index_of(number: i32) -> usize {
     number.max(0).unsigned_abs() as usize
 }
 
-// The kind of the declaration to which a path leads, and the parts of its full name. An enum's value
-// has its name beside the enum's. None where the path leads to no declaration.
+// The kind of the declaration to which a path leads, and the parts of its full name. The full
+// name of an enum value leaves out the enum. None if the path leads to no declaration.
 fn lead<'a>(
     file: &'a FileDescriptorProto,
     path: &[i32],
@@ -133,7 +134,7 @@ fn first_line(comment: &str) -> &str {
     ""
 }
 
-// A line of the outline, and where its declaration stands.
+// A line of the outline, with the place of its declaration.
 #[derive(Drop)]
 struct Line {
     line: i32,
@@ -141,7 +142,7 @@ struct Line {
     text: String,
 }
 
-// The line of a location, or None where its path leads to no declaration.
+// The line of a location; None if its path leads to no declaration.
 fn line_of(
     alloc: Global,
     name: &str,
@@ -182,7 +183,8 @@ fn line_of(
     }))
 }
 
-/// A line for each declaration: its place, its kind, its full name and the first line of its comment.
+/// Writes one line for each declaration: its place, its kind, its full name and the first line of
+/// its comment.
 pub fn write_outline<W: Write>(
     alloc: Global,
     out: &mut W,

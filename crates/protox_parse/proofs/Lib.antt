@@ -1,2 +1,3 @@
 pub mod Translating
 pub mod Truths
+pub mod AnswerLaws

@@ -10,20 +10,20 @@ use Rattle.protox_ast.specs.Accepted.{Fits, IsAccepted, IsFileOf}
 use Rattle.protox_ast.specs.Ast as ast
 use Rattle.protox_ast.specs.Basics.{Each, first_of}
 use Rattle.protox_ast.specs.FaultList.{AreFaultsOf, StandIn}
-use Rattle.protox_ast.specs.FirstFault.{IsTightOf}
+use Rattle.protox_ast.specs.FirstFault.{IsFirstFault}
 use Rattle.protox_ast.specs.Places.{Place}
 use Rattle.protox_ast.specs.Tree as t
-use Rattle.protox_ast.specs.Truth.{IsTrueOf}
 use Rattle.protox_ast.specs.declared.ast.File.{File}
 use Rattle.protox_checks.specs.Checks.{AreListed}
-use Rattle.protox_checks.specs.Faults.{HasEachWrong, HaveAll, Wrong}
+use Rattle.protox_checks.specs.Faults.{Wrong}
 use Rattle.protox_generate.specs.File.{AreListedAll}
 use Rattle.protox_descriptor.specs.declared.descriptor.FileDescriptorProto.{FileDescriptorProto}
 use Rattle.protox_checks.proofs.PlainFaults.{all-plain, plain-stand}
 use Rattle.protox_parse.specs.Failures.{AreWrongOf, IsOutOfMemory, IsRefusalOf}
-use Rattle.protox_parse.specs.FaultLists.{AreAllFound, AreLexicalAlone, AreListedOf, AreStanding, HasAllOf, HasFaultsOf, NoCheckIsLost}
+use Rattle.protox_parse.specs.FaultLists.{AreAllFound, AreLexicalAlone, AreListedOf, AreStanding, HasFaultsOf, NoCheckIsLost}
+use Rattle.protox_parse.specs.Files.{IsFile}
+use Rattle.protox_parse.specs.FirstFault.{BeginsWithFirst, IsFirstOfSource}
 use Rattle.protox_parse.specs.Refusal.{Refusal}
-use Rattle.protox_parse.specs.Truth.{IsTightFirst, IsTightOfSource, IsTrueFirst, IsTrueOfSource}
 use Rattle.protox_parse.specs.declared.failure.ParseFailure.{ParseFailure}
 use Rattle.protox_parse.specs.declared.failure.ParseFailure.TheVariants.{Refused, OutOfMemory}
 use Rattle.protox_syntax.specs.AllFaults.{AreAllFaults}
@@ -40,35 +40,24 @@ if-more P Q (Some x) h k = h x k
 
 -- ---- all faults of a syntax tree
 
-pub has-all : (file : File) (e : SyntaxFailure) (r : ParseFailure) → HasFaultsOf e r → HaveAll file e → HasAllOf file r
-has-all file e OutOfMemory same h = tt
-has-all file failure.OutOfMemory (Refused x) same h = absurd same
-has-all file (failure.Faults v) (Refused x) same h = subst (HasEachWrong file) (sym same) h
-
 pub has-listed : (file : File) (e : SyntaxFailure) (r : ParseFailure) → HasFaultsOf e r → AreListedAll file e → AreListedOf file r
 has-listed file e OutOfMemory same h = tt
 has-listed file failure.OutOfMemory (Refused x) same h = absurd same
 has-listed file (failure.Faults v) (Refused x) same h = subst (AreListed file) (sym same) h
 
 -- Where memory ran out there is no list.
-pub none-of-all : (file : File) (e : ParseFailure) → IsOutOfMemory e → HasAllOf file e × AreListedOf file e
-none-of-all file OutOfMemory h = (tt, tt)
-none-of-all file (Refused e) h = absurd h
+pub none-listed : (file : File) (e : ParseFailure) → IsOutOfMemory e → AreListedOf file e
+none-listed file OutOfMemory h = tt
+none-listed file (Refused e) h = absurd h
 
 module _ (source : List ℕ) where
   -- ---- the faults of reading
 
-  pub read-true : (e : SyntaxFailure) (r : ParseFailure) → HasFaultsOf e r → syntax.IsTrueFirst source e → IsTrueFirst source r
-  read-true e OutOfMemory same h = tt
-  read-true failure.OutOfMemory (Refused x) same h = absurd same
-  read-true (failure.Faults v) (Refused x) same h =
-      subst (λ errors. IfSome (first_of errors) (IsTrueOfSource source)) (sym same) (if-more (IsTrueOf (cut 0 source)) (IsTrueOfSource source) (first_of v.items) (λ f k. inr (inl k)) h)
-
-  pub read-tight : (e : SyntaxFailure) (r : ParseFailure) → HasFaultsOf e r → syntax.IsTightFirst source e → IsTightFirst source r
-  read-tight e OutOfMemory same h = tt
-  read-tight failure.OutOfMemory (Refused x) same h = absurd same
-  read-tight (failure.Faults v) (Refused x) same h =
-      subst (λ errors. IfSome (first_of errors) (IsTightOfSource source)) (sym same) (if-more (IsTightOf (cut 0 source)) (IsTightOfSource source) (first_of v.items) (λ f k. inr (inl k)) h)
+  pub read-first : (e : SyntaxFailure) (r : ParseFailure) → HasFaultsOf e r → syntax.BeginsWithFirst source e → BeginsWithFirst source r
+  read-first e OutOfMemory same h = tt
+  read-first failure.OutOfMemory (Refused x) same h = absurd same
+  read-first (failure.Faults v) (Refused x) same h =
+      subst (λ errors. IfSome (first_of errors) (IsFirstOfSource source)) (sym same) (if-more (IsFirstFault (cut 0 source)) (IsFirstOfSource source) (first_of v.items) (λ f k. inr (inl k)) h)
 
   pub read-stand : (e : SyntaxFailure) (r : ParseFailure) → HasFaultsOf e r → standing.AreStanding source e → AreStanding source r
   read-stand e OutOfMemory same h = tt
@@ -96,19 +85,14 @@ module _ (source : List ℕ) where
   first-wrong file [] h = tt
   first-wrong file (x ∷ xs) h = h.0
 
-  its-tree : (file : File) → IsFileOf source file → (errors : List ParseErrorKind) → Each (Wrong file) errors → (Q : ParseErrorKind → Type 0)
-      → ((wrong : ParseErrorKind) → (f : t.File Place) × IsAccepted source f × Wrong (ast.file (length source) f) wrong → Q wrong) → IfSome (first_of errors) Q
-  its-tree file is errors h Q k = if-more (Wrong file) Q (first_of errors) (λ wrong w. k wrong (is.0, is.1, subst (λ u. Wrong u wrong) is.2 w)) (first-wrong file errors h)
+  its-tree : (file : File) → IsFileOf source file → (errors : List ParseErrorKind) → Each (Wrong file) errors → IfSome (first_of errors) (IsFirstOfSource source)
+  its-tree file is errors h =
+      if-more (Wrong file) (IsFirstOfSource source) (first_of errors) (λ wrong w. inr (inr (is.0, is.1, subst (λ u. Wrong u wrong) is.2 w))) (first-wrong file errors h)
 
-  pub made-true : (file : File) → IsFileOf source file → (r : Result FileDescriptorProto ParseFailure) → IfErr r (AreWrongOf file) → IfErr r (IsTrueFirst source)
-  made-true file is (Ok d) h = tt
-  made-true file is (Err OutOfMemory) h = tt
-  made-true file is (Err (Refused e)) h = its-tree file is e.errors h (IsTrueOfSource source) (λ wrong k. inr (inr k))
-
-  pub made-tight : (file : File) → IsFileOf source file → (r : Result FileDescriptorProto ParseFailure) → IfErr r (AreWrongOf file) → IfErr r (IsTightFirst source)
-  made-tight file is (Ok d) h = tt
-  made-tight file is (Err OutOfMemory) h = tt
-  made-tight file is (Err (Refused e)) h = its-tree file is e.errors h (IsTightOfSource source) (λ wrong k. inr (inr k))
+  pub made-first : (file : File) → IsFileOf source file → (r : Result FileDescriptorProto ParseFailure) → IfErr r (AreWrongOf file) → IfErr r (BeginsWithFirst source)
+  made-first file is (Ok d) h = tt
+  made-first file is (Err OutOfMemory) h = tt
+  made-first file is (Err (Refused e)) h = its-tree file is e.errors h
 
   pub made-stand : (file : File) (r : Result FileDescriptorProto ParseFailure) → IfErr r (AreWrongOf file) → IfErr r (AreStanding source)
   made-stand file (Ok d) h = tt
@@ -137,14 +121,14 @@ module _ (source : List ℕ) where
     alone OutOfMemory h P p Q none k = none
     alone (Refused e) h P p Q none k = k e (elim h.1 as (λ _. P e.errors) [ inl fits ↦ absurd (large fits.0) | inr other ↦ subst P (sym other.2) p ])
 
-    pub large-true : (r : ParseFailure) → IsRefusalOf name source r → IsTrueFirst source r
-    large-true r h = alone r h (λ errors. IfSome (first_of errors) (IsTrueOfSource source)) (inl (large, refl)) (IsTrueFirst source) tt (λ e p. p)
-
-    pub large-tight : (r : ParseFailure) → IsRefusalOf name source r → IsTightFirst source r
-    large-tight r h = alone r h (λ errors. IfSome (first_of errors) (IsTightOfSource source)) (inl (large, refl)) (IsTightFirst source) tt (λ e p. p)
+    pub large-first : (r : ParseFailure) → IsRefusalOf name source r → BeginsWithFirst source r
+    large-first r h = alone r h (λ errors. IfSome (first_of errors) (IsFirstOfSource source)) (inl (large, refl)) (BeginsWithFirst source) tt (λ e p. p)
 
     pub large-stand : (r : ParseFailure) → IsRefusalOf name source r → AreStanding source r
     large-stand r h = alone r h (StandIn (cut 0 source)) (plain-stand (cut 0 source) (FileTooLarge ∷ []) (refl, tt)) (AreStanding source) tt (λ e p. p)
+
+    pub large-only : (r : ParseFailure) → IsFile source → IsOutOfMemory r
+    large-only r is = absurd (large is.1.fits)
 
     pub large-lexical : (r : ParseFailure) → AreLexicalAlone source r
     large-lexical OutOfMemory = tt

@@ -1,4 +1,4 @@
--- What is said of all faults of a refusal.
+-- The promises about all faults of a refusal.
 use Rattle.std.specs.Prelude.{◌≡◌, ◌≤◌, ℕ, List}
 use Rattle.protox_fault.specs.declared.error.SyntaxFailure.{SyntaxFailure}
 use Rattle.protox_fault.specs.declared.error.SyntaxFailure.TheVariants as failure
@@ -21,42 +21,47 @@ use Rattle.protox_syntax.specs.AllFaults.{AreAllFaults}
 use Rattle.protox_syntax.specs.LexicalFaults.{AreTokens}
 use Rattle.protox_syntax.specs.LostChecks.{NoneIsLost}
 
--- The refusal has the faults of the failure; or memory ran out.
+-- The refusal lists exactly the faults of the parser's or the generator's failure; or memory ran
+-- out.
 abbrev pub HasFaultsOf : SyntaxFailure → ParseFailure → Type 0
 HasFaultsOf wrong OutOfMemory = Unit {0}
 HasFaultsOf (failure.Faults v) (Refused e) = e.errors ≡ v.items
 HasFaultsOf failure.OutOfMemory (Refused e) = ⊥
 
--- Each fault of a lexeme and each unexpected token stands somewhere in the source, and no fault of a lexeme stands twice in the list.
+-- Each fault of a lexeme and each unexpected token stands somewhere in the source. No fault of a
+-- lexeme is listed twice.
 abbrev pub AreStanding : List ℕ → ParseFailure → Type 0
 AreStanding source OutOfMemory = Unit {0}
 AreStanding source (Refused e) = StandIn (cut 0 source) e.errors
 
--- Where the source fits, no character is invalid, and the tokens spell a tree of at most 31 levels with which nothing is wrong that is checked while it
--- is read, but the lexemes aren't clean: the faults are those of the lexemes, in their order, and no others.
+-- If only lexemes are at fault, exactly their faults are reported, in their order. This needs that
+-- the source is within the length limit, that no character is invalid, and that the tokens spell a
+-- tree of at most 31 levels that passes each check made while reading.
 abbrev pub AreLexicalAlone : List ℕ → ParseFailure → Type 0
 AreLexicalAlone source OutOfMemory = Unit {0}
 AreLexicalAlone source (Refused e) =
     Fits source → (f : t.File Place) → Spells (placed (table_of (cut 0 source))) f → depth f ≤ 31 → NothingWrong f → AreTokens (cut 0 source) → (AreClean (cut 0 source) → ⊥)
     → AreFaultsOf (cut 0 source) e.errors
 
--- Where the source fits and the parser accepts no tree of it, these are all faults of the source, in their order, whatever the words say that the
--- parser expected.
+-- If the source is within the length limit and the parser accepts no tree of it, the list has all
+-- its faults, in their order. Only the words of what was expected may differ.
 abbrev pub AreAllFound : List ℕ → ParseFailure → Type 0
 AreAllFound source OutOfMemory = Unit {0}
 AreAllFound source (Refused e) = Fits source → ((f : t.File Place) → IsAccepted source f → ⊥) → AreAllFaults source e.errors
 
--- Where the source fits and the parser accepts no tree of it, no check that is made while it is read is lost; or memory ran out.
+-- If the source is within the length limit and the parser accepts no tree of it, no check made
+-- while reading is lost; or memory ran out.
 abbrev pub NoCheckIsLost : List ℕ → ParseFailure → Type 0
 NoCheckIsLost source OutOfMemory = Unit {0}
 NoCheckIsLost source (Refused e) = Fits source → ((f : t.File Place) → IsAccepted source f → ⊥) → NoneIsLost (cut 0 source) e.errors
 
--- Each fault that is wrong of the syntax tree is in the list; or memory ran out.
+-- The list has each fault of the syntax tree; or memory ran out.
 abbrev pub HasAllOf : File → ParseFailure → Type 0
 HasAllOf file OutOfMemory = Unit {0}
 HasAllOf file (Refused e) = HasEachWrong file e.errors
 
--- The list is in the order in which the faults of the syntax tree are found; or memory ran out.
+-- The list is in the order in which the generator finds the faults of the syntax tree; or memory
+-- ran out.
 abbrev pub AreListedOf : File → ParseFailure → Type 0
 AreListedOf file OutOfMemory = Unit {0}
 AreListedOf file (Refused e) = AreListed file e.errors

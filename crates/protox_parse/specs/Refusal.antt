@@ -1,4 +1,4 @@
--- What a refusal says.
+-- What a refusal holds.
 use Rattle.std.specs.Prelude.{ℕ, List}
 use Rattle.protox_fault.specs.declared.error.ParseErrorKind.{ParseErrorKind}
 

@@ -1,4 +1,4 @@
-//! Why a source is refused.
+//! Why a source is refused, or why there is no descriptor.
 
 ghost use Rattle.std.specs.Prelude.{◌≡◌, ◌≢◌, ◌∷◌, [], ℕ, List, Some, option_and_then, length, min, Ok, Err, IfOk};
 ghost use Rattle.protox_ast.specs.Accepted as accepted;
@@ -21,8 +21,9 @@ use std::fmt;
 use std::marker::Model;
 use thiserror::Error;
 
-/// What is wrong with a source: at least one fault, in the order in which they were found, with the
-/// file's name and its text.
+/// What is wrong with a source: its faults, at least one, with the file's name and its text.
+///
+/// `Display` writes the text of the first fault. `Debug` writes it with file, line and column.
 #[derive(Drop)]
 pub struct ParseError {
     file: Text,
@@ -49,7 +50,7 @@ impl ParseError {
         self.file.as_str()
     }
 
-    /// The text of the file, or the empty text where it is too large.
+    /// The text of the file; the empty text if the source is too large.
     pub fn source(&self) -> &str
         ensures { result.now ≡ self.now.source }
     {
@@ -63,7 +64,7 @@ impl ParseError {
         &self.errors[0]
     }
 
-    /// All faults in the order in which they were found. There is at least one.
+    /// All faults, at least one, in the order in which they were found.
     pub fn errors(&self) -> &[ParseErrorKind]
         ensures value { result.now ≡ self.now.errors }
         ensures some { result.now ≢ [] }
@@ -71,24 +72,25 @@ impl ParseError {
         self.errors.as_slice()
     }
 
-    /// The span of the first fault, in bytes. None for a second package name, for the end of the
-    /// file and for a file that is too large.
+    /// The span of the first fault, in byte offsets. None for a second package statement, for an
+    /// unexpected end of the file, and for a source that is too large.
     pub fn span(&self) -> Option<Span>
         ensures { option_and_then span_of (first_of self.now.errors) ≡ result }
     {
         self.kind().span()
     }
 
-    /// The place of the first fault, in bytes: where it has two, the first of them, and for the end
-    /// of the file an empty one there. None for a file that is too large.
+    /// The span of the first fault, in byte offsets. A second package statement has two places;
+    /// this is the first package statement. An unexpected end of the file has an empty span there.
+    /// None for a source that is too large.
     pub fn first_place(&self) -> Option<Span>
         ensures { option_and_then (first_place self.now.source) (first_of self.now.errors) ≡ result }
     {
         faults::first_place(self.source(), self.kind())
     }
 
-    /// Line and column of a byte offset in the source, both from 0, columns in bytes. Of an offset
-    /// behind the source they are those of its end. It reads the source up to there.
+    /// Line and column of a byte offset in the source, both from 0; columns count bytes. An offset
+    /// behind the source counts as its end. It reads the source up to the offset.
     ///
     /// ```
     /// if let Some(place) = error.first_place() {
@@ -103,7 +105,7 @@ impl ParseError {
         faults::line_column(self.source(), offset)
     }
 
-    /// The faults.
+    /// The faults alone, in the order in which they were found.
     pub fn into_inner(self) -> Vec<ParseErrorKind>
         ensures { result.items ≡ self.errors }
     {
@@ -128,9 +130,11 @@ impl fmt::Display for ParseError {
     }
 }
 
-/// The line that a user sees: `file:line:column: text`, line and column from 1, or the text of the first
-/// fault alone where that has no span. It is safe on a terminal: what would act on one, or not be seen,
-/// is shown as `\u{..}`, and of a long token the first 200 characters are.
+/// The line that a user sees: `file:line:column: text`, line and column from 1. If the first fault
+/// has no span, it is the text alone.
+///
+/// It is safe on a terminal: characters that a terminal obeys or doesn't show are written as
+/// `\u{..}`. Of a long token the first 200 characters are shown.
 impl fmt::Debug for ParseError {
     ghost use Rattle.std.specs.Prelude.{option_map};
     ghost use Rattle.protox_shown.specs.Line.{fault_line};
@@ -147,7 +151,8 @@ impl fmt::Debug for ParseError {
     }
 }
 
-/// Why there is no descriptor: the source is refused, or memory ran out.
+/// Why there is no descriptor. `Refused`: something is wrong with the source. `OutOfMemory`: memory
+/// ran out, and the source may be right or wrong.
 #[derive(Debug, Drop, Error)]
 pub enum ParseFailure {
     #[error("{0}")]
@@ -156,7 +161,7 @@ pub enum ParseFailure {
     OutOfMemory,
 }
 
-// The refusal of a source for these faults.
+// The refusal of a source with these faults.
 fn refusal(
     alloc: Global,
     name: &str,
@@ -187,7 +192,7 @@ pub(crate) fn too_large(alloc: Global, name: &str) -> ParseFailure
     }
 }
 
-/// The refusal of a source for the faults of a failure.
+/// The refusal of a source with the faults of a failure.
 pub(crate) fn refused(
     alloc: Global,
     name: &str,
@@ -198,7 +203,7 @@ pub(crate) fn refused(
     ensures of_source { IsRefusalOf name.now source.now result }
     ensures same { HasFaultsOf failure result }
     ensures memory { accepted.IsOutOfMemory failure → IsOutOfMemory result }
-    // Where nothing is wrong with a file, only memory can have failed.
+    // If nothing is wrong with the file, the failure can only be want of memory.
     ensures none { (file : File) → AreWrong file failure → IsFaultless file → IsOutOfMemory result }
     ensures wrong { (file : File) → AreWrong file failure → AreWrongOf file result }
 {

@@ -1,9 +1,9 @@
-//! A Protocol Buffers source parser: from a file's name and text to its descriptor with locations,
-//! or to what is wrong with it.
+//! A Protocol Buffers source parser. `parse` takes a file's name and text. It answers the file's
+//! descriptor with locations, or what is wrong with the text.
 #![tactic(auto)]
 
 ghost use Rattle.std.specs.Prelude.{◌≡◌, ◌≤◌, ◌↔◌, IsTrue, IfOk, IfErr, MatchResult, length};
-ghost use Rattle.protox_ast.specs.Accepted.{Fits, IsAccepted, IsFileOf};
+ghost use Rattle.protox_ast.specs.Accepted.{IsAccepted, IsFileOf};
 ghost use Rattle.protox_ast.specs.Ast as ast_of;
 ghost use Rattle.protox_ast.specs.Tree as tree;
 ghost use Rattle.protox_checks.specs.Faults.{IsFaultless};
@@ -14,10 +14,12 @@ ghost use Rattle.protox_generate.specs.NamePaths.{HasPlaces};
 ghost use Rattle.protox_generate.specs.Names.{HasNames};
 ghost use Rattle.protox_ast.specs.Places.{Place};
 ghost use Rattle.protox_parse.specs.Failures.{AreWrongOf, IsOutOfMemory, IsRefusalOf};
-ghost use Rattle.protox_parse.specs.FaultLists.{AreAllFound, AreLexicalAlone, AreListedOf, AreStanding, HasAllOf, NoCheckIsLost};
-ghost use Rattle.protox_parse.specs.Truth.{IsTightFirst, IsTrueFirst};
+ghost use Rattle.protox_parse.specs.FaultLists.{AreAllFound, AreLexicalAlone, AreListedOf, AreStanding, NoCheckIsLost};
+ghost use Rattle.protox_parse.specs.Files.{IsFile, IsTranslation};
+ghost use Rattle.protox_parse.specs.FirstFault.{BeginsWithFirst};
 
 mod failure;
+pub mod laws;
 
 pub use failure::{ParseError, ParseFailure};
 use failure::{refused, too_large};
@@ -41,7 +43,7 @@ pub fn source_fits(len: usize) -> bool
     len <= 2147483647
 }
 
-// The descriptor of a file whose syntax tree this is; or what the generator's checks find, or that
+// The descriptor of this syntax tree; or the faults that the generator's checks find, or that
 // memory ran out.
 fn translated(
     alloc: Global,
@@ -60,8 +62,7 @@ fn translated(
     ensures commented_once { IfOk result (AreCommentedOnce source.now) }
     ensures refused { IfErr result (IsRefusalOf name.now source.now) }
     ensures wrong { IfErr result (AreWrongOf file) }
-    ensures all { IfErr result (HasAllOf file) }
-    ensures in_order { IfErr result (AreListedOf file) }
+    ensures checked { IfErr result (AreListedOf file) }
 {
     match generate_file(alloc, file, name, source) {
         Ok(descriptor) => Ok(descriptor),
@@ -69,46 +70,49 @@ fn translated(
     }
 }
 
-/// The descriptor of the file of this name and this source, with its locations; or what is wrong
-/// with the source, or that memory ran out.
+/// Parses a file, proto2 or proto3, and describes it.
+///
+/// `name` is the file's name, as the descriptor gets it; no file is opened. `source` is its text.
+/// The answer is the file's descriptor; its `source_code_info` holds the path, the place and the
+/// comments of each declaration.
+///
+/// It fails with `ParseFailure::Refused` if something is wrong with the source, also if it is
+/// longer than `source_fits` allows. It fails with `ParseFailure::OutOfMemory` if memory runs out.
+/// Imported files are not read, and names of types are not resolved.
 pub fn parse(alloc: Global, name: &str, source: &str) -> Result<FileDescriptorProto, ParseFailure>
-    // What is answered is the translation of a tree that the source's tokens spell, with which nothing is wrong.
-    ensures found { IfOk result (λ d. (f : tree.File Place) × IsAccepted source.now f
-        × IsFaultless (ast_of.file (length source.now) f)
-        × (d ≡ file_descriptor name.now source.now (ast_of.file (length source.now) f))) }
-    // Every accepted source gets this answer, unless memory runs out.
-    ensures only { (f : tree.File Place) → IsAccepted source.now f → IsFaultless (ast_of.file (length source.now) f)
-        → MatchResult result (λ d. d ≡ file_descriptor name.now source.now (ast_of.file (length source.now) f)) IsOutOfMemory }
-    // Its locations are sorted by path, and those of equal paths by where they start.
+    // The answer is the translation of the source: it is a file, and this is its descriptor.
+    ensures found { IfOk result (IsTranslation name.now source.now) }
+    // Every source that is a file gets its translation, unless memory runs out.
+    ensures only { IsFile source.now → MatchResult result (IsTranslation name.now source.now) IsOutOfMemory }
+    // Its locations are sorted by path, and those of one path by where they start.
     ensures located { IfOk result AreLocated }
-    // So `locate` finds those of a path.
+    // `locate` needs this order.
     ensures sorted { IfOk result AreSorted }
-    // In each of its messages the oneofs that are written come first, and each field's index is that of a oneof.
+    // In each message the oneofs that the source writes come first, and each field's oneof index is
+    // that of one of its oneofs.
     ensures oneofs { IfOk result HasRealFirst }
-    // Where the path of a location leads to a name, the source has that name there.
+    // If the path of a location leads to a name, the source writes that name there.
     ensures named { IfOk result (HasNames source.now) }
-    // At the path of each name of the descriptor there is exactly one location.
+    // The path of each name that the source writes in the descriptor has exactly one location.
     ensures placed { IfOk result HasPlaces }
-    // Each comment of the source stands in at most one field of one location, and around that.
+    // Each comment of the source stands in at most one field of one location, around that location.
     ensures commented_once { IfOk result (AreCommentedOnce source.now) }
-    // A refusal names its file and holds its source, and its faults lie in it.
+    // A refusal has the file's name and the source, and its faults lie in the source.
     ensures refused { IfErr result (IsRefusalOf name.now source.now) }
-    // Where the source's tokens spell a tree that is accepted, each fault is one of its syntax tree.
-    ensures wrong { (f : tree.File Place) → IsAccepted source.now f → IfErr result (AreWrongOf (ast_of.file (length source.now) f)) }
-    // Then all faults of the syntax tree are in the list, in the order in which they are found.
-    ensures all { (f : tree.File Place) → IsAccepted source.now f → IfErr result (HasAllOf (ast_of.file (length source.now) f)) }
-    ensures in_order { (f : tree.File Place) → IsAccepted source.now f → IfErr result (AreListedOf (ast_of.file (length source.now) f)) }
-    // The first fault is true of the source.
-    ensures is_true { IfErr result (IsTrueFirst source.now) }
-    // No fault comes before it.
-    ensures tight { IfErr result (IsTightFirst source.now) }
-    // Each fault of a lexeme and each unexpected token stands in the source, and no fault of a lexeme twice in the list.
+    // The first fault is true of the source, and no fault comes before it.
+    ensures first { IfErr result (BeginsWithFirst source.now) }
+    // If the source is accepted with a tree, the faults are exactly those of its syntax tree, in order.
+    ensures checked { (f : tree.File Place) → IsAccepted source.now f → IfErr result (AreListedOf (ast_of.file (length source.now) f)) }
+    // Each fault of a lexeme and each unexpected token stands in the source. No fault of a lexeme
+    // is listed twice.
     ensures stands { IfErr result (AreStanding source.now) }
     // If only lexemes are at fault, and no character is invalid, exactly their faults are reported.
     ensures lexical { IfErr result (AreLexicalAlone source.now) }
-    // Where the parser refuses a source that fits, exactly these are its faults, in this order, but for the words of what was expected.
+    // If the parser refuses a source that isn't too long, exactly these are its faults, in this
+    // order. Only the words of what was expected may differ.
     ensures all_found { IfErr result (AreAllFound source.now) }
-    // Then each wrong node of a file that goes on from the tokens read is in the list, but for what is excepted by name.
+    // Then, if a file goes on from the tokens read, each wrong node of it is listed, but for the
+    // named exceptions.
     ensures no_check_lost { IfErr result (NoCheckIsLost source.now) }
 {
     if !source_fits(source.len()) {

@@ -1,4 +1,4 @@
--- The first location with a path is the one at the start of those that have it.
+-- The first location with a path is the one at the start of the range of those that have it.
 use Rattle.std.proofs.Common.{◌≡◌, ℕ, zero, suc, ◌<◌, ◌≤◌, true, false, Bool, cond, List, [], ◌∷◌, length, get_or, slice_get, Option, Some, None, refl, ap, sym, ◌∙◌, arith, inl, inr}
 use Rattle.std.specs.Prelude.{ℤ}
 use Rattle.std.specs.Cmp.Rules.{signed_items}
@@ -17,7 +17,7 @@ untrue false h = refl
 miss : (path : List ℤ) (l : Location) → (l.path ≡ path → ⊥) → is_at path l ≡ false
 miss path l h = untrue (is_at path l) (λ e. h ((signed_items l.path path).0 e))
 
--- where none has the path
+-- no location has the path
 none-first : (path : List ℤ) (xs : List Location)
     → ((k : ℕ) (d : Location) → k < length xs → (get_or xs k d).path ≡ path → ⊥)
     → first_at path xs ≡ None
@@ -26,7 +26,7 @@ none-first path (x ∷ xs) h =
     ap (λ b. cond b (Some x) (first_at path xs)) (miss path x (h zero x (omega arith)))
     ∙ none-first path xs (λ k d l. h (suc k) d (omega (arith, l)))
 
--- where the one at an index has it, and none before
+-- the location at an index has it, and none before
 one-first : (path : List ℤ) (xs : List Location) (i : ℕ) → i < length xs
     → ((k : ℕ) (d : Location) → k < i → (get_or xs k d).path ≡ path → ⊥)
     → ((d : Location) → (get_or xs i d).path ≡ path)
@@ -38,7 +38,7 @@ one-first path (x ∷ xs) (suc i) l h e =
     ap (λ b. cond b (Some x) (first_at path xs)) (miss path x (h zero x (omega arith)))
     ∙ one-first path xs i (omega (arith, l)) (λ k d m. h (suc k) d (omega (arith, m))) e
 
--- by the range of those that have it
+-- from the range of the locations that have it
 pub first_of : (path : List ℤ) (xs : List Location) (i j : ℕ) (r : Option Location)
     → AreThoseAt xs path i j → j ≤ length xs
     → (i < j → r ≡ slice_get xs i) → ((i < j → ⊥) → r ≡ None) → r ≡ first_at path xs

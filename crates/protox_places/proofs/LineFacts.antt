@@ -1,4 +1,4 @@
--- The offsets behind newlines, and what a binary search among them finds.
+-- The offsets behind newlines, and the result of a binary search among them.
 use Rattle.std.proofs.Common.{◌≡◌, ℕ, zero, suc, ◌+◌, ◌-◌, ◌<◌, ◌≤◌, List, [], ◌∷◌, length, take, get_or, refl, ap, ◌∙◌, arith, true, false}
 use Rattle.std.specs.Prelude.{if◌then◌else◌, ◌==◌}
 use Rattle.std.proofs.lemmas.Bool.Decides.{nat_tests}
@@ -88,7 +88,7 @@ pub below_all : (low : ℕ) (xs : List ℕ) (o k : ℕ) → Rises low xs → k �
 below_all low xs o zero r h b = omega arith
 below_all low xs o (suc k) r h b = omega (arith, b k (omega arith), rises-above low xs k 0 r (omega arith))
 
--- among ascending numbers the last that is counted and the one behind it decide
+-- in ascending numbers, the last that is counted and the next one decide
 pub found-here : (xs : List ℕ) (o k : ℕ) → Rises 0 xs → k ≤ length xs → (0 < k → get_or xs (k - 1) 0 ≤ o) → (k < length xs → o < get_or xs k 0) → Found xs o k
 found-here xs o k r within begun ended = record {
   within = within;
@@ -96,7 +96,7 @@ found-here xs o k r within begun ended = record {
   above = λ j h l. omega (arith, rises-up 0 xs k j 0 r h l, ended (omega arith));
 }
 
--- the start of the line where it is the first, and where it isn't
+-- the start of the line: of the first line, and of another
 pub first-start : (xs : List ℕ) (k : ℕ) → k ≡ 0 → get_or (0 ∷ xs) k 0 ≡ 0
 first-start xs k e = rw e refl
 

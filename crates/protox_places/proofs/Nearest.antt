@@ -12,7 +12,7 @@ use Rattle.protox_ast.specs.Basics.{Each}
 use Rattle.protox_descriptor.specs.Spans.{start_of, end_of, place_cmp, is_within}
 use Rattle.protox_descriptor.specs.declared.descriptor.source_code_info.Location.{Location}
 use Rattle.protox_places.specs.Innermost.{Holds, IsInnermost, nearness}
-use Rattle.protox_places.specs.Nearer.{nearer, best_of}
+use Rattle.protox_places.specs.inner.Nearer.{nearer, best_of}
 
 -- ---- the order by nearness
 
@@ -64,7 +64,7 @@ Reaches place l o = Holds place o → is_le (nearness l o) ≡ true
 abbrev Passes : ℤ × ℤ → Location → Location → Type 0
 Passes place l o = Holds place o → is_lt (nearness l o) ≡ true
 
--- Behind a best one: it stays, or another one follows that reaches it.
+-- From a best one on: it stays, or a later one replaces it that is at least as near.
 abbrev Stays : ℤ × ℤ → Location → List Location → Location → Type 0
 Stays place b xs r = (r ≡ b) × Each (Passes place b) xs
 
@@ -98,7 +98,7 @@ first place x xs held behind = record {
 untrue : (b : Bool) → b ≡ false → b ≡ true → ⊥
 untrue b e f = false≢true (sym e ∙ f)
 
--- what the search answers from a best one on
+-- the answer of the search from a best one on
 abbrev Answers : ℤ × ℤ → Location → List Location → Option Location → Type 0
 Answers place b xs o = (r : Location) × ((o ≡ Some r) × (Stays place b xs r ⊎ Follows place b xs r))
 
@@ -139,7 +139,7 @@ kept place b x xs o pass a = (
   ),
 )
 
--- what the search answers from each of the best ones on
+-- the answer of the search from each best one on
 abbrev Again : ℤ × ℤ → List Location → Type 0
 Again place xs = (c : Location) → Answers place c xs (best_of place (Some c) xs)
 
@@ -159,17 +159,17 @@ from_best : (place : ℤ × ℤ) (xs : List Location) → Again place xs
 from_best place [] b = (b, (refl, inl (refl, tt)))
 from_best place (x ∷ xs) b = by_held place b x xs (from_best place xs) (is_within place (start_of x.span) (end_of x.span)) refl
 
--- what the search answers from the start on
+-- the answer of the search from the start on
 abbrev pub Found : ℤ × ℤ → List Location → Option Location → Type 0
 Found place xs o = MatchOption o (Each (Misses place) xs) (IsInnermost place xs)
 
--- a location that doesn't hold the place, in front
+-- a location before them that doesn't hold the place
 missed : (place : ℤ × ℤ) (x : Location) (xs : List Location) (o : Option Location)
     → Misses place x → Found place xs o → Found place (x ∷ xs) o
 missed place x xs None miss found = (miss, found)
 missed place x xs (Some r) miss found = longer place x xs r found (λ h. absurd (miss h))
 
--- one that does
+-- a location before them that does
 held_first : (place : ℤ × ℤ) (x : Location) (xs : List Location) (o : Option Location)
     → Holds place x → Answers place x xs o → Found place (x ∷ xs) o
 held_first place x xs o held a = subst (λ z. Found place (x ∷ xs) z) (sym a.1.0) (elim a.1.1 as (λ _. IsInnermost place (x ∷ xs) a.0) [
@@ -188,7 +188,7 @@ pub from_none : (place : ℤ × ℤ) (xs : List Location) → Found place xs (be
 from_none place [] = tt
 from_none place (x ∷ xs) = by_first place x xs (from_none place xs) (is_within place (start_of x.span) (end_of x.span)) refl
 
--- at what is lent
+-- the same for borrowed locations
 pub innermost_of : (place : ℤ × ℤ) (xs : List Location) (r : Option (Bor Location))
     → option_copied r ≡ best_of place None xs → IfSome r (λ l. IsInnermost place xs l.now)
 innermost_of place xs None e = tt

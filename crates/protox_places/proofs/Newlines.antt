@@ -1,4 +1,4 @@
--- The lines of a source start behind the places of its newlines.
+-- The lines of a source start right behind its newlines.
 use Rattle.std.proofs.Common.{◌≡◌, ℕ, ◌+◌, ◌-◌, ◌<◌, ◌≤◌, ◌==◌, true, false, List, [], ◌∷◌, map, length, drop, suc, zero, refl, ap, sym, ◌∙◌, arith}
 use Rattle.std.specs.Prelude.{if◌then◌else◌, slice_index, ⊤}
 use Rattle.std.proofs.lemmas.List.{drop_more}

@@ -1,4 +1,4 @@
--- Locations that are sorted by path: what stands in front of a path, at it and behind it.
+-- In locations sorted by path: those before a path, at it and behind it.
 use Rattle.std.proofs.Common.{◌≡◌, ℕ, zero, suc, ◌<◌, ◌≤◌, true, false, List, [], ◌∷◌, length, get_or, refl, ap, sym, ◌∙◌, arith, subst, inl, inr, Ordering, Less, Equal, Greater}
 use Rattle.std.specs.Prelude.{ℤ, ◌<ℤ◌, ⊤}
 use Rattle.std.specs.Cmp.{IsTotalOrder}
@@ -89,12 +89,12 @@ not-itself p q e c =
     let tied : is_lt (compared p p) ≡ false = ap is_lt (tied_itself total p) in
     false≢true (sym tied ∙ subst (λ r. is_lt (compared p r) ≡ true) (sym e) c)
 
--- of two paths not both come before the other
+-- two paths don't both come before each other
 not-both : (p q : List ℤ) → ComesBefore p q → ComesBefore q p → ⊥
 not-both p q c d =
     not-itself p p refl (ap is_lt (total.trans p q p (less-is _ c) (less-is _ d)))
 
--- where neither comes before the other they are the same
+-- if neither comes before the other, they are the same
 neither : (p q : List ℤ) → (ComesBefore p q → ⊥) → (ComesBefore q p → ⊥) → p ≡ q
 neither p q a b = same-path p q (level (compared p q) a (λ g. b (turned p q ∙ g)))
 
@@ -119,7 +119,7 @@ rising-from x (y ∷ ys) zero d h l = elim h.0 as (λ _. is_gt (compared x.path 
 ]
 rising-from x (y ∷ ys) (suc j) d h l = rising-from x ys j d h.1 (omega arith)
 
--- of two indices the first has no greater path
+-- of two indices, the path at the first isn't greater
 rising : (xs : List Location) (i j : ℕ) (d : Location)
     → AreByPath xs → i ≤ j → j < length xs
     → is_gt (compared (get_or xs i d).path (get_or xs j d).path) ≡ false
@@ -135,13 +135,13 @@ before-also p q r Less e h c = ap is_lt (total.trans p q r e (less-is _ c))
 before-also p q r Equal e h c = ap is_lt (total.congr p q r e) ∙ c
 before-also p q r Greater e h c = absurd (false≢true (sym h))
 
--- what stands in front of a path is divided from what doesn't
+-- the locations before a path are split from the others
 pub before-parted : (xs : List Location) (path : List ℤ) → AreByPath xs
     → IsPartitionedBy (λ (l : Location). is_lt (slice_cmp int_cmp l.path path)) xs
 before-parted xs path o i j d h l e =
     before-also (get_or xs i d).path (get_or xs j d).path path _ refl (rising xs i j d o h l) e
 
--- what doesn't stand behind a path is divided from what does
+-- the locations not behind a path are split from the others
 pub up-to-parted : (xs : List Location) (path : List ℤ) → AreByPath xs
     → IsPartitionedBy (λ (l : Location). is_le (slice_cmp int_cmp l.path path)) xs
 up-to-parted xs path o i j d h l e =
@@ -149,7 +149,7 @@ up-to-parted xs path o i j d h l e =
     let q = (get_or xs j d).path in
     gt-le _ (upto total p q path (rising xs i j d o h l) (le-gt _ e))
 
--- what stands in front of a path and what stands behind it don't overlap
+-- the locations before a path and those behind it don't overlap
 pub apart : (xs : List Location) (path : List ℤ) (i j : ℕ) → i ≤ length xs
     → AllWithin (λ (l : Location). ComesBefore l.path path) xs 0 i
     → AllWithin (λ (l : Location). ComesBefore path l.path) xs j (length xs) → i ≤ j
@@ -162,7 +162,7 @@ apart (x ∷ xs) path i j h before behind = elim (cases_lt j i) [
   | inr le ↦ le
 ]
 
--- just those between them have the path
+-- exactly the locations between them have the path
 pub between : (xs : List Location) (path : List ℤ) (i j : ℕ)
     → AllWithin (λ (l : Location). ComesBefore l.path path) xs 0 i
     → AllWithin (λ (l : Location). ComesBefore l.path path → ⊥) xs i (length xs)
@@ -183,7 +183,7 @@ between xs path i j before from up_to behind k d h = (
   (λ w. neither (get_or xs k d).path path (from k d w.0 h) (up_to k d (omega arith) w.1)),
 )
 
--- ---- sorted by path, whatever is asked of one path
+-- ---- sorted by path, in any order for one path
 
 weaker : (Same : Location → Location → Type 0) (a b : Location)
     → Ahead Same a b → Ahead (λ a b. ⊤) a b

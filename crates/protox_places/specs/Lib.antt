@@ -2,5 +2,5 @@ pub mod Lines
 pub mod Order
 pub mod First
 pub mod Innermost
-pub mod Nearer
 pub mod Faults
+pub mod inner

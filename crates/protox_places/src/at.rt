@@ -1,16 +1,16 @@
-//! Finding the declaration at a line and a column.
+//! The search for the declaration at a line and a column.
 
 ghost use Rattle.std.specs.Prelude.{◌≡◌, None, IfSome, IfNone};
 ghost use Rattle.std.specs.Option.{option_copied};
 ghost use Rattle.protox_ast.specs.Basics.{Each};
 ghost use Rattle.protox_places.specs.Innermost.{Holds, IsInnermost, nearness};
-ghost use Rattle.protox_places.specs.Nearer.{nearer, next_best, best_of};
+ghost use Rattle.protox_places.specs.inner.Nearer.{nearer, next_best, best_of};
 
 use protox_descriptor::descriptor::SourceCodeInfo;
 use protox_descriptor::descriptor::source_code_info::Location;
 use std::cmp::Ordering;
 
-// Which of two locations is nearer to what both hold: `Less` where it is the first.
+// Which of two locations that hold a place is nearer to it: `Less` if it is the first.
 fn compare_nearness(first: &Location, second: &Location) -> Ordering
     ensures { result ≡ nearness first.now second.now }
 {
@@ -18,7 +18,7 @@ fn compare_nearness(first: &Location, second: &Location) -> Ordering
     by_start.then(first.end().cmp(&second.end()))
 }
 
-// The nearer of the nearest so far and one more.
+// The nearer one of the nearest so far and one more.
 fn nearer_of<'a>(best: Option<&'a Location>, next: &'a Location) -> Option<&'a Location>
     ensures { option_copied result ≡ nearer (option_copied best.entry) next.now }
 {
@@ -47,13 +47,13 @@ fn nearest(locations: &[Location], line: i32, column: i32) -> Option<&Location>
     best
 }
 
-/// The innermost location that holds the place, or None where none does. Line and column are from 0,
-/// and the column is in bytes.
+/// The innermost location that holds a place, or None. Line and column are from 0; columns count
+/// bytes.
 ///
-/// Of those whose span holds the place it is the one that starts last, and of those that start there
-/// the one that ends first. Of several with that span it is the last; in an answer of `parse` a part
-/// stands behind what it is a part of. It looks at each location once, takes no memory, and has no
-/// error.
+/// Of the locations whose span holds the place, it is the one that starts last. If several start
+/// there, it is the one that ends first. If several have that span, it is the last in the list;
+/// `parse` lists a part behind what it is part of. The search looks at each location once, takes no
+/// memory and cannot fail.
 ///
 /// ```
 /// if let Some(location) = declaration_at(info, 3, 11) {

@@ -1,4 +1,4 @@
-//! Where a fault stands, and the line and the column of an offset without a table of lines.
+//! Where a fault stands; and line and column of an offset, without a table of lines.
 
 ghost use Rattle.std.specs.Prelude.{◌≡◌, ◌≤◌, min, take, length};
 ghost use Rattle.protox_places.specs.Faults as places;
@@ -6,7 +6,7 @@ ghost use Rattle.protox_places.specs.Lines.{newlines, behind_last, line, column}
 
 use protox_fault::error::{ParseErrorKind, Span};
 
-/// Where a source ends: at its last newline, where it ends with one.
+/// The offset of a source's end; that of its last newline if the source ends with one.
 pub fn end_of(source: &str) -> usize
     ensures { result ≡ places.end_of source.now }
 {
@@ -16,8 +16,8 @@ pub fn end_of(source: &str) -> usize
     }
 }
 
-/// The place of a fault in its source, the first where it has two. For the end of the source it is
-/// empty, and stands at its last newline or at its end. None for a source that is too large.
+/// The span of a fault in its source, in bytes; the first if it has two. For the end of the source
+/// it is an empty span at `end_of`. None for a source that is too large.
 pub fn first_place(source: &str, fault: &ParseErrorKind) -> Option<Span>
     ensures { result ≡ places.first_place source.now fault.now }
 {
@@ -31,7 +31,7 @@ pub fn first_place(source: &str, fault: &ParseErrorKind) -> Option<Span>
     }
 }
 
-// How many newlines there are, and the offset behind the last of them, or 0.
+// How many newlines there are, and the offset behind the last one, or 0.
 fn count_lines(front: &[u8]) -> (usize, usize)
     ensures lines { result.0 ≡ newlines front.now }
     ensures start { result.1 ≡ behind_last 0 0 front.now }
@@ -50,7 +50,7 @@ fn count_lines(front: &[u8]) -> (usize, usize)
     (lines, start)
 }
 
-// The bytes before an offset; all where there are fewer.
+// The bytes before an offset, or all if there are fewer.
 fn front_of(source: &[u8], offset: usize) -> &[u8]
     ensures value { result.now ≡ take offset source.now }
     ensures size { length result.now ≡ min offset (length source.now) }
@@ -62,9 +62,9 @@ fn front_of(source: &[u8], offset: usize) -> &[u8]
     }
 }
 
-/// Line and column of a byte offset, both from 0, columns in bytes. Of an offset behind the source
-/// they are those of its end. It reads the source up to there, and takes no memory: for many
-/// offsets of one source a `LineResolver` is faster.
+/// Line and column of a byte offset, both from 0; columns count bytes. An offset behind the source
+/// counts as its end. It reads the source up to the offset and takes no memory. For many offsets of
+/// one source a `LineResolver` is faster.
 pub fn line_column(source: &str, offset: usize) -> (usize, usize)
     ensures line { result.0 ≡ line source.now (min offset (length source.now)) }
     ensures column { result.1 ≡ column source.now (min offset (length source.now)) }

@@ -1,4 +1,4 @@
-//! Finding locations: those with a path, and the one around a line and a column.
+//! The search for locations by path.
 
 ghost use Rattle.std.specs.Prelude.{◌≡◌, ◌<◌, ◌≤◌, None, length, slice_get};
 ghost use Rattle.std.specs.List.{AllWithin};
@@ -34,15 +34,14 @@ fn count_up_to(locations: &[Location], path: &[i32]) -> usize
     locations.partition_point(|location| location.path.as_slice().cmp(&path).is_le())
 }
 
-/// The indices of the locations with this path, in `info.location`. Where none has it, the range is
-/// empty, and stands where such a location would stand.
+/// The indices in `info.location` of the locations with this path. The range is empty if there is
+/// none; it then stands where such a location would.
 ///
-/// It needs the locations sorted by path: number by number, and a path before those that begin with
-/// it. Those that `parse` answers are sorted so, and so is an empty list. It searches by halves,
-/// takes no memory, and has no error.
+/// The locations must be sorted by path: number by number, and a path before those that begin with
+/// it. What `parse` answers is sorted so. The search takes no memory and cannot fail.
 ///
-/// The field numbers of descriptor.proto make a path. `[4, 0, 2, 1, 1]` is that of the name (1) of
-/// the field (2) with index 1 in the message (4) with index 0:
+/// A path is made of field numbers of descriptor.proto and of indices. `[4, 0, 2, 1, 1]` is the
+/// name (1) of the field (2) with index 1 in the message (4) with index 0:
 ///
 /// ```
 /// if let Some(info) = &file.source_code_info {
@@ -55,9 +54,9 @@ pub fn locate(info: &SourceCodeInfo, path: &[i32]) -> Range<usize>
     requires { AreByPath info.now.location }
     ensures start { result.start ≤ result.end }
     ensures end { result.end ≤ length info.now.location }
-    // An index lies in the range exactly if the location there has the path.
+    // An index lies in the range exactly if its location has the path.
     ensures found { AreThoseAt info.now.location path.now result.start result.end }
-    // All paths in front of the range are smaller, and all behind it greater.
+    // Paths before the range are smaller, and those behind it are greater.
     ensures before { AllWithin (λ l. ComesBefore l.path path.now)
         info.now.location 0 result.start }
     ensures behind { AllWithin (λ l. ComesBefore path.now l.path)
@@ -69,7 +68,7 @@ pub fn locate(info: &SourceCodeInfo, path: &[i32]) -> Range<usize>
     start..end
 }
 
-// The first of the locations between two indices.
+// The first of the locations from `start` to before `end`.
 fn front(info: &SourceCodeInfo, start: usize, end: usize) -> Option<&Location>
     ensures some { start < end → option_copied result ≡ slice_get info.now.location start }
     ensures none { (start < end → ⊥) → option_copied result ≡ None }
@@ -81,7 +80,7 @@ fn front(info: &SourceCodeInfo, start: usize, end: usize) -> Option<&Location>
     }
 }
 
-// The comments of a location; none where there is no location.
+// The comments of a location; none if there is no location.
 fn comments_of(location: Option<&Location>) -> LocationComments<'_>
     ensures leading { option_copied result.leading ≡ leading_of (option_copied location.entry) }
     ensures trailing { option_copied result.trailing ≡ trailing_of (option_copied location.entry) }
@@ -101,7 +100,7 @@ fn comments_of(location: Option<&Location>) -> LocationComments<'_>
     }
 }
 
-/// The first location with this path, or None where none has it. It needs what `locate` needs.
+/// The first location with this path, or None. The locations must be sorted as `locate` needs them.
 ///
 /// ```
 /// // The comment on the first field of the first message.
@@ -115,19 +114,19 @@ pub fn location<'a>(info: &'a SourceCodeInfo, path: &[i32]) -> Option<&'a Locati
     front(info, found.start, found.end)
 }
 
-/// The comments of a location, each as `SourceCodeInfo.Location` has it.
+/// The comments of a location, with the names that `SourceCodeInfo.Location` uses.
 #[derive(Clone, Copy, Debug)]
 pub struct LocationComments<'a> {
-    /// The comment that leads the declaration.
+    /// The comment right before the declaration.
     pub leading: Option<&'a Text>,
-    /// The comment that trails the declaration.
+    /// The comment right behind the declaration.
     pub trailing: Option<&'a Text>,
-    /// The comments that stand apart before the declaration, in order.
+    /// The comments further before the declaration, in order.
     pub leading_detached: &'a [Text],
 }
 
-/// The comments of the first location with this path; none where no location has it. It needs what
-/// `locate` needs.
+/// The comments of the first location with this path; none if there is no such location. The
+/// locations must be sorted as `locate` needs them.
 ///
 /// ```
 /// if let Some(text) = comments(info, &[4, 0]).leading {

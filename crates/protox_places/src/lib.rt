@@ -1,4 +1,4 @@
-//! Lines and columns of a source, and finding locations: by path, and by line and column.
+//! Lines and columns of a source, and the search for locations by path or by line and column.
 #![tactic(auto)]
 
 mod at;

@@ -1,4 +1,4 @@
-//! Lines and columns.
+//! Lines and columns of byte offsets.
 
 ghost use Rattle.std.specs.Prelude.{◌≡◌, ◌≤◌, ◌-◌, true, ℕ, List, pos, length, IfOk};
 ghost use Rattle.protox_places.specs.Lines.{line, column, starts, starts as starts_in, span_numbers, numbers_at, count_le, last_le, Rises, Found};
@@ -9,7 +9,8 @@ use protox_fault::error::Span;
 use std::alloc::{AllocError, Global};
 use std::marker::Model;
 
-/// The lines of a source. Contracts see the offsets behind its newlines.
+/// The table of lines of a source, for many look-ups. Contracts see the offsets behind its
+/// newlines.
 #[derive(Drop)]
 pub struct LineResolver {
     starts: Vec<usize>,
@@ -37,7 +38,7 @@ fn starts_of(alloc: Global, source: &[u8]) -> Result<Vec<usize>, AllocError>
     Ok(found)
 }
 
-// How many of the numbers are at most the offset, by binary search.
+// How many of the numbers are at most `offset`, by binary search.
 fn count_up_to(starts: &[usize], offset: usize) -> usize
     requires { Rises 0 starts.now }
     ensures found { Found starts.now offset result }
@@ -46,7 +47,7 @@ fn count_up_to(starts: &[usize], offset: usize) -> usize
     starts.partition_point(|start| *start <= offset)
 }
 
-// Whether that many of the numbers are at most the offset.
+// Whether exactly `count` of the numbers are at most `offset`.
 fn is_count(starts: &[usize], count: usize, offset: usize) -> bool
     requires { Rises 0 starts.now }
     ensures found { result ≡ true → Found starts.now offset count }
@@ -60,7 +61,7 @@ fn is_count(starts: &[usize], count: usize, offset: usize) -> bool
     begun && ended
 }
 
-// How many are, where the offset is likely to stand in the line `near` or in one of the next two.
+// The same count, found at once if the offset lies in the line `near` or in one of the next two.
 fn count_near(starts: &[usize], near: usize, offset: usize) -> usize
     requires { Rises 0 starts.now }
     ensures found { Found starts.now offset result }
@@ -74,7 +75,7 @@ fn count_near(starts: &[usize], near: usize, offset: usize) -> usize
     count_up_to(starts, offset)
 }
 
-// Line and column of an offset in that line.
+// Line and column of an offset in this line.
 fn place(starts: &[usize], line: usize, offset: usize) -> (i32, i32)
     requires rises { Rises 0 starts.now }
     requires found { Found starts.now offset line }
@@ -108,7 +109,8 @@ fn numbers_in(starts: &[usize], first: usize, last: usize, span: Span) -> Number
 }
 
 impl LineResolver {
-    /// The lines of `source`, or `AllocError`.
+    /// Builds the table of lines of `source`, which must be at most 2,147,483,647 bytes.
+    /// `AllocError` if memory runs out.
     pub fn new(alloc: Global, source: &str) -> Result<LineResolver, AllocError>
         requires { length source.now ≤ 2147483647 }
         ensures { IfOk result (λ lines. lines ≡ starts 0 source.now) }
@@ -117,7 +119,8 @@ impl LineResolver {
         Ok(LineResolver { starts })
     }
 
-    /// Line and column of a byte offset, both from 0, columns in bytes.
+    /// Line and column of a byte offset, both from 0; columns count bytes. The offset must be at
+    /// most 2,147,483,647.
     pub fn resolve(&self, offset: usize) -> (i32, i32)
         requires { offset ≤ 2147483647 }
         ensures line { (source : List ℕ) → self.now ≡ starts 0 source → result.0 ≡ pos (line source offset) }
@@ -129,7 +132,8 @@ impl LineResolver {
         place(&self.starts, line, offset)
     }
 
-    /// The numbers of the span, as `resolve_span` answers them. They take no memory.
+    /// Line and column of a span's start and end, as `resolve_span` answers them, without memory.
+    /// The span's offsets must be at most 2,147,483,647.
     pub fn numbers(&self, span: Span) -> Numbers
         requires start { span.start ≤ 2147483647 }
         requires end { span.end ≤ 2147483647 }
@@ -141,8 +145,8 @@ impl LineResolver {
         numbers_in(&self.starts, first, last, span)
     }
 
-    /// The same numbers as `numbers`, found faster where the span is likely to start in the line `near`
-    /// or in one of the next two. It leaves in `near` the line in which the span starts.
+    /// The same as `numbers`, faster if the span starts in the line `near` or in one of the next
+    /// two. Sets `near` to the line in which the span starts. Offsets as for `numbers`.
     pub fn numbers_near(&self, near: &mut usize, span: Span) -> Numbers
         requires start { span.start ≤ 2147483647 }
         requires end { span.end ≤ 2147483647 }
@@ -154,8 +158,8 @@ impl LineResolver {
         numbers_in(&self.starts, first, last, span)
     }
 
-    /// Line and column of the span's start and then of its end, the end's line only where it is
-    /// another. Or `AllocError`.
+    /// Line and column of the span's start, then those of its end. Three numbers if both are in one
+    /// line, four otherwise. `AllocError` if memory runs out.
     pub fn resolve_span(&self, alloc: Global, span: Span) -> Result<Vec<i32>, AllocError>
         requires start { span.start ≤ 2147483647 }
         requires end { span.end ≤ 2147483647 }

@@ -8,20 +8,21 @@ use Rattle.protox_lexeme.specs.Lexemes.{Lexeme}
 use Rattle.protox_lexeme.specs.Shapes.{Shape, LineComment, BlockComment}
 use Rattle.protox_remarks.specs.declared.Remark.{Remark}
 
--- the place and the text of a comment that is such a lexeme; none of another lexeme
+-- The place and the text of a lexeme that is a comment. Nothing for another lexeme.
 abbrev pub remark_of : ℕ → ℕ → Shape → List (Span × List ℕ)
 remark_of start stop (LineComment text) = (span_from start stop, text) ∷ []
 remark_of start stop (BlockComment text) = (span_from start stop, text) ∷ []
 remark_of start stop _ = []
 
--- the comments among the lexemes, in their order
+-- All comments among the lexemes, in order.
 abbrev pub remarks_of : List Lexeme → List (Span × List ℕ)
 remarks_of [] = []
 remarks_of (x ∷ xs) = remark_of x.start x.stop x.shape ++ remarks_of xs
 
--- a text at a place
+-- A text and its place.
 abbrev pub placed : ℕ → ℕ → CowStr Global → Span × List ℕ
 placed start stop text = (span_from start stop, cow_str_bytes text)
 
+-- A remark as contracts see it: its place and its text.
 abbrev pub seen : Remark → Span × List ℕ
 seen remark = (remark.span, cow_str_bytes remark.text)

@@ -16,13 +16,14 @@ use std::borrow::CowStr;
 /// A comment of a source.
 #[derive(Drop)]
 pub struct Remark<'a> {
-    /// Its place, in bytes: from its first mark to its end, that of a line with the newline.
+    /// Its place, in byte offsets: from its `//`, `#` or `/*` to its end. The newline at the end of
+    /// a line comment belongs to it, and so do blanks after a block comment.
     pub span: Span,
-    /// Its text without the marks, as a `Token` of a comment has it.
+    /// Its text without these marks, as the `Token` of the comment has it.
     pub text: CowStr<'a>,
 }
 
-// The text of a comment; none of another token.
+// The text of a comment. None for another token.
 fn text_of(token: Token<'_>) -> Option<CowStr<'_>>
     ensures { (start stop : ℕ) → remark_of start stop (shape_of token.entry) ≡ map (placed start stop) (option_to_list result) }
 {
@@ -50,8 +51,8 @@ fn next_remark<'a>(lexer: &mut Lexer<'a>) -> Result<Option<Remark<'a>>, AllocErr
     Ok(None)
 }
 
-/// The comments of a source in their order, or `AllocError`. A comment is one wherever it stands,
-/// also between the braces of an aggregate, and also where the source has faults.
+/// All comments of a source in order, or `AllocError`. Comments in aggregates and in sources with
+/// faults are among them.
 ///
 /// ```
 /// for remark in &remarks(alloc, source)? {

@@ -1,4 +1,4 @@
--- Texts that are added one behind the other.
+-- Texts that are added one after another.
 use Rattle.std.proofs.Common.{ℕ, ◌≡◌, List, ◌++◌}
 use Rattle.std.proofs.lemmas.List.{append_assoc}
 

@@ -1,30 +1,32 @@
--- Which part of a source's line is shown with a fault.
+-- Which part of a line of the source is shown with a fault.
 use Rattle.std.specs.Prelude.{ℕ, ◌≡◌, ◌≢◌, ◌+◌, ◌-◌, ◌<◌, ◌≤◌, ◌==◌, ◌&&◌, ◌||◌, not, nat_lt, max, if◌then◌else◌, Bool, false, List, length, slice_index, slice_range}
 use Rattle.std.specs.Str.{IsCharBoundary}
 use Rattle.protox_fault.specs.Faults.{Span}
 use Rattle.protox_report.specs.declared.excerpt.Excerpt.{Excerpt}
 
--- A line ends at this byte: with a newline, or with a carriage return before one.
+-- A line ends at this byte: it is a newline, or a carriage return before one.
 abbrev pub ends_line : List ℕ → ℕ → Bool
 ends_line source at = (slice_index source at == 10) || ((slice_index source at == 13) && (slice_index source (at + 1) == 10))
 
--- A line begins at this byte: the first of the source, or one behind a newline.
+-- A line begins at this byte: the first of the source, or one right behind a newline.
 abbrev pub begins_line : List ℕ → ℕ → Bool
 begins_line source at = (at == 0) || (slice_index source (at - 1) == 10)
 
--- From here on the line may be shown up to `start`: a character begins here, no newline stands between, and it is at most 120 bytes.
+-- The line may be shown from `from` to `start`: `from` begins a character, no newline stands
+-- between, and these are at most 120 bytes.
 pub record IsBefore (source : List ℕ) (start from : ℕ) : Type 0 where
   pub at_character : IsCharBoundary source from
   pub before : from ≤ start
   pub near : start ≤ from + 120
   pub one_line : (k : ℕ) → from ≤ k → k < start → slice_index source k ≢ 10
 
--- It is the first such place: as much as may be is shown.
+-- It is the first such place, so that as much as allowed is shown.
 pub record IsFirst (source : List ℕ) (start from : ℕ) : Type 0 where
   pub may : IsBefore source start from
   pub first : (other : ℕ) → IsBefore source start other → from ≤ other
 
--- Up to here the line may be shown from `start` on: a character begins here, the line doesn't end before, it is at most 120 bytes, and not past `end`.
+-- The line may be shown from `start` to `to`: `to` begins a character, the line doesn't end
+-- between, these are at most 120 bytes, and `to` isn't past `end`.
 pub record IsBehind (source : List ℕ) (start end to : ℕ) : Type 0 where
   pub at_character : IsCharBoundary source to
   pub behind : start ≤ to
@@ -37,14 +39,15 @@ pub record IsLast (source : List ℕ) (start end to : ℕ) : Type 0 where
   pub may : IsBehind source start end to
   pub last : (other : ℕ) → IsBehind source start end other → other ≤ to
 
--- The last character that begins at `at` or before it begins at `place`.
+-- `place` begins the last character that begins at `at` or before it.
 pub record IsFloor (source : List ℕ) (at place : ℕ) : Type 0 where
   pub at_character : IsCharBoundary source place
   pub before : place ≤ at
   pub last : (other : ℕ) → other ≤ at → IsCharBoundary source other → other ≤ place
 
--- What is shown of the line in which a span starts: the parts of it before the span, within it and behind it, each as long as may be, and whether more
--- of the line stands before and behind. Where more of the span was left out, nothing is shown behind it.
+-- What is shown of the line in which a span starts: the parts before, in and behind the span, each
+-- as long as allowed, and whether the line has more before or behind. If the span is cut, nothing
+-- behind it is shown.
 pub record IsExcerpt (source : List ℕ) (span : Span) (e : Excerpt) : Type 0 where
   pub from : ℕ
   pub start : ℕ

@@ -1,4 +1,4 @@
-//! Which part of a source's line is shown with a fault.
+//! Which part of a line of the source is shown with a fault.
 
 ghost use Rattle.std.specs.Prelude.{◌≡◌, ◌≢◌, ◌-◌, ◌<◌, ◌≤◌, ◌&&◌, not, nat_lt, if◌then◌else◌, ℕ, true, false, length, slice_index};
 ghost use Rattle.std.specs.Str.{IsCharBoundary};
@@ -6,10 +6,10 @@ ghost use Rattle.protox_report.specs.Excerpts.{begins_line, ends_line, IsExcerpt
 
 use protox_fault::error::Span;
 
-/// At most so many bytes of a line are shown before a span, within it and behind it.
+/// How many bytes of a line are shown at most before a span, in it and behind it.
 pub const SHOWN: usize = 120;
 
-// Whether a line ends at a byte: with a newline, or with a carriage return before one.
+// Whether a line ends at this byte: it is a newline, or a carriage return before one.
 fn ends_line_at(bytes: &[u8], at: usize) -> bool
     requires { at ≤ length bytes.now }
     ensures { result ≡ ends_line bytes.now at }
@@ -21,7 +21,7 @@ fn ends_line_at(bytes: &[u8], at: usize) -> bool
     }
 }
 
-// Whether a line begins at a byte: the first of the source, or one behind a newline.
+// Whether a line begins at this byte: the first of the source, or one right behind a newline.
 fn begins_line_at(bytes: &[u8], at: usize) -> bool
     requires { at ≤ length bytes.now }
     ensures { result ≡ begins_line bytes.now at }
@@ -29,7 +29,7 @@ fn begins_line_at(bytes: &[u8], at: usize) -> bool
     at == 0 || bytes[at - 1] == b'\n'
 }
 
-// Behind the last newline before `start`, or `least` where none stands between.
+// The offset behind the last newline before `start`; `least` if there is none from there on.
 fn line_start(bytes: &[u8], least: usize, start: usize) -> usize
     requires least { least ≤ start }
     requires start { start ≤ length bytes.now }
@@ -48,7 +48,7 @@ fn line_start(bytes: &[u8], least: usize, start: usize) -> usize
     at
 }
 
-// Where the line ends behind `start`, or `most` where that comes first.
+// The offset where the line ends at or behind `start`; `most` if that comes first.
 fn line_end(bytes: &[u8], start: usize, most: usize) -> usize
     requires start { start ≤ most }
     requires most { most ≤ length bytes.now }
@@ -65,7 +65,7 @@ fn line_end(bytes: &[u8], start: usize, most: usize) -> usize
     most
 }
 
-// From where a line is shown up to `start`.
+// From where the line is shown before `start`.
 #[tactic(auto, using(crate::proofs::Floors::first_is))]
 fn shown_from(source: &str, start: usize) -> usize
     requires { IsCharBoundary source.now start }
@@ -75,7 +75,7 @@ fn shown_from(source: &str, start: usize) -> usize
     source.ceil_char_boundary(line_start(source.as_bytes(), least, start))
 }
 
-// How far a line is shown from `start` on, at most to `end`.
+// Up to where the line is shown from `start` on; not past `end`.
 #[tactic(auto, using(crate::proofs::Floors::last_is))]
 fn shown_to(source: &str, start: usize, end: usize) -> usize
     requires start { IsCharBoundary source.now start }
@@ -87,29 +87,29 @@ fn shown_to(source: &str, start: usize, end: usize) -> usize
     source.floor_char_boundary(line_end(source.as_bytes(), start, most))
 }
 
-/// What is shown of the line in which a span starts.
+/// What is shown of the line in which a span starts. The parts join on.
 #[derive(Clone, Copy)]
 pub struct Excerpt<'a> {
-    /// What stands before the span.
+    /// the part before the span
     pub before: &'a str,
-    /// What the span covers.
+    /// the part in the span
     pub marked: &'a str,
-    /// What stands behind the span.
+    /// the part behind the span
     pub behind: &'a str,
-    /// Whether more of the line stands before what is shown.
+    /// Whether the line has more before these parts.
     pub cut_before: bool,
-    /// Whether more of the line stands behind what is shown.
+    /// Whether the line has more behind these parts.
     pub cut_behind: bool,
 }
 
-// How far the rest of a line may be shown: not at all where the span goes on past `end`.
+// How far the rest of the line may be shown: not at all if the span is cut at `end`.
 fn limit_behind(end: usize, reach: usize, len: usize) -> usize
     ensures { result ≡ (if nat_lt end reach then end else len) }
 {
     if end < reach { end } else { len }
 }
 
-// Whether more of a line stands from `to` on.
+// Whether the line has more from `to` on.
 fn is_cut_at(bytes: &[u8], to: usize) -> bool
     requires { to ≤ length bytes.now }
     ensures { result ≡ (nat_lt to (length bytes.now) && not (ends_line bytes.now to)) }

@@ -1,25 +1,25 @@
-//! Colours.
+//! Colours of a report.
 
-/// What is written before a part of a report, and behind it.
+/// What is written before and behind the parts of a report that have colour.
 #[derive(Clone, Copy)]
 pub struct Paint {
-    /// Before the place of a fault.
+    /// written before the place of a fault
     pub place: &'static str,
-    /// Before marks and their label.
+    /// written before the marks and their label
     pub mark: &'static str,
-    /// Behind each.
+    /// written behind each of them
     pub end: &'static str,
 }
 
 impl Paint {
-    /// No colour: nothing is written.
+    /// no colours
     pub const NONE: Paint = Paint {
         place: "",
         mark: "",
         end: "",
     };
 
-    /// The colours of a terminal: places in bold, marks in red.
+    /// the colours of a terminal: places in bold, marks in red
     pub const TERMINAL: Paint = Paint {
         place: "\x1b[1m",
         mark: "\x1b[1;31m",

@@ -1,4 +1,4 @@
-//! The report of a fault.
+//! The report of a fault as text.
 
 ghost use Rattle.std.specs.Prelude.{◌≡◌, ◌≤◌, ◌+◌, ◌++◌, min, ℕ, List, IfOk, OnOk, codes, length, replicate};
 ghost use Rattle.std.specs.String.{string_bytes};
@@ -19,7 +19,7 @@ use std::alloc::{AllocError, Global};
 /// The least width of the column of line numbers.
 const WIDTH: usize = 5;
 
-/// A source whose faults are reported.
+/// A source with its name and its lines, to report faults of.
 #[derive(Drop)]
 pub struct Source<'a> {
     name: &'a str,
@@ -30,8 +30,9 @@ pub struct Source<'a> {
     ghost resolves: { lines ≡ starts 0 text.now },
 }
 
-/// The offset at which a fault is reported: its place, the second where it has two. For the end of
-/// the source that of its last newline, or of its end; for the whole source 0.
+/// The offset at which a fault is reported: the start of its span; of the second if it has two. For
+/// an unexpected end of the source it is the offset of the last newline if the source ends with
+/// one, otherwise the end. For a fault of the whole source it is 0.
 pub fn place_of(source: &str, fault: &ParseErrorKind) -> usize
     ensures { result ≡ place_in source.now fault.now }
 {
@@ -45,7 +46,7 @@ pub fn place_of(source: &str, fault: &ParseErrorKind) -> usize
     }
 }
 
-// Whether a fault has a place in the source: not where it is of the whole source.
+// Whether a fault has a place in the source: each but that of the whole source.
 fn is_placed(fault: &ParseErrorKind) -> bool
     ensures { result ≡ has_place fault.now }
 {
@@ -55,7 +56,7 @@ fn is_placed(fault: &ParseErrorKind) -> bool
     }
 }
 
-// The place of a fault, the first where it has two.
+// The span of a fault; the first if it has two.
 fn first_span(source: &str, fault: &ParseErrorKind) -> Span
     ensures { result ≡ first_place source.now fault.now }
 {
@@ -69,7 +70,7 @@ fn first_span(source: &str, fault: &ParseErrorKind) -> Span
     }
 }
 
-// The label at that place, or the empty text.
+// The label at that span, or the empty text.
 fn label_at(fault: &ParseErrorKind) -> &'static str
     ensures { result.now ≡ label_text fault.now }
 {
@@ -86,7 +87,7 @@ fn push_place(out: &mut String, line: u32, column: u32) -> Result<(), AllocError
     write!(out, ":{line}:{column}:")
 }
 
-// A number, at the right of five columns.
+// Adds a number, to the right in five columns.
 fn push_number(out: &mut String, number: &str) -> Result<(), AllocError>
     ensures { OnOk result (string_bytes out.new ≡ string_bytes out.old ++ numbered number.now) }
 {
@@ -94,28 +95,28 @@ fn push_number(out: &mut String, number: &str) -> Result<(), AllocError>
     out.push_str(number)
 }
 
-// Blanks below a number.
+// Adds the blanks below a number.
 fn push_below(out: &mut String, number: &str) -> Result<(), AllocError>
     ensures { OnOk result (string_bytes out.new ≡ string_bytes out.old ++ below number.now) }
 {
     push_times(out, b' ', WIDTH.max(number.len()))
 }
 
-// What stands for a part that is left out, if one is.
+// Adds dots for a part that is left out, if one is.
 fn push_dots(out: &mut String, cut: bool) -> Result<(), AllocError>
     ensures { OnOk result (string_bytes out.new ≡ string_bytes out.old ++ dots cut) }
 {
     if cut { out.push_str("...") } else { Ok(()) }
 }
 
-// Blanks below that.
+// Adds the blanks below the dots.
 fn push_below_dots(out: &mut String, cut: bool) -> Result<(), AllocError>
     ensures { OnOk result (string_bytes out.new ≡ string_bytes out.old ++ below_dots cut) }
 {
     if cut { out.push_str("   ") } else { Ok(()) }
 }
 
-// The line in which a span starts, or what is shown of it, behind its number.
+// Adds the line of the source that is shown, with its number.
 fn push_line(
     alloc: Global,
     out: &mut String,
@@ -135,7 +136,7 @@ fn push_line(
     Ok(())
 }
 
-// `^` under each column of a text, one where it is empty.
+// Adds `^` under each column of a text; one `^` if the text is empty.
 fn push_carets(alloc: Global, out: &mut String, text: &str) -> Result<(), AllocError>
     ensures { OnOk result (string_bytes out.new ≡ string_bytes out.old ++ carets text.now) }
 {
@@ -145,7 +146,7 @@ fn push_carets(alloc: Global, out: &mut String, text: &str) -> Result<(), AllocE
     push_under(alloc, out, text, b'^')
 }
 
-// A label behind a blank, if there is one.
+// Adds a label after a blank, if there is one.
 fn push_label(out: &mut String, label: &str) -> Result<(), AllocError>
     ensures { OnOk result (string_bytes out.new ≡ string_bytes out.old ++ behind_blank label.now) }
 {
@@ -156,7 +157,7 @@ fn push_label(out: &mut String, label: &str) -> Result<(), AllocError>
     out.push_str(label)
 }
 
-// The text of a fault, as it is shown.
+// Adds the text of a fault as it is shown.
 fn push_text(alloc: Global, out: &mut String, fault: &ParseErrorKind) -> Result<(), AllocError>
     ensures { OnOk result (string_bytes out.new ≡ string_bytes out.old ++ shown (text_of fault.now)) }
 {
@@ -174,7 +175,7 @@ fn help_at(alloc: Global, fault: &ParseErrorKind) -> Result<String, AllocError>
     }
 }
 
-// The line of a help.
+// Adds the line of a help.
 fn push_help_line(alloc: Global, out: &mut String, help: &str) -> Result<(), AllocError>
     ensures { OnOk result (string_bytes out.new ≡ string_bytes out.old ++ help_line help.now) }
 {
@@ -185,7 +186,7 @@ fn push_help_line(alloc: Global, out: &mut String, help: &str) -> Result<(), All
     Ok(())
 }
 
-// The same, if there is any help.
+// Adds the line of a help, if there is any.
 fn push_help(alloc: Global, out: &mut String, help: &str) -> Result<(), AllocError>
     ensures { OnOk result (string_bytes out.new ≡ string_bytes out.old ++ help_if help.now) }
 {
@@ -195,7 +196,7 @@ fn push_help(alloc: Global, out: &mut String, help: &str) -> Result<(), AllocErr
     push_help_line(alloc, out, help)
 }
 
-// The line of the help of a fault, if there is any.
+// Adds the line of the help of a fault, if it has any.
 fn push_help_of(alloc: Global, out: &mut String, fault: &ParseErrorKind) -> Result<(), AllocError>
     ensures { OnOk result (string_bytes out.new ≡ string_bytes out.old ++ help_if (help_text fault.now)) }
 {
@@ -204,7 +205,7 @@ fn push_help_of(alloc: Global, out: &mut String, fault: &ParseErrorKind) -> Resu
 }
 
 impl<'a> Source<'a> {
-    /// A source under the name that the reports show, or `AllocError`.
+    /// A source with the name that reports show. `AllocError` if memory runs out.
     pub fn new(
         alloc: Global,
         name: &'a str,
@@ -231,7 +232,7 @@ impl<'a> Source<'a> {
         (line.unsigned_abs() + 1, column.unsigned_abs() + 1)
     }
 
-    // `:LINE:COLUMN:` of the place at which a fault is reported.
+    // Adds `:LINE:COLUMN:` of the place at which a fault is reported, both from 1.
     fn push_position(&self, out: &mut String, fault: &ParseErrorKind) -> Result<(), AllocError>
         ensures { OnOk result (string_bytes out.new ≡ string_bytes out.old ++ position_text self.now.text.now fault.now) }
     {
@@ -239,7 +240,7 @@ impl<'a> Source<'a> {
         push_place(out, line, column)
     }
 
-    // `FILE:LINE:COLUMN: text`
+    // Adds `FILE:LINE:COLUMN: text`.
     fn push_title(
         &self,
         alloc: Global,
@@ -258,7 +259,7 @@ impl<'a> Source<'a> {
         Ok(())
     }
 
-    // Marks under what the span covers, at least one, and the label.
+    // Adds `^` under the span, at least one, and the label.
     fn push_marks(
         &self,
         alloc: Global,
@@ -281,7 +282,7 @@ impl<'a> Source<'a> {
         Ok(())
     }
 
-    // Both lines of an excerpt.
+    // Adds both lines of an excerpt.
     fn push_lines(
         &self,
         alloc: Global,
@@ -305,7 +306,7 @@ impl<'a> Source<'a> {
         format!(in alloc; "{line}")
     }
 
-    // The line in which a span starts, and the marks under it.
+    // Adds the line in which a span starts, and the marks under it.
     fn push_excerpt(
         &self,
         alloc: Global,
@@ -321,7 +322,8 @@ impl<'a> Source<'a> {
         Ok(())
     }
 
-    // The excerpts of a fault: two where it has two places, none where it is of the whole source.
+    // Adds the excerpts of a fault: one for each of its places, none for a fault of the whole
+    // source.
     fn push_excerpts(
         &self,
         alloc: Global,
@@ -340,7 +342,8 @@ impl<'a> Source<'a> {
         Ok(())
     }
 
-    /// Adds the report of a fault: its title, its excerpts and its help, each on lines of their own.
+    /// Adds the report of a fault to `out`: its title, its excerpts and its help, each on its own
+    /// lines. `AllocError` if memory runs out.
     pub fn push_fault(
         &self,
         alloc: Global,

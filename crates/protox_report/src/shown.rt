@@ -1,4 +1,4 @@
-//! How the characters of a source are shown: on one line, and with none that a terminal obeys.
+//! How a text is shown: on one line, without characters that a terminal obeys.
 
 ghost use Rattle.std.specs.Prelude.{◌≡◌, ◌<◌, ◌++◌, OnOk, IfOk, chars, replicate};
 ghost use Rattle.std.specs.List.{flat_map};
@@ -8,7 +8,7 @@ ghost use Rattle.protox_report.specs.Shown.{shown, shown_character, in_place, ow
 use std::alloc::{AllocError, Global};
 use unicode_width::UnicodeWidthChar;
 
-// The columns of a character that is shown as itself; None of one that takes none.
+// The columns of a character that is shown as itself; None if it takes none.
 fn columns_alone(c: char) -> Option<usize>
     ensures { result ≡ own_columns c }
 {
@@ -18,8 +18,8 @@ fn columns_alone(c: char) -> Option<usize>
     }
 }
 
-// What stands for a character that is not shown as itself: blanks for a tab, and for each other its
-// number.
+// What stands for a character that isn't shown as itself: four blanks for a tab, the number of any
+// other.
 fn stand_in(alloc: Global, c: char) -> Result<String, AllocError>
     ensures { IfOk result (λ text. string_bytes text ≡ in_place c) }
 {
@@ -40,7 +40,7 @@ fn push_character(alloc: Global, out: &mut String, c: char) -> Result<(), AllocE
     out.push_str(text.as_str())
 }
 
-/// Adds a text as it is shown.
+/// Adds a text as it is shown, on one line and safe on a terminal.
 pub fn push_shown(alloc: Global, out: &mut String, text: &str) -> Result<(), AllocError>
     ensures { OnOk result (string_bytes out.new ≡ string_bytes out.old ++ shown text.now) }
 {
@@ -60,7 +60,7 @@ fn columns_of(alloc: Global, c: char) -> Result<usize, AllocError>
     Ok(text.len())
 }
 
-/// Adds an ASCII character so many times.
+/// Adds an ASCII character `count` times.
 pub fn push_times(out: &mut String, mark: u8, count: usize) -> Result<(), AllocError>
     requires { mark < 128 }
     ensures { OnOk result (string_bytes out.new ≡ string_bytes out.old ++ replicate count mark) }
@@ -71,7 +71,7 @@ pub fn push_times(out: &mut String, mark: u8, count: usize) -> Result<(), AllocE
     Ok(())
 }
 
-/// Adds a mark for each column that the text takes as it is shown.
+/// Adds `mark` once for each column that the text takes as it is shown.
 pub fn push_under(alloc: Global, out: &mut String, text: &str, mark: u8) -> Result<(), AllocError>
     requires { mark < 128 }
     ensures { OnOk result (string_bytes out.new ≡ string_bytes out.old ++ under mark text.now) }

@@ -2,7 +2,7 @@
 use Rattle.std.proofs.Common.{◌≡◌, ◌<◌, ◌≤◌, ◌+◌, ◌-◌, ℕ, zero, suc, Bool, true, false, List, [], ◌∷◌, drop, length, Option, Some, None, refl, sym, ap, subst, ◌∙◌, eqb, arith}
 use Rattle.std.proofs.lemmas.Bool.{ne_eqb}
 use Rattle.protox_comments.specs.declared.comments.GapComments.{GapComments}
-use Rattle.protox_comments.specs.Attributing.{attribution_of}
+use Rattle.protox_comments.specs.inner.Attributing.{attribution_of}
 use Rattle.std.specs.Prelude.{slice_get, slice_index_or, option_map, Result, Ok, Err, IfOk}
 use Rattle.protox_fault.specs.Faults.{Span}
 use Rattle.protox_lexeme.specs.Gaps.{may_lead, Attribution, attribution}
@@ -71,7 +71,7 @@ dropped xs zero = omega arith
 dropped [] (suc k) = omega arith
 dropped (x ∷ xs) (suc k) = let more = dropped xs k in let same : length xs - k ≡ length (x ∷ xs) - suc k = omega arith in more ∙ same
 
--- ---- the comments before one token and before another that may be led alike
+-- ---- the comments before one token, and before another that comments may lead alike
 
 pub led-alike : (gap : List Shape) (first : Bool) (a b : Option Shape) → may_lead a ≡ may_lead b → attribution gap first a ≡ attribution gap first b
 led-alike gap true a b e = rw e refl
@@ -95,7 +95,7 @@ led-alike (Str t ∷ gap) false a b e = refl
 led-alike (Mark t ∷ gap) false a b e = refl
 led-alike (Invalid ∷ gap) false a b e = refl
 
--- ---- what a row and the rows that are left say
+-- ---- what a row, and the rows that are left, stand for
 
 module _ (table : Table) where
   all : Rows Place
@@ -122,7 +122,7 @@ module _ (table : Table) where
 pub first-is : (x : Row Place) (xs ys : Rows Place) → x ∷ xs ≡ ys → IsFirst ys (Some x)
 first-is x xs ys e = subst (λ (zs : Rows Place). IsFirst zs (Some x)) e refl
 
--- the comments in front of the row before gap k, and those behind it
+-- The comments before the row in front of gap k, and those after it.
 module _ (table : Table) (k : ℕ) (some : 0 < k) (inside : k ≤ length (placed table)) where
   abbrev the_gap : ℕ → List Shape
   the_gap i = slice_index_or table.gaps i []
@@ -180,7 +180,7 @@ pub precede : {E : Type 0} (r : Result GapComments E) (a : Attribution) (texts :
 precede (Ok g) a texts text h d l = (ap (λ (b : Attribution). b.detached) h ∙ sym d, ap (λ (b : Attribution). b.leading) h ∙ sym l)
 precede (Err d) a texts text h e l = tt
 
--- past the last there is none
+-- After the last row there is none.
 pub none-there : {A : Type 0} (xs : List A) (k : ℕ) (d : A) → slice_get xs k ≡ None → slice_index_or xs k d ≡ d
 none-there [] zero d e = refl
 none-there [] (suc k) d e = refl

@@ -11,11 +11,11 @@ use Rattle.protox_grammar.proofs.Shows.{Shows, as_is, shows-eats}
 use Rattle.protox_grammar.proofs.Tests.{mark-class}
 use Rattle.protox_grammar.proofs.Forms.{mark-laws, seq-laws}
 use Rattle.protox_grammar.proofs.Parts as parts
-use Rattle.protox_rows.specs.Names as names
-pub use Rattle.protox_rows.specs.Names.{name_and_span}
-use Rattle.protox_rows.specs.Strings as runs
-pub use Rattle.protox_rows.specs.Strings.{joined}
-use Rattle.protox_rows.specs.Reads as reads
+use Rattle.protox_rows.specs.inner.Names as names
+pub use Rattle.protox_rows.specs.inner.Names.{name_and_span}
+use Rattle.protox_rows.specs.inner.Strings as runs
+pub use Rattle.protox_rows.specs.inner.Strings.{joined}
+use Rattle.protox_rows.specs.inner.Reads as reads
 
 -- some place
 abbrev pub here : Place

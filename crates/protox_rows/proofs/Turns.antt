@@ -11,9 +11,9 @@ use Rattle.protox_grammar.specs.Class.{Set, in_set}
 use Rattle.protox_grammar.specs.Told as told
 use Rattle.protox_grammar.specs.Told.{then_notes}
 use Rattle.protox_grammar.proofs.Telling.{star_notes, notes-turn, notes-done}
-use Rattle.protox_rows.specs.Notes.{AddsTo}
-use Rattle.protox_rows.specs.Outcome.{Fails}
-use Rattle.protox_rows.specs.Reads.{anything}
+use Rattle.protox_rows.specs.inner.Notes.{AddsTo}
+use Rattle.protox_rows.specs.inner.Outcome.{Fails}
+use Rattle.protox_rows.specs.inner.Reads.{anything}
 
 module _ {A B : Type 0} (add : B → A → B) (p : Shape → Bool) (a : Reader Place A) (eats : Consumes a) (total : Result (B × Rows Place) Refusal) where
   pub more : (b : B) (xs after : Rows Place) (x : A) → head_in p xs ≡ true → a xs ≡ Ok (x, after) → gathered add b (star p a xs) ≡ total → gathered add (add b x) (star p a after) ≡ total
@@ -30,7 +30,7 @@ module _ {A B : Type 0} (add : B → A → B) (p : Shape → Bool) (a : Reader P
 pub shorter : {A : Type 0} (a : Reader Place A) → Consumes a → (xs ys : Rows Place) (x : A) → a xs ≡ Ok (x, ys) → length ys < length xs
 shorter a eats xs ys x e = eats xs (x, ys) e
 
--- what fails first fails the rest
+-- A failure at first is a failure of the whole.
 pub lifted : {X Y : Type 0} (e : Refused) (read : Result X Refusal) (f : X → Result Y Refusal) → Fails e read → Fails e (read >>= f)
 lifted OutOfMemory read f h = tt
 lifted (At left expected) read f h = rw h refl
@@ -54,7 +54,7 @@ module _ {A : Type 0} (P : Set) (a : Reader Place A) (f : Rows Place → told.No
   abbrev all_notes : Rows Place → told.Notes
   all_notes = star_notes (in_set P) a f
 
-  -- what is left to be noted, in place of what was noted
+  -- what is still to be noted, in place of what was noted
   pub more-notes : (old before new all : told.Notes) (xs ys : Rows Place) (x : A) → head_in (in_set P) xs ≡ true → a xs ≡ Ok (x, ys)
       → new ≡ before ++ f xs → before ++ all_notes xs ≡ old ++ all → new ++ all_notes ys ≡ old ++ all
   more-notes old before new all xs ys x test read added so_far =

@@ -1,6 +1,2 @@
 pub mod Rows
-pub mod Names
-pub mod Strings
-pub mod Reads
-pub mod Outcome
-pub mod Notes
+pub mod inner

@@ -1,4 +1,4 @@
-//! Checks of strings: what is wrong is noted, and reading goes on.
+//! Checks of strings. A fault is noted, and reading goes on.
 
 ghost use Rattle.std.specs.Prelude.{◌≡◌, ◌++◌, OnOk};
 ghost use Rattle.protox_ast.specs.Checks.{is_text};
@@ -21,8 +21,8 @@ fn sees_invalid(rows: &Unread<'_, '_>) -> bool
     }
 }
 
-/// Notes a fault of the run of strings just read. It is dropped where the next token is invalid,
-/// which is reported alone.
+/// Notes a fault of the run of strings just read. It is dropped if the next token is invalid, since
+/// that is reported alone.
 pub fn add_run_fault(
     notes: &mut Vec<Note>,
     rows: &Unread<'_, '_>,
@@ -40,8 +40,8 @@ pub fn add_run_fault(
     Ok(())
 }
 
-/// Notes a fault of the node just read. It stands behind the faults of the next token, even if
-/// that is invalid.
+/// Notes a fault of the node just read. It comes after the faults of the next token, even if that
+/// is invalid.
 pub fn add_read_fault(
     notes: &mut Vec<Note>,
     rows: &Unread<'_, '_>,
@@ -65,7 +65,7 @@ fn is_text(bytes: &[u8]) -> bool
     }
 }
 
-/// Whether a string is text.
+/// Notes a fault if the string is not UTF-8.
 pub fn check_text(
     notes: &mut Vec<Note>,
     rows: &Unread<'_, '_>,
@@ -81,7 +81,7 @@ pub fn check_text(
     add_run_fault(notes, rows, ParseErrorKind::InvalidUtf8String { span })
 }
 
-/// Whether a text is an identifier.
+/// Notes a fault if the text is not an identifier.
 pub fn check_ident(
     notes: &mut Vec<Note>,
     rows: &Unread<'_, '_>,

@@ -1,4 +1,4 @@
-//! What comes next, by its class: a rule chooses by comparing two numbers.
+//! Tests of the next token by its class. A rule chooses by comparing two numbers.
 
 ghost use Rattle.std.specs.Prelude.{◌≡◌, nat_lt};
 ghost use Rattle.protox_grammar.specs.Class.{only, among, but, in_set};
@@ -16,7 +16,7 @@ pub use protox_lexeme::class::{
     WEAK,
 };
 
-/// Whether a token of this class comes next.
+/// Whether the next token has this class. False after the last token.
 pub fn sees(rows: &Unread<'_, '_>, wanted: u8) -> bool
     ensures { result ≡ head_in (in_set (only wanted)) rows.now }
 {
@@ -26,7 +26,7 @@ pub fn sees(rows: &Unread<'_, '_>, wanted: u8) -> bool
     }
 }
 
-/// Whether a token of another class comes next.
+/// Whether the next token has another class. False after the last token.
 pub fn sees_other(rows: &Unread<'_, '_>, barred: u8) -> bool
     ensures { result ≡ head_in (in_set (but barred)) rows.now }
 {
@@ -36,7 +36,7 @@ pub fn sees_other(rows: &Unread<'_, '_>, barred: u8) -> bool
     }
 }
 
-/// Whether a token of a class below this one comes next.
+/// Whether the next token has a class below this one. False after the last token.
 pub fn sees_below(rows: &Unread<'_, '_>, bound: u8) -> bool
     ensures { result ≡ head_in (in_set (λ k. nat_lt k bound)) rows.now }
 {
@@ -46,7 +46,7 @@ pub fn sees_below(rows: &Unread<'_, '_>, bound: u8) -> bool
     }
 }
 
-/// Whether a scalar type comes next.
+/// Whether the next token is a scalar type.
 pub fn sees_scalar(rows: &Unread<'_, '_>) -> bool
     ensures { result ≡ head_in (in_set scalar_set) rows.now }
 {
@@ -82,7 +82,7 @@ pub fn is_among(class: u8, classes: &[u8]) -> bool
     }
 }
 
-/// Whether a token of one of these classes comes next.
+/// Whether the next token has one of these classes. False after the last token.
 pub fn sees_any(rows: &Unread<'_, '_>, classes: &[u8]) -> bool
     ensures { result ≡ head_in (in_set (among classes.now)) rows.now }
 {

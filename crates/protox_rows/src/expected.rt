@@ -1,9 +1,9 @@
-//! What the grammar expects at a place, as a fault says it.
+//! What the grammar expects at a place, in the words of a fault.
 
 ghost use Rattle.std.specs.Prelude.{◌≡◌, false};
 ghost use Rattle.protox_ast.specs.Truth.{is_terminator};
 
-/// What may stand at a place.
+/// What may stand at a place. `text` gives the words for it.
 #[derive(Clone, Copy, PartialEq, Debug)]
 pub enum Expected {
     Syntax,
@@ -62,8 +62,8 @@ pub enum Expected {
 }
 
 impl Expected {
-    /// The text that stands behind `expected` in a fault. It is never
-    /// `string terminator` or `comment terminator`.
+    /// The words that a fault writes after `expected`. They are never `string terminator` or
+    /// `comment terminator`.
     pub fn text(self) -> &'static str
         ensures { is_terminator result.now ≡ false }
     {

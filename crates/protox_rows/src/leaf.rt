@@ -1,4 +1,4 @@
-//! Single rows.
+//! Reading single rows.
 
 ghost use Rattle.std.specs.Prelude.{◌≡◌, length};
 ghost use Rattle.protox_ast.specs.Ast.{join};
@@ -6,7 +6,7 @@ ghost use Rattle.protox_grammar.specs.Reader.{is_token, head_in, fixed};
 ghost use Rattle.protox_lexeme.specs.Shapes.{Ident, Mark};
 ghost use Rattle.protox_lex.specs.TableView.{shape_of_lent};
 ghost use Rattle.protox_lexeme.specs.Tokens.{shape_of};
-ghost use Rattle.protox_rows.specs.Outcome.{Gives};
+ghost use Rattle.protox_rows.specs.inner.Outcome.{Gives};
 
 use crate::expected::Expected;
 use crate::refused::Refused;
@@ -14,14 +14,14 @@ use crate::rows::{RowAt, Unread};
 use protox_lex::error::Span;
 use protox_lex::lex::Token;
 
-/// From the start of the one to the end of the other.
+/// The span from the start of one to the end of the other.
 pub fn join(start: &Span, end: &Span) -> Span
     ensures { result ≡ join start.now end.now }
 {
     start.start..end.end
 }
 
-/// The same span.
+/// A copy of the span.
 pub fn copied(span: &Span) -> Span
     ensures { result ≡ span.now }
 {
@@ -38,7 +38,7 @@ pub fn is_word(token: Result<&Token<'_>, ()>, word: &str) -> bool
     }
 }
 
-/// Whether the token is the mark of this byte.
+/// Whether the token is the mark with this byte.
 pub fn is_mark(token: Result<&Token<'_>, ()>, mark: u8) -> bool
     ensures { result ≡ is_token (Mark mark) (shape_of_lent token.entry) }
 {
@@ -72,7 +72,7 @@ fn is_mark_token(token: &Token<'_>, mark: u8) -> bool
     }
 }
 
-/// The first of these rows doesn't fit.
+/// The refusal of the first of these rows: it doesn't fit.
 pub fn refused(rows: &Unread<'_, '_>, expected: Expected) -> Refused
     ensures { result ≡ Refused.At (length rows.now) expected }
 {
@@ -82,7 +82,7 @@ pub fn refused(rows: &Unread<'_, '_>, expected: Expected) -> Refused
     }
 }
 
-/// Takes this word.
+/// Takes this word. Fails if another token comes next.
 #[tactic(auto, unfolding(protox_grammar::specs::Reader::fixed))]
 pub fn expect_word<'t, 'a>(
     rows: &mut Unread<'t, 'a>,
@@ -100,7 +100,7 @@ pub fn expect_word<'t, 'a>(
     }
 }
 
-/// Takes this mark.
+/// Takes this mark. Fails if another token comes next.
 #[tactic(auto, unfolding(protox_grammar::specs::Reader::fixed))]
 pub fn expect_mark<'t, 'a>(
     rows: &mut Unread<'t, 'a>,

@@ -1,4 +1,4 @@
-//! What every rule of the grammar is read with: rows, names, numbers and strings, notes of faults.
+//! What all rules of the grammar are read with: rows, names, numbers, strings, and notes of faults.
 #![tactic(auto)]
 
 pub mod checks;

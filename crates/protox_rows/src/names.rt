@@ -1,4 +1,5 @@
-//! Names, numbers, types and labels.
+//! Reading names, numbers, types and labels. Each rule of the grammar has a function that takes its
+//! rows.
 
 ghost use Rattle.std.specs.Prelude.{◌≡◌, ◌<◌, IfOk, length, option_map};
 ghost use Rattle.protox_ast.specs.Ast.{last_place, scalar, span_if_any};
@@ -9,8 +10,8 @@ ghost use Rattle.protox_grammar.specs.Reader.{fixed, mapped, optional};
 ghost use Rattle.protox_grammar.specs.Rules.{find_scalar, all_scalars};
 ghost use Rattle.protox_grammar.specs.Token as token;
 ghost use Rattle.protox_lexeme.specs.Shapes.{Mark};
-ghost use Rattle.protox_rows.specs.Outcome.{Gives};
-ghost use Rattle.protox_rows.specs.Names as rule;
+ghost use Rattle.protox_rows.specs.inner.Outcome.{Gives};
+ghost use Rattle.protox_rows.specs.inner.Names as rule;
 
 use crate::class::{DOT, MINUS, OPTIONAL, REQUIRED, sees, sees_scalar};
 use crate::expected::Expected;
@@ -24,7 +25,7 @@ use protox_lex::lex::Token;
 use std::alloc::Global;
 
 /// ident
-#[tactic(auto, unfolding(protox_grammar::specs::Reader::leaf, crate::specs::Names::ident))]
+#[tactic(auto, unfolding(protox_grammar::specs::Reader::leaf, crate::specs::inner::Names::ident))]
 pub fn ident(alloc: Global, rows: &mut Unread<'_, '_>, expected: Expected) -> Result<Ident, Refused>
     ensures { Gives (λ x. x) result rows.new ((rule.ident).code rows.old) }
 {
@@ -39,7 +40,7 @@ pub fn ident(alloc: Global, rows: &mut Unread<'_, '_>, expected: Expected) -> Re
     Err(refused(rows, expected))
 }
 
-#[tactic(auto, unfolding(crate::specs::Names::more_part))]
+#[tactic(auto, unfolding(crate::specs::inner::Names::more_part))]
 fn more_part(alloc: Global, rows: &mut Unread<'_, '_>) -> Result<Ident, Refused>
     ensures { Gives (λ x. x) result rows.new ((rule.more_part).code rows.old) }
 {
@@ -48,7 +49,7 @@ fn more_part(alloc: Global, rows: &mut Unread<'_, '_>) -> Result<Ident, Refused>
 }
 
 /// fullident = ident ("." ident)*
-#[tactic(auto, unfolding(crate::specs::Names::fullident))]
+#[tactic(auto, unfolding(crate::specs::inner::Names::fullident))]
 pub fn fullident(
     alloc: Global,
     rows: &mut Unread<'_, '_>,
@@ -68,7 +69,7 @@ pub fn fullident(
     Ok(parts)
 }
 
-// The place of the last part.
+// The span of the last part.
 fn last_part(first: &Span, parts: &[Ident]) -> Span
     ensures { result ≡ last_place (λ (x : ident_type.Ident). x.span) first.now parts.now }
 {
@@ -79,7 +80,7 @@ fn last_part(first: &Span, parts: &[Ident]) -> Span
     last
 }
 
-// From the dot or the first part to the last.
+// The span of a name: from its dot or first part to its last part.
 fn name_span(dot: &Option<Span>, parts: &[Ident]) -> Span
     ensures { result ≡ rule.name_span dot.now parts.now }
 {
@@ -105,7 +106,7 @@ fn dot_if_any(rows: &mut Unread<'_, '_>) -> Result<Option<Span>, Refused>
     Ok(None)
 }
 
-// Behind a dot only a name is left.
+// What is expected first in a name. After a dot it can only be an identifier.
 fn first_part(dot: &Option<Span>, expected: Expected) -> Expected {
     match dot {
         Some(_) => Expected::Ident,
@@ -114,7 +115,7 @@ fn first_part(dot: &Option<Span>, expected: Expected) -> Expected {
 }
 
 /// typename = "."? fullident
-#[tactic(auto, unfolding(crate::specs::Names::typename))]
+#[tactic(auto, unfolding(crate::specs::inner::Names::typename))]
 pub fn typename(
     alloc: Global,
     rows: &mut Unread<'_, '_>,
@@ -130,7 +131,7 @@ pub fn typename(
 }
 
 /// integer
-#[tactic(auto, unfolding(protox_grammar::specs::Reader::leaf, crate::specs::Names::integer))]
+#[tactic(auto, unfolding(protox_grammar::specs::Reader::leaf, crate::specs::inner::Names::integer))]
 pub fn integer(rows: &mut Unread<'_, '_>) -> Result<(u64, Span), Refused>
     ensures { Gives (λ x. (x.0, x.1)) result rows.new ((rule.integer).code rows.old) }
 {
@@ -144,7 +145,7 @@ pub fn integer(rows: &mut Unread<'_, '_>) -> Result<(u64, Span), Refused>
 }
 
 /// float
-#[tactic(auto, unfolding(protox_grammar::specs::Reader::leaf, crate::specs::Names::float))]
+#[tactic(auto, unfolding(protox_grammar::specs::Reader::leaf, crate::specs::inner::Names::float))]
 pub fn float(
     alloc: Global,
     rows: &mut Unread<'_, '_>,
@@ -175,7 +176,7 @@ pub fn minus_if_any(rows: &mut Unread<'_, '_>) -> Result<Option<Span>, Refused>
 }
 
 /// int = "-"? integer
-#[tactic(auto, unfolding(crate::specs::Names::int))]
+#[tactic(auto, unfolding(crate::specs::inner::Names::int))]
 pub fn int(rows: &mut Unread<'_, '_>) -> Result<Int, Refused>
     ensures { Gives (λ x. x) result rows.new ((rule.int).code rows.old) }
 {
@@ -192,7 +193,7 @@ pub fn int(rows: &mut Unread<'_, '_>) -> Result<Int, Refused>
     })
 }
 
-// The scalar type that the word names.
+// The scalar type with this word.
 fn scalar_type(word: &str) -> Option<Ty>
     ensures { result ≡ option_map scalar (find_scalar all_scalars word.now) }
 {
@@ -216,7 +217,7 @@ fn scalar_type(word: &str) -> Option<Ty>
     }
 }
 
-#[tactic(auto, unfolding(protox_grammar::specs::Reader::leaf, crate::specs::Names::scalar))]
+#[tactic(auto, unfolding(protox_grammar::specs::Reader::leaf, crate::specs::inner::Names::scalar))]
 fn scalar(rows: &mut Unread<'_, '_>) -> Result<(Ty, Span), Refused>
     ensures { Gives (λ x. (x.0, x.1)) result rows.new ((rule.scalar).code rows.old) }
 {
@@ -232,7 +233,7 @@ fn scalar(rows: &mut Unread<'_, '_>) -> Result<(Ty, Span), Refused>
 }
 
 /// type = one of the 15 scalar words | typename
-#[tactic(auto, unfolding(crate::specs::Names::field_type))]
+#[tactic(auto, unfolding(crate::specs::inner::Names::field_type))]
 pub fn field_type(
     alloc: Global,
     rows: &mut Unread<'_, '_>,
@@ -248,7 +249,7 @@ pub fn field_type(
 }
 
 /// label = "optional" | "required" | "repeated"
-#[tactic(auto, unfolding(crate::specs::Names::label))]
+#[tactic(auto, unfolding(crate::specs::inner::Names::label))]
 pub fn label(rows: &mut Unread<'_, '_>) -> Result<(FieldLabel, Span), Refused>
     ensures { Gives (λ x. x) result rows.new ((rule.label).code rows.old) }
 {

@@ -6,11 +6,14 @@ ghost use Rattle.protox_rows.specs.declared.refused.Refused.TheVariants.{OutOfMe
 use crate::expected::Expected;
 use std::alloc::{AllocError, AllocFailed};
 
-/// Why rows are not read: memory ran out, or the first of the `left` last ones doesn't fit or opens a body that is too deep.
+/// Why rows are not read.
 #[derive(Debug, Drop)]
 pub enum Refused {
+    /// Memory ran out.
     OutOfMemory,
+    /// The first of the last `left` rows doesn't fit. At 0 the rows end too soon.
     At { left: usize, expected: Expected },
+    /// The first of the last `left` rows opens a body that is too deep.
     TooDeep { left: usize },
 }
 

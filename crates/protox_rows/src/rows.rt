@@ -1,15 +1,15 @@
-//! Where a reader stands among the rows of a table.
+//! Positions among the rows of a table.
 
 ghost use Rattle.std.specs.Prelude.{◌≡◌, ◌==◌, ◌-◌, IfOk, [], drop, length, map, slice_index_or};
 ghost use Rattle.protox_ast.specs.Places.{placed};
 ghost use Rattle.protox_lexeme.specs.Gaps.{IsGap, attribution};
-ghost use Rattle.protox_comments.specs.Attributing.{attribution_of};
+ghost use Rattle.protox_comments.specs.inner.Attributing.{attribution_of};
 ghost use Rattle.protox_lex.specs.TableView.{shape_of_lent};
 ghost use Rattle.protox_lexeme.specs.TokenClass.{class};
 ghost use Rattle.protox_lexeme.specs.Tokens.{shape_of};
 ghost use Rattle.protox_rows.specs.Rows.{IsFirst, IsSplit, bare_row, shape_of_row};
 ghost use Rattle.protox_ast.specs.Ast.{comments, join};
-ghost use Rattle.protox_rows.specs.Reads.{declared};
+ghost use Rattle.protox_rows.specs.inner.Reads.{declared};
 
 use crate::class::INVALID;
 use crate::leaf::join;
@@ -21,7 +21,7 @@ use protox_lex::lex::{Token, TokenTable};
 use std::alloc::{AllocError, Global};
 use std::marker::Model;
 
-/// A row of a table, by the number of the gap behind it.
+/// A row of a table. It is held as the number of the gap after it.
 #[derive(Drop)]
 pub struct RowAt<'t, 'a> {
     table: &'t TokenTable<'a>,
@@ -40,7 +40,7 @@ impl<'t, 'a> Model for RowAt<'t, 'a> {
     ghost invariant = { IsRow };
 }
 
-/// The rows of a table that are not read yet.
+/// The rows of a table that have not been read.
 #[derive(Drop)]
 pub struct Unread<'t, 'a> {
     table: &'t TokenTable<'a>,
@@ -57,7 +57,7 @@ impl<'t, 'a> Model for Unread<'t, 'a> {
     ghost view = { rows_left };
 }
 
-// The comments of the gap before a row, or of the one behind the last.
+// The comments of a gap. `index` is the row after it, which may be after the last.
 fn comments_in(
     alloc: Global,
     table: &TokenTable<'_>,
@@ -75,7 +75,7 @@ fn comments_in(
     }
 }
 
-// The comments of the gap of that number. The first gap begins the file.
+// The comments of the gap with this number. `first` says that it begins the file.
 fn comments_at(
     alloc: Global,
     table: &TokenTable<'_>,
@@ -90,7 +90,7 @@ fn comments_at(
     }
 }
 
-// The token of a row. Where the table has none, it is invalid.
+// The token of a row. A row that the table doesn't have is invalid.
 fn token_in<'t, 'a>(table: &'t TokenTable<'a>, index: usize) -> Result<&'t Token<'a>, ()>
     ensures { shape_of_lent result ≡ (slice_index_or table.now.rows index bare_row).shape }
 {
@@ -100,7 +100,7 @@ fn token_in<'t, 'a>(table: &'t TokenTable<'a>, index: usize) -> Result<&'t Token
     }
 }
 
-// The class of a row's token. Where the table has no row, it is that of what is no token.
+// The class of a row's token. A row that the table doesn't have has the class of what is no token.
 #[inline(always)]
 fn class_in(table: &TokenTable<'_>, index: usize) -> u8
     ensures { result ≡ class (slice_index_or table.now.rows index bare_row).shape }
@@ -111,7 +111,7 @@ fn class_in(table: &TokenTable<'_>, index: usize) -> u8
     }
 }
 
-/// The span of a row. Where the table has none, it is empty.
+/// The span of a row. It is empty for a row that the table doesn't have.
 pub fn span_in(table: &TokenTable<'_>, index: usize) -> Span
     ensures { result ≡ (slice_index_or table.now.rows index bare_row).at }
 {
@@ -132,7 +132,7 @@ impl<'t, 'a> RowAt<'t, 'a> {
         }
     }
 
-    /// The row's token.
+    /// The token of the row.
     pub fn token(&self) -> Result<&'t Token<'a>, ()>
         ensures { shape_of_lent result ≡ self.now.shape }
     {
@@ -147,7 +147,7 @@ impl<'t, 'a> RowAt<'t, 'a> {
         class_in(self.table, self.behind - 1)
     }
 
-    /// The comments of the gap before it.
+    /// The comments before this row.
     fn before(&self, alloc: Global) -> Result<GapComments, AllocError>
         ensures { IfOk result (λ c. (c.detached ≡ self.now.at.detached) × (c.leading ≡ self.now.at.leading)) }
     {
@@ -162,7 +162,7 @@ impl<'t, 'a> RowAt<'t, 'a> {
         comments_at(alloc, self.table, self.behind, false)
     }
 
-    /// Its span.
+    /// The span of the row.
     pub fn span(&self) -> Span
         ensures { result ≡ self.now.at.span }
     {
@@ -178,7 +178,7 @@ impl<'t, 'a> Unread<'t, 'a> {
         Unread { table, index: 0 }
     }
 
-    /// The last rows of a table, this many of them, or all.
+    /// The last `count` rows of a table, or all if there are fewer.
     pub fn last(table: &'t TokenTable<'a>, count: usize) -> Unread<'t, 'a>
         ensures { result ≡ drop (length table.now.rows - count) (placed table.now) }
     {
@@ -212,7 +212,7 @@ impl<'t, 'a> Unread<'t, 'a> {
         self.len() == 0
     }
 
-    /// The first of these rows, if there is one.
+    /// The first of the rows, or None if none is left.
     pub fn first(&self) -> Option<RowAt<'t, 'a>>
         ensures { IsFirst self.now result }
     {
@@ -226,7 +226,7 @@ impl<'t, 'a> Unread<'t, 'a> {
         }
     }
 
-    /// The first of these rows, and the others.
+    /// The first of the rows and the others, or None if none is left.
     pub fn split(&self) -> Option<(RowAt<'t, 'a>, Unread<'t, 'a>)>
         ensures { IsSplit self.now result }
     {
@@ -247,7 +247,8 @@ impl<'t, 'a> Unread<'t, 'a> {
     }
 }
 
-/// The comments of a declaration that begins with one row, and that ends or opens its body with another.
+/// The comments of a declaration that begins with the row `first`. It ends or opens its body with
+/// the row `last`.
 pub fn comments_between(
     alloc: Global,
     first: &RowAt<'_, '_>,
@@ -267,8 +268,8 @@ fn comments_behind(alloc: Global, last: &RowAt<'_, '_>) -> Result<Comments, Allo
     Comments::new(alloc, Items::new(alloc), None, behind.trailing)
 }
 
-/// The comments of a declaration that begins with the first of these rows, and that ends or opens its
-/// body with `last`.
+/// The comments of a declaration that begins with the first of these rows. It ends or opens its
+/// body with the row `last`.
 pub fn comments_of(
     alloc: Global,
     rows: &Unread<'_, '_>,
@@ -282,7 +283,7 @@ pub fn comments_of(
     }
 }
 
-/// From the start of the one row to the end of the other.
+/// The span from the start of one row to the end of the other.
 pub fn span_between(first: &RowAt<'_, '_>, last: &RowAt<'_, '_>) -> Span
     ensures { result ≡ join first.now.at.span last.now.at.span }
 {

@@ -1,9 +1,9 @@
-//! Strings, one after another.
+//! Reading runs of strings.
 
 ghost use Rattle.std.specs.Prelude.{◌≡◌, IfOk};
 ghost use Rattle.protox_ast.specs.Ast.{text_of};
-ghost use Rattle.protox_rows.specs.Outcome.{Gives};
-ghost use Rattle.protox_rows.specs.Strings as rule;
+ghost use Rattle.protox_rows.specs.inner.Outcome.{Gives};
+ghost use Rattle.protox_rows.specs.inner.Strings as rule;
 
 use crate::class::{STRING, sees};
 use crate::expected::Expected;
@@ -16,7 +16,7 @@ use protox_lex::error::Span;
 use protox_lex::lex::Token;
 use std::alloc::{AllocError, Global};
 
-#[tactic(auto, unfolding(protox_grammar::specs::Reader::leaf, crate::specs::Strings::string))]
+#[tactic(auto, unfolding(protox_grammar::specs::Reader::leaf, crate::specs::inner::Strings::string))]
 fn string<'t>(rows: &mut Unread<'t, '_>, expected: Expected) -> Result<(&'t [u8], Span), Refused>
     ensures { Gives (λ x. (x.0.now, x.1)) result rows.new ((rule.string).code rows.old) }
 {
@@ -29,8 +29,8 @@ fn string<'t>(rows: &mut Unread<'t, '_>, expected: Expected) -> Result<(&'t [u8]
     Err(refused(rows, expected))
 }
 
-/// string+, the values joined, from the first to the last.
-#[tactic(auto, unfolding(crate::specs::Strings::strings))]
+/// string+. Gives the joined values, and the span from the first string to the last.
+#[tactic(auto, unfolding(crate::specs::inner::Strings::strings))]
 pub fn strings(
     alloc: Global,
     rows: &mut Unread<'_, '_>,
@@ -49,7 +49,7 @@ pub fn strings(
     Ok((value, span))
 }
 
-/// The text of bytes: what is not UTF-8 among them becomes U+FFFD.
+/// The text of bytes. What is not UTF-8 among them becomes U+FFFD.
 pub fn text_of(alloc: Global, bytes: &[u8]) -> Result<Text, AllocError>
     ensures { IfOk result (λ t. t ≡ text_of bytes.now) }
 {

@@ -1,4 +1,4 @@
--- One byte more: the newlines, and what stands behind the last of them.
+-- One more byte: the newlines, and what stands after the last of them.
 use Rattle.std.proofs.Common.{◌≡◌, ◌<◌, ℕ, ◌+◌, ◌==◌, if◌then◌else◌, length, take, get_or, List, [], ◌∷◌, ◌++◌, ap, ◌∙◌, arith}
 use Rattle.std.proofs.lemmas.Bool.Decides.{nat_tests}
 use Rattle.std.proofs.lemmas.List.{length_push, take_more}
@@ -12,7 +12,7 @@ pub last_line_more : (xs : List ℕ) (b : ℕ) → length (last_line (xs ++ b �
 last_line_more [] b = grind (arith, nat_tests)
 last_line_more (x ∷ xs) b = let e = last_line_more xs b in let n = newlines_more xs b in let l = length_push xs b in grind (arith, nat_tests)
 
--- The same of the next byte of a list.
+-- The same for the next byte of a list.
 pub newlines_next : (xs : List ℕ) (i : ℕ) → i < length xs → newlines (take (i + 1) xs) ≡ newlines (take i xs) + (if get_or xs i 0 == 10 then 1 else 0)
 newlines_next xs i lt = ap newlines (take_more xs i 0 lt) ∙ newlines_more (take i xs) (get_or xs i 0)
 

@@ -1,5 +1,5 @@
-//! How text from outside is shown on a line of a terminal, so that nothing in it is obeyed or stays
-//! unseen.
+//! How text from a source is shown on a line of a terminal. A terminal doesn't act on anything in
+//! it, and nothing in it is invisible.
 #![tactic(auto)]
 
 pub mod line;

@@ -1,4 +1,4 @@
-//! The line that a reader sees of a fault.
+//! The line that shows a fault to a reader.
 
 ghost use Rattle.std.specs.Prelude.{◌≡◌, take};
 ghost use Rattle.protox_shown.specs.Line.{line_number, column_number};
@@ -7,7 +7,7 @@ use crate::shown::{Shown, ShownFault};
 use protox_fault::error::ParseErrorKind;
 use std::fmt;
 
-// The bytes before an offset.
+// The bytes before an offset, or all bytes if there are fewer.
 fn front_of(source: &[u8], offset: usize) -> &[u8]
     ensures { result.now ≡ take offset source.now }
 {
@@ -18,7 +18,7 @@ fn front_of(source: &[u8], offset: usize) -> &[u8]
     }
 }
 
-// The line and the column behind these bytes, both from 1.
+// The line and the column after these bytes, both counted from 1.
 fn place_behind(front: &[u8]) -> (usize, usize)
     ensures line { result.0 ≡ line_number front.now }
     ensures column { result.1 ≡ column_number front.now }
@@ -36,12 +36,16 @@ fn place_behind(front: &[u8]) -> (usize, usize)
     (line, column)
 }
 
-/// A fault of a file as `file:line:column: text`, or as its text alone where it has no place. Line and column
-/// are counted from 1, a column in bytes; name and text are shown as `Shown` and `ShownFault` show them.
+/// A fault of a file. Display writes `file:line:column: text`, or the text alone if the fault has
+/// no place. Line and column are counted from 1, the column in bytes. `Shown` writes the name of
+/// the file, and `ShownFault` the text.
 #[derive(Clone, Copy)]
 pub struct FaultLine<'a> {
+    /// The name of the file.
     pub file: &'a str,
+    /// The source in which the fault is.
     pub source: &'a str,
+    /// The fault.
     pub fault: &'a ParseErrorKind,
 }
 

@@ -22,7 +22,7 @@ fn is_low_ignorable(c: char) -> bool
     )
 }
 
-// The same from U+3000 on.
+// The same for characters from U+3000 on.
 fn is_high_ignorable(c: char) -> bool
     ensures { result ≡ shown_as.is_high_ignorable c }
 {
@@ -34,9 +34,9 @@ fn is_high_ignorable(c: char) -> bool
     )
 }
 
-/// Whether a terminal acts on the character, or shows nothing of it: a control character, one that ends a
-/// line or a paragraph, or one that Unicode says to ignore (Default_Ignorable_Code_Point), as marks that
-/// turn the direction of a text and those without width.
+/// Whether a terminal acts on the character or shows nothing of it. These are control characters,
+/// separators of lines and paragraphs, and the characters with Unicode's property
+/// Default_Ignorable_Code_Point, such as marks of text direction and characters without width.
 pub fn is_hidden(c: char) -> bool
     ensures { result ≡ shown_as.is_hidden c }
 {
@@ -46,7 +46,8 @@ pub fn is_hidden(c: char) -> bool
         || is_high_ignorable(c)
 }
 
-// The character as it is, or `\u{..}` with its code in hexadecimal digits.
+// Writes the character as it is, or as `\u{..}` with its code in hexadecimal digits if it is
+// hidden.
 fn write_shown<W: fmt::Write>(c: char, f: &mut fmt::Formatter<W>) -> fmt::Result
     ensures { DisplaysOnOk W.write_str_gives f.old result (Some (shown_as.shown_char c)) f.new }
 {
@@ -80,8 +81,7 @@ fn write_brief<W: fmt::Write>(text: &str, f: &mut fmt::Formatter<W>) -> fmt::Res
     Ok(())
 }
 
-/// A text as a line of a terminal shows it: each character on which a terminal acts, or of which it
-/// shows nothing, as `\u{..}`.
+/// A text to be shown on a line of a terminal. Display writes each hidden character as `\u{..}`.
 #[derive(Clone, Copy)]
 pub struct Shown<'a>(pub &'a str);
 
@@ -96,7 +96,7 @@ impl fmt::Display for Shown<'_> {
     }
 }
 
-/// The same of a text's first 200 characters, and `…` in the place of further ones.
+/// The same for the first 200 characters of a text. `…` stands for all others.
 #[derive(Clone, Copy)]
 pub struct Brief<'a>(pub &'a str);
 
@@ -111,8 +111,8 @@ impl fmt::Display for Brief<'_> {
     }
 }
 
-/// A fault as a line of a terminal shows it: its text, in which what it repeats of the source is shown in
-/// brief.
+/// A fault to be shown on a line of a terminal. Display writes its text, with what it repeats of
+/// the source as `Brief` shows it.
 #[derive(Clone, Copy)]
 pub struct ShownFault<'a>(pub &'a ParseErrorKind);
 

@@ -1,4 +1,4 @@
--- What is found with the same notes is alike, whatever words say what was expected.
+-- The same notes give the same list, up to the words of what was expected.
 use Rattle.std.proofs.Common.{◌≡◌, ◌≤◌, ℕ, ◌+◌, ◌-◌, Bool, true, false, cond, List, [], ◌∷◌, ◌++◌, length, map, Option, Some, None, refl, sym, ap, subst, ◌∙◌, append-nil, arith}
 use Rattle.std.proofs.lemmas.List.{map-append}
 use Rattle.std.specs.Prelude.{option_to_list}
@@ -13,10 +13,10 @@ use Rattle.protox_grammar.specs.Told.{Notes, is_invalid}
 use Rattle.protox_grammar.specs.declared.note.Note as note_type
 use Rattle.protox_grammar.specs.declared.note.Noted.{Noted}
 use Rattle.protox_grammar.specs.declared.note.Noted.TheVariants.{Fault, TextFormat}
-use Rattle.protox_syntax.specs.AllFaults.{Progress, found, in_mode, progress, read, refusal, refused, released, row_at, stopped_with, to_read, unworded}
-use Rattle.protox_syntax.specs.Leading.{Alike, played}
-use Rattle.protox_syntax.specs.Recovery.{fault_note, plain_note, refusal_notes}
-use Rattle.protox_syntax.specs.Weave.{with_noted}
+use Rattle.protox_syntax.specs.AllFaults.{Progress, found, in_mode, progress, read, refusal, refused, faults_of_rows, row_at, stopped_with, rows_to_read, unworded}
+use Rattle.protox_syntax.specs.inner.Leading.{Alike, found_with_notes}
+use Rattle.protox_syntax.specs.inner.Recovery.{fault_note, plain_note, refusal_notes}
+use Rattle.protox_syntax.specs.inner.Merge.{with_noted}
 
 pub alike-self : (p : Progress) → Alike p p
 alike-self p = (refl, refl, refl)
@@ -27,10 +27,10 @@ module _ (t : Table) where
 
   pub alike-read : (left : ℕ) (p q : Progress) → Alike p q → Alike (read t left p) (read t left q)
   alike-read left p q h = (
-    map-append unworded p.errors (released p.text_format t.faults p.next (to_read total left p.next))
-        ∙ (λ i. h.0 i ++ map unworded (released (h.2 i) t.faults (h.1 i) (to_read total left (h.1 i))))
-        ∙ sym (map-append unworded q.errors (released q.text_format t.faults q.next (to_read total left q.next))),
-    ap (λ n. n + to_read total left n) h.1,
+    map-append unworded p.errors (faults_of_rows p.text_format t.faults p.next (rows_to_read total left p.next))
+        ∙ (λ i. h.0 i ++ map unworded (faults_of_rows (h.2 i) t.faults (h.1 i) (rows_to_read total left (h.1 i))))
+        ∙ sym (map-append unworded q.errors (faults_of_rows q.text_format t.faults q.next (rows_to_read total left q.next))),
+    ap (λ n. n + rows_to_read total left n) h.1,
     h.2,
   )
 
@@ -41,21 +41,21 @@ module _ (t : Table) where
   alike-noted (Fault f) p q h = alike-found f f p q refl h
   alike-noted (TextFormat on) p q h = (h.0, h.1, refl)
 
-  pub alike-played : (ns : Notes) (p q : Progress) → Alike p q → Alike (played t ns p) (played t ns q)
-  alike-played [] p q h = h
-  alike-played (n ∷ ns) p q h = alike-played ns (played t (n ∷ []) p) (played t (n ∷ []) q) (alike-noted n.noted (read t n.left p) (read t n.left q) (alike-read n.left p q h))
+  pub alike-found_with_notes : (ns : Notes) (p q : Progress) → Alike p q → Alike (found_with_notes t ns p) (found_with_notes t ns q)
+  alike-found_with_notes [] p q h = h
+  alike-found_with_notes (n ∷ ns) p q h = alike-found_with_notes ns (found_with_notes t (n ∷ []) p) (found_with_notes t (n ∷ []) q) (alike-noted n.noted (read t n.left p) (read t n.left q) (alike-read n.left p q h))
 
   -- ---- rows that are read already
 
-  none-to-read : (left : ℕ) (q : Progress) → to_read total left q.next ≡ 0 → read t left q ≡ q
+  none-to-read : (left : ℕ) (q : Progress) → rows_to_read total left q.next ≡ 0 → read t left q ≡ q
   none-to-read left q e =
-      (λ i. progress (q.errors ++ released q.text_format t.faults q.next (e i)) (q.next + e i) q.text_format)
+      (λ i. progress (q.errors ++ faults_of_rows q.text_format t.faults q.next (e i)) (q.next + e i) q.text_format)
       ∙ (λ i. progress (append-nil q.errors i) (none q.next i) q.text_format)
     where
       none : (n : ℕ) → n + 0 ≡ n
       none n = omega arith
 
-  again : (left n : ℕ) → to_read total left (n + to_read total left n) ≡ 0
+  again : (left n : ℕ) → rows_to_read total left (n + rows_to_read total left n) ≡ 0
   again left n = omega arith
 
   -- a fault where the same rows are read twice
@@ -70,21 +70,21 @@ module _ (t : Table) where
   plain-alike : (p q : Progress) → Alike p q → Alike (in_mode false p) (in_mode false q)
   plain-alike p q h = (h.0, h.1, refl)
 
-  fault-alike : (left : ℕ) (f g : ParseErrorKind) (p q : Progress) → unworded f ≡ unworded g → Alike p q → Alike (played t (fault_note left (Some f) ++ plain_note left) p) (stopped_with (Some g) (read t left q))
+  fault-alike : (left : ℕ) (f g : ParseErrorKind) (p q : Progress) → unworded f ≡ unworded g → Alike p q → Alike (found_with_notes t (fault_note left (Some f) ++ plain_note left) p) (stopped_with (Some g) (read t left q))
   fault-alike left f g p q e h =
       subst (λ (v : Progress). Alike (in_mode false v) (in_mode false (found g (read t left q)))) (sym (read-again left f p))
       (plain-alike (found f (read t left p)) (found g (read t left q)) (alike-found f g (read t left p) (read t left q) e (alike-read left p q h)))
 
-  stop-alike : (left : ℕ) (text : List ℕ) (o : Option (Row Span)) (p q : Progress) → is_terminator text ≡ false → Alike p q → Alike (played t (fault_note left (refusal text o) ++ plain_note left) p) (stopped_with (refusal [] o) (read t left q))
+  stop-alike : (left : ℕ) (text : List ℕ) (o : Option (Row Span)) (p q : Progress) → is_terminator text ≡ false → Alike p q → Alike (found_with_notes t (fault_note left (refusal text o) ++ plain_note left) p) (stopped_with (refusal [] o) (read t left q))
   stop-alike left text None p q e h = fault-alike left (fault.UnexpectedEof text) (fault.UnexpectedEof []) p q (end-unworded text e) h
   stop-alike left text (Some r) p q e h = by (is_invalid r.shape)
     where
-      by : (b : Bool) → Alike (played t (fault_note left (cond b None (Some (fault.UnexpectedToken r.at text (printed r.shape)))) ++ plain_note left) p)
+      by : (b : Bool) → Alike (found_with_notes t (fault_note left (cond b None (Some (fault.UnexpectedToken r.at text (printed r.shape)))) ++ plain_note left) p)
           (stopped_with (cond b None (Some (fault.UnexpectedToken r.at [] (printed r.shape)))) (read t left q))
       by true = plain-alike (read t left p) (read t left q) (alike-read left p q h)
       by false = fault-alike left (fault.UnexpectedToken r.at text (printed r.shape)) (fault.UnexpectedToken r.at [] (printed r.shape)) p q refl h
 
-  pub alike-refused : (left : ℕ) (text : List ℕ) (p q : Progress) → is_terminator text ≡ false → Alike p q → Alike (played t (refusal_notes left text t.rows) p) (refused t left q)
+  pub alike-refused : (left : ℕ) (text : List ℕ) (p q : Progress) → is_terminator text ≡ false → Alike p q → Alike (found_with_notes t (refusal_notes left text t.rows) p) (refused t left q)
   alike-refused left text p q e h = stop-alike left text (row_at t.rows left) p q e h
 
   -- the same, where nothing is read behind
@@ -98,11 +98,11 @@ module _ (t : Table) where
       by true = ap (map unworded) (append-nil (read t left p).errors)
       by false = (alike-found (fault.UnexpectedToken r.at text (printed r.shape)) (fault.UnexpectedToken r.at [] (printed r.shape)) (read t left p) (read t left p) refl (alike-self (read t left p))).0
 
-  -- ---- notes that reach so far
+  -- ---- notes up to this place
 
-  reaches : (ns : Notes) (p : Progress) → p.next ≤ (played t ns p).next
+  reaches : (ns : Notes) (p : Progress) → p.next ≤ (found_with_notes t ns p).next
   reaches [] p = omega arith
-  reaches (n ∷ ns) p = omega (arith, reaches ns (played t (n ∷ []) p), further n.noted (read t n.left p), step n.left)
+  reaches (n ∷ ns) p = omega (arith, reaches ns (found_with_notes t (n ∷ []) p), further n.noted (read t n.left p), step n.left)
     where
       further : (v : Noted) (q : Progress) → q.next ≤ (with_noted v q).next
       further (Fault f) q = omega arith
@@ -115,9 +115,9 @@ module _ (t : Table) where
   noted-next (Fault f) q = refl
   noted-next (TextFormat on) q = refl
 
-  -- where the first of the notes is made, no row is left to be read
-  pub first-read : (n : note_type.Note) (ns : Notes) (p : Progress) → read t n.left (played t (n ∷ ns) p) ≡ played t (n ∷ ns) p
-  first-read n ns p = none-to-read n.left (played t (n ∷ ns) p) (omega (arith, reaches ns (played t (n ∷ []) p), noted-next n.noted (read t n.left p), reached))
+  -- if no row is left at the first note
+  pub first-read : (n : note_type.Note) (ns : Notes) (p : Progress) → read t n.left (found_with_notes t (n ∷ ns) p) ≡ found_with_notes t (n ∷ ns) p
+  first-read n ns p = none-to-read n.left (found_with_notes t (n ∷ ns) p) (omega (arith, reaches ns (found_with_notes t (n ∷ []) p), noted-next n.noted (read t n.left p), reached))
     where
       reached : total - n.left ≤ (read t n.left p).next
       reached = omega arith

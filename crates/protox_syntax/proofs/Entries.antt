@@ -26,7 +26,7 @@ each-at P [] h i = tt
 each-at P (f ∷ fs) h zero = all-each P f h.0
 each-at P (f ∷ fs) h (suc i) = each-at P fs h.1 i
 
--- those that are faults in a mode are among all
+-- the faults in a mode are among all faults
 each-kept : {A : Type 0} (P : A → Type 0) (b : Bool) (x : A) (xs : List A) → P x → Each P xs → Each P (cond b (x ∷ xs) xs)
 each-kept P true x xs h k = (h, k)
 each-kept P false x xs h k = k
@@ -39,7 +39,7 @@ pub each-in : (P : ParseErrorKind → Type 0) (b : Bool) (fs : Faults) → Each 
 each-in P true fs h = each-filter P (λ f. not (is_of_mode f)) fs h
 each-in P false fs h = h
 
--- ---- gaps in front
+-- ---- gaps before rows
 
 -- an entry has a fault in each mode
 abbrev pub IsFaulty : Faults → Type 0

@@ -1,4 +1,4 @@
--- Each fault of a source stands somewhere in it, and no lexical one twice.
+-- Each fault of a source stands somewhere in it, and no lexical fault is listed twice.
 use Rattle.std.proofs.Common.{◌≡◌, ◌≤◌, ◌+◌, ◌-◌, ℕ, zero, suc, Bool, true, false, not, cond, List, [], ◌∷◌, ◌++◌, length, map, filter, Option, Some, None, Result, Ok, Err, IfErr, inl, inr, refl, sym, subst, ◌∙◌, le_refl, zero-le, arith}
 use Rattle.std.proofs.lemmas.List.{map-append}
 use Rattle.std.proofs.lemmas.Option.{slice_get_within}
@@ -29,17 +29,17 @@ use Rattle.protox_grammar.specs.Told.{Notes, is_invalid}
 use Rattle.protox_grammar.specs.declared.note.Noted.{Noted}
 use Rattle.protox_grammar.specs.declared.note.Noted.TheVariants.{Fault, TextFormat}
 use Rattle.protox_grammar.specs.Token as token
-use Rattle.protox_options.specs.Options.{here}
-use Rattle.protox_syntax.specs.Judging.{IsWoven, Judges, JudgesFault, stopped, ended, recovered, finished, total_of}
-use Rattle.protox_syntax.specs.Recovery.{AreNotable, IsNotable, IsNotableNote}
+use Rattle.protox_options.specs.inner.Options.{here}
+use Rattle.protox_syntax.specs.inner.ParsedTable.{AreMergedFaults, ParsesTable, RefusesTable, unknown_syntax, unexpected_row, refused_statement, all_read, total_of}
+use Rattle.protox_syntax.specs.inner.Recovery.{AreNotable, IsNotable, IsNotableNote}
 use Rattle.protox_syntax.specs.StandingFaults.{AreStanding}
-use Rattle.protox_syntax.specs.Statements.{levels, syntax_if_any}
-use Rattle.protox_syntax.specs.Weave.{Progress, beginning, noted_in, play, read_to, refusal, released, row_at, to_read, weave, with_noted}
-use Rattle.protox_syntax.specs.Whole.{all_notes}
+use Rattle.protox_syntax.specs.inner.Statements.{levels, syntax_if_any}
+use Rattle.protox_syntax.specs.inner.Merge.{Progress, beginning, noted_in, merge_notes, read_until, refusal, faults_of_rows, row_at, rows_to_read, merged_faults, with_noted}
+use Rattle.protox_syntax.specs.inner.Whole.{all_notes}
 use Rattle.protox_syntax.proofs.Entries.{each-in}
 use Rattle.protox_syntax.proofs.Reading.{file-told}
 use Rattle.protox_syntax.proofs.Recovering.{notable-both, told-notable}
-use Rattle.protox_syntax.proofs.Refusing.{begun-notable}
+use Rattle.protox_syntax.proofs.Refusing.{at_refusal-notable}
 
 -- ---- the keys of lexical faults
 
@@ -50,7 +50,7 @@ lexical_key f = cond (is_lexical f) (key f) None
 abbrev lexical_keys : List ParseErrorKind → List (Option ℕ)
 lexical_keys fs = map lexical_key fs
 
--- the lexical faults have places between two
+-- the lexical faults lie between two places
 abbrev LexicalRise : ℕ → ℕ → List ParseErrorKind → Type 0
 LexicalRise low high fs = Rise low high (lexical_keys fs)
 
@@ -172,7 +172,7 @@ get-there [] i r e = refl
 get-there (x ∷ rows) zero r e = let same : x ≡ r = cc in same
 get-there (x ∷ rows) (suc i) r e = get-there rows i r e
 
--- ---- of what is woven
+-- ---- the merged list
 
 module _ (source : List ℕ) where
   abbrev lexemes : List Lexeme
@@ -196,7 +196,7 @@ module _ (source : List ℕ) where
       entries-each (Stands lexemes) lexemes
       (each-two (Among lexemes) (λ x. Each (IsRowKind x) (row_faults x)) (λ x. Each (Stands lexemes) (row_faults x)) lexemes (λ x there kinds. lexeme-stands lexemes x there kinds) (each-among lexemes) (kinds-of source))
 
-  -- Faults up to a place stand in the source, the lexical ones one behind the other.
+  -- Faults up to a place stand in the source; the lexical ones rise.
   record AreFine (low high : ℕ) (faults : List ParseErrorKind) : Type 0 where
     rise : LexicalRise low high faults
     all : Each (Stands lexemes) faults
@@ -210,43 +210,43 @@ module _ (source : List ℕ) where
     all = each-in (Stands lexemes) b (slice_index_or entries k []) (entry-each (Stands lexemes) entries all-stand k);
   }
 
-  released-fine : (b : Bool) (low n : ℕ) → AreFine (place low) (place (low + n)) (released b entries low n)
-  released-fine b low zero = let same : low ≡ low + 0 = omega arith in subst (λ k. AreFine (place low) (place k) []) same (record { rise = le_refl (place low); all = tt })
-  released-fine b low (suc n) =
+  faults_of_rows-fine : (b : Bool) (low n : ℕ) → AreFine (place low) (place (low + n)) (faults_of_rows b entries low n)
+  faults_of_rows-fine b low zero = let same : low ≡ low + 0 = omega arith in subst (λ k. AreFine (place low) (place k) []) same (record { rise = le_refl (place low); all = tt })
+  faults_of_rows-fine b low (suc n) =
       let same : suc (low + n) ≡ low + suc n = omega arith in
-      subst (λ k. AreFine (place low) (place k) (released b entries low (suc n))) same
-      (fine-joined (place low) (place (low + n)) (place (suc (low + n))) (released b entries low n) (faults_in b (slice_index_or entries (low + n) [])) (released-fine b low n) (entry-fine b (low + n)))
+      subst (λ k. AreFine (place low) (place k) (faults_of_rows b entries low (suc n))) same
+      (fine-joined (place low) (place (low + n)) (place (suc (low + n))) (faults_of_rows b entries low n) (faults_in b (slice_index_or entries (low + n) [])) (faults_of_rows-fine b low n) (entry-fine b (low + n)))
 
   -- the faults so far
   abbrev IsFine : Progress → Type 0
   IsFine p = AreFine 0 (place p.next) p.errors
 
-  read-fine : (total left : ℕ) (p : Progress) → IsFine p → IsFine (read_to entries total left p)
+  read-fine : (total left : ℕ) (p : Progress) → IsFine p → IsFine (read_until entries total left p)
   read-fine total left p h =
-      let n = to_read total left p.next in
-      fine-joined 0 (place p.next) (place (p.next + n)) p.errors (released p.text_format entries p.next n) h (released-fine p.text_format p.next n)
+      let n = rows_to_read total left p.next in
+      fine-joined 0 (place p.next) (place (p.next + n)) p.errors (faults_of_rows p.text_format entries p.next n) h (faults_of_rows-fine p.text_format p.next n)
 
   with-fine : (n : Noted) (p : Progress) → IsNotableNote rows n → IsFine p → IsFine (with_noted n p)
   with-fine (Fault f) p k h =
       fine-joined 0 (place p.next) (place p.next) p.errors (f ∷ []) h (record { rise = other-rises (place p.next) f (notable-other lexemes f k); all = (notable-stands lexemes f k, tt) })
   with-fine (TextFormat on) p k h = record { rise = h.rise; all = h.all }
 
-  play-fine : (total : ℕ) (notes : Notes) (p : Progress) → AreNotable rows notes → IsFine p → IsFine (play entries total notes p)
-  play-fine total [] p k h = h
-  play-fine total (x ∷ xs) p k h = play-fine total xs (noted_in entries total x p) k.1 (with-fine x.noted (read_to entries total x.left p) k.0 (read-fine total x.left p h))
+  merge_notes-fine : (total : ℕ) (notes : Notes) (p : Progress) → AreNotable rows notes → IsFine p → IsFine (merge_notes entries total notes p)
+  merge_notes-fine total [] p k h = h
+  merge_notes-fine total (x ∷ xs) p k h = merge_notes-fine total xs (noted_in entries total x p) k.1 (with-fine x.noted (read_until entries total x.left p) k.0 (read-fine total x.left p h))
 
   beginning-fine : IsFine beginning
   beginning-fine = record { rise = zero-le; all = tt }
 
-  -- where the faults of what is woven end
-  woven-fine : (total left : ℕ) (notes : Notes) → AreNotable rows notes → IsFine (read_to entries total left (play entries total notes beginning))
-  woven-fine total left notes k = read-fine total left (play entries total notes beginning) (play-fine total notes beginning k beginning-fine)
+  -- where the faults of the merged list end
+  merged-fine : (total left : ℕ) (notes : Notes) → AreNotable rows notes → IsFine (read_until entries total left (merge_notes entries total notes beginning))
+  merged-fine total left notes k = read-fine total left (merge_notes entries total notes beginning) (merge_notes-fine total notes beginning k beginning-fine)
 
   fine-stand : (low high : ℕ) (faults : List ParseErrorKind) → AreFine low high faults → StandIn lexemes faults
   fine-stand low high faults h = (h.all, rise-once low high faults h.rise)
 
-  weave-stand : (total left : ℕ) (notes : Notes) → AreNotable rows notes → StandIn lexemes (weave entries total notes left)
-  weave-stand total left notes k = fine-stand 0 _ (weave entries total notes left) (woven-fine total left notes k)
+  merged_faults-stand : (total left : ℕ) (notes : Notes) → AreNotable rows notes → StandIn lexemes (merged_faults entries total notes left)
+  merged_faults-stand total left notes k = fine-stand 0 _ (merged_faults entries total notes left) (merged-fine total left notes k)
 
   -- ---- what is noted
 
@@ -267,24 +267,24 @@ module _ (source : List ℕ) where
       by true v = record { rise = le_refl k; all = tt }
       by false v = record { rise = le_refl k; all = ((i, r, slice_get_within rows i r e, get-there rows i r e, (refl, refl, valid-is r.shape v)), tt) }
 
-  -- Each fault of a source stands somewhere in it, and no lexical one twice.
-  pub woven-stand : (errors : List ParseErrorKind) → IsWoven t errors → StandIn lexemes errors
-  woven-stand errors (stopped some w) = subst (StandIn lexemes) (sym w) (weave-stand (total_of t) _ (syntax_if_any.notes (placed t)) front-notable)
-  woven-stand errors (ended left text plain e w) =
-      let p = read_to entries (total_of t) left (play entries (total_of t) (all_notes (placed t)) beginning) in
+  -- Each fault of a source stands somewhere in it, and no lexical fault is listed twice.
+  pub merged-stand : (errors : List ParseErrorKind) → AreMergedFaults t errors → StandIn lexemes errors
+  merged-stand errors (unknown_syntax some w) = subst (StandIn lexemes) (sym w) (merged_faults-stand (total_of t) _ (syntax_if_any.notes (placed t)) front-notable)
+  merged-stand errors (unexpected_row left text plain e w) =
+      let p = read_until entries (total_of t) left (merge_notes entries (total_of t) (all_notes (placed t)) beginning) in
       subst (StandIn lexemes) (sym w)
       (fine-stand 0 (place p.next) (p.errors ++ option_to_list (refusal text (row_at rows left)))
-      (fine-joined 0 (place p.next) (place p.next) p.errors _ (woven-fine (total_of t) left (all_notes (placed t)) all-notable) (refusal-fine (place p.next) (length rows - left) text (row_at rows left) refl)))
-  woven-stand errors (recovered e begun later h g notable w) =
+      (fine-joined 0 (place p.next) (place p.next) p.errors _ (merged-fine (total_of t) left (all_notes (placed t)) all-notable) (refusal-fine (place p.next) (length rows - left) text (row_at rows left) refl)))
+  merged-stand errors (refused_statement e at_refusal later h g notable w) =
       subst (StandIn lexemes) (sym w)
-      (weave-stand (total_of t) 0 (all_notes (placed t) ++ (begun ++ later)) (notable-both rows (all_notes (placed t)) (begun ++ later) all-notable (notable-both rows begun later (begun-notable t e begun g) notable)))
-  woven-stand errors (finished x e w) = subst (StandIn lexemes) (sym w) (weave-stand (total_of t) 0 (all_notes (placed t)) all-notable)
+      (merged_faults-stand (total_of t) 0 (all_notes (placed t) ++ (at_refusal ++ later)) (notable-both rows (all_notes (placed t)) (at_refusal ++ later) all-notable (notable-both rows at_refusal later (at_refusal-notable t e at_refusal g) notable)))
+  merged-stand errors (all_read x e w) = subst (StandIn lexemes) (sym w) (merged_faults-stand (total_of t) 0 (all_notes (placed t)) all-notable)
 
--- what is judged of the table of a source
-pub judged-stands : (source : List ℕ) (e : SyntaxFailure) → JudgesFault (table_of (cut 0 source)) (length source) e → AreStanding source e
-judged-stands source OutOfMemory j = tt
-judged-stands source (Faults v) j = woven-stand source v.items j.3
+-- from the answer for a source's table
+pub parsed-stands : (source : List ℕ) (e : SyntaxFailure) → RefusesTable (table_of (cut 0 source)) (length source) e → AreStanding source e
+parsed-stands source OutOfMemory j = tt
+parsed-stands source (Faults v) j = merged-stand source v.items j.3
 
-pub judged-stands-result : (source : List ℕ) (r : Result File SyntaxFailure) → Judges (table_of (cut 0 source)) (length source) r → IfErr r (AreStanding source)
-judged-stands-result source (Ok file) j = tt
-judged-stands-result source (Err e) j = judged-stands source e j
+pub parsed-stands-result : (source : List ℕ) (r : Result File SyntaxFailure) → ParsesTable (table_of (cut 0 source)) (length source) r → IfErr r (AreStanding source)
+parsed-stands-result source (Ok file) j = tt
+parsed-stands-result source (Err e) j = parsed-stands source e j

@@ -1,4 +1,4 @@
--- The first fault of a source's list is true of the source, and nothing is passed over in front of it.
+-- The list of a source begins with the first fault of the source.
 use Rattle.std.proofs.Common.{◌≡◌, ◌≤◌, ◌<◌, inl, inr, ◌⊎◌, ℕ, zero, suc, Bool, true, false, not, cond, codes, List, [], ◌∷◌, ◌++◌, length, Some, Ok, Err, refl, sym, ap, subst, ◌∙◌, arith}
 use Rattle.std.specs.Prelude.{slice_get, filter}
 use Rattle.protox_fault.specs.Faults.{Span, faults_in, is_of_mode, span_from}
@@ -13,12 +13,12 @@ use Rattle.protox_ast.proofs.Standing.{as-many, bare-placed}
 use Rattle.protox_ast.specs.Basics.{Each, first_of}
 use Rattle.protox_ast.specs.CheckedNodes.{CheckedNode, ASyntax, AnImport, AReservedName, AGroupName, APackageAgain, ATooDeep, checked_nodes}
 use Rattle.protox_ast.specs.Checks.{WrongCheckedNode}
-use Rattle.protox_ast.specs.FirstFault.{IsFirstOfLexemes, IsFirstOfNodes, IsTightOf, NoneIsWrongBefore}
+use Rattle.protox_ast.specs.FirstFault.{IsFirstFault, IsFirstOfLexemes, IsFirstOfNodes, NoneIsWrongBefore}
 use Rattle.protox_ast.specs.Fronts.{Inside}
 use Rattle.protox_ast.specs.Keywords.{is_significant}
 use Rattle.protox_ast.specs.Places.{Place}
 use Rattle.protox_ast.specs.Spells.{BeginsFile, IsEnded, IsUnexpected, shapes}
-use Rattle.protox_ast.specs.Truth.{IsFirstOfLexeme, IsInvalidThere, IsTrueOf, IsWrongBefore, IsWrongBehind, is_terminator, token_span}
+use Rattle.protox_ast.specs.Truth.{IsWrongBefore, IsWrongBehind, is_terminator, token_span}
 use Rattle.protox_grammar.specs.Reader.{Refusal, Unexpected, ◌>>=◌}
 use Rattle.protox_grammar.specs.Reads.{read}
 use Rattle.protox_grammar.specs.Told.{is_invalid}
@@ -26,25 +26,25 @@ use Rattle.protox_grammar.proofs.CleanFronts.{AreClearTo, AreToldTo, IsFirstLexe
 use Rattle.protox_grammar.proofs.DeepOutside.{mode-inside-all}
 use Rattle.protox_grammar.proofs.FrontModes.{begins-at, is_open_behind}
 use Rattle.protox_grammar.proofs.Fronts as fronts
-use Rattle.protox_grammar.proofs.Holding.{Holds, any-holds, holds-any, holds-one, holds-right}
+use Rattle.protox_grammar.proofs.Holding.{Holds, any-holds, holds-one}
 use Rattle.protox_grammar.proofs.NonePassed as passed
 use Rattle.protox_grammar.proofs.PlaceLaws.{placed-shapes}
-use Rattle.protox_options.specs.Options.{here}
-use Rattle.protox_syntax.specs.Judging.{IsWoven}
-use Rattle.protox_syntax.specs.Statements.{levels}
-use Rattle.protox_syntax.specs.Whole.{whole}
-use Rattle.protox_syntax.proofs.FirstOfWoven.{FirstOfList, IsOfRow, IsOfNode, IsOfToken, IsOfEnd, IsFineTo, first-of-list, in_mode, of_row, of_node, of_token, of_end, rows, taken, stops-at, taken-within}
-use Rattle.protox_syntax.proofs.Judged.{bare-get}
+use Rattle.protox_options.specs.inner.Options.{here}
+use Rattle.protox_syntax.specs.inner.ParsedTable.{AreMergedFaults}
+use Rattle.protox_syntax.specs.inner.Statements.{levels}
+use Rattle.protox_syntax.specs.inner.Whole.{whole}
+use Rattle.protox_syntax.proofs.FirstOfMerged.{FirstOfList, IsOfRow, IsOfNode, IsOfToken, IsOfEnd, IsFineTo, first-of-list, in_mode, of_row, of_node, of_token, of_end, rows, taken, stops-at, taken-within}
+use Rattle.protox_syntax.proofs.ParsedTable.{bare-get}
 use Rattle.protox_syntax.proofs.Modes.{not-invalid}
 use Rattle.protox_syntax.proofs.Reading.{err-read}
-use Rattle.protox_syntax.proofs.WeaveFirst.{AreClearBelow, HasFirst}
+use Rattle.protox_syntax.proofs.MergeFirst.{AreClearBelow, HasFirst}
 
 abbrev Faults : Type 0
 Faults = List ParseErrorKind
 
 -- ---- one of many
 
-each-here : {A : Type 0} (P : A → Type 0) (before : List A) (x : A) (behind : List A) → Each P (before ++ (x ∷ behind)) → P x
+pub each-here : {A : Type 0} (P : A → Type 0) (before : List A) (x : A) (behind : List A) → Each P (before ++ (x ∷ behind)) → P x
 each-here P [] x behind h = h.0
 each-here P (y ∷ before) x behind h = each-here P before x behind h.1
 
@@ -58,19 +58,6 @@ kept-plain (g ∷ fs) f rest e = by (is_of_mode g) refl e (kept-plain fs f rest)
     by : (b : Bool) → is_of_mode g ≡ b → cond (not b) (g ∷ filter (λ x. not (is_of_mode x)) fs) (filter (λ x. not (is_of_mode x)) fs) ≡ f ∷ rest → (faults_in true fs ≡ f ∷ rest → is_of_mode f ≡ false) → is_of_mode f ≡ false
     by true v q more = more q
     by false v q more = let same : g ≡ f = cc in subst (λ u. is_of_mode u ≡ false) same v
-
--- the first of a row, if the lexeme isn't invalid for it
-own-first : (fs : Faults) (s : Shape) (span : Span) (f : ParseErrorKind) (more : Faults) → fs ++ invalid_faults s span ≡ f ∷ more → IsOwnKind f → first_of fs ≡ Some f
-own-first (g ∷ fs) s span f more e own = let same : g ≡ f = cc in ap Some same
-own-first [] Invalid span f more e own = let same : fault.InvalidToken span ≡ f = cc in absurd (subst IsOwnKind (sym same) own)
-own-first [] (Ident t) span f more e own = absurd cc
-own-first [] (Int n) span f more e own = absurd cc
-own-first [] (Float t) span f more e own = absurd cc
-own-first [] (Str t) span f more e own = absurd cc
-own-first [] (Mark b) span f more e own = absurd cc
-own-first [] (LineComment t) span f more e own = absurd cc
-own-first [] (BlockComment t) span f more e own = absurd cc
-own-first [] Newline span f more e own = absurd cc
 
 is-terminator : (text : List ℕ) → (text ≡ codes "string terminator") ⊎ (text ≡ codes "comment terminator") → is_terminator text ≡ true
 is-terminator text (inl e) = ap is_terminator e
@@ -136,50 +123,27 @@ module _ (lexemes : List Lexeme) where
 
   -- ---- of a row
 
-  module _ (f : ParseErrorKind) (k : ℕ) (x : IsFirstLexeme lexemes (on k) k f) (inside : Inside lexemes k → on k ≡ true) (ordered : IsOrdered x.here) (kinds : AreOfKinds x.here) (tight : IsFirstOfLexemes lexemes f) where
-    own : (more : Faults) × (row_faults x.here ≡ f ∷ more)
-    own = ordered (on k) f x.first.0 x.first.1
+  -- what text format doesn't have is no fault inside an aggregate
+  outside : (f : ParseErrorKind) (k : ℕ) (x : IsFirstLexeme lexemes (on k) k f) → (Inside lexemes k → on k ≡ true) → is_of_mode f ≡ true → Inside lexemes (length (rows_of x.before)) → ⊥
+  outside f k x inside mode h =
+      let open_here : on k ≡ true = inside (subst (Inside lexemes) x.count h) in
+      let plain : is_of_mode f ≡ false = kept-plain (row_faults x.here) f x.first.0 (subst (λ b. faults_in b (row_faults x.here) ≡ f ∷ x.first.0) open_here x.first.1) in
+      absurd (let both : true ≡ false = sym mode ∙ plain in cc)
 
-    kind : IsRowKind x.here f
-    kind = (subst (λ fs. Each (IsRowKind x.here) fs) own.1 kinds).0
+  row-first : (f : ParseErrorKind) (t : IsFirstOfLexemes lexemes f) → (is_of_mode f ≡ true → Inside lexemes (length (rows_of t.before)) → ⊥) → (x : Lexeme) → IsRowKind x f → IsFirstFault lexemes f
+  row-first (fault.InvalidToken span) t out x h = t
+  row-first (fault.IntegerOutOfRange span) t out x h = t
+  row-first (fault.InvalidStringCharacters span) t out x h = t
+  row-first (fault.UnterminatedString span) t out x h = t
+  row-first (fault.InvalidStringEscape span) t out x h = t
+  row-first (fault.NestedBlockComment span) t out x h = t
+  row-first (fault.NoSpaceBetweenIntAndIdent span) t out x h = t
+  row-first (fault.HashCommentOutsideTextFormat span) t out x h = (t, out refl)
+  row-first (fault.FloatSuffixOutsideTextFormat span) t out x h = (t, out refl)
+  row-first (fault.UnexpectedEof text) t out x h = inl (is-terminator text h, t)
+  row-first _ t out x h = absurd h
 
-    of-lexeme : IsOwnKind f → IsFirstOfLexeme lexemes f
-    of-lexeme own-kind =
-        let P : Lexeme → Type 0 = λ y. first_of y.faults ≡ Some f in
-        holds-any P lexemes (subst (Holds P) (sym x.parts) (holds-right P x.before (x.here ∷ x.behind) (inl (own-first x.here.faults x.here.shape (span_from x.here.start x.here.stop) f own.0 own.1 own-kind))))
-
-    outside : is_of_mode f ≡ true → Inside lexemes (length (rows_of x.before)) → ⊥
-    outside mode h =
-        let open_here : on k ≡ true = inside (subst (Inside lexemes) x.count h) in
-        let plain : is_of_mode f ≡ false = kept-plain (row_faults x.here) f x.first.0 (subst (λ b. faults_in b (row_faults x.here) ≡ f ∷ x.first.0) open_here x.first.1) in
-        absurd (let both : true ≡ false = sym mode ∙ plain in cc)
-
-  invalid-there : (x : Lexeme) (before behind : List Lexeme) (span : Span) → lexemes ≡ before ++ (x ∷ behind) → (x.shape ≡ Invalid) × (span ≡ span_from x.start x.stop) → IsInvalidThere lexemes span
-  invalid-there x before behind span parts h =
-      let P : Lexeme → Type 0 = λ y. (y.shape ≡ Invalid) × (span ≡ span_from y.start y.stop) in
-      holds-any P lexemes (subst (Holds P) (sym parts) (holds-right P before (x ∷ behind) (inl h)))
-
-  abbrev IsFirst : ParseErrorKind → Type 0
-  IsFirst f = IsTrueOf lexemes f × IsTightOf lexemes f
-
-  row-first : (f : ParseErrorKind) (k : ℕ) (x : IsFirstLexeme lexemes (on k) k f) → (Inside lexemes k → on k ≡ true) → IsOrdered x.here → AreOfKinds x.here → IsFirstOfLexemes lexemes f → IsRowKind x.here f → IsFirst f
-  row-first (fault.InvalidToken span) k x i o s t h = (invalid-there x.here x.before x.behind span x.parts h, t)
-  row-first (fault.IntegerOutOfRange span) k x i o s t h = (of-lexeme _ k x i o s t h, t)
-  row-first (fault.InvalidStringCharacters span) k x i o s t h = (of-lexeme _ k x i o s t h, t)
-  row-first (fault.UnterminatedString span) k x i o s t h = (of-lexeme _ k x i o s t h, t)
-  row-first (fault.InvalidStringEscape span) k x i o s t h = (of-lexeme _ k x i o s t h, t)
-  row-first (fault.NestedBlockComment span) k x i o s t h = (of-lexeme _ k x i o s t h, t)
-  row-first (fault.NoSpaceBetweenIntAndIdent span) k x i o s t h = (of-lexeme _ k x i o s t h, t)
-  row-first (fault.HashCommentOutsideTextFormat span) k x i o s t h =
-      let own = own _ k x i o s t in
-      (record { before = x.before; here = x.here; behind = x.behind; parts = x.parts; is_first = own-first x.here.faults x.here.shape (span_from x.here.start x.here.stop) _ own.0 own.1 h; outside = outside _ k x i o s t refl }, t)
-  row-first (fault.FloatSuffixOutsideTextFormat span) k x i o s t h =
-      let own = own _ k x i o s t in
-      (record { before = x.before; here = x.here; behind = x.behind; parts = x.parts; is_first = own-first x.here.faults x.here.shape (span_from x.here.start x.here.stop) _ own.0 own.1 h; outside = outside _ k x i o s t refl }, t)
-  row-first (fault.UnexpectedEof text) k x i o s t h = (inl (is-terminator text h, of-lexeme _ k x i o s t h), inl (is-terminator text h, t))
-  row-first _ k x i o s t h = absurd h
-
-  of-row : Each IsOrdered lexemes → Each AreOfKinds lexemes → (errors : Faults) (y : IsOfRow lexemes errors) → IsFirst y.first.fault
+  of-row : Each IsOrdered lexemes → Each AreOfKinds lexemes → (errors : Faults) (y : IsOfRow lexemes errors) → IsFirstFault lexemes y.first.fault
   of-row ordered kinds errors y =
       let k = y.first.row in
       let x = first-lexeme lexemes on k y.first.fault y.first.here.0 y.first.here.1 (clear-to k k (omega arith) y.first.before) (told (suc k) (omega (arith, y.first.within, y.within))) in
@@ -197,22 +161,22 @@ module _ (lexemes : List Lexeme) where
         begins = subst (BeginsFile (shapes (rows_of lexemes))) (sym x.count) (begins-at lexemes k within);
         none_before = subst (NoneIsWrongBefore lexemes) (sym x.count) (none-before k y.first.before (λ j l. y.fine j (omega (arith, l, y.first.within))));
       } in
-      row-first y.first.fault k x (mode-inside-all lexemes k within).1 o s first (subst (λ fs. Each (IsRowKind x.here) fs) own.1 s).0
+      row-first y.first.fault first (outside y.first.fault k x (mode-inside-all lexemes k within).1) x.here (subst (λ fs. Each (IsRowKind x.here) fs) own.1 s).0
 
   -- ---- of a node
 
-  by-kind : (wrong kind : ParseErrorKind) → wrong ≡ kind → (IsFirstOfNodes lexemes kind → IsTightOf lexemes kind) → IsFirstOfNodes lexemes wrong → IsTightOf lexemes wrong
-  by-kind wrong kind e f = subst (λ (w : ParseErrorKind). IsFirstOfNodes lexemes w → IsTightOf lexemes w) (sym e) f
+  by-kind : (wrong kind : ParseErrorKind) → wrong ≡ kind → (IsFirstOfNodes lexemes kind → IsFirstFault lexemes kind) → IsFirstOfNodes lexemes wrong → IsFirstFault lexemes wrong
+  by-kind wrong kind e f = subst (λ (w : ParseErrorKind). IsFirstOfNodes lexemes w → IsFirstFault lexemes w) (sym e) f
 
-  node-tight : (node : CheckedNode ℕ) (wrong : ParseErrorKind) → WrongCheckedNode (token_span (rows_of lexemes)) node wrong → IsFirstOfNodes lexemes wrong → IsTightOf lexemes wrong
-  node-tight (ASyntax x) wrong h = by-kind wrong _ h.1 (λ o. o)
-  node-tight (AnImport x) wrong (inl h) = by-kind wrong _ h.1 (λ o. o)
-  node-tight (AnImport x) wrong (inr h) = by-kind wrong _ h.1 (λ o. o)
-  node-tight (AReservedName x) wrong (inl h) = by-kind wrong _ h.1 (λ o. o)
-  node-tight (AReservedName x) wrong (inr h) = by-kind wrong _ h.1 (λ o. o)
-  node-tight (AGroupName x) wrong h = by-kind wrong _ h.1 (λ o. o)
-  node-tight (APackageAgain first again) wrong h = by-kind wrong _ h (λ o. o)
-  node-tight (ATooDeep keyword open_at) wrong h = by-kind wrong _ h (λ o. o)
+  node-first : (node : CheckedNode ℕ) (wrong : ParseErrorKind) → WrongCheckedNode (token_span (rows_of lexemes)) node wrong → IsFirstOfNodes lexemes wrong → IsFirstFault lexemes wrong
+  node-first (ASyntax x) wrong h = by-kind wrong _ h.1 (λ o. o)
+  node-first (AnImport x) wrong (inl h) = by-kind wrong _ h.1 (λ o. o)
+  node-first (AnImport x) wrong (inr h) = by-kind wrong _ h.1 (λ o. o)
+  node-first (AReservedName x) wrong (inl h) = by-kind wrong _ h.1 (λ o. o)
+  node-first (AReservedName x) wrong (inr h) = by-kind wrong _ h.1 (λ o. o)
+  node-first (AGroupName x) wrong h = by-kind wrong _ h.1 (λ o. o)
+  node-first (APackageAgain first again) wrong h = by-kind wrong _ h (λ o. o)
+  node-first (ATooDeep keyword open_at) wrong h = by-kind wrong _ h (λ o. o)
 
   module _ (errors : Faults) (y : IsOfNode lexemes errors) where
     its-node : Holds (IsWrongBefore lexemes y.checked.end y.fault) (checked_nodes y.checked.is_wrong.0)
@@ -231,10 +195,10 @@ module _ (lexemes : List Lexeme) where
           none_before = none-before (suc m) before (λ j l. y.checked.none_before j (omega (arith, l, same, y.checked.end_most)));
         }
 
-    of-node : IsFirst y.fault
+    of-node : IsFirstFault lexemes y.fault
     of-node =
         let v = holds-one (IsWrongBefore lexemes y.checked.end y.fault) (checked_nodes y.checked.is_wrong.0) its-node in
-        (y.checked.is_true, node-tight v.0 y.fault v.1.2 (first-node y.checked.end refl))
+        node-first v.0 y.fault v.1.2 (first-node y.checked.end refl)
 
   -- ---- of tokens
 
@@ -245,24 +209,23 @@ module _ (lexemes : List Lexeme) where
   unfolding read
   not-read e h = ap (λ w. w >>= λ x. Ok x.0) (err-read (rows lexemes) e h)
 
-  of-token : (errors : Faults) (y : IsOfToken lexemes errors) → IsFirst (fault.UnexpectedToken y.row.at y.text (printed y.row.shape))
+  of-token : (errors : Faults) (y : IsOfToken lexemes errors) → IsFirstFault lexemes (fault.UnexpectedToken y.row.at y.text (printed y.row.shape))
   of-token errors y =
       let there = row-there (rows_of lexemes) (taken lexemes) y.row y.there in
       let clear = clear-to (suc (taken lexemes)) (suc (taken lexemes)) (omega arith) y.before in
       let valid_here = not-invalid y.row.shape (row-valid (on (taken lexemes)) lexemes (taken lexemes) y.row y.there (y.before (taken lexemes) (omega arith))) in
       let text_here = significant y.row.shape (row-significant lexemes (taken lexemes) y.row y.there) valid_here in
       let same = there.1 in
-      let u = at y.left refl in (
-        (taken lexemes, u, ap (λ (r : Row Span). r.at) (sym same), ap (λ (r : Row Span). printed r.shape) (sym same), ap (λ (r : Row Span). is_significant r.shape) same ∙ text_here),
-        record {
-          number = taken lexemes;
-          unexpected = u;
-          place = ap (λ (r : Row Span). r.at) (sym same);
-          text = ap (λ (r : Row Span). printed r.shape) (sym same);
-          clean = clean-through lexemes on (taken lexemes) there.0 clear (told (suc (taken lexemes)) (omega arith));
-          none_before = none-before (suc (taken lexemes)) y.before (λ j l. y.fine j);
-        },
-      )
+      let u = at y.left refl in
+      record {
+        number = taken lexemes;
+        unexpected = u;
+        significant = ap (λ (r : Row Span). is_significant r.shape) same ∙ text_here;
+        place = ap (λ (r : Row Span). r.at) (sym same);
+        text = ap (λ (r : Row Span). printed r.shape) (sym same);
+        clean = clean-through lexemes on (taken lexemes) there.0 clear (told (suc (taken lexemes)) (omega arith));
+        none_before = none-before (suc (taken lexemes)) y.before (λ j l. y.fine j);
+      }
     where
       at : (left : ℕ) → y.left ≡ left → IsUnexpected (shapes (rows_of lexemes)) (taken lexemes)
       at zero e = absurd (omega (arith, e, stops-at lexemes y.left y.read, many, (row-there (rows_of lexemes) (taken lexemes) y.row y.there).0))
@@ -271,27 +234,27 @@ module _ (lexemes : List Lexeme) where
           let same : u.0 ≡ taken lexemes = omega (arith, u.1, e, stops-at lexemes y.left y.read) in
           subst (λ n. IsUnexpected (shapes (rows_of lexemes)) n) same (subst (λ ss. IsUnexpected ss u.0) same-shapes u.2)
 
-  of-end : (errors : Faults) (y : IsOfEnd lexemes errors) → IsFirst (fault.UnexpectedEof y.text)
+  of-end : (errors : Faults) (y : IsOfEnd lexemes errors) → IsFirstFault lexemes (fault.UnexpectedEof y.text)
   of-end errors y =
       let n = length (rows_of lexemes) in
       let last : taken lexemes ≡ n = omega (arith, stops-at lexemes 0 y.read, many) in
       let ended : IsEnded (shapes (rows_of lexemes)) = subst IsEnded same-shapes (fronts.ended here levels (rows lexemes) (not-read (Unexpected 0) y.read)) in
       let before : AreClearBelow (in_mode lexemes) (suc n) = λ j l. y.before j (omega (arith, l)) in
       let clean = clean-all lexemes on (clear-to (suc n) (suc n) (omega arith) before) (told (suc n) (omega (arith, last))) in
-      (inr (y.plain, ended), inr (y.plain, record { clean = clean; none_before = none-before (suc n) before (λ j l. y.fine j) }))
+      inr (y.plain, record { ended = ended; clean = clean; none_before = none-before (suc n) before (λ j l. y.fine j) })
 
   -- ---- of a list
 
   same-first : (errors : Faults) (f g : ParseErrorKind) → HasFirst g errors → first_of errors ≡ Some f → f ≡ g
   same-first errors f g h e = let first : Some f ≡ Some g = sym e ∙ ap first_of h.1 in cc
 
-  -- The first fault is true, and nothing is passed over in front of it.
-  pub first-is : Each IsOrdered lexemes → Each AreOfKinds lexemes → (errors : Faults) → (errors ≡ [] → ⊥) → IsWoven (table_of lexemes) errors
-      → (f : ParseErrorKind) → first_of errors ≡ Some f → IsTrueOf lexemes f × IsTightOf lexemes f
-  first-is ordered kinds errors some woven f e = by (first-of-list lexemes errors some woven)
+  -- The list begins with the first fault.
+  pub first-is : Each IsOrdered lexemes → Each AreOfKinds lexemes → (errors : Faults) → (errors ≡ [] → ⊥) → AreMergedFaults (table_of lexemes) errors
+      → (f : ParseErrorKind) → first_of errors ≡ Some f → IsFirstFault lexemes f
+  first-is ordered kinds errors some merged f e = by (first-of-list lexemes errors some merged)
     where
-      by : FirstOfList lexemes errors → IsFirst f
-      by (of_row y) = subst IsFirst (sym (same-first errors f y.first.fault y.first.begins e)) (of-row ordered kinds errors y)
-      by (of_node y) = subst IsFirst (sym (same-first errors f y.fault y.begins e)) (of-node errors y)
-      by (of_token y) = subst IsFirst (sym (same-first errors f (fault.UnexpectedToken y.row.at y.text (printed y.row.shape)) y.begins e)) (of-token errors y)
-      by (of_end y) = subst IsFirst (sym (same-first errors f (fault.UnexpectedEof y.text) y.begins e)) (of-end errors y)
+      by : FirstOfList lexemes errors → IsFirstFault lexemes f
+      by (of_row y) = subst (IsFirstFault lexemes) (sym (same-first errors f y.first.fault y.first.begins e)) (of-row ordered kinds errors y)
+      by (of_node y) = subst (IsFirstFault lexemes) (sym (same-first errors f y.fault y.begins e)) (of-node errors y)
+      by (of_token y) = subst (IsFirstFault lexemes) (sym (same-first errors f (fault.UnexpectedToken y.row.at y.text (printed y.row.shape)) y.begins e)) (of-token errors y)
+      by (of_end y) = subst (IsFirstFault lexemes) (sym (same-first errors f (fault.UnexpectedEof y.text) y.begins e)) (of-end errors y)

@@ -13,13 +13,13 @@ use Rattle.protox_grammar.specs.Class.{all, in_set}
 use Rattle.protox_grammar.specs.Reader.{Unexpected, fixed, gathered, head_in, star, star_at, ◌>>=◌}
 use Rattle.protox_grammar.specs.Told.{checked, is_invalid, then_notes}
 use Rattle.protox_grammar.proofs.Stated.{stated-turn}
-use Rattle.protox_blocks.specs.Services.{service}
+use Rattle.protox_blocks.specs.inner.Services.{service}
 use Rattle.protox_syntax.specs.AllFaults.{refusal, row_at}
-use Rattle.protox_syntax.specs.Judging.{IsTableOf, total_of}
-use Rattle.protox_syntax.specs.Statements.{add_statement, declared, item_, next_first, no_statements, notes_behind, statement, statements_at, syntax_if_any}
-use Rattle.protox_syntax.specs.Weave.{weave}
-use Rattle.protox_syntax.specs.Whole.{all_notes, whole}
-use Rattle.protox_syntax.proofs.Judged.{IsJudged, ended-judged, is-invalid}
+use Rattle.protox_syntax.specs.inner.ParsedTable.{IsTableOf, total_of}
+use Rattle.protox_syntax.specs.inner.Statements.{add_statement, declared, item_, next_first, no_statements, notes_behind, statement, statements_at, syntax_if_any}
+use Rattle.protox_syntax.specs.inner.Merge.{merged_faults}
+use Rattle.protox_syntax.specs.inner.Whole.{all_notes, whole}
+use Rattle.protox_syntax.proofs.ParsedTable.{AreTableFaults, unexpected_row-parsed, is-invalid}
 use Rattle.protox_syntax.proofs.Turns.{statement-eats}
 
 abbrev bad : Place → Row Place
@@ -70,10 +70,10 @@ first-none : (rows : Rows Span) (gaps : List (List Shape)) → head_in is_invali
 first-none [] gaps h = absurd cc
 first-none (r ∷ rs) gaps h = ap (λ b. cond b None (Some (fault.UnexpectedToken r.at [] (printed r.shape)))) h
 
-pub invalid-judged : (t : Table) (size : ℕ) → IsTableOf size t → (total left : ℕ) (errors : List ParseErrorKind) → total ≡ total_of t → left ≡ length t.rows → head_in is_invalid (placed t) ≡ true → errors ≡ weave t.faults total [] left → IsJudged t size errors
-invalid-judged t size tab total left errors is left-is h e =
+pub invalid-parsed : (t : Table) (size : ℕ) → IsTableOf size t → (total left : ℕ) (errors : List ParseErrorKind) → total ≡ total_of t → left ≡ length t.rows → head_in is_invalid (placed t) ≡ true → errors ≡ merged_faults t.faults total [] left → AreTableFaults t size errors
+invalid-parsed t size tab total left errors is left-is h e =
     let first = invalid-first (placed t) h in
     let counted : length (placed t) ≡ left = omega (arith, as-many true t.rows t.gaps, left-is) in
     let start : 0 ≡ length t.rows - left = omega (arith, left-is) in
     let none : refusal [] (row_at t.rows left) ≡ None = ap (λ n. refusal [] (slice_get t.rows n)) (sym start) ∙ first-none t.rows t.gaps h in
-    ended-judged t size tab [] total left [] errors errors is refl (first.0 ∙ ap (λ n. Err (Unexpected n)) counted) (sym first.1) e (sym (append-nil errors) ∙ ap (λ o. errors ++ option_to_list o) (sym none))
+    unexpected_row-parsed t size tab [] total left [] errors errors is refl (first.0 ∙ ap (λ n. Err (Unexpected n)) counted) (sym first.1) e (sym (append-nil errors) ∙ ap (λ o. errors ++ option_to_list o) (sym none))

@@ -19,20 +19,20 @@ use Rattle.protox_grammar.proofs.Depths.{body-laws}
 use Rattle.protox_grammar.proofs.Messages as messages
 use Rattle.protox_grammar.proofs.Reading.{map_err}
 use Rattle.protox_grammar.proofs.Shows.{as_is, shows-eats}
-use Rattle.protox_options.specs.Options.{here}
+use Rattle.protox_options.specs.inner.Options.{here}
 use Rattle.protox_rows.proofs.Turns.{all_read}
-use Rattle.protox_rows.specs.Notes.{AddsTo}
-use Rattle.protox_rows.specs.Outcome.{Fails}
+use Rattle.protox_rows.specs.inner.Notes.{AddsTo}
+use Rattle.protox_rows.specs.inner.Outcome.{Fails}
 use Rattle.protox_rows.specs.declared.refused.Refused.{Refused}
 use Rattle.protox_rows.specs.declared.refused.Refused.TheVariants.{OutOfMemory, At, TooDeep}
 use Rattle.protox_syntax.specs.AllFaults.{Progress, after_statement, along, beginning, behind_block, faults_of_table, from_statement, in_mode, last, nowhere, read, refused, statements}
-use Rattle.protox_syntax.specs.Leading.{Alike, Ends, IsRefusedAt, IsStoppedAt, Leads, played, rest_of}
-use Rattle.protox_syntax.specs.Recovery.{AreLast, IsBegun, at_most, last_rows, next_rows, plain_note, refusal_notes}
-use Rattle.protox_syntax.specs.Statements.{levels, next_first, statement, statement_rule, statement_seen}
-use Rattle.protox_syntax.specs.declared.statement_types.Begun.{Begun}
+use Rattle.protox_syntax.specs.inner.Leading.{Alike, Ends, IsRefusedAt, IsStoppedAt, Leads, found_with_notes, rest_of}
+use Rattle.protox_syntax.specs.inner.Recovery.{AreLast, AreRefusalNotes, at_most, last_rows, next_rows, plain_note, refusal_notes}
+use Rattle.protox_syntax.specs.inner.Statements.{levels, next_first, statement, statement_rule, statement_seen}
+use Rattle.protox_syntax.specs.declared.statement_types.StatementStart.{StatementStart}
 use Rattle.protox_syntax.specs.declared.statement_types.Statement as statement_type
-use Rattle.protox_syntax.proofs.Along.{along-played, played-append}
-use Rattle.protox_syntax.proofs.Alike.{alike-played, alike-read, alike-refused}
+use Rattle.protox_syntax.proofs.Along.{along-found_with_notes, found_with_notes-append}
+use Rattle.protox_syntax.proofs.Alike.{alike-found_with_notes, alike-read, alike-refused}
 use Rattle.protox_syntax.proofs.Recovering.{drop-last, from-block, from-last, last-behind, last-fewer, last-last, next-last, statement-read}
 use Rattle.protox_syntax.proofs.Turns.{statement-eats}
 
@@ -128,11 +128,11 @@ module _ (t : Table) (notes : Notes) (q : Option Span) (r : Row Place) (rs : Row
   own-is : statement.notes q xs ≡ own
   own-is = sym (statement.says v.statement_first nowhere xs ∙ ap (λ u. statement.notes u xs) v.first_is)
 
-  alike-then : Alike (played t (notes ++ statement.notes q xs) beginning) found_then
+  alike-then : Alike (found_with_notes t (notes ++ statement.notes q xs) beginning) found_then
   alike-then =
-      subst (λ (u : Progress). Alike u found_then) (sym (ap (λ n. played t (notes ++ n) beginning) own-is ∙ played-append t notes own beginning))
-      (subst (λ (u : Progress). Alike (played t own (played t notes beginning)) u) (sym (along-played t v.statement_first nowhere steps xs v.found))
-      (alike-played t own (played t notes beginning) v.found v.alike))
+      subst (λ (u : Progress). Alike u found_then) (sym (ap (λ n. found_with_notes t (notes ++ n) beginning) own-is ∙ found_with_notes-append t notes own beginning))
+      (subst (λ (u : Progress). Alike (found_with_notes t own (found_with_notes t notes beginning)) u) (sym (along-found_with_notes t v.statement_first nowhere steps xs v.found))
+      (alike-found_with_notes t own (found_with_notes t notes beginning) v.found v.alike))
 
   rest-then : (o : Result (tree.Statement Place × Rows Place) Refusal) → statement_rule.read xs ≡ o → after_statement t (rest_of t) v.statement_first xs o found_then ≡ faults_of_table t
   rest-then o e = sym (rest-turn t v.statement_first r rs v.found ∙ ap (λ u. after_statement t (rest_of t) v.statement_first xs u found_then) e) ∙ v.rest
@@ -146,14 +146,14 @@ module _ (t : Table) (notes : Notes) (q : Option Span) (r : Row Place) (rs : Row
         found = found_then;
         first_is = statement.first v.statement_first xs (s.found, ys) s.read ∙ (λ i. next_first (v.first_is i) (s.seen i));
         last = last-behind t q xs v.last ys x e;
-        alike = subst (λ n. Alike (played t n beginning) found_then) (sym added) alike-then;
+        alike = subst (λ n. Alike (found_with_notes t n beginning) found_then) (sym added) alike-then;
         rest = rest-then (Ok (s.found, ys)) s.read;
       }
 
   -- it is refused
-  pub leads-refused : (e : Refused) (begun new : Notes) (most : ℕ) → most ≡ length rs → Fails e (statement.code xs) → IsBegun t.rows e begun → new ≡ (notes ++ statement.notes q xs) ++ begun → Leads t new q (next_rows t e most)
-  leads-refused OutOfMemory begun new most is fails h added = absurd h
-  leads-refused (At left expected) begun new most is fails h added =
+  pub leads-refused : (e : Refused) (at_refusal new : Notes) (most : ℕ) → most ≡ length rs → Fails e (statement.code xs) → AreRefusalNotes t.rows e at_refusal → new ≡ (notes ++ statement.notes q xs) ++ at_refusal → Leads t new q (next_rows t e most)
+  leads-refused OutOfMemory at_refusal new most is fails h added = absurd h
+  leads-refused (At left expected) at_refusal new most is fails h added =
       let rows : next_rows t (At left expected) most ≡ from_statement (last left rs) = ap (λ n. next_rows t (At left expected) n) is ∙ ap from_statement (last-is t r rs v.last left) in
       let notes-are : new ≡ (notes ++ statement.notes q xs) ++ refusal_notes left h.0 t.rows = added ∙ ap (λ n. (notes ++ statement.notes q xs) ++ n) h.2 in
       record {
@@ -161,21 +161,21 @@ module _ (t : Table) (notes : Notes) (q : Option Span) (r : Row Place) (rs : Row
         found = refused t left found_then;
         first_is = v.first_is;
         last = next-last t (At left expected) most;
-        alike = subst (λ (u : Progress). Alike u (refused t left found_then)) (sym (ap (λ n. played t n beginning) notes-are ∙ played-append t (notes ++ statement.notes q xs) (refusal_notes left h.0 t.rows) beginning))
-            (alike-refused t left h.0 (played t (notes ++ statement.notes q xs) beginning) found_then h.1 alike-then);
+        alike = subst (λ (u : Progress). Alike u (refused t left found_then)) (sym (ap (λ n. found_with_notes t n beginning) notes-are ∙ found_with_notes-append t (notes ++ statement.notes q xs) (refusal_notes left h.0 t.rows) beginning))
+            (alike-refused t left h.0 (found_with_notes t (notes ++ statement.notes q xs) beginning) found_then h.1 alike-then);
         rest = ap (λ ys. rest_of t v.statement_first ys (refused t left found_then)) rows ∙ rest-then (Err (Unexpected left)) (statement-err xs (Unexpected left) fails);
       }
-  leads-refused (TooDeep left) begun new most is fails h added =
+  leads-refused (TooDeep left) at_refusal new most is fails h added =
       let rows : next_rows t (TooDeep left) most ≡ from_statement (behind_block 0 (last (left - 1) rs)) = ap (λ n. next_rows t (TooDeep left) n) is ∙ ap (λ ys. from_statement (behind_block 0 ys)) (last-is t r rs v.last (left - 1)) in
       let notes-are : new ≡ (notes ++ statement.notes q xs) ++ plain_note (left - 1) = added ∙ ap (λ n. (notes ++ statement.notes q xs) ++ n) h in
       let seen : Progress = in_mode false (read t (left - 1) found_then) in
-      let alike = alike-read t (left - 1) (played t (notes ++ statement.notes q xs) beginning) found_then alike-then in
+      let alike = alike-read t (left - 1) (found_with_notes t (notes ++ statement.notes q xs) beginning) found_then alike-then in
       record {
         statement_first = v.statement_first;
         found = seen;
         first_is = v.first_is;
         last = next-last t (TooDeep left) most;
-        alike = subst (λ (u : Progress). Alike u seen) (sym (ap (λ n. played t n beginning) notes-are ∙ played-append t (notes ++ statement.notes q xs) (plain_note (left - 1)) beginning)) (alike.0, alike.1, refl);
+        alike = subst (λ (u : Progress). Alike u seen) (sym (ap (λ n. found_with_notes t n beginning) notes-are ∙ found_with_notes-append t (notes ++ statement.notes q xs) (plain_note (left - 1)) beginning)) (alike.0, alike.1, refl);
         rest = ap (λ ys. rest_of t v.statement_first ys seen) rows ∙ rest-then (Err (Deep left)) (statement-err xs (Deep left) fails);
       }
 
@@ -193,27 +193,27 @@ pub leads-more : (t : Table) (notes : Notes) (q : Option Span) (xs ys : Rows Pla
 leads-more t notes q [] ys x new v e added = absurd (omega (arith, statement-eats [] (x, ys) e))
 leads-more t notes q (r ∷ rs) ys x new v e added = leads-read t notes q r rs v ys x new e added
 
-pub leads-behind : (t : Table) (notes : Notes) (q : Option Span) (xs : Rows Place) (e : Refused) (begun new : Notes) (most : ℕ) → (xs ≡ [] → ⊥) → Leads t notes q xs → most ≡ length xs - 1 → Fails e (statement.code xs) → IsBegun t.rows e begun
-    → new ≡ (notes ++ statement.notes q xs) ++ begun → Leads t new q (next_rows t e most)
-leads-behind t notes q [] e begun new most some v is fails h added = absurd (some refl)
-leads-behind t notes q (r ∷ rs) e begun new most some v is fails h added = leads-refused t notes q r rs v e begun new most (omega (arith, is)) fails h added
+pub leads-behind : (t : Table) (notes : Notes) (q : Option Span) (xs : Rows Place) (e : Refused) (at_refusal new : Notes) (most : ℕ) → (xs ≡ [] → ⊥) → Leads t notes q xs → most ≡ length xs - 1 → Fails e (statement.code xs) → AreRefusalNotes t.rows e at_refusal
+    → new ≡ (notes ++ statement.notes q xs) ++ at_refusal → Leads t new q (next_rows t e most)
+leads-behind t notes q [] e at_refusal new most some v is fails h added = absurd (some refl)
+leads-behind t notes q (r ∷ rs) e at_refusal new most some v is fails h added = leads-refused t notes q r rs v e at_refusal new most (omega (arith, is)) fails h added
 
 -- a statement is refused, and the loop ends
-stopped-at : (t : Table) (notes new : Notes) (begun : Begun) (e : Refused) (xs : Rows Place) → eqb (length xs) 0 ≡ false → begun.left ≡ length xs → Leads t notes begun.first xs → new ≡ notes ++ statement.notes begun.first xs → Fails e (statement.code xs) → IsStoppedAt t new begun e
-stopped-at t notes new begun e [] some left v added fails = absurd cc
-stopped-at t notes new begun e (r ∷ rs) some left v added fails = record { row = r; rows = rs; before = notes; counted = left; leads = v; notes_are = added; fails = fails }
+stopped-at : (t : Table) (notes new : Notes) (start : StatementStart) (e : Refused) (xs : Rows Place) → eqb (length xs) 0 ≡ false → start.left ≡ length xs → Leads t notes start.first xs → new ≡ notes ++ statement.notes start.first xs → Fails e (statement.code xs) → IsStoppedAt t new start e
+stopped-at t notes new start e [] some left v added fails = absurd cc
+stopped-at t notes new start e (r ∷ rs) some left v added fails = record { row = r; rows = rs; before = notes; counted = left; leads = v; notes_are = added; fails = fails }
 
-pub refused-at : (t : Table) (notes new : Notes) (begun : Begun) (e : Refused) (rows : Rows Place) → eqb (length rows) 0 ≡ false → begun.left ≡ length rows → Leads t notes begun.first rows → AddsTo e notes (statement.notes begun.first rows) new → Fails e (statement.code rows) → IsRefusedAt t new begun e
-refused-at t notes new begun OutOfMemory rows some left v added fails = tt
-refused-at t notes new begun (At n expected) rows some left v added fails = stopped-at t notes new begun (At n expected) rows some left v added fails
-refused-at t notes new begun (TooDeep n) rows some left v added fails = stopped-at t notes new begun (TooDeep n) rows some left v added fails
+pub refused-at : (t : Table) (notes new : Notes) (start : StatementStart) (e : Refused) (rows : Rows Place) → eqb (length rows) 0 ≡ false → start.left ≡ length rows → Leads t notes start.first rows → AddsTo e notes (statement.notes start.first rows) new → Fails e (statement.code rows) → IsRefusedAt t new start e
+refused-at t notes new start OutOfMemory rows some left v added fails = tt
+refused-at t notes new start (At n expected) rows some left v added fails = stopped-at t notes new start (At n expected) rows some left v added fails
+refused-at t notes new start (TooDeep n) rows some left v added fails = stopped-at t notes new start (TooDeep n) rows some left v added fails
 
 -- reading goes on behind it
-again-at : (t : Table) (notes new : Notes) (begun : Begun) (e : Refused) (own : Notes) (most : ℕ) → IsStoppedAt t notes begun e → IsBegun t.rows e own → new ≡ notes ++ own → most ≡ begun.left - 1 → Leads t new begun.first (next_rows t e most)
-again-at t notes new begun e own most v h added is =
-    leads-refused t v.before begun.first v.row v.rows v.leads e own new most (omega (arith, is, v.counted)) v.fails h (added ∙ ap (λ n. n ++ own) v.notes_are)
+again-at : (t : Table) (notes new : Notes) (start : StatementStart) (e : Refused) (own : Notes) (most : ℕ) → IsStoppedAt t notes start e → AreRefusalNotes t.rows e own → new ≡ notes ++ own → most ≡ start.left - 1 → Leads t new start.first (next_rows t e most)
+again-at t notes new start e own most v h added is =
+    leads-refused t v.before start.first v.row v.rows v.leads e own new most (omega (arith, is, v.counted)) v.fails h (added ∙ ap (λ n. n ++ own) v.notes_are)
 
-pub leads-again : (t : Table) (notes new : Notes) (begun : Begun) (e : Refused) (begun_notes : Notes) (most : ℕ) → IsRefusedAt t notes begun e → IsBegun t.rows e begun_notes → new ≡ notes ++ begun_notes → most ≡ begun.left - 1 → Leads t new begun.first (next_rows t e most)
-leads-again t notes new begun OutOfMemory begun_notes most v h added is = absurd h
-leads-again t notes new begun (At left expected) begun_notes most v h added is = again-at t notes new begun (At left expected) begun_notes most v h added is
-leads-again t notes new begun (TooDeep left) begun_notes most v h added is = again-at t notes new begun (TooDeep left) begun_notes most v h added is
+pub leads-again : (t : Table) (notes new : Notes) (start : StatementStart) (e : Refused) (at_refusal : Notes) (most : ℕ) → IsRefusedAt t notes start e → AreRefusalNotes t.rows e at_refusal → new ≡ notes ++ at_refusal → most ≡ start.left - 1 → Leads t new start.first (next_rows t e most)
+leads-again t notes new start OutOfMemory at_refusal most v h added is = absurd h
+leads-again t notes new start (At left expected) at_refusal most v h added is = again-at t notes new start (At left expected) at_refusal most v h added is
+leads-again t notes new start (TooDeep left) at_refusal most v h added is = again-at t notes new start (TooDeep left) at_refusal most v h added is

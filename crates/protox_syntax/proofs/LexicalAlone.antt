@@ -1,4 +1,4 @@
--- Of a source whose tokens are those of a file with which nothing is wrong, the faults are those of its lexemes.
+-- If nothing is wrong with a file but its lexemes, its faults are exactly those of the lexemes.
 use Rattle.std.proofs.Common.{◌≡◌, ◌≤◌, ◌+◌, ℕ, zero, suc, Bool, true, List, [], ◌∷◌, ◌++◌, length, Result, Ok, Err, IfErr, refl, sym, ap, subst, ◌∙◌, arith}
 use Rattle.std.specs.Prelude.{slice_index_or}
 use Rattle.protox_fault.specs.Faults.{faults_in}
@@ -15,28 +15,28 @@ use Rattle.protox_ast.specs.Places.{Place}
 use Rattle.protox_ast.specs.Spells.{Spells}
 use Rattle.protox_ast.specs.Tree as tree
 use Rattle.protox_ast.specs.declared.ast.File.{File}
-use Rattle.protox_grammar.specs.MarkLaws.{placed_tokens}
+use Rattle.protox_grammar.specs.TagLaws.{placed_tokens}
 use Rattle.protox_grammar.specs.Reader.{Unexpected, Deep}
 use Rattle.protox_grammar.specs.Reads.{read}
 use Rattle.protox_grammar.specs.Told.{Notes}
 use Rattle.protox_grammar.proofs.FineNotes.{IsFaultless}
 use Rattle.protox_grammar.proofs.Main as main
 use Rattle.protox_grammar.proofs.ModeFaults as mode
-use Rattle.protox_options.specs.Options.{here}
-use Rattle.protox_rows.specs.Outcome.{Fails}
+use Rattle.protox_options.specs.inner.Options.{here}
+use Rattle.protox_rows.specs.inner.Outcome.{Fails}
 use Rattle.protox_rows.specs.declared.refused.Refused.{Refused}
 use Rattle.protox_rows.specs.declared.refused.Refused.TheVariants as refused
-use Rattle.protox_syntax.specs.Judging.{IsWoven, Judges, JudgesFault, stopped, ended, recovered, finished}
+use Rattle.protox_syntax.specs.inner.ParsedTable.{AreMergedFaults, ParsesTable, RefusesTable, unknown_syntax, unexpected_row, refused_statement, all_read}
 use Rattle.protox_syntax.specs.LexicalFaults.{AreLexicalAlone, AreTokens}
-use Rattle.protox_syntax.specs.Recovery.{IsBegun}
-use Rattle.protox_syntax.specs.Statements.{levels, syntax_if_any}
-use Rattle.protox_syntax.specs.Weave.{weave}
-use Rattle.protox_syntax.specs.Whole.{all_notes, whole}
-use Rattle.protox_syntax.proofs.Judged.{front-faultless}
+use Rattle.protox_syntax.specs.inner.Recovery.{AreRefusalNotes}
+use Rattle.protox_syntax.specs.inner.Statements.{levels, syntax_if_any}
+use Rattle.protox_syntax.specs.inner.Merge.{merged_faults}
+use Rattle.protox_syntax.specs.inner.Whole.{all_notes, whole}
+use Rattle.protox_syntax.proofs.ParsedTable.{front-faultless}
 use Rattle.protox_syntax.proofs.Modes as modes
 use Rattle.protox_syntax.proofs.Reading.{none-read}
 use Rattle.protox_syntax.proofs.SyntaxNotes.{syntax-faults}
-use Rattle.protox_syntax.proofs.WeaveParts.{all-first, all-same, all_from, seen_faults, weave-exact}
+use Rattle.protox_syntax.proofs.MergeParts.{all-first, all-same, all_from, seen_faults, merged_faults-exact}
 
 each-valid : (xs : List Lexeme) → AreTokens xs → modes.AreValid (rows_of xs)
 each-valid [] h = tt
@@ -62,9 +62,9 @@ module _ (lexemes : List Lexeme) (f : tree.File Place) (spelled : Spells (placed
   abbrev total : ℕ
   total = length (rows_of lexemes) + 1
 
-  are-faults : AreFaultsOf lexemes (weave (faults_of lexemes) total (all_notes rows) 0)
+  are-faults : AreFaultsOf lexemes (merged_faults (faults_of lexemes) total (all_notes rows) 0)
   are-faults =
-      let exact = weave-exact (faults_of lexemes) total (all_notes rows) (suc (length rows)) fine (modes.falls lexemes f spelled deep fine) in
+      let exact = merged_faults-exact (faults_of lexemes) total (all_notes rows) (suc (length rows)) fine (modes.falls lexemes f spelled deep fine) in
       let same = all-same (seen_faults (faults_of lexemes) total (all_notes rows)) (λ k. faults_in (on k) (slice_index_or (faults_of lexemes) k [])) 0 total
       (λ k a b. ap (λ v. faults_in v (slice_index_or (faults_of lexemes) k [])) (modes.mode-is lexemes f spelled deep k (omega (arith, b)))) in
       let count : total ≡ suc (length (rows_of lexemes)) = omega arith in
@@ -74,22 +74,22 @@ module _ (lexemes : List Lexeme) (f : tree.File Place) (spelled : Spells (placed
   is-read : read levels rows ≡ Ok f
   is-read = (main.accepts_iff here levels rows f).1 (spelled, deep)
 
-  refused-not : (e : Refused) (begun : Notes) → Fails e (whole rows) → IsBegun (table_of lexemes).rows e begun → ⊥
-  refused-not refused.OutOfMemory begun h g = g
-  refused-not (refused.At left expected) begun h g = none-read rows (Unexpected left) h f is-read
-  refused-not (refused.TooDeep left) begun h g = none-read rows (Deep left) h f is-read
+  refused-not : (e : Refused) (at_refusal : Notes) → Fails e (whole rows) → AreRefusalNotes (table_of lexemes).rows e at_refusal → ⊥
+  refused-not refused.OutOfMemory at_refusal h g = g
+  refused-not (refused.At left expected) at_refusal h g = none-read rows (Unexpected left) h f is-read
+  refused-not (refused.TooDeep left) at_refusal h g = none-read rows (Deep left) h f is-read
 
-  woven-alone : (errors : List ParseErrorKind) → IsWoven (table_of lexemes) errors → AreFaultsOf lexemes errors
-  woven-alone errors (stopped some w) = absurd (some (modes.faults-none (syntax_if_any.notes rows) (syntax-faults rows) (front-faultless rows fine)))
-  woven-alone errors (ended left text plain e w) = absurd (none-read rows (Unexpected left) e f is-read)
-  woven-alone errors (recovered e begun later h g notable w) = absurd (refused-not e begun h g)
-  woven-alone errors (finished x e w) = subst (AreFaultsOf lexemes) (sym w) are-faults
+  merged-alone : (errors : List ParseErrorKind) → AreMergedFaults (table_of lexemes) errors → AreFaultsOf lexemes errors
+  merged-alone errors (unknown_syntax some w) = absurd (some (modes.faults-none (syntax_if_any.notes rows) (syntax-faults rows) (front-faultless rows fine)))
+  merged-alone errors (unexpected_row left text plain e w) = absurd (none-read rows (Unexpected left) e f is-read)
+  merged-alone errors (refused_statement e at_refusal later h g notable w) = absurd (refused-not e at_refusal h g)
+  merged-alone errors (all_read x e w) = subst (AreFaultsOf lexemes) (sym w) are-faults
 
--- what is judged of the table of a source
-pub judged-alone : (source : List ℕ) (e : SyntaxFailure) → JudgesFault (table_of (cut 0 source)) (length source) e → AreLexicalAlone source e
-judged-alone source OutOfMemory j = tt
-judged-alone source (Faults v) j = λ f spelled deep nothing valid. woven-alone (cut 0 source) f spelled deep nothing valid v.items j.3
+-- from the answer for a source's table
+pub parsed-alone : (source : List ℕ) (e : SyntaxFailure) → RefusesTable (table_of (cut 0 source)) (length source) e → AreLexicalAlone source e
+parsed-alone source OutOfMemory j = tt
+parsed-alone source (Faults v) j = λ f spelled deep nothing valid. merged-alone (cut 0 source) f spelled deep nothing valid v.items j.3
 
-pub judged-result : (source : List ℕ) (r : Result File SyntaxFailure) → Judges (table_of (cut 0 source)) (length source) r → IfErr r (AreLexicalAlone source)
-judged-result source (Ok file) j = tt
-judged-result source (Err e) j = judged-alone source e j
+pub parsed-result : (source : List ℕ) (r : Result File SyntaxFailure) → ParsesTable (table_of (cut 0 source)) (length source) r → IfErr r (AreLexicalAlone source)
+parsed-result source (Ok file) j = tt
+parsed-result source (Err e) j = parsed-alone source e j

@@ -1,4 +1,5 @@
--- Of a source whose tokens are those of a file there is no fault exactly where nothing is wrong with the file and its lexemes are clean.
+-- If a source's tokens spell a file, the source has no fault exactly if nothing is wrong with the
+-- file and its lexemes are clean.
 use Rattle.std.proofs.Common.{◌≡◌, ◌↔◌, ◌≤◌, ◌<◌, ◌+◌, ◌-◌, ℕ, zero, suc, Bool, true, false, cond, List, [], ◌∷◌, ◌++◌, length, Option, Some, None, refl, sym, ap, subst, ◌∙◌, arith, inl, inr, true≢false}
 use Rattle.std.proofs.lemmas.Bool.{cases_lt, lt-ltb, le-ltb}
 use Rattle.std.specs.Prelude.{slice_index_or, nat_lt}
@@ -20,7 +21,7 @@ use Rattle.protox_ast.specs.Spells.{Spells, shapes}
 use Rattle.protox_ast.specs.Tree as tree
 use Rattle.protox_grammar.specs.Bodies as bodies
 use Rattle.protox_grammar.specs.CheckLaws.{is_too_deep_by}
-use Rattle.protox_grammar.specs.MarkLaws.{placed_tokens}
+use Rattle.protox_grammar.specs.TagLaws.{placed_tokens}
 use Rattle.protox_grammar.specs.Noted.{open_behind, trace}
 use Rattle.protox_grammar.specs.Reader.{head_in}
 use Rattle.protox_grammar.specs.Steps.{ANode, APackage, AKeyword, ADeepBody, ADeeperBody, AnOpenBrace, ACloseBrace, Token, Note, Steps, has_deep, tokens, until}
@@ -37,14 +38,14 @@ use Rattle.protox_grammar.proofs.NotedModes.{mode_at, told-mode}
 use Rattle.protox_grammar.proofs.NotedWrong.{noted-wrong}
 use Rattle.protox_grammar.proofs.PlaceLaws.{noted_alike}
 use Rattle.protox_grammar.proofs.StepLists.{shallow-ends, until-note}
-use Rattle.protox_options.specs.Options.{here}
-use Rattle.protox_syntax.specs.Statements.{levels}
-use Rattle.protox_syntax.specs.Weave.{weave}
-use Rattle.protox_syntax.specs.Whole.{all_notes}
+use Rattle.protox_options.specs.inner.Options.{here}
+use Rattle.protox_syntax.specs.inner.Statements.{levels}
+use Rattle.protox_syntax.specs.inner.Merge.{merged_faults}
+use Rattle.protox_syntax.specs.inner.Whole.{all_notes}
 use Rattle.protox_syntax.proofs.Reading.{file-told}
-use Rattle.protox_syntax.proofs.Weaving.{Fall, AreClear, faultless, weave-clear}
+use Rattle.protox_syntax.proofs.Merging.{Fall, AreClear, faultless, merged_faults-clear}
 
--- ---- notes without a fault come in order
+-- ---- notes without a fault are in order
 
 abbrev pub IsFault : Noted → Type 0
 IsFault (Fault f) = Unit {0}
@@ -93,7 +94,7 @@ behind-fewer : (xs : Rows Place) → length (behind xs) ≤ length xs
 behind-fewer [] = omega arith
 behind-fewer (x ∷ xs) = omega arith
 
--- behind a node of which no fault is noted
+-- behind a node without a noted fault
 past-fall : (x : CheckedNode Place) (xs : Rows Place) (more : Notes) → IsFaultless (node_notes x xs ++ more) → (IsFaultless more → Fall (suc (length xs)) more) → Fall (suc (length xs)) (node_notes x xs ++ more)
 past-fall x xs more f h =
     let none = faults-none (node_notes x xs) (node-faults x xs) (faultless-first (node_notes x xs) more f) in
@@ -242,13 +243,13 @@ module _ (lexemes : List Lexeme) (f : tree.File Place) (spelled : Spells (placed
   pub falls : IsFaultless (all_notes rows) → Fall (suc (length rows)) (all_notes rows)
   falls g = subst (Fall (suc (length rows))) (file-told rows) (told-fall None here (trace levels rows) rows (subst IsFaultless (sym (file-told rows)) g))
 
-  pub no-faults : (weave entries total (all_notes rows) 0 ≡ []) ↔ (NothingWrong f × AreClean lexemes)
+  pub no-faults : (merged_faults entries total (all_notes rows) 0 ≡ []) ↔ (NothingWrong f × AreClean lexemes)
   no-faults = (
     λ e.
         let g = faultless entries total (all_notes rows) 0 e in
-        let clean = clear-clean.0 ((weave-clear entries total (all_notes rows) (suc (length rows)) g (falls g)).0 e) in
+        let clean = clear-clean.0 ((merged_faults-clear entries total (all_notes rows) (suc (length rows)) g (falls g)).0 e) in
         ((wrong (clean-tokens lexemes clean)).0 g, clean),
     λ h.
         let g = (wrong (clean-tokens lexemes h.1)).1 h.0 in
-        (weave-clear entries total (all_notes rows) (suc (length rows)) g (falls g)).1 (clear-clean.1 h.1),
+        (merged_faults-clear entries total (all_notes rows) (suc (length rows)) g (falls g)).1 (clear-clean.1 h.1),
   )

@@ -1,4 +1,4 @@
--- Each fault that is noted while a source is read is in its list: so no check is lost.
+-- Each fault that is noted while a source is read is in its list, so no check is lost.
 use Rattle.std.proofs.Common.{◌≡◌, ℕ, zero, suc, ◌+◌, Bool, true, false, List, [], ◌∷◌, ◌++◌, drop, length, None, Result, Ok, Err, IfErr, refl, sym, ap, subst, ◌∙◌, arith, inl, inr}
 use Rattle.std.specs.Prelude.{Contains, IfSome, option_to_list, slice_get}
 use Rattle.protox_fault.specs.Faults.{Span}
@@ -16,7 +16,7 @@ use Rattle.protox_ast.specs.Tree as t
 use Rattle.protox_ast.specs.Truth.{is_run}
 use Rattle.protox_ast.specs.declared.ast.File.{File}
 use Rattle.protox_grammar.specs.CheckLaws.{levels, noted_by, steps_by}
-use Rattle.protox_grammar.specs.MarkLaws.{map_node, place_at, placed_steps_by, placed_tokens}
+use Rattle.protox_grammar.specs.TagLaws.{map_node, place_at, placed_steps_by, placed_tokens}
 use Rattle.protox_grammar.specs.Noted.{trace}
 use Rattle.protox_grammar.specs.Reader.{head_in}
 use Rattle.protox_grammar.specs.Steps.{until}
@@ -28,19 +28,19 @@ use Rattle.protox_grammar.proofs.Holding.{Holds, any-holds, holds-left, holds-on
 use Rattle.protox_grammar.proofs.PlaceLaws.{noted_alike, wrong_alike}
 use Rattle.protox_grammar.proofs.StepLists.{until-front}
 use Rattle.protox_grammar.proofs.Telling.{told-append}
-use Rattle.protox_options.specs.Options.{here}
-use Rattle.protox_syntax.specs.Judging.{IsWoven, Judges, JudgesFault, stopped, ended, recovered, finished}
+use Rattle.protox_options.specs.inner.Options.{here}
+use Rattle.protox_syntax.specs.inner.ParsedTable.{AreMergedFaults, ParsesTable, RefusesTable, unknown_syntax, unexpected_row, refused_statement, all_read}
 use Rattle.protox_syntax.specs.LostChecks.{IsCheckedBefore, NoCheckIsLost, NoneIsLost}
-use Rattle.protox_syntax.specs.Statements.{syntax_if_any}
-use Rattle.protox_syntax.specs.Weave.{Progress, beginning, noted_in, play, read_to, refusal, row_at, weave, with_noted}
-use Rattle.protox_syntax.specs.Whole.{all_notes}
+use Rattle.protox_syntax.specs.inner.Statements.{syntax_if_any}
+use Rattle.protox_syntax.specs.inner.Merge.{Progress, beginning, noted_in, merge_notes, read_until, refusal, row_at, merged_faults, with_noted}
+use Rattle.protox_syntax.specs.inner.Whole.{all_notes}
 use Rattle.protox_syntax.proofs.Modes.{not-invalid}
 use Rattle.protox_syntax.proofs.NodesNoted.{IsSame, ends-here, node-noted, steps-numbered, steps-placed}
 use Rattle.protox_syntax.proofs.NodesTold.{IsOfFault, node-has, told-of}
 use Rattle.protox_syntax.proofs.Reading.{file-told}
 use Rattle.protox_syntax.proofs.SyntaxStops.{stops}
 
--- ---- what is noted is in the list
+-- ---- noted faults are in the list
 
 module _ (faults : List (List ParseErrorKind)) (total : ℕ) (wrong : ParseErrorKind) where
   abbrev Is : ParseErrorKind → Type 0
@@ -50,26 +50,26 @@ module _ (faults : List (List ParseErrorKind)) (total : ℕ) (wrong : ParseError
   noted-keeps (Fault x) p h = holds-left Is p.errors (x ∷ []) h
   noted-keeps (TextFormat on) p h = h
 
-  play-keeps : (ns : Notes) (p : Progress) → Holds Is p.errors → Holds Is (play faults total ns p).errors
-  play-keeps [] p h = h
-  play-keeps (n ∷ ns) p h = play-keeps ns (noted_in faults total n p) (noted-keeps n.noted (read_to faults total n.left p) (holds-left Is p.errors _ h))
+  merge_notes-keeps : (ns : Notes) (p : Progress) → Holds Is p.errors → Holds Is (merge_notes faults total ns p).errors
+  merge_notes-keeps [] p h = h
+  merge_notes-keeps (n ∷ ns) p h = merge_notes-keeps ns (noted_in faults total n p) (noted-keeps n.noted (read_until faults total n.left p) (holds-left Is p.errors _ h))
 
-  play-has : (ns : Notes) (p : Progress) → Holds (IsOfFault wrong) ns → Holds Is (play faults total ns p).errors
-  play-has [] p h = absurd h
-  play-has (n ∷ ns) p (inl e) =
-      let read = read_to faults total n.left p in
-      play-keeps ns (noted_in faults total n p) (subst (λ v. Holds Is (with_noted v read).errors) (sym e) (holds-right Is read.errors (wrong ∷ []) (inl refl)))
-  play-has (n ∷ ns) p (inr h) = play-has ns (noted_in faults total n p) h
+  merge_notes-has : (ns : Notes) (p : Progress) → Holds (IsOfFault wrong) ns → Holds Is (merge_notes faults total ns p).errors
+  merge_notes-has [] p h = absurd h
+  merge_notes-has (n ∷ ns) p (inl e) =
+      let read = read_until faults total n.left p in
+      merge_notes-keeps ns (noted_in faults total n p) (subst (λ v. Holds Is (with_noted v read).errors) (sym e) (holds-right Is read.errors (wrong ∷ []) (inl refl)))
+  merge_notes-has (n ∷ ns) p (inr h) = merge_notes-has ns (noted_in faults total n p) h
 
-  weave-has : (ns : Notes) (left : ℕ) → Holds (IsOfFault wrong) ns → Holds Is (weave faults total ns left)
-  weave-has ns left h = holds-left Is (play faults total ns beginning).errors _ (play-has ns beginning h)
+  merged_faults-has : (ns : Notes) (left : ℕ) → Holds (IsOfFault wrong) ns → Holds Is (merged_faults faults total ns left)
+  merged_faults-has ns left h = holds-left Is (merge_notes faults total ns beginning).errors _ (merge_notes-has ns beginning h)
 
 contains-of : (x : ParseErrorKind) (xs : List ParseErrorKind) → Holds (λ u. u ≡ x) xs → Contains xs x
 contains-of x [] h = absurd h
 contains-of x (y ∷ ys) (inl e) = (0, omega arith, e)
 contains-of x (y ∷ ys) (inr h) = let v = contains-of x ys h in (suc v.0, omega (arith, v.1), v.2)
 
--- ---- what is noted of a node of a file that goes on
+-- ---- the notes of a node of a file that goes on
 
 run-map : (f : ℕ → Place) (x : CheckedNode ℕ) → is_run (map_node f x) ≡ is_run x
 run-map f (ASyntax x) = refl
@@ -119,7 +119,7 @@ module _ (lexemes : List Lexeme) (n : ℕ) (f : t.File ℕ) (go : GoesOn (shapes
       in
       subst (Holds (IsOfFault wrong)) (same-told None (place 0) here l rows (placed-worded lexemes) ∙ file-told rows) whole
 
-  -- If the syntax is wrong, it is this node.
+  -- A wrong syntax is this node.
   pub syntax-has : (syntax_if_any.notes rows ≡ [] → ⊥) → Holds (IsOfFault wrong) (syntax_if_any.notes rows)
   syntax-has some =
       let v = stops lexemes n node noted.1 some in
@@ -138,24 +138,24 @@ module _ (lexemes : List Lexeme) (errors : List ParseErrorKind) where
   abbrev notes : Notes
   notes = all_notes (placed_tokens lexemes)
 
-  woven-has : (wrong : ParseErrorKind) → Holds (IsOfFault wrong) notes → ((syntax_if_any.notes (placed_tokens lexemes) ≡ [] → ⊥) → Holds (IsOfFault wrong) (syntax_if_any.notes (placed_tokens lexemes))) → IsWoven (table_of lexemes) errors
+  merged-has : (wrong : ParseErrorKind) → Holds (IsOfFault wrong) notes → ((syntax_if_any.notes (placed_tokens lexemes) ≡ [] → ⊥) → Holds (IsOfFault wrong) (syntax_if_any.notes (placed_tokens lexemes))) → AreMergedFaults (table_of lexemes) errors
       → Holds (λ u. u ≡ wrong) errors
-  woven-has wrong h g (stopped some w) = subst (Holds (λ u. u ≡ wrong)) (sym w) (weave-has entries total wrong (syntax_if_any.notes (placed_tokens lexemes)) _ (g some))
-  woven-has wrong h g (ended left text plain e w) =
-      subst (Holds (λ u. u ≡ wrong)) (sym w) (holds-left (λ u. u ≡ wrong) (weave entries total notes left) (option_to_list (refusal text (row_at (rows_of lexemes) left))) (weave-has entries total wrong notes left h))
-  woven-has wrong h g (recovered e begun later fails is notable w) = subst (Holds (λ u. u ≡ wrong)) (sym w) (weave-has entries total wrong (notes ++ (begun ++ later)) 0 (holds-left (IsOfFault wrong) notes (begun ++ later) h))
-  woven-has wrong h g (finished x e w) = subst (Holds (λ u. u ≡ wrong)) (sym w) (weave-has entries total wrong notes 0 h)
+  merged-has wrong h g (unknown_syntax some w) = subst (Holds (λ u. u ≡ wrong)) (sym w) (merged_faults-has entries total wrong (syntax_if_any.notes (placed_tokens lexemes)) _ (g some))
+  merged-has wrong h g (unexpected_row left text plain e w) =
+      subst (Holds (λ u. u ≡ wrong)) (sym w) (holds-left (λ u. u ≡ wrong) (merged_faults entries total notes left) (option_to_list (refusal text (row_at (rows_of lexemes) left))) (merged_faults-has entries total wrong notes left h))
+  merged-has wrong h g (refused_statement e at_refusal later fails is notable w) = subst (Holds (λ u. u ≡ wrong)) (sym w) (merged_faults-has entries total wrong (notes ++ (at_refusal ++ later)) 0 (holds-left (IsOfFault wrong) notes (at_refusal ++ later) h))
+  merged-has wrong h g (all_read x e w) = subst (Holds (λ u. u ≡ wrong)) (sym w) (merged_faults-has entries total wrong notes 0 h)
 
-  pub none-lost : IsWoven (table_of lexemes) errors → NoneIsLost lexemes errors
-  none-lost woven n f wrong go any =
+  pub none-lost : AreMergedFaults (table_of lexemes) errors → NoneIsLost lexemes errors
+  none-lost merged n f wrong go any =
       let x = holds-one (IsCheckedBefore lexemes f n wrong) (checked_nodes f) (any-holds (IsCheckedBefore lexemes f n wrong) (checked_nodes f) any) in
-      contains-of wrong errors (woven-has wrong (all-have lexemes n f go wrong x.0 x.1 x.2) (syntax-has lexemes n f go wrong x.0 x.1 x.2) woven)
+      contains-of wrong errors (merged-has wrong (all-have lexemes n f go wrong x.0 x.1 x.2) (syntax-has lexemes n f go wrong x.0 x.1 x.2) merged)
 
--- what is judged of the table of a source
-lost-by : (source : List ℕ) (e : SyntaxFailure) → JudgesFault (table_of (cut 0 source)) (length source) e → NoCheckIsLost source e
+-- from the answer for a source's table
+lost-by : (source : List ℕ) (e : SyntaxFailure) → RefusesTable (table_of (cut 0 source)) (length source) e → NoCheckIsLost source e
 lost-by source OutOfMemory j = tt
 lost-by source (Faults v) j = none-lost (cut 0 source) v.items j.3
 
-pub judged-none-lost : (source : List ℕ) (r : Result File SyntaxFailure) → Judges (table_of (cut 0 source)) (length source) r → IfErr r (NoCheckIsLost source)
-judged-none-lost source (Ok file) j = tt
-judged-none-lost source (Err e) j = lost-by source e j
+pub parsed-none-lost : (source : List ℕ) (r : Result File SyntaxFailure) → ParsesTable (table_of (cut 0 source)) (length source) r → IfErr r (NoCheckIsLost source)
+parsed-none-lost source (Ok file) j = tt
+parsed-none-lost source (Err e) j = lost-by source e j

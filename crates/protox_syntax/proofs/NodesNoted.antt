@@ -1,4 +1,5 @@
--- A node of a file that goes on is noted while the tokens up to it are read, if no other node of the file ends reading before.
+-- A node of a file that goes on is noted while the tokens up to it are read, unless another node of
+-- the file ends reading before.
 use Rattle.std.proofs.Common.{◌≡◌, ◌<◌, ◌≤◌, ℕ, suc, ◌+◌, true, false, List, [], ◌∷◌, ◌++◌, length, take, drop, None, refl, sym, ap, subst, ◌∙◌, append_assoc, arith, inl, inr, ◌⊎◌}
 use Rattle.std.proofs.lemmas.List.{append-nil, length-append}
 use Rattle.protox_fault.specs.Faults.{Span}
@@ -15,7 +16,7 @@ use Rattle.protox_ast.specs.Tree as t
 use Rattle.protox_ast.specs.Truth.{is_run, source_row, token_span}
 use Rattle.protox_grammar.specs.Bodies as rule
 use Rattle.protox_grammar.specs.CheckLaws.{is_too_deep_by, levels, noted_by, steps_by, tokens_of}
-use Rattle.protox_grammar.specs.MarkLaws.{no_place}
+use Rattle.protox_grammar.specs.TagLaws.{no_place}
 use Rattle.protox_grammar.specs.Noted.{noted_nodes, steps, trace}
 use Rattle.protox_grammar.specs.Reader.{head_in, is_string}
 use Rattle.protox_grammar.specs.Steps.{Steps, has_deep, tokens, until}
@@ -82,7 +83,7 @@ module _ (lexemes : List Lexeme) (n : ℕ) (f : t.File ℕ) (go : GoesOn (shapes
   placed : ArePlaced None (steps 31 f) []
   placed = (main.laws 0 31).traced.placed f [] (main.ends-of 0 31 f go.spells.1)
 
-  -- reading takes the steps of the file up to there, and ...
+  -- Reading takes the steps of the file up to there, and ...
   abbrev pub IsSame : Type 0
   IsSame = steps_by lexemes n ≡ until n (steps 31 f)
 
@@ -100,7 +101,7 @@ module _ (lexemes : List Lexeme) (n : ℕ) (f : t.File ℕ) (go : GoesOn (shapes
         let all : AreNumbered 0 (tokens (steps 31 f)) = subst (AreNumbered 0) (go.spells.0 ∙ sym all-tokens) (numbered-are 0 (take n all_shapes ++ go.more)) in
         numbered-left 0 (tokens (steps_by lexemes n)) (tokens later.0) (subst (AreNumbered 0) (ap tokens later.1 ∙ tokens-append (steps_by lexemes n) later.0) all)
 
-    -- and the nodes that are noted are the file's, and end there.
+    -- and the noted nodes are the file's, and end there.
     pub of-file : (x : CheckedNode ℕ) → Holds (λ u. u ≡ x) (noted_by lexemes n) → Holds (λ u. u ≡ x) (checked_nodes f) × (node_end x < n)
     unfolding rule.file
     of-file x h =
@@ -138,7 +139,7 @@ module _ (lexemes : List Lexeme) (n : ℕ) (f : t.File ℕ) (go : GoesOn (shapes
     unfolding rule.file
     found-in h = found (locate IsNode (steps 31 f) [] [] placed placed None 0 ((file-noted IsNode 0 f (main.may-of 0 31 f go.spells.1)).1 h))
 
-    -- what ends reading by then is this node
+    -- a node that ends reading by then is this node
     pub ends-here : IsSame → IsReached f n node → (x : CheckedNode ℕ) → EndsReading x → Holds (λ u. u ≡ x) (noted_by lexemes n) → x ≡ node
     ends-here same reached x e h = let o = of-file same x h in each-of (λ other. EndsReading other → node_end other < n → other ≡ node) (checked_nodes f) x reached o.0 e o.1
 

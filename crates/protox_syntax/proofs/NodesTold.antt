@@ -1,4 +1,4 @@
--- What is noted of each checked node among steps, where the rows behind it are known by its last token.
+-- The notes of each checked node among steps. The rows behind the node are known by its last token.
 use Rattle.std.proofs.Common.{◌≡◌, ◌≤◌, ℕ, zero, suc, ◌+◌, Bool, true, false, cond, [], ◌∷◌, ◌++◌, drop, length, Option, Some, None, refl, sym, ap, subst, arith, inl, inr}
 use Rattle.std.specs.Prelude.{option_map}
 use Rattle.protox_fault.specs.declared.error.ParseErrorKind.{ParseErrorKind}
@@ -9,7 +9,7 @@ use Rattle.protox_ast.specs.Checks.{WrongCheckedNode, is_group_name, is_ident, i
 use Rattle.protox_ast.specs.Places.{Place}
 use Rattle.protox_ast.specs.Tree as t
 use Rattle.protox_ast.specs.Truth.{is_run}
-use Rattle.protox_grammar.specs.MarkLaws.{map_node, map_package, map_steps}
+use Rattle.protox_grammar.specs.TagLaws.{map_node, map_package, map_steps}
 use Rattle.protox_grammar.specs.Noted.{noted_nodes}
 use Rattle.protox_grammar.specs.Reader.{head_in}
 use Rattle.protox_grammar.specs.Steps.{Event, ANode, APackage, AKeyword, ADeepBody, ADeeperBody, AnOpenBrace, ACloseBrace, Token, Note, Steps, tokens}
@@ -33,7 +33,7 @@ once-has : (so : Bool) (f wrong : ParseErrorKind) (xs : Rows Place) → so ≡ f
 once-has true f wrong xs k e = absurd cc
 once-has false f wrong xs k e = inl (ap Fault (sym e))
 
--- of a run of strings where no invalid character comes behind it
+-- a run of strings, if no invalid character follows it
 pub node-has : (x : CheckedNode Place) (wrong : ParseErrorKind) (xs : Rows Place) → (is_run x ≡ true → head_in is_invalid xs ≡ false) → WrongCheckedNode (λ place. place.span) x wrong → Holds (IsOfFault wrong) (node_notes x xs)
 node-has (ASyntax x) wrong xs v h = test-has (is_known_syntax (strings_value x)) _ wrong xs (v refl) h.0 h.1
 node-has (AnImport x) wrong xs v (inl h) = holds-left (IsOfFault wrong) (noted (text_faults (strings_value x) (strings_span x)) xs) _ (test-has (is_text (strings_value x)) _ wrong xs (v refl) h.0 h.1)
@@ -60,7 +60,7 @@ abbrev IsLast : ℕ → Option (Row ℕ) → Type 0
 IsLast c None = Unit {0}
 IsLast c (Some r) = suc r.at ≡ c
 
--- A node that is noted ends with the row before those that come next.
+-- A noted node ends with the row before those that come next.
 event-ends : (c : ℕ) (last : Option (Row ℕ)) (e : Event ℕ) (rest : Rows ℕ) → IsLast c last → IsPlaced last e rest → suc (event_end e) ≡ c
 event-ends c None e rest h p = absurd p
 event-ends c (Some r) e rest h p = omega (arith, h, p.0)
@@ -75,7 +75,8 @@ drop-behind (suc k) [] = refl
 drop-behind k (x ∷ xs) = refl
 
 module _ (place : ℕ → Place) (wrong : ParseErrorKind) where
-  -- The node ends so many rows behind, of those that are taken. If its fault is noted of it there, it is among these notes.
+  -- The node ends `n` rows behind, among the rows taken. If its fault is noted there, it is among
+  -- these notes.
   pub record IsToldOf (x : CheckedNode ℕ) (c count : ℕ) (ns : Notes) (xs : Rows Place) : Type 0 where
     pub past : ℕ
     pub at : past + c ≡ suc (node_end x)

@@ -1,4 +1,4 @@
--- What the code reads and notes of a file is what the reader of the grammar reads and notes.
+-- The code reads and notes exactly what the reader of the grammar reads and notes.
 use Rattle.std.proofs.Common.{◌≡◌, ◌≤◌, ℕ, suc, true, [], ◌∷◌, ◌++◌, length, Option, Some, None, Result, Ok, Err, refl, sym, ap, subst, ◌∙◌, arith}
 use Rattle.std.proofs.lemmas.List.{length-append}
 use Rattle.protox_lexeme.specs.Shapes.{Rows}
@@ -27,12 +27,12 @@ use Rattle.protox_grammar.proofs.Shows.{Shows, left-shows, seq-shows}
 use Rattle.protox_grammar.proofs.Stated.{all-lie, all-says}
 use Rattle.protox_grammar.proofs.Takes.{bind_ok, ok_is}
 use Rattle.protox_grammar.proofs.Telling.{AllLie, both-lie, then-lie, then-seen, told-append}
-use Rattle.protox_options.specs.Options.{here}
-use Rattle.protox_syntax.specs.Judging.{made}
-use Rattle.protox_syntax.specs.Statements.{levels, statement, statement_rule, statements-shows, syntax_if_any, notes_behind}
-use Rattle.protox_syntax.specs.Whole.{Whole, whole, all_notes, file_seen}
+use Rattle.protox_options.specs.inner.Options.{here}
+use Rattle.protox_syntax.specs.inner.ParsedTable.{built_file}
+use Rattle.protox_syntax.specs.inner.Statements.{levels, statement, statement_rule, statements-shows, syntax_if_any, notes_behind}
+use Rattle.protox_syntax.specs.inner.Whole.{Whole, whole, all_notes, file_seen}
 
--- ---- what is read
+-- ---- reading
 
 abbrev file_rule : rule.Rule Place (tree.File Place)
 file_rule = bodies.file (bodies.mbody_at levels)
@@ -47,7 +47,7 @@ read-whole xs f e =
     let p = bind_ok (file_rule.read xs) (λ x. Ok x.0) f e in
     (p.0.1, whole-shows.same xs ∙ ap (λ v. v >>= λ y. Ok (file_seen y.0, y.1)) p.1 ∙ ap (λ v. Ok (file_seen v, p.0.1)) (ok_is p.0.0 f p.2))
 
--- what the code reads is a file
+-- the code reads a file
 pub whole-read : (xs : Rows Place) (v : Whole) (rest : Rows Place) → whole xs ≡ Ok (v, rest) → (f : tree.File Place) × (read levels xs ≡ Ok f) × (file_seen f ≡ v)
 unfolding read
 whole-read xs v rest e =
@@ -62,18 +62,18 @@ unfolding read
 none-read xs e h f g = absurd (err-ok f e (sym (ap (λ w. w >>= λ x. Ok x.0) (err-read xs e h)) ∙ g))
 
 -- the file of what was read
-pub made-is : (size : ℕ) (f : tree.File Place) → made size (spell f) (file_seen f) ≡ ast.file size f
-made-is size f = at f.syntax
+pub built_file-is : (size : ℕ) (f : tree.File Place) → built_file size (spell f) (file_seen f) ≡ ast.file size f
+built_file-is size f = at f.syntax
   where
-    at : (o : Option (tree.Syntax Place)) → made size (spell (record { syntax = o; statements = f.statements })) (file_seen (record { syntax = o; statements = f.statements })) ≡ ast.file size (record { syntax = o; statements = f.statements })
+    at : (o : Option (tree.Syntax Place)) → built_file size (spell (record { syntax = o; statements = f.statements })) (file_seen (record { syntax = o; statements = f.statements })) ≡ ast.file size (record { syntax = o; statements = f.statements })
     at None = refl
     at (Some x) = refl
 
 -- rows that are read as a file spell it
-pub made-of : (size : ℕ) (xs : Rows Place) (f : tree.File Place) → read levels xs ≡ Ok f → made size xs (file_seen f) ≡ ast.file size f
-made-of size xs f e = ap (λ v. made size v (file_seen f)) ((main.accepts_iff here levels xs f).0 e).0.0 ∙ made-is size f
+pub built_file-of : (size : ℕ) (xs : Rows Place) (f : tree.File Place) → read levels xs ≡ Ok f → built_file size xs (file_seen f) ≡ ast.file size f
+built_file-of size xs f e = ap (λ v. built_file size v (file_seen f)) ((main.accepts_iff here levels xs f).0 e).0.0 ∙ built_file-is size f
 
--- ---- what is noted
+-- ---- notes
 
 -- before any row
 pub file-told : (xs : Rows Place) → told None here (trace levels xs) xs ≡ all_notes xs
@@ -94,7 +94,7 @@ file-told xs =
         ∙ all-says (in_set all) statement None (keyword_behind here ((rule.optional (only token.syntax) r.syntax).trace xs)) x.1
     rest (Err d) e = refl
 
--- what is noted of rows lies in the source that they stand in
+-- notes of rows lie in the source in which the rows stand
 pub notes-lie : (low high : ℕ) (xs : Rows Place) → Stand low high xs → AllLie high (all_notes xs)
 unfolding all_notes
 notes-lie low high xs h =

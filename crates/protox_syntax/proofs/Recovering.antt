@@ -1,4 +1,4 @@
--- Rows that are skipped behind a refused statement, and what may be noted of those behind them.
+-- The rows skipped behind a refused statement, and the notes allowed for those behind them.
 use Rattle.std.proofs.Common.{◌≡◌, ◌≤◌, ◌-◌, ℕ, zero, suc, Bool, true, false, cond, List, [], ◌∷◌, ◌++◌, drop, length, Option, Some, None, option_map, Ok, refl, sym, ap, subst, ◌∙◌, append-nil, append_assoc, arith, inl, inr}
 use Rattle.std.proofs.lemmas.List.{length-append, length-drop}
 use Rattle.std.specs.Prelude.{◌==◌, nat_lt}
@@ -22,16 +22,16 @@ use Rattle.protox_grammar.specs.Told.{Notes, at_once, behind, is_invalid, node_n
 use Rattle.protox_grammar.proofs.Stated.{place_of}
 use Rattle.protox_grammar.proofs.Telling.{AllLie, both-lie}
 use Rattle.protox_grammar.proofs.Takes.{bind_ok, ok_is}
-use Rattle.protox_options.specs.Options.{here}
+use Rattle.protox_options.specs.inner.Options.{here}
 use Rattle.protox_rows.specs.declared.refused.Refused.{Refused}
 use Rattle.protox_rows.specs.declared.refused.Refused.TheVariants.{OutOfMemory, At, TooDeep}
-use Rattle.protox_syntax.specs.Recovery.{AreLast, AreLater, AreNotable, FirstLies, IsBegun, LiesToo, Recovers, at_most, behind_block, from_statement, last_rows, next_rows, statement_words}
+use Rattle.protox_syntax.specs.inner.Recovery.{AreLast, AreLater, AreNotable, FirstLies, AreRefusalNotes, LiesToo, Recovers, at_most, behind_block, from_statement, last_rows, next_rows, statement_words}
 use Rattle.protox_ast.specs.declared.ast.Comments.{Comments}
 use Rattle.protox_ast.specs.declared.ast.Syntax as syntax_type
 use Rattle.protox_grammar.specs.Rule as rule
 use Rattle.protox_grammar.specs.Rules as r
 use Rattle.protox_grammar.specs.Token as token
-use Rattle.protox_syntax.specs.Statements.{next_first, statement, statement_rule, statement_seen, syntax_if_any, syntax_seen}
+use Rattle.protox_syntax.specs.inner.Statements.{next_first, statement, statement_rule, statement_seen, syntax_if_any, syntax_seen}
 use Rattle.protox_syntax.specs.declared.statement_types.Statement as statement_type
 
 -- ---- the last of some rows
@@ -104,7 +104,7 @@ module _ (t : Table) where
   next-fewer (At left expected) most = within-last most left _ (from-last (last_rows t (at_most most left)))
   next-fewer (TooDeep left) most = within-last most (left - 1) _ (from-block (last_rows t (at_most most (left - 1))))
 
--- ---- what is told may be noted
+-- ---- the notes of the grammar are allowed
 
 module _ (rows : Rows Span) where
   pub notable-both : (a b : Notes) → AreNotable rows a → AreNotable rows b → AreNotable rows (a ++ b)
@@ -224,8 +224,8 @@ module _ (t : Table) (q : Option Span) (xs : Rows Place) (last : AreLast t xs) w
 -- ---- notes so far
 
 module _ (t : Table) (e : Refused) (q : Option Span) (old : Notes) where
-  pub recovers-begun : (begun new : Notes) → new ≡ old ++ begun → IsBegun t.rows e begun → Recovers t e q old new
-  recovers-begun begun new added is = (begun, [], added ∙ ap (λ v. old ++ v) (sym (append-nil begun)), is, (tt, λ size h g. tt))
+  pub recovers-at_refusal : (at_refusal new : Notes) → new ≡ old ++ at_refusal → AreRefusalNotes t.rows e at_refusal → Recovers t e q old new
+  recovers-at_refusal at_refusal new added is = (at_refusal, [], added ∙ ap (λ v. old ++ v) (sym (append-nil at_refusal)), is, (tt, λ size h g. tt))
 
   pub recovers-more : (first : Option Span) (before more new : Notes) → Recovers t e q old before → LiesToo t q first → new ≡ before ++ more → AreLater t first more → Recovers t e q old new
   recovers-more first before more new r lies added later = (
@@ -242,13 +242,13 @@ lies-itself t q size h g = g
 pub lies-further : (t : Table) (q first next : Option Span) → LiesToo t q first → LiesToo t first next → LiesToo t q next
 lies-further t q first next h g size s i = g size s (h size s i)
 
--- what is noted of a statement that is refused, behind what is noted in it
-pub refused-later : (t : Table) (q : Option Span) (xs : Rows Place) (begun : Notes) → AreLast t xs → AreNotable t.rows begun → ((size : ℕ) → Stand 0 size (placed t) → AllLie size begun) → AreLater t q (statement.notes q xs ++ begun)
-refused-later t q xs begun last notable lies =
+-- the notes of a refused statement, behind those made in it
+pub refused-later : (t : Table) (q : Option Span) (xs : Rows Place) (at_refusal : Notes) → AreLast t xs → AreNotable t.rows at_refusal → ((size : ℕ) → Stand 0 size (placed t) → AllLie size at_refusal) → AreLater t q (statement.notes q xs ++ at_refusal)
+refused-later t q xs at_refusal last notable lies =
     let s = statement-later t q xs last in
-    (notable-both t.rows (statement.notes q xs) begun s.0 notable, λ size h g. both-lie size (statement.notes q xs) begun (s.1 size h g) (lies size h))
+    (notable-both t.rows (statement.notes q xs) at_refusal s.0 notable, λ size h g. both-lie size (statement.notes q xs) at_refusal (s.1 size h g) (lies size h))
 
--- the place of the first package statement lies where the rows of all statements stand
+-- if all statements stand in the source, so does the place of the first package statement
 pub further-lies : (all xs ys : Rows Place) (q : Option Span) (x : statement_type.Statement) → IsLastOf all xs → FirstLies all q → statement.code xs ≡ Ok (x, ys) → FirstLies all (next_first q x)
 further-lies all xs ys q x last lies e low size h =
     let p = stand-after low size last.0 xs (subst (Stand low size) last.1 h) in

@@ -1,4 +1,4 @@
--- What is noted of a refused statement itself: it may be noted, and lies in the source.
+-- The notes of a refused statement are allowed, and lie in the source.
 use Rattle.std.proofs.Common.{◌≡◌, ◌≤◌, ◌-◌, ℕ, zero, suc, Bool, true, false, cond, List, [], ◌∷◌, ◌++◌, length, Option, Some, None, refl, sym, subst, arith}
 use Rattle.std.proofs.lemmas.Option.{slice_get_within}
 use Rattle.std.specs.Prelude.{slice_get, slice_index_or}
@@ -11,12 +11,12 @@ use Rattle.protox_ast.proofs.Standing.{Stand, bare-placed}
 use Rattle.protox_ast.specs.Places.{Place, placed}
 use Rattle.protox_grammar.specs.Told.{Notes, is_invalid}
 use Rattle.protox_grammar.proofs.Telling.{AllLie}
-use Rattle.protox_rows.specs.Notes.{AddsTo}
+use Rattle.protox_rows.specs.inner.Notes.{AddsTo}
 use Rattle.protox_rows.specs.declared.refused.Refused.{Refused}
 use Rattle.protox_rows.specs.declared.refused.Refused.TheVariants.{OutOfMemory, At, TooDeep}
-use Rattle.protox_syntax.specs.Recovery.{AreNotable, IsBegun, fault_note, plain_note}
-use Rattle.protox_syntax.specs.Weave.{refusal, row_at}
-use Rattle.protox_syntax.proofs.Judged.{row-lies}
+use Rattle.protox_syntax.specs.inner.Recovery.{AreNotable, AreRefusalNotes, fault_note, plain_note}
+use Rattle.protox_syntax.specs.inner.Merge.{refusal, row_at}
+use Rattle.protox_syntax.proofs.ParsedTable.{row-lies}
 
 valid-is : (s : Shape) → is_invalid s ≡ false → s ≡ Invalid → ⊥
 valid-is s h e = absurd (let g = subst (λ v. is_invalid v ≡ false) e h in cc)
@@ -43,21 +43,21 @@ module _ (t : Table) where
       by true = (tt, tt)
       by false = (row-lies 0 size t.rows i r h e, (tt, tt))
 
-  pub begun-notable : (e : Refused) (begun : Notes) → IsBegun t.rows e begun → AreNotable t.rows begun
-  begun-notable OutOfMemory begun h = absurd h
-  begun-notable (At left expected) begun h = subst (AreNotable t.rows) (sym h.2) (refusal-notable left (length t.rows - left) h.0 (row_at t.rows left) refl)
-  begun-notable (TooDeep left) begun h = subst (AreNotable t.rows) (sym h) (tt, tt)
+  pub at_refusal-notable : (e : Refused) (at_refusal : Notes) → AreRefusalNotes t.rows e at_refusal → AreNotable t.rows at_refusal
+  at_refusal-notable OutOfMemory at_refusal h = absurd h
+  at_refusal-notable (At left expected) at_refusal h = subst (AreNotable t.rows) (sym h.2) (refusal-notable left (length t.rows - left) h.0 (row_at t.rows left) refl)
+  at_refusal-notable (TooDeep left) at_refusal h = subst (AreNotable t.rows) (sym h) (tt, tt)
 
-  pub begun-lie : (e : Refused) (begun : Notes) → IsBegun t.rows e begun → (size : ℕ) → Stand 0 size (placed t) → AllLie size begun
-  begun-lie OutOfMemory begun h size k = absurd h
-  begun-lie (At left expected) begun h size k = subst (AllLie size) (sym h.2) (refusal-lies size left (length t.rows - left) h.0 (row_at t.rows left) (subst (StandBetween 0 size) (bare-placed true t.rows t.gaps) k) refl)
-  begun-lie (TooDeep left) begun h size k = subst (AllLie size) (sym h) (tt, tt)
+  pub at_refusal-lie : (e : Refused) (at_refusal : Notes) → AreRefusalNotes t.rows e at_refusal → (size : ℕ) → Stand 0 size (placed t) → AllLie size at_refusal
+  at_refusal-lie OutOfMemory at_refusal h size k = absurd h
+  at_refusal-lie (At left expected) at_refusal h size k = subst (AllLie size) (sym h.2) (refusal-lies size left (length t.rows - left) h.0 (row_at t.rows left) (subst (StandBetween 0 size) (bare-placed true t.rows t.gaps) k) refl)
+  at_refusal-lie (TooDeep left) at_refusal h size k = subst (AllLie size) (sym h) (tt, tt)
 
--- what was noted in a statement that is refused, unless memory ran out
-pub added-behind : (rows : Rows Span) (e : Refused) (old added new begun : Notes) → IsBegun rows e begun → AddsTo e old added new → new ≡ old ++ added
-added-behind rows OutOfMemory old added new begun h is = absurd h
-added-behind rows (At left expected) old added new begun h is = is
-added-behind rows (TooDeep left) old added new begun h is = is
+-- the notes made in a refused statement, unless memory ran out
+pub added-behind : (rows : Rows Span) (e : Refused) (old added new at_refusal : Notes) → AreRefusalNotes rows e at_refusal → AddsTo e old added new → new ≡ old ++ added
+added-behind rows OutOfMemory old added new at_refusal h is = absurd h
+added-behind rows (At left expected) old added new at_refusal h is = is
+added-behind rows (TooDeep left) old added new at_refusal h is = is
 
 pub some-length : (xs : Rows Place) → (xs ≡ [] → ⊥) → 1 ≤ length xs
 some-length [] h = absurd (h refl)

@@ -1,11 +1,11 @@
--- The place of all the rows of a table.
+-- The span of all rows of a table.
 use Rattle.std.proofs.Common.{◌≡◌, ℕ, suc, ◌-◌, ◌≤◌, true, false, nat_eq, List, [], ◌∷◌, length, slice_index_or, refl, ap, sym, ◌∙◌, arith}
 use Rattle.std.proofs.lemmas.Bool.{eqb-true, eqb-false}
 use Rattle.protox_fault.specs.Faults.{Span}
 use Rattle.protox_lexeme.specs.Shapes.{Shape, Row, Rows}
 use Rattle.protox_ast.specs.AstParts.{join, last_place, rows_span}
 use Rattle.protox_ast.specs.Places.{Place, later_gaps, placed_from}
-use Rattle.protox_syntax.specs.Judging.{bare_span}
+use Rattle.protox_syntax.specs.inner.ParsedTable.{bare_span}
 
 last-at : (r : Row Span) (rs : Rows Span) (d : Row Span) → last_place (λ (x : Row Span). x.at) r.at rs ≡ (slice_index_or (r ∷ rs) (length rs) d).at
 last-at r [] d = refl

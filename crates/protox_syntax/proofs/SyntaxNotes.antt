@@ -1,4 +1,4 @@
--- Of the syntax statement nothing but faults is noted.
+-- All notes of the syntax statement are faults.
 use Rattle.std.proofs.Common.{codes, ℕ, List, [], Result, Ok, Err}
 use Rattle.protox_fault.specs.Faults.{Span}
 use Rattle.protox_lexeme.specs.Shapes.{Ident, Mark, Rows}
@@ -8,8 +8,8 @@ use Rattle.protox_grammar.specs.Class.{only, in_set}
 use Rattle.protox_grammar.specs.Reader.{Refusal, fixed, head_in}
 use Rattle.protox_grammar.specs.Told.{Notes, checked, syntax_faults, syntax_notes, then_notes}
 use Rattle.protox_grammar.specs.Token as token
-use Rattle.protox_rows.specs.Strings.{strings}
-use Rattle.protox_syntax.specs.Statements.{syntax, syntax_if_any, syntax_value}
+use Rattle.protox_rows.specs.inner.Strings.{strings}
+use Rattle.protox_syntax.specs.inner.Statements.{syntax, syntax_if_any, syntax_value}
 use Rattle.protox_syntax.proofs.Modes.{AreFaults, cond-faults, noted-faults}
 
 checked-faults : (r : Result ((List ℕ × Span) × Rows Place) Refusal) → AreFaults (checked syntax_notes r)

@@ -1,4 +1,4 @@
--- Where a fault is noted of the syntax statement, it is that of the first node that is noted of a source.
+-- If a fault is noted at the syntax statement, it is that of the first noted node of a source.
 use Rattle.std.proofs.Common.{◌≡◌, ℕ, suc, List, [], ◌∷◌, ◌++◌, length, map, Option, Some, None, Result, Ok, Err, refl, sym, ap, subst, ◌∙◌, append_assoc, append-nil, inl, inr}
 use Rattle.protox_fault.specs.Faults.{Span}
 use Rattle.protox_fault.specs.declared.error.ParseErrorKind.{ParseErrorKind}
@@ -13,7 +13,7 @@ use Rattle.protox_ast.specs.Truth.{token_span}
 use Rattle.protox_grammar.specs.Bodies as bodies
 use Rattle.protox_grammar.specs.CheckLaws.{levels, noted_by}
 use Rattle.protox_grammar.specs.Class.{all, in_set, only}
-use Rattle.protox_grammar.specs.MarkLaws.{map_node, place_at, placed_nodes_by, placed_tokens}
+use Rattle.protox_grammar.specs.TagLaws.{map_node, place_at, placed_nodes_by, placed_tokens}
 use Rattle.protox_grammar.specs.Noted.{noted_nodes, trace}
 use Rattle.protox_grammar.specs.Reader.{Refusal}
 use Rattle.protox_grammar.specs.Rule.{Rule, optional}
@@ -30,16 +30,16 @@ use Rattle.protox_grammar.proofs.Parts as parts
 use Rattle.protox_grammar.proofs.PlaceLaws.{noted_alike, wrong_alike}
 use Rattle.protox_grammar.proofs.StepLists.{until-front}
 use Rattle.protox_grammar.proofs.Told.{syntax-tells}
-use Rattle.protox_options.specs.Options.{here}
+use Rattle.protox_options.specs.inner.Options.{here}
 use Rattle.protox_syntax.specs.LostChecks.{EndsReading}
-use Rattle.protox_syntax.specs.Statements.{statement_rule, syntax_if_any}
+use Rattle.protox_syntax.specs.inner.Statements.{statement_rule, syntax_if_any}
 use Rattle.protox_syntax.proofs.Modes.{faults-none}
 use Rattle.protox_syntax.proofs.NodesTold.{IsOfFault}
 use Rattle.protox_syntax.proofs.SyntaxNotes.{syntax-faults}
 
 -- ---- nodes that are noted first
 
--- what is noted of a front comes first
+-- the notes of a front come first
 nodes-front : {M : Type 0} (first : Option (t.Package M)) (w : M) (l k : Steps M) → (q : List (CheckedNode M)) × (noted_nodes first w (l ++ k) ≡ noted_nodes first w l ++ q)
 nodes-front first w [] k = (noted_nodes first w k, refl)
 nodes-front first w (Token x ∷ l) k = nodes-front first w l k
@@ -78,7 +78,7 @@ map-there f (x ∷ xs) y (inr h) = let v = map-there f xs y h in (v.0, inr v.1, 
 abbrev rule : Rule Place (Option (t.Syntax Place))
 rule = optional (only token.syntax) r.syntax
 
--- what is noted of it is its string
+-- the noted node is its string
 syntax-tree : (xs : Rows Place) → (tree : Option (t.Syntax Place)) × (later : Steps Place) × (rule.steps tree ≡ rule.trace xs ++ later)
 syntax-tree xs = at (rule.read xs) refl
   where
@@ -127,7 +127,7 @@ module _ (lexemes : List Lexeme) (n : ℕ) where
   abbrev IsWrong : CheckedNode Place → ParseErrorKind → Type 0
   IsWrong x wrong = WrongCheckedNode (λ (p : Place). p.span) x wrong
 
-  -- The first node that is noted is a syntax with this fault, which is noted of the syntax statement.
+  -- The first noted node is a syntax with this fault, which is noted at the syntax statement.
   pub record Stops : Type 0 where
     pub node : CheckedNode ℕ
     pub noted : Holds (λ u. u ≡ node) (noted_by lexemes n)
@@ -169,7 +169,7 @@ module _ (lexemes : List Lexeme) (n : ℕ) where
       map-in (x ∷ xs) m (inl h) = inl (ap (map_node place) h)
       map-in (x ∷ xs) m (inr h) = inr (map-in xs m h)
 
-  -- Where anything is noted of the syntax statement, and some node of the source, it is so.
+  -- This holds if there is any note at the syntax statement, and any noted node in the source.
   pub stops : (m : CheckedNode ℕ) → Holds (λ u. u ≡ m) (noted_by lexemes n) → (syntax_if_any.notes rows ≡ [] → ⊥) → Stops
   stops m h some = elim (first-check None (place 0) (rule.trace rows) rows) [
     | inl fine ↦ absurd (some (faults-none (syntax_if_any.notes rows) (syntax-faults rows) (subst IsFaultless (syntax_if_any.tells.says None (place 0) rows) fine)))

@@ -1,4 +1,4 @@
--- What a search through all elements of a list answers.
+-- The answer of a search through all elements of a list.
 use Rattle.std.proofs.Common.{◌≡◌, ◌<◌, ℕ, zero, suc, Bool, true, false, ◌&&◌, List, [], ◌∷◌, length, refl, sym, arith}
 use Rattle.std.specs.Bool.{MatchBool}
 use Rattle.std.specs.List.{list_all, AllWithin, HoldsAt}
@@ -24,7 +24,7 @@ all-false p [] k l h = absurd (omega arith)
 all-false p (x ∷ xs) zero l h = one-false (p x) (list_all p xs) (h x)
 all-false p (x ∷ xs) (suc k) l h = other-false (p x) (list_all p xs) (all-false p xs k (omega arith) h)
 
--- what a search through all elements answers
+-- the answer of a search through all elements
 pub all-is : {X : Type 0} (p : X → Bool) (xs : List X) (r : Bool) → MatchBool r (AllWithin (λ x. p x ≡ true) xs 0 (length xs)) ((k : ℕ) × (k < length xs) × HoldsAt (λ x. p x ≡ false) xs k) → r ≡ list_all p xs
 all-is p xs true h = sym (all-true p xs h)
 all-is p xs false h = sym (all-false p xs h.0 h.1 h.2)

@@ -13,12 +13,12 @@ use Rattle.protox_grammar.proofs.Depths.{body-laws}
 use Rattle.protox_grammar.proofs.Messages as messages
 use Rattle.protox_grammar.proofs.Shows.{shows-eats}
 use Rattle.protox_grammar.proofs.Stated.{or_first, stated-turn, stated-done}
-use Rattle.protox_options.specs.Options.{here}
-use Rattle.protox_rows.specs.Notes.{AddsTo}
-use Rattle.protox_rows.specs.Outcome.{Fails}
+use Rattle.protox_options.specs.inner.Options.{here}
+use Rattle.protox_rows.specs.inner.Notes.{AddsTo}
+use Rattle.protox_rows.specs.inner.Outcome.{Fails}
 use Rattle.protox_rows.specs.declared.refused.Refused.{Refused}
 use Rattle.protox_rows.specs.declared.refused.Refused.TheVariants.{OutOfMemory, At, TooDeep}
-use Rattle.protox_syntax.specs.Statements.{levels, statement, add_statement, first_place, next_first, notes_behind, or_package}
+use Rattle.protox_syntax.specs.inner.Statements.{levels, statement, add_statement, first_place, next_first, notes_behind, or_package}
 use Rattle.protox_syntax.specs.declared.statement_types.Statement as statement_type
 use Rattle.protox_syntax.specs.declared.statement_types.Statement.TheVariants as statement_of
 use Rattle.protox_syntax.specs.declared.statement_types.Statements.{Statements}

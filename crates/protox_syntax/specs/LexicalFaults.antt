@@ -1,4 +1,4 @@
--- What all faults of a source are whose tokens are those of a file with which nothing is wrong.
+-- The faults of a source whose only faults are lexical.
 use Rattle.std.specs.Prelude.{◌≡◌, ◌≤◌, ℕ, List}
 use Rattle.protox_fault.specs.declared.error.SyntaxFailure.{SyntaxFailure}
 use Rattle.protox_fault.specs.declared.error.SyntaxFailure.TheVariants.{Faults, OutOfMemory}
@@ -17,8 +17,9 @@ use Rattle.protox_ast.specs.Tree as t
 abbrev pub AreTokens : List Lexeme → Type 0
 AreTokens lexemes = Each (λ x. x.shape ≡ Invalid → ⊥) lexemes
 
--- Where no character is invalid, and the tokens spell a tree of at most 31 levels with which nothing is wrong that is checked while it is read,
--- the faults are those of the lexemes, in their order, and no others.
+-- If only lexemes are at fault, exactly their faults are reported, in their order. This needs that
+-- no character is invalid, and that the tokens spell a tree of at most 31 levels that passes each
+-- check made while reading.
 abbrev pub AreLexicalAlone : List ℕ → SyntaxFailure → Type 0
 AreLexicalAlone source OutOfMemory = Unit {0}
 AreLexicalAlone source (Faults v) =

@@ -1,10 +1,4 @@
 pub mod AllFaults
-pub mod Statements
-pub mod Whole
-pub mod Weave
-pub mod Recovery
-pub mod Leading
-pub mod Judging
 pub mod ExpectedTokens
 pub mod Aggregates
 pub mod LexicalFaults
@@ -12,3 +6,4 @@ pub mod FirstFaults
 pub mod StandingFaults
 pub mod FoundFaults
 pub mod LostChecks
+pub mod inner

@@ -1,4 +1,4 @@
-//! What is checked of a syntax statement, of an import and of a package.
+//! Checks of syntax statements, imports and packages.
 
 ghost use Rattle.std.specs.Prelude.{◌≡◌, ◌++◌, ◌==◌, OnOk};
 ghost use Rattle.std.specs.List.{list_any};
@@ -40,7 +40,7 @@ fn is_import_path(path: &str) -> bool
         .all(|component| is_plain_component(component))
 }
 
-/// Whether the syntax is one that there is.
+/// Checks that the syntax statement names `proto2` or `proto3`.
 pub fn check_syntax(
     alloc: Global,
     notes: &mut Vec<Note>,
@@ -60,7 +60,7 @@ pub fn check_syntax(
     add_run_fault(notes, rows, fault)
 }
 
-/// Whether an import's text is a path of plain components.
+/// Checks that an import is a path of plain components.
 pub fn check_path(
     notes: &mut Vec<Note>,
     rows: &Unread<'_, '_>,
@@ -76,7 +76,7 @@ pub fn check_path(
     add_run_fault(notes, rows, ParseErrorKind::InvalidImport { span })
 }
 
-/// Whether a package is the first.
+/// Checks that no package statement comes before this one.
 pub fn check_package(
     notes: &mut Vec<Note>,
     rows: &Unread<'_, '_>,

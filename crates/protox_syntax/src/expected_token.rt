@@ -1,4 +1,4 @@
-//! A token that is expected at a place.
+//! What the parser expects at a place.
 
 ghost use Rattle.std.specs.Prelude.{◌↔◌, IsTrue};
 ghost use Rattle.protox_lexeme.specs.Tokens.{shape_of};
@@ -7,7 +7,8 @@ ghost use Rattle.protox_syntax.specs.ExpectedTokens.{IsExpected};
 use protox_lex::lex::Token;
 use std::fmt;
 
-/// What is expected: this token, or any identifier.
+/// One token, or any identifier. It prints as the token between single quotes, or as `an
+/// identifier`.
 #[derive(Drop)]
 pub enum ExpectedToken {
     Token(Token<'static>),
@@ -15,7 +16,7 @@ pub enum ExpectedToken {
 }
 
 impl ExpectedToken {
-    /// Whether the token is what is expected.
+    /// Whether this token is an expected one.
     pub fn matches(&self, token: &Token<'_>) -> bool
         ensures { IsTrue result ↔ IsExpected self.now (shape_of token.now) }
     {

@@ -1,8 +1,11 @@
-//! Laws of what is printed of a tree.
+//! Laws of first faults, and of what is printed of a tree.
 
 ghost use Rattle.std.specs.Prelude.{◌≡◌, ℕ, List, Bool, [], ◌∷◌, length};
+ghost use Rattle.protox_fault.specs.declared.error.ParseErrorKind.{ParseErrorKind};
 ghost use Rattle.protox_descriptor.specs.Printed.{value_text};
 ghost use Rattle.protox_descriptor.specs.Printed as printed;
+ghost use Rattle.protox_ast.specs.FirstFault.{IsFirstFault};
+ghost use Rattle.protox_ast.specs.Truth.{IsTrueOf};
 ghost use Rattle.protox_ast.specs.Values.{token_string};
 ghost use Rattle.protox_ast.specs.declared.ast.OptionValue.TheVariants as value;
 ghost use Rattle.protox_ast.specs.declared.ast.String.{String};
@@ -10,15 +13,20 @@ ghost use Rattle.protox_lex.specs.LexesBack.{AreBytes};
 ghost use Rattle.protox_lexeme.specs.Lexemes as spec;
 ghost use Rattle.protox_lexeme.specs.Shapes.{Str};
 
-/// What `OptionValue::to_token_string` answers for a string is one lexeme of the same bytes, without a
-/// fault.
+/// The first fault of a source is true of the source.
+#[tactic(auto, using(crate::proofs::FirstIsTrue::first_faults_are_true))]
+pub fn first_faults_are_true()
+    ensures { (source : List ℕ) (wrong : ParseErrorKind) → IsFirstFault (spec.cut 0 source) wrong → IsTrueOf (spec.cut 0 source) wrong }
+{}
+
+/// `OptionValue::to_token_string` prints a string as one lexeme of the same bytes, without a fault.
 #[tactic(auto, using(crate::proofs::ValuesBack::value_alone))]
 pub fn values_lex_back()
     ensures { (string : String) → AreBytes string.value → (borrowed : Bool) × (spec.cut 0 (token_string (value.String string)) ≡ record { start = 0; stop = length (token_string (value.String string)); shape = Str string.value; borrowed = borrowed; faults = [] } ∷ []) }
 {}
 
-/// What Display writes of the string of an uninterpreted option is one lexeme of the same bytes,
-/// without a fault.
+/// `Display` prints the string of an uninterpreted option as one lexeme of the same bytes, without a
+/// fault.
 #[tactic(auto, using(crate::proofs::ValuesBack::option_alone))]
 pub fn option_strings_lex_back()
     ensures { (bytes : List ℕ) → AreBytes bytes → (borrowed : Bool) × (spec.cut 0 (value_text (printed.String bytes)) ≡ record { start = 0; stop = length (value_text (printed.String bytes)); shape = Str bytes; borrowed = borrowed; faults = [] } ∷ []) }

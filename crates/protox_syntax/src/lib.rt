@@ -1,12 +1,12 @@
-//! Reads the rows of a source into the syntax tree.
+//! Reads the tokens of a source into its syntax tree.
 #![tactic(auto)]
 
 mod checks;
 mod expected_token;
-mod judge;
+mod fault_list;
 pub mod laws;
 pub mod parse;
-mod progress;
+mod parse_table;
 mod recovery;
 mod statement_types;
 mod statements;

@@ -1,13 +1,13 @@
-//! Goes on behind a statement that is refused, so that what is wrong behind it is noted, too.
+//! Reads on behind a statement that is refused, so that later faults are reported too.
 
 ghost use Rattle.std.specs.Prelude.{◌≡◌, ◌≢◌, ◌<◌, ◌++◌, [], OnOk, length};
 ghost use Rattle.protox_grammar.specs.Told.{Notes};
-ghost use Rattle.protox_syntax.specs.Recovery.{AreLast, AreLater, IsBegun, LiesToo, Recovers, at_most, behind_block, from_statement, last_rows, next_rows, plain_note, refusal_notes};
-ghost use Rattle.protox_syntax.specs.Leading.{Ends, IsRefusedAt, Leads};
-ghost use Rattle.protox_syntax.specs.Statements.{next_first};
+ghost use Rattle.protox_syntax.specs.inner.Recovery.{AreLast, AreLater, AreRefusalNotes, LiesToo, Recovers, at_most, behind_block, from_statement, last_rows, next_rows, plain_note, refusal_notes};
+ghost use Rattle.protox_syntax.specs.inner.Leading.{Ends, IsRefusedAt, Leads};
+ghost use Rattle.protox_syntax.specs.inner.Statements.{next_first};
 
-use crate::progress::refusal;
-use crate::statement_types::{Begun, Statement};
+use crate::fault_list::refusal;
+use crate::statement_types::{Statement, StatementStart};
 use crate::statements::statement;
 use protox_grammar::note::{Note, Noted};
 use protox_lex::error::Span;
@@ -35,11 +35,11 @@ fn skip_to_statement(rows: &mut Unread<'_, '_>)
     }
 }
 
-// Skips a block of which the `{` was read, and its `}`.
+// Skips the rest of a block, up to and with its `}`. The `{` has been read.
 fn skip_block(rows: &mut Unread<'_, '_>)
     ensures { rows.new ≡ behind_block 0 rows.old }
 {
-    // there are no more blocks than rows
+    // The number of open blocks is never above the number of rows.
     let most = rows.len();
     let mut depth = 0usize;
     'rows: while let Some((row, rest)) = rows.split() {
@@ -81,7 +81,7 @@ fn behind_last<'t, 'a>(table: &'t TokenTable<'a>, count: usize) -> Unread<'t, 'a
     rows
 }
 
-// The rows with which reading goes on behind a refused statement, at most so many.
+// The rows at which reading goes on behind a refused statement; at most `most` of them.
 fn next_rows<'t, 'a>(table: &'t TokenTable<'a>, refused: &Refused, most: usize) -> Unread<'t, 'a>
     ensures { result ≡ next_rows table.now refused.now most }
 {
@@ -92,7 +92,7 @@ fn next_rows<'t, 'a>(table: &'t TokenTable<'a>, refused: &Refused, most: usize) 
     }
 }
 
-// Notes that skipped text is in no aggregate.
+// Notes that the skipped text is not in an aggregate.
 fn add_plain(notes: &mut Vec<Note>, left: usize) -> Result<(), AllocError>
     ensures { OnOk result (notes.new.items ≡ notes.old.items ++ plain_note left) }
 {
@@ -103,7 +103,8 @@ fn add_plain(notes: &mut Vec<Note>, left: usize) -> Result<(), AllocError>
     Ok(())
 }
 
-// The fault of the row from which on `left` rows are left. That of an invalid one is among its own.
+// Notes the fault of the row at which `left` rows are left. An invalid row has none here: its own
+// fault says it.
 fn add_refusal_note(
     alloc: Global,
     table: &TokenTable<'_>,
@@ -123,14 +124,14 @@ fn add_refusal_note(
     add_plain(notes, left)
 }
 
-// What is noted of a refused statement itself. A body that is too deep is noted where it is read.
+// Notes the refusal itself. A body that is too deep has been noted while it was read.
 fn add_refused(
     alloc: Global,
     table: &TokenTable<'_>,
     notes: &mut Vec<Note>,
     refused: &Refused,
 ) -> Result<(), AllocError>
-    ensures { OnOk result ((begun : Notes) × (notes.new.items ≡ notes.old.items ++ begun) × IsBegun table.now.rows refused.now begun) }
+    ensures { OnOk result ((at_refusal : Notes) × (notes.new.items ≡ notes.old.items ++ at_refusal) × AreRefusalNotes table.now.rows refused.now at_refusal) }
 {
     match refused {
         Refused::OutOfMemory => Err(AllocError),
@@ -152,7 +153,7 @@ fn keep_first(first: &mut Option<Span>, statement: &Statement)
     }
 }
 
-// Reads one statement more, or skips to the next where it is refused.
+// Reads one more statement, or skips to the next one if it is refused.
 fn read_one<'t, 'a>(
     alloc: Global,
     table: &'t TokenTable<'a>,
@@ -182,20 +183,20 @@ fn read_one<'t, 'a>(
     }
 }
 
-/// Notes that a statement is refused and what is wrong with those behind it.
+/// Notes the refusal of a statement, and the faults of those behind it.
 pub(crate) fn recover(
     alloc: Global,
     table: &TokenTable<'_>,
     notes: &mut Vec<Note>,
     refused: &Refused,
-    begun: Begun,
+    start: StatementStart,
 ) -> Result<(), AllocError>
-    ensures notes { OnOk result (Recovers table.now refused.now begun.first notes.old.items notes.new.items) }
-    ensures leads { OnOk result (IsRefusedAt table.now notes.old.items begun refused.now → Ends table.now notes.new.items) }
+    ensures notes { OnOk result (Recovers table.now refused.now start.first notes.old.items notes.new.items) }
+    ensures leads { OnOk result (IsRefusedAt table.now notes.old.items start refused.now → Ends table.now notes.new.items) }
 {
     add_refused(alloc, table, notes, refused)?;
-    let mut rows = next_rows(table, refused, begun.left.saturating_sub(1));
-    let mut first = begun.first;
+    let mut rows = next_rows(table, refused, start.left.saturating_sub(1));
+    let mut first = start.first;
     'more: while !rows.is_empty() {
         read_one(alloc, table, notes, &mut rows, &mut first)?;
     }

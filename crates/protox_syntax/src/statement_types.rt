@@ -1,4 +1,4 @@
-//! What a file is made of.
+//! The statements of a file, and what they declare.
 
 use protox_ast::ast::{FileItem, Import, Option as OptionStatement, Package};
 use protox_descriptor::values::Items;
@@ -17,12 +17,12 @@ pub(crate) enum Statement {
 /// Where a statement begins: how many rows are left there, and the place of the first package
 /// statement before it.
 #[derive(Drop)]
-pub(crate) struct Begun {
+pub(crate) struct StatementStart {
     pub left: usize,
     pub first: Option<Span>,
 }
 
-/// What statements give to a file. Of several packages the first is kept.
+/// What the statements of a file declare. Only the first package is kept.
 #[derive(Drop)]
 pub(crate) struct Statements {
     pub first: Option<Package>,

@@ -1,17 +1,17 @@
-//! The syntax statement, and the statements of a file.
+//! Reads the syntax statement and the other statements of a file.
 
 ghost use Rattle.std.specs.Prelude.{◌≡◌, ◌++◌, [], None, OnOk, IfErr, IfOk, MatchResult, option_map};
 ghost use Rattle.protox_lexeme.specs.Table.{Table};
 ghost use Rattle.protox_ast.specs.Ast.{syntax_of, text_of};
 ghost use Rattle.protox_grammar.specs.Told.{import_notes};
-ghost use Rattle.protox_rows.specs.Outcome.{Gives};
-ghost use Rattle.protox_rows.specs.Notes.{Adds};
-ghost use Rattle.protox_syntax.specs.Leading.{Ends, IsRefusedAt, Leads};
-ghost use Rattle.protox_syntax.specs.Recovery.{FirstLies};
-ghost use Rattle.protox_syntax.specs.Statements as rule;
+ghost use Rattle.protox_rows.specs.inner.Outcome.{Gives};
+ghost use Rattle.protox_rows.specs.inner.Notes.{Adds};
+ghost use Rattle.protox_syntax.specs.inner.Leading.{Ends, IsRefusedAt, Leads};
+ghost use Rattle.protox_syntax.specs.inner.Recovery.{FirstLies};
+ghost use Rattle.protox_syntax.specs.inner.Statements as rule;
 
 use crate::checks::{check_package, check_path, check_syntax};
-use crate::statement_types::{Begun, Statement, Statements};
+use crate::statement_types::{Statement, StatementStart, Statements};
 use protox_ast::ast::{Comments, FileItem, FullIdent, Import, ImportKind, Package, Syntax};
 use protox_blocks::enums::enum_;
 use protox_blocks::services::service;
@@ -32,7 +32,7 @@ use protox_rows::rows::{Unread, comments_between, span_between};
 use protox_rows::strings::{strings, text_of};
 use std::alloc::{AllocError, Global};
 
-/// How many levels of messages and groups are read.
+/// How many levels of messages and groups may be nested.
 pub const MAX_MESSAGE_NESTING_DEPTH: u32 = 31;
 
 // The same limit as a usize: the parser counts levels down to 0.
@@ -48,8 +48,8 @@ fn syntax_of(value: &[u8]) -> Syntax
     }
 }
 
-/// string+, as the syntax that it names.
-#[tactic(auto, unfolding(crate::specs::Statements::syntax_value))]
+/// string+ , read as the name of a syntax
+#[tactic(auto, unfolding(crate::specs::inner::Statements::syntax_value))]
 fn syntax_value(
     alloc: Global,
     notes: &mut Vec<Note>,
@@ -64,7 +64,7 @@ fn syntax_value(
 }
 
 /// syntax = "syntax" "=" string+ ";"
-#[tactic(auto, unfolding(crate::specs::Statements::syntax))]
+#[tactic(auto, unfolding(crate::specs::inner::Statements::syntax))]
 fn syntax(
     alloc: Global,
     notes: &mut Vec<Note>,
@@ -82,8 +82,8 @@ fn syntax(
     Ok((syntax, (span, comments)))
 }
 
-/// syntax?
-#[tactic(auto, unfolding(crate::specs::Statements::syntax_if_any))]
+/// syntax? . None where the rows don't begin with `syntax`.
+#[tactic(auto, unfolding(crate::specs::inner::Statements::syntax_if_any))]
 pub(crate) fn syntax_if_any(
     alloc: Global,
     notes: &mut Vec<Note>,
@@ -100,7 +100,7 @@ pub(crate) fn syntax_if_any(
 }
 
 /// "weak" | "public"
-#[tactic(auto, unfolding(crate::specs::Statements::import_kind))]
+#[tactic(auto, unfolding(crate::specs::inner::Statements::import_kind))]
 fn import_kind(rows: &mut Unread<'_, '_>) -> Result<(ImportKind, Span), Refused>
     ensures { Gives (λ x. x) result rows.new ((rule.import_kind).code rows.old) }
 {
@@ -112,7 +112,7 @@ fn import_kind(rows: &mut Unread<'_, '_>) -> Result<(ImportKind, Span), Refused>
     Ok((ImportKind::Public, word.span()))
 }
 
-#[tactic(auto, unfolding(crate::specs::Statements::import_kind_if_any))]
+#[tactic(auto, unfolding(crate::specs::inner::Statements::import_kind_if_any))]
 fn import_kind_if_any(rows: &mut Unread<'_, '_>) -> Result<Option<(ImportKind, Span)>, Refused>
     ensures { Gives (λ x. x) result rows.new ((rule.import_kind_if_any).code rows.old) }
 {
@@ -123,7 +123,7 @@ fn import_kind_if_any(rows: &mut Unread<'_, '_>) -> Result<Option<(ImportKind, S
     Ok(None)
 }
 
-// Behind `weak` or `public` only a string is left.
+// What may follow: only a string once `weak` or `public` is read.
 fn after_import(kind: &Option<(ImportKind, Span)>) -> Expected {
     match kind {
         Some(_) => Expected::StringLiteral,
@@ -131,7 +131,7 @@ fn after_import(kind: &Option<(ImportKind, Span)>) -> Expected {
     }
 }
 
-// The text of a path, which is checked.
+// Checks the text of an import.
 fn checked_path(
     alloc: Global,
     notes: &mut Vec<Note>,
@@ -148,8 +148,8 @@ fn checked_path(
     Ok(text)
 }
 
-/// string+, as the path that it is.
-#[tactic(auto, unfolding(crate::specs::Statements::path))]
+/// string+ , read as an import's path with its span
+#[tactic(auto, unfolding(crate::specs::inner::Statements::path))]
 fn path(
     alloc: Global,
     notes: &mut Vec<Note>,
@@ -165,7 +165,7 @@ fn path(
 }
 
 /// import = "import" ("weak" | "public")? string+ ";"
-#[tactic(auto, unfolding(crate::specs::Statements::import_))]
+#[tactic(auto, unfolding(crate::specs::inner::Statements::import_))]
 fn import_(
     alloc: Global,
     notes: &mut Vec<Note>,
@@ -190,7 +190,7 @@ fn import_(
 }
 
 /// package = "package" fullident ";"
-#[tactic(auto, unfolding(crate::specs::Statements::package_))]
+#[tactic(auto, unfolding(crate::specs::inner::Statements::package_))]
 fn package_(alloc: Global, rows: &mut Unread<'_, '_>) -> Result<Package, Refused>
     ensures { Gives (λ x. x) result rows.new ((rule.package_).code rows.old) }
 {
@@ -207,8 +207,8 @@ fn package_(alloc: Global, rows: &mut Unread<'_, '_>) -> Result<Package, Refused
     })
 }
 
-// A package statement, where the first one stands there.
-#[tactic(auto, unfolding(crate::specs::Statements::package_statement))]
+// A package statement. A second one is noted as a fault; `first` is the place of the first.
+#[tactic(auto, unfolding(crate::specs::inner::Statements::package_statement))]
 fn package_statement(
     alloc: Global,
     notes: &mut Vec<Note>,
@@ -224,7 +224,7 @@ fn package_statement(
 }
 
 /// extend | message | enum | service
-#[tactic(auto, unfolding(crate::specs::Statements::item_))]
+#[tactic(auto, unfolding(crate::specs::inner::Statements::item_))]
 fn item_(
     alloc: Global,
     notes: &mut Vec<Note>,
@@ -250,7 +250,7 @@ fn item_(
 }
 
 // option | extend | message | enum | service
-#[tactic(auto, unfolding(crate::specs::Statements::declared))]
+#[tactic(auto, unfolding(crate::specs::inner::Statements::declared))]
 fn declared(
     alloc: Global,
     notes: &mut Vec<Note>,
@@ -267,7 +267,7 @@ fn declared(
 }
 
 /// statement = ";" | import | package | option | extend | message | enum | service
-#[tactic(auto, unfolding(crate::specs::Statements::statement))]
+#[tactic(auto, unfolding(crate::specs::inner::Statements::statement))]
 pub(crate) fn statement(
     alloc: Global,
     notes: &mut Vec<Note>,
@@ -301,14 +301,14 @@ fn first_place(file: &Statements) -> Option<Span>
     }
 }
 
-fn put_statement(file: &mut Statements, statement: Statement) -> Result<(), AllocError>
+fn add_statement(file: &mut Statements, statement: Statement) -> Result<(), AllocError>
     ensures { OnOk result (file.new ≡ rule.add_statement file.old statement) }
 {
     match statement {
         Statement::Empty => Ok(()),
         Statement::Import(import) => file.imports.push(import),
         Statement::Package(package) => {
-            put_package(file, package);
+            keep_first_package(file, package);
             Ok(())
         }
         Statement::Option(option) => file.options.push(option),
@@ -316,8 +316,8 @@ fn put_statement(file: &mut Statements, statement: Statement) -> Result<(), Allo
     }
 }
 
-// The first package is kept.
-fn put_package(file: &mut Statements, found: Package)
+// Keeps the first package.
+fn keep_first_package(file: &mut Statements, found: Package)
     ensures { file.new ≡ record file.old { first = rule.or_package file.old.first found } }
 {
     if file.first.is_none() {
@@ -325,18 +325,18 @@ fn put_package(file: &mut Statements, found: Package)
     }
 }
 
-/// statement*, up to the end or to the first that is refused. Where the last of them begins is kept.
-#[tactic(auto, unfolding(crate::specs::Statements::statements_at))]
+/// statement* , up to the end or to a statement that is refused. Keeps where the last one begins.
+#[tactic(auto, unfolding(crate::specs::inner::Statements::statements_at))]
 pub(crate) fn statements(
     alloc: Global,
     notes: &mut Vec<Note>,
     rows: &mut Unread<'_, '_>,
-    begun: &mut Begun,
+    start: &mut StatementStart,
 ) -> Result<Statements, Refused>
     ensures read { Gives (λ x. x) result [] (rule.statements_at rows.old) }
     ensures notes { Adds result notes.old.items (rule.notes_behind None rows.old) notes.new.items }
-    ensures first { IfErr result (λ refused. FirstLies rows.old begun.new.first) }
-    ensures leads { (t : Table) → Leads t notes.old.items None rows.old → MatchResult result (λ found. Ends t notes.new.items) (IsRefusedAt t notes.new.items begun.new) }
+    ensures first { IfErr result (λ refused. FirstLies rows.old start.new.first) }
+    ensures leads { (t : Table) → Leads t notes.old.items None rows.old → MatchResult result (λ found. Ends t notes.new.items) (IsRefusedAt t notes.new.items start.new) }
 {
     let mut file = Statements {
         first: None,
@@ -345,10 +345,10 @@ pub(crate) fn statements(
         items: Items::new(alloc),
     };
     'more: while !rows.is_empty() {
-        begun.left = rows.len();
-        begun.first = first_place(&file);
-        let statement = statement(alloc, notes, rows, &begun.first)?;
-        put_statement(&mut file, statement)?;
+        start.left = rows.len();
+        start.first = first_place(&file);
+        let statement = statement(alloc, notes, rows, &start.first)?;
+        add_statement(&mut file, statement)?;
     }
     Ok(file)
 }

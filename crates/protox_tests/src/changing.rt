@@ -7,7 +7,7 @@ use std::alloc::{AllocError, Global};
 use std::convert::AsStr;
 use std::test::Fail;
 
-// A field that gets each part which most fields lack.
+// A field with each part that most fields lack.
 fn full_field(alloc: Global) -> Result<FieldDescriptorProto, AllocError> {
     let mut field = FieldDescriptorProto::new(alloc);
     field.set_oneof_index(Some(2));
@@ -39,7 +39,7 @@ fn fields_change(rt: HostRuntime) -> Result<(), Fail> {
     Ok(())
 }
 
-// A location that gets each comment.
+// A location with each comment.
 fn full_location(alloc: Global) -> Result<Location, AllocError> {
     let mut location = Location::bare(Numbers::few(&[4, 0]), Numbers::few(&[1, 2, 3, 4]));
     location.set_leading_comments(alloc, Some(Text::copy(alloc, "a")?))?;

@@ -71,8 +71,8 @@ fn new_files_are_empty(rt: HostRuntime) -> Result<(), Fail> {
     Ok(())
 }
 
-// A message with this name and one reserved name. The parts are made first: nothing large is at hand
-// where memory may be refused.
+// A message with this name and one reserved name. The parts are made first, so that nothing large
+// is alive where memory may be refused.
 fn named(alloc: Global, name: &str, reserved: &str) -> Result<DescriptorProto, AllocError> {
     let name = Text::copy(alloc, name)?;
     let mut names = Items::new(alloc);
@@ -118,7 +118,7 @@ fn grown_text(alloc: Global) -> Result<String, AllocError> {
     format!(in alloc; "{text} {text:?} {} {} {same}", text.len(), text.is_empty())
 }
 
-// A text of 30 bytes that grows beyond them.
+// A text of 30 bytes that grows longer.
 fn long_text(alloc: Global) -> Result<String, AllocError> {
     let mut text = Text::joined(alloc, "abcdefghijklmno", "pqrstuvwxyzéAB")?;
     text.push_str(alloc, "C")?;
@@ -143,7 +143,7 @@ fn location(alloc: Global) -> Result<String, AllocError> {
     format!(in alloc; "{found:?} {told:?}")
 }
 
-// A field of that JSON name, in the first oneof.
+// A field with that JSON name, in the first oneof.
 fn named_in_json(alloc: Global, name: &str) -> Result<FieldDescriptorProto, AllocError> {
     let json_name = Some(Text::copy(alloc, name)?);
     let label = Some(Label::Optional as i32);

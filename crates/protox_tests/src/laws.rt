@@ -1,11 +1,11 @@
-//! The laws at the marks that are used: none, and places.
+//! The laws for the marks in use: none, and places.
 ghost use Rattle.protox_grammar.specs.Grammar as grammar;
-ghost use Rattle.protox_grammar.specs.MarkLaws as marks;
+ghost use Rattle.protox_grammar.specs.TagLaws as tags;
 ghost use Rattle.protox_grammar.specs.OneOfThree as three;
 ghost use Rattle.protox_fault.specs.Faults.{Span};
 
 use protox_grammar::{
-    accepts, ended, marks_change_nothing, one_of_three, one_tree, too_deep, unexpected,
+    accepts, ended, one_of_three, one_tree, tags_change_nothing, too_deep, unexpected,
 };
 
 fn without_marks()
@@ -42,10 +42,10 @@ fn with_places()
 }
 
 fn with_either()
-    ensures outcome { marks.SameOutcome Span (Unit {0}) }
-    ensures steps { marks.SameSteps Span (Unit {0}) }
+    ensures outcome { tags.SameOutcome Span (Unit {0}) }
+    ensures steps { tags.SameSteps Span (Unit {0}) }
 {
-    marks_change_nothing(&(0usize..0), &());
+    tags_change_nothing(&(0usize..0), &());
 }
 
 #[test]

@@ -22,8 +22,8 @@ fn keyword_is_the_row(rt: HostRuntime) -> Result<(), Fail> {
     Ok(())
 }
 
-// The comments that a state hands out: `<` before the one that trails, `=` before each detached one,
-// `>` before the one that leads.
+// The comments that a state hands out: `<` before the one that trails, `=` before each detached
+// one, `>` before the one that leads.
 fn push_marked(out: &mut String, mark: &str, text: &Option<Text>) -> Result<(), AllocError> {
     if let Some(text) = text {
         out.push_str(mark)?;

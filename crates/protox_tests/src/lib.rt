@@ -1,6 +1,6 @@
-//! One run of each public call of the crates below, with what a program's lines cannot show: equality, and
-//! what is answered by value. Cases of the parser and the lexer, and calls that memory may be refused to,
-//! are lines of the program `protocases`.
+//! One run of each public call of the crates below, as far as a program's lines cannot show it:
+//! equality, and answers by value. Cases of the parser and the lexer, and calls that memory may be
+//! refused to, are lines of the program `protocases`.
 #![tactic(auto)]
 
 #[cfg(test)]

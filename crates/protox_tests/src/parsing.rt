@@ -18,7 +18,7 @@ fn length_limit(rt: HostRuntime) {
     assert_eq!(rt; found, [true, true, false]);
 }
 
-// Whether the halves of the parser, one after the other, answer what the parser does.
+// Whether the two halves of the parser, one after the other, give its answer.
 fn halves_agree(alloc: Global) -> Result<bool, Fail> {
     if !source_fits(EXAMPLE.len()) {
         return Err(Fail::new("too long"));
@@ -35,7 +35,7 @@ fn file_and_descriptor(rt: HostRuntime) -> Result<(), Fail> {
     Ok(())
 }
 
-// The answer of `parse` on a file that is refused.
+// The answer of `parse` for a file that is refused.
 fn refusal(alloc: Global, name: &str, source: &str) -> Result<ParseError, Fail> {
     match parse(alloc, name, source) {
         Err(ParseFailure::Refused(error)) => Ok(error),
@@ -43,7 +43,7 @@ fn refusal(alloc: Global, name: &str, source: &str) -> Result<ParseError, Fail> 
     }
 }
 
-// What each reader of a refusal answers.
+// The answer of each reader of a refusal.
 fn readers(alloc: Global, error: &ParseError) -> Result<String, AllocError> {
     let front = format!(in alloc; "{} {:?} {:?}", error.file(), error.source(), error.span())?;
     let kind = error.kind();
@@ -78,7 +78,7 @@ fn refusal_of_the_end(rt: HostRuntime) -> Result<(), Fail> {
     Ok(())
 }
 
-// Whatever growth fails: the answer is that memory ran out, or the file's own.
+// Whichever request for memory fails, the answer is that memory ran out, or the file's own.
 fn locations(alloc: Global) -> Option<usize> {
     match parse(alloc, "foo.proto", EXAMPLE) {
         Err(ParseFailure::OutOfMemory) => Some(9),
@@ -119,7 +119,7 @@ fn expected_tokens_print(rt: HostRuntime) -> Result<(), Fail> {
     Ok(())
 }
 
-// The indices of the locations of a source that have the path.
+// The indices of the locations of a source with this path.
 fn indices(alloc: Global, source: &str, path: &[i32]) -> Option<Span> {
     match parse(alloc, "a.proto", source) {
         Ok(file) => match &file.source_code_info {
@@ -151,7 +151,8 @@ fn locations_by_path(rt: HostRuntime) {
     assert_eq!(rt; locate(&none, &[4]), 0..0);
 }
 
-// What is found in a source: the path around a place, and the comment that leads a path.
+// What is found in a source: the path around a place, and the comment before the declaration at a
+// path.
 fn around(alloc: Global, source: &str, line: i32, column: i32) -> Result<String, AllocError> {
     match parse(alloc, "a.proto", source) {
         Ok(file) => match &file.source_code_info {

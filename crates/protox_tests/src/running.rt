@@ -4,7 +4,7 @@ use std::alloc::Global;
 use std::io;
 use std::test::Fail;
 
-// What is written, what is said of a refusal, and the status, for words and a file's bytes.
+// What is written to `out` and to `err`, and the status, for these words and this file.
 fn scanned(alloc: Global, words: &[String], file: Option<&[u8]>) -> Result<String, Fail> {
     let mut out = Vec::new(alloc);
     let mut err = Vec::new(alloc);
@@ -68,13 +68,13 @@ fn without_a_file_to_read(rt: HostRuntime) -> Result<(), Fail> {
     Ok(())
 }
 
-// What is written where the second word is a path.
+// What is written if the second word is a path.
 fn scanned_at(alloc: Global, path: &str, file: Option<&[u8]>) -> Result<String, Fail> {
     let words = vec![in alloc;
         String::from_str(alloc, "a.proto")?,
         String::from_str(alloc, path)?,
     ]?;
-    // whether the file is to be read
+    // Whether the file is to be read.
     let reads = file_name(&words).is_some();
     let written = scanned(alloc, &words, file)?;
     Ok(format!(in alloc; "{reads} {written}")?)
@@ -126,7 +126,7 @@ fn words_that_are_no_path(rt: HostRuntime) -> Result<(), Fail> {
         "1.4294967296",
         "99999999999999999999",
     ] {
-        // of a file that can't be read nothing is said then
+        // The file can't be read either, but only the path is reported.
         let written = scanned_at(rt.alloc(), path, None)?;
         let expected = format!(in rt.alloc(); "false protoscan: bad path {path}\n2")?;
         assert_eq!(rt; written.as_str(), expected.as_str());
@@ -134,7 +134,7 @@ fn words_that_are_no_path(rt: HostRuntime) -> Result<(), Fail> {
     Ok(())
 }
 
-// What is said where the words or the file can't be had.
+// What is said if the words or the file can't be had.
 fn said(alloc: Global, kind: io::ErrorKind) -> Result<String, Fail> {
     let error = io::Error::from(kind);
     let mut err = Vec::new(alloc);
@@ -162,7 +162,7 @@ fn words_that_cant_be_had(rt: HostRuntime) -> Result<(), Fail> {
     Ok(())
 }
 
-// A writer with room for some bytes refuses the write that doesn't fit.
+// A writer with room for some bytes. It refuses the write that doesn't fit.
 #[test]
 fn nothing_is_said_behind_a_failed_write(rt: HostRuntime) -> Result<(), Fail> {
     let words = vec![in rt.alloc(); String::from_str(rt.alloc(), "a")?]?;
@@ -188,7 +188,7 @@ fn nothing_is_written_behind_a_failed_write(rt: HostRuntime) -> Result<(), Fail>
         source.extend_from_slice(b"message A{}")?;
     }
     let mut err = Vec::new(rt.alloc());
-    // the first lines are more than fit, or they fit and those behind them don't
+    // The first lines don't fit, or they fit and those behind them don't.
     for size in [3usize, 20000] {
         let mut room = vec![in rt.alloc(); 0u8; size]?;
         let mut out = room.as_mut_slice();

@@ -177,7 +177,7 @@ fn places_of_options(rt: HostRuntime) -> Result<(), Fail> {
     Ok(())
 }
 
-// Takes so many writes, and refuses each one behind these.
+// Takes this many writes, and refuses each later one.
 #[derive(Drop)]
 struct Few {
     left: usize,
@@ -198,7 +198,8 @@ fn is_refused<T: fmt::Display>(value: &T, writes: usize) -> bool {
     write!(few, "{value}").is_err()
 }
 
-// How many of the first sixteen numbers of writes are too few, and whether they are below all that are enough.
+// How many of the first sixteen numbers of writes are too few, and whether all of these are below
+// all that are enough.
 fn too_few(alloc: Global) -> Result<(usize, bool), AllocError> {
     let name = type_name(alloc)?;
     let mut refused: usize = 0;
@@ -212,7 +213,7 @@ fn too_few(alloc: Global) -> Result<(usize, bool), AllocError> {
     Ok((refused, in_order))
 }
 
-// What prints fails where what it prints to refuses, and only there.
+// Printing fails exactly where the writer fails.
 #[test]
 fn printing_fails_where_it_is_refused(rt: HostRuntime) -> Result<(), Fail> {
     let (refused, in_order) = too_few(rt.alloc())?;

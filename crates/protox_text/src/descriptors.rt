@@ -11,7 +11,7 @@ use protox_descriptor::descriptor::FileDescriptorProto;
 use std::alloc::Global;
 use std::io::{self, Write};
 
-// Messages nest in an accepted file at most so deep, groups included.
+// How deep messages nest at most in an accepted file, groups included.
 const LEVELS: u32 = 31;
 
 fn write_types<W: Write>(out: &mut W, level: Level, file: &FileDescriptorProto) -> io::Result<()> {
@@ -30,8 +30,8 @@ fn write_types<W: Write>(out: &mut W, level: Level, file: &FileDescriptorProto) 
     Ok(())
 }
 
-/// The fields of the file's descriptor, in the order of their numbers; `source_code_info` only where
-/// `source_info` says so.
+/// Writes the fields of a file's descriptor in the order of their numbers; `source_code_info` only
+/// if `source_info` is true.
 pub fn write_file<W: Write>(
     alloc: Global,
     out: &mut W,

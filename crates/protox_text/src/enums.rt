@@ -31,6 +31,7 @@ fn write_reserved<W: Write>(
     write_close(out, level)
 }
 
+/// Writes an enum as the field `enum_type`.
 pub fn write_enum<W: Write>(
     out: &mut W,
     level: Level,

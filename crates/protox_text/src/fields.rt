@@ -7,7 +7,7 @@ use crate::options::write_options_field;
 use protox_descriptor::descriptor::{FieldDescriptorProto, OneofDescriptorProto};
 use std::io::{self, Write};
 
-// The names that descriptor.proto gives to labels.
+// The names of labels in descriptor.proto.
 fn label_name(number: i32) -> &'static str {
     match number {
         1 => "LABEL_OPTIONAL",
@@ -17,7 +17,7 @@ fn label_name(number: i32) -> &'static str {
     }
 }
 
-// The names that descriptor.proto gives to types.
+// The names of types in descriptor.proto.
 fn type_name(number: i32) -> &'static str {
     match number {
         1 => "TYPE_DOUBLE",
@@ -52,7 +52,7 @@ fn write_type<W: Write>(out: &mut W, level: Level, field: &FieldDescriptorProto)
     write_text(out, level, "type_name", field.type_name.as_ref())
 }
 
-/// A field under the name that it has where it stands: `field` or `extension`.
+/// Writes a field under this name: `field` or `extension`.
 pub fn write_field<W: Write>(
     out: &mut W,
     level: Level,
@@ -75,6 +75,7 @@ pub fn write_field<W: Write>(
     write_close(out, level)
 }
 
+/// Writes a oneof as the field `oneof_decl`.
 pub fn write_oneof<W: Write>(
     out: &mut W,
     level: Level,

@@ -1,12 +1,12 @@
-//! Lines of the text format of Protocol Buffers: a field and its value, or a message in braces. What is
-//! not there has no line.
+//! Lines of the text format of Protocol Buffers: a field and its value, or a message in braces. A
+//! field that is absent has no line.
 
 use protox_ast::ast;
 use protox_descriptor::values::{Items, Text};
 use std::alloc::Global;
 use std::io::{self, Write};
 
-/// How far a line stands to the right, two spaces for each level, and the allocator.
+/// The indentation of a line, two spaces for each level, and the allocator.
 #[derive(Clone, Copy)]
 pub struct Level {
     pub alloc: Global,
@@ -14,7 +14,7 @@ pub struct Level {
 }
 
 impl Level {
-    /// One level more.
+    /// one level more
     pub fn inner(self) -> Level {
         Level {
             alloc: self.alloc,
@@ -23,6 +23,7 @@ impl Level {
     }
 }
 
+/// Writes the indentation of a line.
 pub fn write_indent<W: Write>(out: &mut W, level: Level) -> io::Result<()> {
     for _ in 0..level.depth {
         write!(out, "  ")?;
@@ -30,25 +31,25 @@ pub fn write_indent<W: Write>(out: &mut W, level: Level) -> io::Result<()> {
     Ok(())
 }
 
-/// `name {`
+/// Writes `name {`.
 pub fn write_open<W: Write>(out: &mut W, level: Level, name: &str) -> io::Result<()> {
     write_indent(out, level)?;
     writeln!(out, "{name} {{")
 }
 
-/// `}`
+/// Writes `}`.
 pub fn write_close<W: Write>(out: &mut W, level: Level) -> io::Result<()> {
     write_indent(out, level)?;
     writeln!(out, "}}")
 }
 
-/// `name: word`
+/// Writes `name: word`.
 pub fn write_word<W: Write>(out: &mut W, level: Level, name: &str, word: &str) -> io::Result<()> {
     write_indent(out, level)?;
     writeln!(out, "{name}: {word}")
 }
 
-/// `name: "bytes"`, the bytes escaped as a string literal of a tree prints them.
+/// Writes `name: "bytes"`, escaped as the tree prints string literals.
 pub fn write_bytes<W: Write>(
     out: &mut W,
     level: Level,
@@ -63,6 +64,7 @@ pub fn write_bytes<W: Write>(
     writeln!(out, "{name}: \"{literal}\"")
 }
 
+/// Writes `name: "text"`, or nothing for None.
 pub fn write_text<W: Write>(
     out: &mut W,
     level: Level,
@@ -75,6 +77,7 @@ pub fn write_text<W: Write>(
     }
 }
 
+/// Writes a line `name: "text"` for each of the texts.
 pub fn write_texts<W: Write>(
     out: &mut W,
     level: Level,
@@ -87,6 +90,7 @@ pub fn write_texts<W: Write>(
     Ok(())
 }
 
+/// Writes `name: number`, or nothing for None.
 pub fn write_number<W: Write>(
     out: &mut W,
     level: Level,
@@ -102,6 +106,7 @@ pub fn write_number<W: Write>(
     }
 }
 
+/// Writes a line `name: number` for each of the numbers.
 pub fn write_numbers<W: Write>(
     out: &mut W,
     level: Level,
@@ -114,6 +119,7 @@ pub fn write_numbers<W: Write>(
     Ok(())
 }
 
+/// Writes `name: true` or `name: false`, or nothing for None.
 pub fn write_flag<W: Write>(
     out: &mut W,
     level: Level,

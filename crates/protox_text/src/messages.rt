@@ -61,7 +61,7 @@ fn write_nested<W: Write>(
     Ok(())
 }
 
-// What stands behind the nested messages: enums, ranges and extensions.
+// Writes what stands behind the nested messages: enums, ranges and extensions.
 fn write_inner<W: Write>(out: &mut W, level: Level, message: &DescriptorProto) -> io::Result<()> {
     for described in message.enum_type.iter() {
         write_enum(out, level, described)?;
@@ -88,8 +88,8 @@ fn write_rest<W: Write>(out: &mut W, level: Level, message: &DescriptorProto) ->
     write_texts(out, level, "reserved_name", &message.reserved_name)
 }
 
-/// A message under the name that it has where it stands, `message_type` or `nested_type`, and the
-/// messages in it, so many levels deep.
+/// Writes a message under this name, `message_type` or `nested_type`, and its nested messages, at
+/// most this many levels deep.
 #[cycle(messages)]
 pub fn write_message<W: Write>(
     out: &mut W,

@@ -61,7 +61,7 @@ fn write_option<W: Write>(
     write_close(out, level)
 }
 
-/// The lines of options that have no meaning yet.
+/// Writes uninterpreted options.
 pub fn write_options<W: Write>(
     out: &mut W,
     level: Level,
@@ -73,7 +73,7 @@ pub fn write_options<W: Write>(
     Ok(())
 }
 
-/// The same as the field `options` of a message that has no other.
+/// Writes them as the field `options` of a message whose options have no other field.
 pub fn write_options_field<W: Write>(
     out: &mut W,
     level: Level,

@@ -23,6 +23,7 @@ fn write_method<W: Write>(
     write_close(out, level)
 }
 
+/// Writes a service as the field `service`.
 pub fn write_service<W: Write>(
     out: &mut W,
     level: Level,

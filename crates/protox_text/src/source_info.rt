@@ -23,7 +23,7 @@ fn write_location<W: Write>(out: &mut W, level: Level, location: &Location) -> i
     write_close(out, level)
 }
 
-/// The field `source_code_info` of a file.
+/// Writes the field `source_code_info` of a file.
 pub fn write_source_info<W: Write>(
     out: &mut W,
     level: Level,

@@ -1,4 +1,4 @@
-//! The options of each kind of declaration, by one call.
+//! A trait that gives the options of any kind of declaration.
 #![tactic(auto)]
 
 ghost use Rattle.std.specs.Prelude.{◌≡◌, List};
@@ -9,7 +9,7 @@ use protox_descriptor::descriptor::{
     MessageOptions, MethodOptions, OneofOptions, ServiceOptions, UninterpretedOption,
 };
 
-/// An options message of descriptor.proto, of whatever kind of declaration.
+/// An options message of descriptor.proto, for any kind of declaration.
 ///
 /// ```
 /// fn print_options<O: HasUninterpreted>(options: &O) -> io::Result<()> {
@@ -20,10 +20,11 @@ use protox_descriptor::descriptor::{
 /// }
 /// ```
 pub trait HasUninterpreted {
-    /// The options, as they are written.
+    /// The options as they stand in the source.
     ghost options: { Self → List UninterpretedOption };
 
-    /// The options in their order, as they are written. Each prints as a source has it: `(a.b).c = 1`.
+    /// The options in order, as they stand in the source. Display writes each as a source has it:
+    /// `(a.b).c = 1`.
     fn uninterpreted(&self) -> &[UninterpretedOption]
         ensures { result.now ≡ options self.now };
 }

@@ -14,7 +14,7 @@ use std::boxed::Box;
 use std::fmt;
 
 impl Comments {
-    /// These comments, or `AllocError`. Where there is none, they take no memory.
+    /// These comments, or `AllocError`. Without a comment this takes no memory.
     pub fn new(
         alloc: Global,
         leading_detached_comments: Items<Text>,
@@ -41,7 +41,7 @@ impl Comments {
         Ok(Comments { held: Some(held) })
     }
 
-    /// The blocks before it but the one that leads it, in order.
+    /// The detached comments before the declaration, in order.
     pub fn leading_detached_comments(&self) -> &[Text]
         ensures { result.now ≡ self.now.leading_detached_comments }
     {
@@ -51,7 +51,7 @@ impl Comments {
         }
     }
 
-    /// The block right before it.
+    /// The comment that leads the declaration.
     pub fn leading_comment(&self) -> Option<&Text>
         ensures { option_copied result ≡ self.now.leading_comment }
     {
@@ -61,7 +61,8 @@ impl Comments {
         }
     }
 
-    /// The block behind its `;` or behind the brace that opens its body; behind the one that closes that of a method.
+    /// The comment that trails the declaration. It stands after the `;` or after the `{` of the
+    /// body; for a method with braces after the `}`.
     pub fn trailing_comment(&self) -> Option<&Text>
         ensures { option_copied result ≡ self.now.trailing_comment }
     {

@@ -1,4 +1,4 @@
-//! Names: how they are made, and where they stand.
+//! Making names, and their texts and spans.
 
 ghost use Rattle.std.specs.Prelude.{◌≡◌, ◌<◌, [], ◌∷◌, ◌++◌, length, flat_map, IfOk, OnOk};
 ghost use Rattle.std.specs.String.{string_bytes};
@@ -10,7 +10,7 @@ use protox_fault::error::Span;
 use std::alloc::{AllocError, Global};
 
 impl Ident {
-    /// The identifier of that text, at that place.
+    /// The identifier with this text and this span.
     pub fn new(value: String, span: Span) -> Ident
         ensures { result ≡ record { value = string_bytes value; span = span } }
     {
@@ -21,7 +21,7 @@ impl Ident {
     }
 }
 
-// The room for the parts with a dot between each two, and for one more byte.
+// How many bytes the parts take with dots between them, and one more.
 fn room(parts: &[Ident]) -> usize {
     let mut room: usize = 0;
     for part in parts {
@@ -30,7 +30,7 @@ fn room(parts: &[Ident]) -> usize {
     room
 }
 
-// Appends each part, with a dot before it.
+// Appends the parts, each with a dot in front.
 fn push_dotted(text: &mut String, parts: &[Ident]) -> Result<(), AllocError>
     ensures { OnOk result (string_bytes text.new ≡ string_bytes text.old ++ flat_map dotted_part parts.now) }
 {
@@ -42,7 +42,7 @@ fn push_dotted(text: &mut String, parts: &[Ident]) -> Result<(), AllocError>
 }
 
 impl FullIdent {
-    /// The name of that one part, or `AllocError`.
+    /// The name with this one part, or `AllocError`.
     pub fn from_ident(alloc: Global, part: Ident) -> Result<FullIdent, AllocError>
         ensures { IfOk result (λ name. name ≡ part ∷ []) }
     {
@@ -51,7 +51,7 @@ impl FullIdent {
         Ok(FullIdent { parts })
     }
 
-    /// The name of those parts.
+    /// The name with these parts. There must be at least one.
     pub fn from_parts(parts: Vec<Ident>) -> FullIdent
         requires { 0 < length parts.items }
         ensures { result ≡ parts.items }
@@ -61,7 +61,7 @@ impl FullIdent {
         }
     }
 
-    /// The parts, of which there is at least one.
+    /// The parts. There is at least one.
     pub fn parts(&self) -> &[Ident]
         ensures value { result.now ≡ self.now }
         ensures some { 0 < length self.now }
@@ -69,7 +69,7 @@ impl FullIdent {
         self.parts.as_slice()
     }
 
-    /// The name as it is written, with a dot between each two parts. Or `AllocError`.
+    /// The text of the name as it is written, with dots between the parts, or `AllocError`.
     pub fn text(&self, alloc: Global) -> Result<Text, AllocError>
         ensures { IfOk result (λ text. text ≡ name_text self.now) }
     {
@@ -85,7 +85,7 @@ impl FullIdent {
         }
     }
 
-    /// From the start of the first part to the end of the last.
+    /// The span of the name: from its first part to its last.
     pub fn span(&self) -> Span
         ensures { result ≡ name_span self.now }
     {
@@ -98,7 +98,8 @@ impl FullIdent {
 }
 
 impl TypeName {
-    /// The name as it is written, with the leading dot if there is one. Or `AllocError`.
+    /// The text of the name as it is written, with its leading dot if there is one, or
+    /// `AllocError`.
     pub fn text(&self, alloc: Global) -> Result<Text, AllocError>
         ensures { IfOk result (λ text. text ≡ type_name_text self.now) }
     {
@@ -109,7 +110,8 @@ impl TypeName {
         }
     }
 
-    /// From the leading dot, or the start of the first part without one, to the end of the last part.
+    /// The span of the name: from its leading dot, or without one from its first part, to its last
+    /// part.
     pub fn span(&self) -> Span
         ensures { result ≡ type_name_span self.now }
     {

@@ -7,7 +7,7 @@ use super::Int;
 use std::option::Option;
 
 impl Int {
-    /// The number, if it is an i32.
+    /// The number with its sign, if it fits in an `i32`.
     pub fn as_i32(&self) -> Option<i32>
         ensures fits { IsSome result ↔ IsBetween (negsuc 2147483647) (pos 2147483647) (signed_value self.now) }
         ensures value { IfSome result (λ number. number ≡ signed_value self.now) }
@@ -18,7 +18,7 @@ impl Int {
         }
     }
 
-    /// The number, if it is an i64.
+    /// The number with its sign, if it fits in an `i64`.
     pub fn as_i64(&self) -> Option<i64>
         ensures fits { IsSome result ↔ IsBetween (negsuc 9223372036854775807) (pos 9223372036854775807) (signed_value self.now) }
         ensures value { IfSome result (λ number. number ≡ signed_value self.now) }
@@ -34,7 +34,7 @@ impl Int {
         }
     }
 
-    /// The number, if it has no sign and is a u32.
+    /// The number, if it has no minus sign and fits in a `u32`.
     pub fn as_u32(&self) -> Option<u32>
         ensures fits { IsSome result ↔ ((self.now.negative ≡ false) × (self.now.value ≤ 4294967295)) }
         ensures value { IfSome result (λ number. number ≡ self.now.value) }
@@ -46,7 +46,7 @@ impl Int {
         }
     }
 
-    /// The number, if it has no sign.
+    /// The number, if it has no minus sign.
     pub fn as_u64(&self) -> Option<u64>
         ensures fits { IsSome result ↔ (self.now.negative ≡ false) }
         ensures value { IfSome result (λ number. number ≡ self.now.value) }

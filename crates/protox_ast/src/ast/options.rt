@@ -1,4 +1,4 @@
-//! Options: where their parts stand, and what their values are.
+//! The spans and the values of options.
 
 ghost use Rattle.std.specs.Prelude.{◌≡◌, IfOk};
 ghost use Rattle.std.specs.Option.{option_copied};
@@ -14,7 +14,7 @@ use std::alloc::{AllocError, Global};
 use std::option::Option;
 
 impl OptionNamePart {
-    /// The place of the identifier, or from the one parenthesis to the other.
+    /// The span of the identifier, or of the extension's name with its parentheses.
     pub fn span(&self) -> Span
         ensures { result ≡ part_span self.now }
     {
@@ -26,7 +26,7 @@ impl OptionNamePart {
 }
 
 impl OptionBody {
-    /// Whether the option's name is that one identifier.
+    /// Whether the name of the option is this one identifier.
     pub fn has_name(&self, name: &str) -> bool
         ensures { result ≡ has_name name.now self.now }
     {
@@ -36,7 +36,8 @@ impl OptionBody {
         }
     }
 
-    /// From the first part of the name to the last; `0..0` where it has none, as no source's has.
+    /// The span of the name: from its first part to its last. `0..0` if it has no parts; a name
+    /// from a source has at least one.
     pub fn name_span(&self) -> Span
         ensures { result ≡ parts_span self.now.name }
     {
@@ -47,7 +48,7 @@ impl OptionBody {
         }
     }
 
-    /// From the first part of the name to the value.
+    /// The span of the option: from its name to the end of its value.
     pub fn span(&self) -> Span
         ensures { result ≡ body_span self.now }
     {
@@ -77,7 +78,7 @@ fn copied_word(alloc: Global, negative: bool, word: &str) -> Result<Option<Text>
 }
 
 impl OptionValue {
-    /// The place of the value, with its sign, its quotes or its braces.
+    /// The span of the value, with its sign, quotes or braces.
     pub fn span(&self) -> Span
         ensures { result ≡ value_span self.now }
     {
@@ -90,7 +91,7 @@ impl OptionValue {
         }
     }
 
-    /// What `true` or `false` says, without a sign.
+    /// The truth value of `true` or `false` without a minus sign. None for any other value.
     pub fn as_bool(&self) -> Option<bool>
         ensures { result ≡ as_bool self.now }
     {
@@ -104,7 +105,7 @@ impl OptionValue {
         }
     }
 
-    /// The value as it prints, a string between double quotes. Or `AllocError`.
+    /// The text of the value as it prints, or `AllocError`. A string stands in double quotes.
     pub fn to_token_string(&self, alloc: Global) -> Result<Text, AllocError>
         ensures { IfOk result (λ text. text ≡ token_string self.now) }
     {
@@ -115,8 +116,9 @@ impl OptionValue {
         Ok(Text::from_string(text))
     }
 
-    /// The text of the value as a float, if it is one: that of a float literal with its sign, an integer as it prints, `inf`, `-inf`
-    /// or `nan`, which has no sign. Or `AllocError`.
+    /// The text of the value as a float, None if it is none, or `AllocError`. It is the text of a
+    /// float literal with its sign, an integer as it prints, `inf` with its sign, or `nan` without
+    /// a sign.
     pub fn as_float_text(&self, alloc: Global) -> Result<Option<Text>, AllocError>
         ensures { IfOk result (λ text. text ≡ as_float_text self.now) }
     {

@@ -1,4 +1,4 @@
-//! How the nodes of a tree are printed.
+//! How the nodes of a syntax tree print.
 
 ghost use Rattle.std.specs.Prelude.{Some, flat_map};
 ghost use Rattle.std.specs.Fmt.{DisplaysOnOk};
@@ -137,7 +137,7 @@ fn write_value<W: fmt::Write>(bytes: &[u8], f: &mut fmt::Formatter<W>) -> fmt::R
     Ok(())
 }
 
-/// `String { value: "V", span: a..b }`, V being the printed string.
+/// Writes `String { value: "V", span: a..b }`, where V is the printed string.
 impl fmt::Debug for String {
     ghost use Rattle.std.specs.Prelude.{Some};
     ghost use Rattle.protox_ast.specs.Printed.{debug_text};

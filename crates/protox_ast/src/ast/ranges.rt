@@ -1,4 +1,4 @@
-//! Where the bounds of ranges stand.
+//! The spans of ranges.
 
 ghost use Rattle.std.specs.Prelude.{◌≡◌};
 ghost use Rattle.protox_ast.specs.Spans.{start_span, end_span, range_span};
@@ -8,14 +8,14 @@ use crate::ast::spans::copied;
 use protox_fault::error::Span;
 
 impl ReservedRange {
-    /// The place of the first number.
+    /// The span of the first number.
     pub fn start_span(&self) -> Span
         ensures { result ≡ start_span self.now }
     {
         self.start.span.start..self.start.span.end
     }
 
-    /// The place of the last number or of `max`; that of the first number where there is no end.
+    /// The span of the last number or of `max`. Without an end it is that of the first number.
     pub fn end_span(&self) -> Span
         ensures { result ≡ end_span self.now }
     {
@@ -26,7 +26,7 @@ impl ReservedRange {
         }
     }
 
-    /// From the first number to the last.
+    /// The span of the range: from its first number to its end.
     pub fn span(&self) -> Span
         ensures { result ≡ range_span self.now }
     {

@@ -1,10 +1,10 @@
-//! Places.
+//! Copies of spans.
 
 ghost use Rattle.std.specs.Prelude.{◌≡◌};
 
 use protox_fault::error::Span;
 
-/// A span of its own.
+/// A copy of the span.
 pub(crate) fn copied(span: &Span) -> Span
     ensures { result ≡ span.now }
 {

@@ -8,7 +8,8 @@ use protox_descriptor::values::Items;
 use protox_fault::error::Span;
 
 impl String {
-    /// The text and its place exactly where the bytes are UTF-8, else the string as it was. It takes no memory.
+    /// The text and the span if the bytes are UTF-8, else the string as it was. This takes no
+    /// memory.
     pub fn into_utf8(self) -> Result<(std::string::String, Span), String>
         ensures exact { IsOk result ↔ IsUtf8 self.value }
         ensures text { IfOk result (λ text. string_bytes text.0 ≡ self.value) }

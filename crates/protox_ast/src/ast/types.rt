@@ -10,7 +10,7 @@ use std::alloc::{AllocError, Global};
 use std::option::Option;
 
 impl Ty {
-    /// The type in descriptor.proto, if it is a scalar one.
+    /// The type in descriptor.proto. None for a named type.
     pub fn proto_ty(&self) -> Option<FieldType>
         ensures { result ≡ scalar_type self.now }
     {
@@ -34,7 +34,7 @@ impl Ty {
         }
     }
 
-    /// The text of a named type, as it is written. Or `AllocError`.
+    /// The text of a named type as it is written, None for a scalar type, or `AllocError`.
     pub fn ty_name(&self, alloc: Global) -> Result<Option<Text>, AllocError>
         ensures { IfOk result (λ name. name ≡ named_type self.now) }
     {

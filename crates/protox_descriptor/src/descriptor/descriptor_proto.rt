@@ -1,22 +1,23 @@
-//! The messages that stand inside `DescriptorProto`.
+//! The messages inside `DescriptorProto`.
 
 ghost use Rattle.std.specs.Prelude.{◌≡◌, None};
 
 use super::ExtensionRangeOptions;
 use std::alloc::Global;
 
-/// The message `DescriptorProto.ExtensionRange`: numbers set aside for extensions.
+/// The message `DescriptorProto.ExtensionRange`: numbers that are free for extensions.
 #[derive(PartialEq, Debug, Drop)]
 pub struct ExtensionRange {
     /// The first number.
     pub start: Option<i32>,
-    /// One past the last number.
+    /// The number after the last one.
     pub end: Option<i32>,
+    /// Its options, if it has any.
     pub options: Option<ExtensionRangeOptions>,
 }
 
 impl ExtensionRange {
-    /// Nothing set. It takes no memory.
+    /// A message with nothing set. It takes no memory.
     pub fn new(_alloc: Global) -> ExtensionRange
         ensures { result ≡ record { start = None; end = None; options = None } }
     {
@@ -33,12 +34,12 @@ impl ExtensionRange {
 pub struct ReservedRange {
     /// The first number.
     pub start: Option<i32>,
-    /// One past the last number.
+    /// The number after the last one.
     pub end: Option<i32>,
 }
 
 impl ReservedRange {
-    /// Nothing set. It takes no memory.
+    /// A message with nothing set. It takes no memory.
     pub fn new(_alloc: Global) -> ReservedRange
         ensures { result ≡ record { start = None; end = None } }
     {

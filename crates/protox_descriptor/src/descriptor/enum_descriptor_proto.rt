@@ -1,4 +1,4 @@
-//! The message that stands inside `EnumDescriptorProto`.
+//! The message inside `EnumDescriptorProto`.
 
 ghost use Rattle.std.specs.Prelude.{◌≡◌, None};
 
@@ -14,7 +14,7 @@ pub struct EnumReservedRange {
 }
 
 impl EnumReservedRange {
-    /// Nothing set. It takes no memory.
+    /// A message with nothing set. It takes no memory.
     pub fn new(_alloc: Global) -> EnumReservedRange
         ensures { result ≡ record { start = None; end = None } }
     {

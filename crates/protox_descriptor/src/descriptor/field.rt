@@ -3,9 +3,9 @@
 ghost use Rattle.std.specs.Prelude.{◌≡◌, None, IsOk, IsSome, IfOk, OnOk, OnErr};
 ghost use Rattle.std.specs.Borrow.{sem};
 ghost use Rattle.std.specs.Option.{option_copied, option_copied_mut};
-ghost use Rattle.protox_descriptor.specs.HeldField.{rare_parts};
+ghost use Rattle.protox_descriptor.specs.inner.HeldField.{rare_parts};
 ghost use Rattle.protox_descriptor.specs.LentOptions.{lends_options};
-ghost use Rattle.protox_descriptor.specs.SameFields.{options_eq, rare_eq, field_eq, field_per};
+ghost use Rattle.protox_descriptor.specs.inner.SameFields.{options_eq, rare_eq, field_eq, field_per};
 
 use super::FieldOptions;
 use super::source_code_info::are_equal;
@@ -15,14 +15,14 @@ use std::boxed::Box;
 use std::fmt;
 use std::marker::Model;
 
-// What a field has that stands in a oneof, be it one that is made for the field.
+// What a field says about its oneof. The oneof may be one that is made for the field alone.
 #[derive(Clone, Copy)]
 struct InOneof {
     index: Option<i32>,
     proto3_optional: Option<bool>,
 }
 
-// What most fields lack.
+// The parts that most fields lack.
 #[derive(Drop)]
 struct RareParts {
     in_oneof: InOneof,
@@ -32,14 +32,15 @@ struct RareParts {
     options: Option<FieldOptions>,
 }
 
-// Where a field has no rare part, what says of its oneof lies in the value itself.
+// A field without rare parts holds what it says about its oneof in the value itself.
 #[derive(Drop)]
 enum Rest {
     Plain(InOneof),
     Rare(Box<RareParts>),
 }
 
-// Where the rare parts are put, and what says of the oneof with them.
+// Puts the rare parts into a box, together with what the field says about its oneof. Without rare
+// parts there is no box.
 fn rest_of(
     alloc: Global,
     in_oneof: InOneof,
@@ -67,21 +68,27 @@ fn rest_of(
     Ok(Rest::Rare(parts))
 }
 
-/// The message `FieldDescriptorProto`: a field of a message, or an extension. What most fields lack has
-/// room only where there is some, and functions read it that have the names of the message's fields.
+/// The message `FieldDescriptorProto`: a field of a message, or an extension. Parts that most
+/// fields lack are held in a box, and only if there are some. Functions with the names of the
+/// message's fields read them.
 #[derive(Drop)]
 pub struct FieldDescriptorProto {
+    /// Its name.
     pub name: Option<Text>,
+    /// Its number.
     pub number: Option<i32>,
-    /// The number of a `field_descriptor_proto::Label`.
+    /// Its label: the number of a `field_descriptor_proto::Label`.
     pub label: Option<i32>,
-    /// The number of a `field_descriptor_proto::FieldType`; the message's field `type`.
+    /// Its type: the number of a `field_descriptor_proto::FieldType`. The message calls this field
+    /// `type`.
     pub field_type: Option<i32>,
+    /// The name of its type, as it stands in the source. For a group or a map it names the message
+    /// made for it. None for a scalar type.
     pub type_name: Option<Text>,
     rest: Rest,
 }
 
-// Two names take 80 of these.
+// The two texts in it take 80 of these bytes.
 const _: () = prove!(size_of::<FieldDescriptorProto>() == 120);
 
 impl Model for FieldDescriptorProto {
@@ -89,20 +96,20 @@ impl Model for FieldDescriptorProto {
 
     ghost Value = { seen.FieldDescriptorProto };
 
-    ghost use Rattle.protox_descriptor.specs.HeldField.{field_of};
+    ghost use Rattle.protox_descriptor.specs.inner.HeldField.{field_of};
 
     ghost view = { field_of };
 }
 
 impl FieldDescriptorProto {
-    /// Nothing set. It takes no memory.
+    /// A message with nothing set. It takes no memory.
     pub fn new(_alloc: Global) -> FieldDescriptorProto
         ensures { result ≡ record { name = None; number = None; label = None; field_type = None; type_name = None; extendee = None; default_value = None; oneof_index = None; json_name = None; options = None; proto3_optional = None } }
     {
         FieldDescriptorProto::plain(None, None, None, None, None, None, None)
     }
 
-    /// A field without the parts that are rare. It takes no memory.
+    /// A field without rare parts. It takes no memory.
     pub fn plain(
         name: Option<Text>,
         number: Option<i32>,
@@ -127,7 +134,8 @@ impl FieldDescriptorProto {
         }
     }
 
-    /// This field with these parts in place of its own, or `AllocError`. Where there is none, it takes no memory.
+    /// This field with these rare parts in place of its own, or `AllocError`. If all of them are
+    /// None, it takes no memory.
     pub fn with_rare_parts(
         self,
         alloc: Global,
@@ -159,7 +167,7 @@ impl FieldDescriptorProto {
         })
     }
 
-    // What says of the oneof that the field stands in.
+    // What the field says about its oneof.
     fn in_oneof(&self) -> InOneof
         ensures index { result.index ≡ self.now.oneof_index }
         ensures proto3_optional { result.proto3_optional ≡ self.now.proto3_optional }
@@ -170,14 +178,14 @@ impl FieldDescriptorProto {
         }
     }
 
-    /// The place of the field's oneof in `oneof_decl`, from 0.
+    /// The index of the field's oneof in `oneof_decl`, from 0.
     pub fn oneof_index(&self) -> Option<i32>
         ensures { result ≡ self.now.oneof_index }
     {
         self.in_oneof().index
     }
 
-    /// Whether a field of proto3 has the word `optional`.
+    /// Whether the field has the word `optional` in proto3. None if that isn't set.
     pub fn proto3_optional(&self) -> Option<bool>
         ensures { result ≡ self.now.proto3_optional }
     {
@@ -194,7 +202,7 @@ impl FieldDescriptorProto {
         }
     }
 
-    /// The value that a field has where none is given, as a text.
+    /// The default value of the field, as a text.
     pub fn default_value(&self) -> Option<&Text>
         ensures { option_copied result ≡ self.now.default_value }
     {
@@ -204,7 +212,7 @@ impl FieldDescriptorProto {
         }
     }
 
-    /// The field's name in JSON, where the source says one.
+    /// The name of the field in JSON, if the source gives one.
     pub fn json_name(&self) -> Option<&Text>
         ensures { option_copied result ≡ self.now.json_name }
     {
@@ -232,7 +240,8 @@ impl FieldDescriptorProto {
     /// }
     /// ```
     pub fn options_mut(&mut self) -> Option<&mut FieldOptions>
-        // The field ends with what is left behind the reference, and else as it was.
+        // The field then has what was left behind the reference. Without a reference it is
+        // unchanged.
         ensures* writes_back { sem 𝓛 (lends_options self.entry result) }
         ensures value { option_copied_mut result ≡ self.old.options }
     {
@@ -242,7 +251,7 @@ impl FieldDescriptorProto {
         }
     }
 
-    // Gives back the room of the rare parts, if none of them is there.
+    // Gives back the box of the rare parts if none of them is left.
     fn settle(&mut self)
         ensures { self.new ≡ self.old }
     {
@@ -257,7 +266,7 @@ impl FieldDescriptorProto {
         }
     }
 
-    /// Sets the place of the field's oneof in `oneof_decl`, from 0, or says that there is none.
+    /// Sets the index of the field's oneof in `oneof_decl`, from 0. None removes it.
     pub fn set_oneof_index(&mut self, oneof_index: Option<i32>)
         ensures { self.new ≡ record self.old { oneof_index = oneof_index } }
     {
@@ -267,7 +276,7 @@ impl FieldDescriptorProto {
         }
     }
 
-    /// Sets whether a field of proto3 has the word `optional`.
+    /// Sets whether the field has the word `optional` in proto3. None removes it.
     pub fn set_proto3_optional(&mut self, proto3_optional: Option<bool>)
         ensures { self.new ≡ record self.old { proto3_optional = proto3_optional } }
     {
@@ -277,9 +286,9 @@ impl FieldDescriptorProto {
         }
     }
 
-    /// Sets the message that an extension extends, in place of the one there. On `AllocError` the field is
-    /// unchanged, and what was given is gone. It takes memory only where the field had none of the
-    /// parts that most fields lack.
+    /// Sets the message that an extension extends. None removes it. On `AllocError` the field is
+    /// unchanged, and `extendee` is dropped. It takes memory only if the field has no rare part
+    /// yet.
     pub fn set_extendee(&mut self, alloc: Global, extendee: Option<Text>) -> Result<(), AllocError>
         ensures ok { OnOk result (self.new ≡ record self.old { extendee = extendee }) }
         ensures err { OnErr result (self.new ≡ self.old) }
@@ -297,7 +306,7 @@ impl FieldDescriptorProto {
         Ok(())
     }
 
-    /// Takes the message that an extension extends out of the field.
+    /// Takes out the message that an extension extends.
     pub fn take_extendee(&mut self) -> Option<Text>
         ensures value { result ≡ self.old.extendee }
         ensures rest { self.new ≡ record self.old { extendee = None } }
@@ -310,10 +319,9 @@ impl FieldDescriptorProto {
         taken
     }
 
-    /// Sets the value that a field has where none is given, as a text, in place of the one there.
-    /// On `AllocError` the field is
-    /// unchanged, and what was given is gone. It takes memory only where the field had none of the
-    /// parts that most fields lack.
+    /// Sets the default value of the field, as a text. None removes it. On `AllocError` the field
+    /// is unchanged, and `default_value` is dropped. It takes memory only if the field has no rare
+    /// part yet.
     pub fn set_default_value(
         &mut self,
         alloc: Global,
@@ -335,7 +343,7 @@ impl FieldDescriptorProto {
         Ok(())
     }
 
-    /// Takes the value that a field has where none is given out of the field.
+    /// Takes out the default value of the field.
     pub fn take_default_value(&mut self) -> Option<Text>
         ensures value { result ≡ self.old.default_value }
         ensures rest { self.new ≡ record self.old { default_value = None } }
@@ -348,9 +356,8 @@ impl FieldDescriptorProto {
         taken
     }
 
-    /// Sets the field's name in JSON, in place of the one there. On `AllocError` the field is
-    /// unchanged, and what was given is gone. It takes memory only where the field had none of the
-    /// parts that most fields lack.
+    /// Sets the name of the field in JSON. None removes it. On `AllocError` the field is unchanged,
+    /// and `json_name` is dropped. It takes memory only if the field has no rare part yet.
     ///
     /// ```
     /// let name = Text::copy(alloc, "userName")?;
@@ -377,7 +384,7 @@ impl FieldDescriptorProto {
         Ok(())
     }
 
-    /// Takes the field's name in JSON out of the field.
+    /// Takes out the name of the field in JSON.
     pub fn take_json_name(&mut self) -> Option<Text>
         ensures value { result ≡ self.old.json_name }
         ensures rest { self.new ≡ record self.old { json_name = None } }
@@ -390,9 +397,8 @@ impl FieldDescriptorProto {
         taken
     }
 
-    /// Sets the options of the field, in place of those there. On `AllocError` the field is
-    /// unchanged, and what was given is gone. It takes memory only where the field had none of the
-    /// parts that most fields lack.
+    /// Sets the options of the field. None removes them. On `AllocError` the field is unchanged,
+    /// and `options` is dropped. It takes memory only if the field has no rare part yet.
     pub fn set_options(
         &mut self,
         alloc: Global,
@@ -414,7 +420,7 @@ impl FieldDescriptorProto {
         Ok(())
     }
 
-    /// Takes the options of the field out of it.
+    /// Takes out the options of the field.
     pub fn take_options(&mut self) -> Option<FieldOptions>
         ensures value { result ≡ self.old.options }
         ensures rest { self.new ≡ record self.old { options = None } }
@@ -438,7 +444,7 @@ fn are_options_equal(first: Option<&FieldOptions>, second: Option<&FieldOptions>
     }
 }
 
-// Whether the parts that most fields lack are equal.
+// Whether the rare parts of both fields are equal.
 fn are_rare_parts_equal(first: &FieldDescriptorProto, second: &FieldDescriptorProto) -> bool
     ensures { result ≡ rare_eq first.now second.now }
 {

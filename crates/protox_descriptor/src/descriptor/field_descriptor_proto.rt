@@ -1,5 +1,5 @@
-//! The enums that stand inside `FieldDescriptorProto`. `as i32` gives a case its number,
-//! `from_number` a number its case, and Display a case its word.
+//! The enums inside `FieldDescriptorProto`. `as i32` gives the number of a case, and `from_number`
+//! the case of a number. Display writes the word of a case.
 
 ghost use Rattle.std.specs.Prelude.{◌≡◌, ◌≢◌, Some, IfSome, IfNone};
 
@@ -12,7 +12,7 @@ pub enum Label {
     Optional = 1,
     /// The word `required`.
     Required = 2,
-    /// The word `repeated`; a map too.
+    /// The word `repeated`, or a map.
     Repeated = 3,
 }
 
@@ -20,7 +20,8 @@ impl Label {
     ghost use Rattle.protox_descriptor.specs.declared.descriptor.field_descriptor_proto.Label.{Label};
     ghost use Rattle.protox_descriptor.specs.FieldWords.{label_number, label_word};
 
-    /// The label with this number, as `FieldDescriptorProto::label` holds it, or None.
+    /// The label with this number, as `FieldDescriptorProto::label` holds it. None for another
+    /// number.
     ///
     /// ```
     /// field.label.and_then(Label::from_number) == Some(Label::Repeated)
@@ -37,7 +38,7 @@ impl Label {
         }
     }
 
-    /// The word of a source: `optional`, `required` or `repeated`.
+    /// The word in a source: `optional`, `required` or `repeated`.
     pub fn as_str(&self) -> &'static str
         ensures { result.now ≡ label_word self.now }
     {
@@ -82,13 +83,13 @@ pub enum FieldType {
     String = 9,
     /// A group.
     Group = 10,
-    /// A message. The parser sets it for maps alone: it does not resolve the names of types.
+    /// A message. The parser sets it only for maps, since it doesn't resolve the names of types.
     Message = 11,
     /// The type `bytes`.
     Bytes = 12,
     /// The type `uint32`.
     Uint32 = 13,
-    /// An enum. The parser never sets it, as it does not resolve the names of types.
+    /// An enum. The parser never sets it, since it doesn't resolve the names of types.
     Enum = 14,
     /// The type `sfixed32`.
     Sfixed32 = 15,
@@ -104,7 +105,8 @@ impl FieldType {
     ghost use Rattle.protox_descriptor.specs.declared.descriptor.field_descriptor_proto.FieldType.{FieldType};
     ghost use Rattle.protox_descriptor.specs.FieldWords.{type_number, type_word};
 
-    /// The type with this number, as `FieldDescriptorProto::field_type` holds it, or None.
+    /// The type with this number, as `FieldDescriptorProto::field_type` holds it. None for another
+    /// number.
     ///
     /// ```
     /// if let Some(field_type) = field.field_type.and_then(FieldType::from_number) {
@@ -138,8 +140,8 @@ impl FieldType {
         }
     }
 
-    /// The word of a source, as `int32`; of the types that a source names otherwise, `group`,
-    /// `message` and `enum`.
+    /// The word in a source, such as `int32`. A group gives `group`, and a named type gives
+    /// `message` or `enum`.
     pub fn as_str(&self) -> &'static str
         ensures { result.now ≡ type_word self.now }
     {

@@ -1,5 +1,6 @@
-//! The options messages of descriptor.proto. A parser does not interpret options: each message holds
-//! them as they are written, and of the known fields only `map_entry`, which a map field sets.
+//! The options messages of descriptor.proto. A parser doesn't interpret options: each message holds
+//! them as they stand in the source. Of the known options it sets only `map_entry`, for a map
+//! field.
 
 ghost use Rattle.std.specs.Prelude.{◌≡◌, [], None};
 
@@ -15,7 +16,7 @@ pub struct FileOptions {
 }
 
 impl FileOptions {
-    /// Nothing set. It takes no memory: `alloc` serves later growths.
+    /// A message with nothing set. It takes no memory; later growth takes it from `alloc`.
     pub fn new(alloc: Global) -> FileOptions
         ensures { result ≡ record { uninterpreted_option = [] } }
     {
@@ -28,14 +29,14 @@ impl FileOptions {
 /// The message `MessageOptions`: the options of a message type.
 #[derive(PartialEq, Debug, Drop)]
 pub struct MessageOptions {
-    /// True on the entry message of a map field.
+    /// True in the entry message of a map field.
     pub map_entry: Option<bool>,
     /// The options, as they are written.
     pub uninterpreted_option: Items<UninterpretedOption>,
 }
 
 impl MessageOptions {
-    /// Nothing set. It takes no memory: `alloc` serves later growths.
+    /// A message with nothing set. It takes no memory; later growth takes it from `alloc`.
     pub fn new(alloc: Global) -> MessageOptions
         ensures { result ≡ record { map_entry = None; uninterpreted_option = [] } }
     {
@@ -54,7 +55,7 @@ pub struct FieldOptions {
 }
 
 impl FieldOptions {
-    /// Nothing set. It takes no memory: `alloc` serves later growths.
+    /// A message with nothing set. It takes no memory; later growth takes it from `alloc`.
     pub fn new(alloc: Global) -> FieldOptions
         ensures { result ≡ record { uninterpreted_option = [] } }
     {
@@ -72,7 +73,7 @@ pub struct OneofOptions {
 }
 
 impl OneofOptions {
-    /// Nothing set. It takes no memory: `alloc` serves later growths.
+    /// A message with nothing set. It takes no memory; later growth takes it from `alloc`.
     pub fn new(alloc: Global) -> OneofOptions
         ensures { result ≡ record { uninterpreted_option = [] } }
     {
@@ -90,7 +91,7 @@ pub struct EnumOptions {
 }
 
 impl EnumOptions {
-    /// Nothing set. It takes no memory: `alloc` serves later growths.
+    /// A message with nothing set. It takes no memory; later growth takes it from `alloc`.
     pub fn new(alloc: Global) -> EnumOptions
         ensures { result ≡ record { uninterpreted_option = [] } }
     {
@@ -108,7 +109,7 @@ pub struct EnumValueOptions {
 }
 
 impl EnumValueOptions {
-    /// Nothing set. It takes no memory: `alloc` serves later growths.
+    /// A message with nothing set. It takes no memory; later growth takes it from `alloc`.
     pub fn new(alloc: Global) -> EnumValueOptions
         ensures { result ≡ record { uninterpreted_option = [] } }
     {
@@ -126,7 +127,7 @@ pub struct ServiceOptions {
 }
 
 impl ServiceOptions {
-    /// Nothing set. It takes no memory: `alloc` serves later growths.
+    /// A message with nothing set. It takes no memory; later growth takes it from `alloc`.
     pub fn new(alloc: Global) -> ServiceOptions
         ensures { result ≡ record { uninterpreted_option = [] } }
     {
@@ -144,7 +145,7 @@ pub struct MethodOptions {
 }
 
 impl MethodOptions {
-    /// Nothing set. It takes no memory: `alloc` serves later growths.
+    /// A message with nothing set. It takes no memory; later growth takes it from `alloc`.
     pub fn new(alloc: Global) -> MethodOptions
         ensures { result ≡ record { uninterpreted_option = [] } }
     {
@@ -162,7 +163,7 @@ pub struct ExtensionRangeOptions {
 }
 
 impl ExtensionRangeOptions {
-    /// Nothing set. It takes no memory: `alloc` serves later growths.
+    /// A message with nothing set. It takes no memory; later growth takes it from `alloc`.
     pub fn new(alloc: Global) -> ExtensionRangeOptions
         ensures { result ≡ record { uninterpreted_option = [] } }
     {
@@ -172,12 +173,13 @@ impl ExtensionRangeOptions {
     }
 }
 
-/// The message `UninterpretedOption`: an option as it is written, a name and one value by its kind.
+/// The message `UninterpretedOption`: an option as it stands in the source. It has a name, and one
+/// value by its kind.
 #[derive(PartialEq, Debug, Drop)]
 pub struct UninterpretedOption {
-    /// The parts of the name, between its dots.
+    /// The parts of the name, in order. In the source dots stand between them.
     pub name: Items<uninterpreted_option::NamePart>,
-    /// A word.
+    /// An identifier.
     pub identifier_value: Option<Text>,
     /// An integer without a sign.
     pub positive_int_value: Option<u64>,
@@ -187,12 +189,12 @@ pub struct UninterpretedOption {
     pub double_value: Option<Text>,
     /// The bytes of a string.
     pub string_value: Option<Items<u8>>,
-    /// The tokens between braces, with a space between each two.
+    /// The tokens between the braces, with a space between each two.
     pub aggregate_value: Option<Text>,
 }
 
 impl UninterpretedOption {
-    /// Nothing set. It takes no memory: `alloc` serves later growths.
+    /// A message with nothing set. It takes no memory; later growth takes it from `alloc`.
     pub fn new(alloc: Global) -> UninterpretedOption
         ensures { result ≡ record { name = []; identifier_value = None; positive_int_value = None; negative_int_value = None; double_value = None; string_value = None; aggregate_value = None } }
     {

@@ -1,4 +1,4 @@
-//! The message that stands inside `SourceCodeInfo`.
+//! The message inside `SourceCodeInfo`.
 
 ghost use Rattle.std.specs.Prelude.{◌≡◌, ◌≢◌, ◌==◌, [], None, IsOk, IsSome, IfOk, OnOk, OnErr};
 ghost use Rattle.std.specs.Option.{option_copied, option_eq};
@@ -6,7 +6,7 @@ ghost use Rattle.std.specs.Ordering.{int_eq, on, eq_of_both};
 ghost use Rattle.std.specs.Cmp.Lexicographic.{pointwise};
 ghost use Rattle.std.specs.Cmp.Rules.{comparing};
 ghost use Rattle.std.proofs.Common.{rules};
-ghost use Rattle.protox_descriptor.specs.HeldComments.{leading, trailing, detached};
+ghost use Rattle.protox_descriptor.specs.inner.HeldComments.{leading, trailing, detached};
 ghost use Rattle.protox_descriptor.specs.Spans.{start_of, end_of, is_within};
 
 use crate::values::{Items, Numbers, Text};
@@ -15,7 +15,7 @@ use std::boxed::Box;
 use std::marker::Model;
 use std::{fmt, mem};
 
-// The comments of a location that has some.
+// The comments of a location. There is at least one.
 #[derive(Drop)]
 struct LocationComments {
     leading: Option<Text>,
@@ -23,7 +23,7 @@ struct LocationComments {
     detached: Items<Text>,
 }
 
-// Where the comments of a location are put, if there are some.
+// Puts the comments of a location into a box. Without comments there is no box.
 fn comments_of(
     alloc: Global,
     leading_comments: Option<Text>,
@@ -52,19 +52,20 @@ fn comments_of(
     Ok(Some(comments))
 }
 
-/// The message `SourceCodeInfo.Location`: the place of one part of a descriptor. Most locations have no
-/// comment, so there is room for comments only where there is one, and functions read them that have
-/// the names of the message's fields.
+/// The message `SourceCodeInfo.Location`: the place of one part of a descriptor. Most locations
+/// have no comments, so that comments are held in a box, and only if there are some. Functions with
+/// the names of the message's fields read them.
 #[derive(Drop)]
 pub struct Location {
-    /// The way from the file's descriptor to the part: field numbers, and places in lists from 0.
+    /// The way from the file's descriptor to the part: field numbers, and indices in lists from 0.
     pub path: Numbers,
-    /// Start line, start column, end line where it is another one, end column; from 0, columns in bytes.
+    /// Three numbers: start line, start column, end column. Or four: start line, start column, end
+    /// line, end column. All count from 0, columns in bytes. The end is after the last byte.
     pub span: Numbers,
     comments: Option<Box<LocationComments>>,
 }
 
-// There is a location for some 13 bytes of a source, so what one takes counts.
+// The size counts: there is about one location for 13 bytes of a source.
 const _: () = prove!(size_of::<Location>() == 80);
 
 impl Model for Location {
@@ -72,13 +73,13 @@ impl Model for Location {
 
     ghost Value = { seen.Location };
 
-    ghost use Rattle.protox_descriptor.specs.HeldComments.{location_of};
+    ghost use Rattle.protox_descriptor.specs.inner.HeldComments.{location_of};
 
     ghost view = { location_of };
 }
 
 impl Location {
-    /// Nothing set. It takes no memory.
+    /// A message with nothing set. It takes no memory.
     pub fn new(_alloc: Global) -> Location
         ensures { result ≡ record { path = []; span = []; leading_comments = None; trailing_comments = None; leading_detached_comments = [] } }
     {
@@ -96,7 +97,7 @@ impl Location {
         }
     }
 
-    /// A location with these comments, or `AllocError`. Where there is none, it takes no memory.
+    /// A location with these comments, or `AllocError`. Without comments it takes no memory.
     pub fn commented(
         alloc: Global,
         path: Numbers,
@@ -141,7 +142,7 @@ impl Location {
         }
     }
 
-    /// The comments that stand apart before the declaration, in order.
+    /// The detached comments before the declaration, in order.
     pub fn leading_detached_comments(&self) -> &[Text]
         ensures { result.now ≡ self.now.leading_detached_comments }
     {
@@ -151,7 +152,7 @@ impl Location {
         }
     }
 
-    // Gives back the room of the comments, if there is none of them.
+    // Gives back the box of the comments if none of them is left.
     fn settle(&mut self)
         ensures { self.new ≡ self.old }
     {
@@ -165,8 +166,9 @@ impl Location {
         }
     }
 
-    /// Sets the comment that leads the declaration, in place of what is there. On `AllocError` the location is
-    /// unchanged, and what was given is gone. It takes memory only where the location had no comment.
+    /// Sets the comment that leads the declaration. None removes it. On `AllocError` the location
+    /// is unchanged, and `leading_comments` is dropped. It takes memory only if the location has no
+    /// comment yet.
     pub fn set_leading_comments(
         &mut self,
         alloc: Global,
@@ -188,8 +190,9 @@ impl Location {
         Ok(())
     }
 
-    /// Sets the comment that trails the declaration, in place of what is there. On `AllocError` the location is
-    /// unchanged, and what was given is gone. It takes memory only where the location had no comment.
+    /// Sets the comment that trails the declaration. None removes it. On `AllocError` the location
+    /// is unchanged, and `trailing_comments` is dropped. It takes memory only if the location has
+    /// no comment yet.
     pub fn set_trailing_comments(
         &mut self,
         alloc: Global,
@@ -211,8 +214,9 @@ impl Location {
         Ok(())
     }
 
-    /// Sets the comments that stand apart before the declaration, in place of what is there. On `AllocError` the location is
-    /// unchanged, and what was given is gone. It takes memory only where the location had no comment.
+    /// Sets the detached comments before the declaration. On `AllocError` the location is
+    /// unchanged, and `leading_detached_comments` is dropped. It takes memory only if the location
+    /// has no comment yet.
     pub fn set_leading_detached_comments(
         &mut self,
         alloc: Global,
@@ -234,7 +238,7 @@ impl Location {
         Ok(())
     }
 
-    /// Takes the comment that leads the declaration out of the location.
+    /// Takes out the comment that leads the declaration.
     pub fn take_leading_comments(&mut self) -> Option<Text>
         ensures value { result ≡ self.old.leading_comments }
         ensures rest { self.new ≡ record self.old { leading_comments = None } }
@@ -247,7 +251,7 @@ impl Location {
         taken
     }
 
-    /// Takes the comment that trails the declaration out of the location.
+    /// Takes out the comment that trails the declaration.
     pub fn take_trailing_comments(&mut self) -> Option<Text>
         ensures value { result ≡ self.old.trailing_comments }
         ensures rest { self.new ≡ record self.old { trailing_comments = None } }
@@ -260,8 +264,8 @@ impl Location {
         taken
     }
 
-    /// Takes the comments that stand apart before the declaration out of the location. It takes no
-    /// memory: `alloc` serves later growths of what is answered.
+    /// Takes out the detached comments before the declaration. It takes no memory; later growth of
+    /// the list takes it from `alloc`.
     pub fn take_leading_detached_comments(&mut self, alloc: Global) -> Items<Text>
         ensures value { result ≡ self.old.leading_detached_comments }
         ensures rest { self.new ≡ record self.old { leading_detached_comments = [] } }
@@ -274,8 +278,8 @@ impl Location {
         taken
     }
 
-    /// Where the declaration starts: its line and its column, in bytes, both from 0. None where the
-    /// span has neither three nor four numbers; those that `parse` answers have.
+    /// Where the declaration starts: line and column, both from 0, the column in bytes. None if the
+    /// span has neither three nor four numbers; `parse` always gives three or four.
     pub fn start(&self) -> Option<(i32, i32)>
         ensures { result ≡ start_of self.now.span }
     {
@@ -286,8 +290,9 @@ impl Location {
         }
     }
 
-    /// Where the declaration ends: the line and the column behind its last byte, both from 0. None
-    /// where the span has neither three nor four numbers; those that `parse` answers have.
+    /// Where the declaration ends: line and column after its last byte, both from 0, the column in
+    /// bytes. None if the span has neither three nor four numbers; `parse` always gives three or
+    /// four.
     pub fn end(&self) -> Option<(i32, i32)>
         ensures { result ≡ end_of self.now.span }
     {
@@ -298,8 +303,8 @@ impl Location {
         }
     }
 
-    /// Whether the place lies in the span, at its start or behind it, and before its end. Line and
-    /// column are from 0, and the column is in bytes. A span without a byte holds no place.
+    /// Whether the place is in the span: at or after its start, and before its end. Line and column
+    /// are counted from 0, the column in bytes. A span without a byte holds no place.
     ///
     /// ```
     /// // The second byte of the fourth line.

@@ -1,4 +1,4 @@
-//! The message that stands inside `UninterpretedOption`.
+//! The message inside `UninterpretedOption`.
 
 ghost use Rattle.std.specs.Prelude.{◌≡◌, [], false};
 
@@ -8,14 +8,14 @@ use std::alloc::Global;
 /// The message `UninterpretedOption.NamePart`: a part of an option's name.
 #[derive(PartialEq, Debug, Drop)]
 pub struct NamePart {
-    /// The text, for an extension without its parentheses.
+    /// The text of the part. The name of an extension has no parentheses here.
     pub name_part: Text,
-    /// Whether the part is the name of an extension, in parentheses.
+    /// Whether the part is the name of an extension, which stands in parentheses.
     pub is_extension: bool,
 }
 
 impl NamePart {
-    /// Nothing set. It takes no memory: `alloc` serves later growths.
+    /// A message with nothing set. It takes no memory; later growth takes it from `alloc`.
     pub fn new(alloc: Global) -> NamePart
         ensures { result ≡ record { name_part = []; is_extension = false } }
     {

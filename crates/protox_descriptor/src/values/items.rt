@@ -10,7 +10,7 @@ use std::fmt;
 use std::marker::Model;
 use std::slice::{Iter, IterMut};
 
-/// A list that owns its elements. Contracts see it as the list of them.
+/// A list that owns its elements. Contracts see the list of them.
 #[derive(Drop)]
 pub struct Items<T> {
     elements: Vec<T>,
@@ -30,7 +30,7 @@ impl<T> Model for Items<T> {
 impl<T> Items<T> {
     ghost use Rattle.protox_descriptor.specs.LentItems.{lends_element, lends_elements};
 
-    /// The empty list. It takes no memory: `alloc` serves later growths.
+    /// The empty list. It takes no memory; later growth takes it from `alloc`.
     pub fn new(alloc: Global) -> Items<T>
         ensures { result ≡ [] }
     {
@@ -39,7 +39,7 @@ impl<T> Items<T> {
         }
     }
 
-    /// The empty list, with room for `room` elements. Or `AllocError`.
+    /// The empty list with room for `room` elements, or `AllocError`.
     pub fn with_capacity(alloc: Global, room: usize) -> Result<Items<T>, AllocError>
         ensures value { IfOk result (λ made. made ≡ []) }
         ensures free { room ≡ 0 → IsOk result }
@@ -49,21 +49,21 @@ impl<T> Items<T> {
         })
     }
 
-    /// Gives back the room that no element takes, if the allocator takes it.
+    /// Gives back the room that no element takes, as far as the allocator allows.
     pub fn shrink_to_fit(&mut self)
         ensures { self.new ≡ self.old }
     {
         self.elements.shrink_to_fit();
     }
 
-    /// The vector as a list, with no copy.
+    /// The vector as a list. Nothing is copied.
     pub fn from_vec(elements: Vec<T>) -> Items<T>
         ensures { result ≡ elements.items }
     {
         Items { elements }
     }
 
-    /// The list as a vector, with no copy.
+    /// The list as a vector. Nothing is copied.
     pub fn into_vec(self) -> Vec<T>
         ensures { result.items ≡ self }
     {
@@ -71,7 +71,7 @@ impl<T> Items<T> {
         elements
     }
 
-    /// The elements, lent.
+    /// The elements, borrowed.
     pub fn as_slice(&self) -> &[T]
         ensures { result.now ≡ self.now }
     {
@@ -85,21 +85,21 @@ impl<T> Items<T> {
         self.elements.len()
     }
 
-    /// Whether there is no element.
+    /// Whether the list is empty.
     pub fn is_empty(&self) -> bool
         ensures { result ≡ (length self.now == 0) }
     {
         self.elements.is_empty()
     }
 
-    /// The element at `index`, counted from 0, or None past the end.
+    /// The element at `index`, counted from 0. None at or after the end.
     pub fn get(&self, index: usize) -> Option<&T>
         ensures { option_copied result ≡ slice_get self.now index }
     {
         self.elements.get(index)
     }
 
-    /// The elements in order, each lent; or from the back.
+    /// The elements, borrowed, in order or from the back.
     pub fn iter(&self) -> Iter<'_, T>
         ensures rest { iter_rest result ≡ self.now }
         ensures bound { length (iter_rest result) < 2 ^ 64 }
@@ -109,7 +109,7 @@ impl<T> Items<T> {
         self.elements.as_slice().iter()
     }
 
-    /// The element at `index`, counted from 0, to be changed; or None past the end.
+    /// The element at `index`, counted from 0, to be changed. None at or after the end.
     ///
     /// ```
     /// if let Some(message) = file.message_type.get_mut(0) {
@@ -117,7 +117,8 @@ impl<T> Items<T> {
     /// }
     /// ```
     pub fn get_mut(&mut self, index: usize) -> Option<&mut T>
-        // The list ends with what is left behind the reference at the index, and else as it was.
+        // The list then has what was left behind the reference. Without a reference it is
+        // unchanged.
         ensures* writes_back { sem 𝓛 (lends_element T.row self.entry index result) }
         ensures value { option_copied_mut result ≡ slice_get self.old index }
     {
@@ -126,7 +127,7 @@ impl<T> Items<T> {
 
     /// The elements in order, each to be changed.
     pub fn iter_mut(&mut self) -> IterMut<'_, T>
-        // The list ends with what is left behind the references.
+        // The list then has what was left behind the references.
         ensures* writes_back { sem 𝓛 (lends_elements T.row self.entry result) }
         ensures rest { iter_mut_rest result ≡ self.old }
         ensures bound { length (iter_mut_rest result) < 2 ^ 64 }
@@ -135,7 +136,7 @@ impl<T> Items<T> {
         self.elements.as_mut_slice().iter_mut()
     }
 
-    /// Takes the last element out, if there is one. It gives no memory back.
+    /// Takes the last element out, or None if the list is empty. It gives no memory back.
     pub fn pop(&mut self) -> Option<T>
         ensures parted { self.old ≡ self.new ++ option_to_list result }
         ensures some { IsSome result ↔ (0 < length self.old) }
@@ -145,8 +146,9 @@ impl<T> Items<T> {
 }
 
 impl<T: Drop> Items<T> {
-    /// Puts `element` at `index`, counted from 0 and at most the number of elements; those from there
-    /// on move up by one. On `AllocError` the list is unchanged, and the element is gone.
+    /// Puts `element` at `index`, counted from 0. `index` must be at most the number of elements.
+    /// The elements from there on move up by one. On `AllocError` the list is unchanged, and
+    /// `element` is dropped.
     pub fn insert(&mut self, index: usize, element: T) -> Result<(), AllocError>
         requires { index ≤ length self.old }
         ensures ok { OnOk result (self.new ≡ insert self.old index element) }
@@ -156,7 +158,7 @@ impl<T: Drop> Items<T> {
         Ok(())
     }
 
-    /// Appends `element`. On `AllocError` the list is unchanged, and the element is gone.
+    /// Appends `element`. On `AllocError` the list is unchanged, and `element` is dropped.
     pub fn push(&mut self, element: T) -> Result<(), AllocError>
         ensures ok { OnOk result (self.new ≡ self.old ++ element ∷ []) }
         ensures err { OnErr result (self.new ≡ self.old) }
@@ -165,7 +167,7 @@ impl<T: Drop> Items<T> {
         Ok(())
     }
 
-    /// Drops the elements past the first `len`, if there are more.
+    /// Drops all elements after the first `len`.
     pub fn truncate(&mut self, len: usize)
         ensures { self.new ≡ take len self.old }
     {
@@ -174,7 +176,7 @@ impl<T: Drop> Items<T> {
 }
 
 impl<T: Copy> Items<T> {
-    /// A list of its own with the elements of `elements`, or `AllocError`.
+    /// A copy of `elements`, or `AllocError`.
     pub fn from_slice(alloc: Global, elements: &[T]) -> Result<Items<T>, AllocError>
         ensures { IfOk result (λ made. made ≡ elements.now) }
     {

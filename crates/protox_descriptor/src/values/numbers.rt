@@ -8,18 +8,18 @@ use std::alloc::{AllocError, Global};
 use std::fmt;
 use std::marker::Model;
 
-/// How many numbers lie in the value itself.
+/// How many numbers fit in the value itself.
 const FEW: usize = 7;
 
-// Where the numbers are: the first `len` of an array, or a vector.
+// Where the numbers are: at the front of an array, or in a vector.
 #[derive(Drop)]
 enum Held {
     InPlace { len: u8, numbers: [i32; 7] },
     InVector { numbers: Vec<i32> },
 }
 
-/// A short list of numbers that owns them, as a path or a span is. Up to seven lie in the value itself and take
-/// no memory; more lie in a vector. Contracts see the list of them.
+/// A short list of numbers, such as a path or a span. Up to seven lie in the value itself and take
+/// no memory. More lie in a vector. Contracts see the list of the numbers.
 #[derive(Drop)]
 pub struct Numbers {
     held: Held,
@@ -30,14 +30,14 @@ impl Model for Numbers {
 
     ghost Value = { List ℤ };
 
-    ghost use Rattle.protox_descriptor.specs.HeldNumbers.{numbers_held, IsWithin};
+    ghost use Rattle.protox_descriptor.specs.inner.HeldNumbers.{numbers_held, IsWithin};
 
     ghost view = { λ list. numbers_held list.held };
 
     ghost invariant = { λ list. IsWithin list.held };
 }
 
-// Numbers and more numbers, with zeros behind them.
+// Both lists, one after the other, and then zeros.
 fn filled(front: &[i32], back: &[i32]) -> [i32; 7]
     requires { length front.now + length back.now ≤ 7 }
     ensures { take (length front.now + length back.now) result ≡ front.now ++ back.now }
@@ -50,7 +50,7 @@ fn filled(front: &[i32], back: &[i32]) -> [i32; 7]
     array
 }
 
-// They take no memory.
+// Both lists, one after the other, in one value. It takes no memory.
 fn few(front: &[i32], back: &[i32]) -> Numbers
     requires { length front.now + length back.now ≤ 7 }
     ensures { result ≡ front.now ++ back.now }
@@ -63,7 +63,7 @@ fn few(front: &[i32], back: &[i32]) -> Numbers
     }
 }
 
-// One vector with room for just both.
+// Both lists in one vector, with room for no more.
 fn vector(alloc: Global, front: &[i32], back: &[i32]) -> Result<Vec<i32>, AllocError>
     ensures { IfOk result (λ whole. whole.items ≡ front.now ++ back.now) }
 {
@@ -86,7 +86,7 @@ impl Numbers {
         }
     }
 
-    /// Up to seven numbers. They take no memory.
+    /// A list of at most seven numbers. It takes no memory.
     pub fn few(numbers: &[i32]) -> Numbers
         requires { length numbers.now ≤ 7 }
         ensures { result ≡ numbers.now }
@@ -94,8 +94,8 @@ impl Numbers {
         few(numbers, &[])
     }
 
-    /// A list of its own with the numbers of `front` and then those of `back`, or `AllocError`. Up to
-    /// seven take no memory.
+    /// A list with the numbers of `front` and then those of `back`, or `AllocError`. Up to seven
+    /// take no memory.
     pub fn joined(alloc: Global, front: &[i32], back: &[i32]) -> Result<Numbers, AllocError>
         ensures value { IfOk result (λ made. made ≡ front.now ++ back.now) }
         ensures free { length front.now + length back.now ≤ 7 → IsOk result }
@@ -107,7 +107,7 @@ impl Numbers {
         Ok(Numbers::from_vec(whole))
     }
 
-    /// A list of its own with the numbers of `numbers`, or `AllocError`. Up to seven take no memory.
+    /// A copy of `numbers`, or `AllocError`. Up to seven take no memory.
     pub fn from_slice(alloc: Global, numbers: &[i32]) -> Result<Numbers, AllocError>
         ensures value { IfOk result (λ made. made ≡ numbers.now) }
         ensures free { length numbers.now ≤ 7 → IsOk result }
@@ -115,7 +115,7 @@ impl Numbers {
         Numbers::joined(alloc, numbers, &[])
     }
 
-    /// The vector as a list, with no copy. It takes no memory.
+    /// The vector as a list. Nothing is copied, and it takes no memory.
     pub fn from_vec(numbers: Vec<i32>) -> Numbers
         ensures { result ≡ numbers.items }
     {
@@ -124,8 +124,8 @@ impl Numbers {
         }
     }
 
-    /// The list as a vector with room for just its numbers, or `AllocError`. It takes no memory for what came from
-    /// a vector: then it is that vector.
+    /// The list as a vector, or `AllocError`. A list in a vector gives this vector and takes no
+    /// memory. Any other is copied into a vector with room for no more.
     pub fn into_vec(self, alloc: Global) -> Result<Vec<i32>, AllocError>
         ensures { IfOk result (λ vector. vector.items ≡ self) }
     {
@@ -135,7 +135,7 @@ impl Numbers {
         }
     }
 
-    /// The numbers, lent.
+    /// The numbers, borrowed.
     pub fn as_slice(&self) -> &[i32]
         ensures { result.now ≡ self.now }
     {
@@ -145,14 +145,14 @@ impl Numbers {
         }
     }
 
-    /// How many numbers there are.
+    /// The number of numbers.
     pub fn len(&self) -> usize
         ensures { result ≡ length self.now }
     {
         self.as_slice().len()
     }
 
-    /// Whether there is no number.
+    /// Whether the list is empty.
     pub fn is_empty(&self) -> bool
         ensures { result ≡ (length self.now == 0) }
     {

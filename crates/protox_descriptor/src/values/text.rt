@@ -13,10 +13,10 @@ use std::convert::AsStr;
 use std::fmt;
 use std::marker::Model;
 
-/// How many bytes lie in the value itself.
+/// How many bytes fit in the value itself.
 const SHORT: usize = 30;
 
-// Where the bytes are: the first `len` of an array, or a string.
+// Where the bytes are: at the front of an array, or in a string.
 #[derive(Drop)]
 enum Held {
     InPlace { len: u8, bytes: [u8; 30] },
@@ -24,7 +24,7 @@ enum Held {
 }
 
 /// A text that owns its bytes, which are UTF-8. Up to 30 bytes lie in the value itself and take no
-/// memory; more lie in a string. Contracts see it as the list of its bytes.
+/// memory. More bytes lie in a string. Contracts see the text as the list of its bytes.
 #[derive(Drop)]
 pub struct Text {
     held: Held,
@@ -35,14 +35,14 @@ impl Model for Text {
 
     ghost Value = { List ℕ };
 
-    ghost use Rattle.protox_descriptor.specs.HeldText.{text_held, IsTextHeld};
+    ghost use Rattle.protox_descriptor.specs.inner.HeldText.{text_held, IsTextHeld};
 
     ghost view = { λ text. text_held text.held };
 
     ghost invariant = { λ text. IsTextHeld text.held };
 }
 
-// The bytes of a text and of one more, with zeros behind them.
+// The bytes of both texts, one after the other, and then zeros.
 fn filled(front: &[u8], back: &[u8]) -> [u8; 30]
     requires { length front.now + length back.now ≤ 30 }
     ensures { take (length front.now + length back.now) result ≡ front.now ++ back.now }
@@ -55,7 +55,7 @@ fn filled(front: &[u8], back: &[u8]) -> [u8; 30]
     array
 }
 
-// A text and one more in one value. They take no memory.
+// Both texts, one after the other, in one value. It takes no memory.
 fn short(front: &str, back: &str) -> Text
     requires { length front.now + length back.now ≤ 30 }
     ensures { result ≡ front.now ++ back.now }
@@ -68,7 +68,7 @@ fn short(front: &str, back: &str) -> Text
     }
 }
 
-// The bytes as the text that they are.
+// The bytes as a text.
 fn as_text(bytes: &[u8]) -> &str
     requires { IsUtf8 bytes.now }
     ensures { result.now ≡ bytes.now }
@@ -76,7 +76,7 @@ fn as_text(bytes: &[u8]) -> &str
     unsafe { str::from_utf8_unchecked(bytes) }
 }
 
-// One string with room for just both.
+// Both texts in one string, with room for no more.
 fn string(alloc: Global, front: &str, back: &str) -> Result<String, AllocError>
     ensures { IfOk result (λ whole. string_bytes whole ≡ front.now ++ back.now) }
 {
@@ -87,14 +87,14 @@ fn string(alloc: Global, front: &str, back: &str) -> Result<String, AllocError>
 }
 
 impl Text {
-    /// The empty text. It takes no memory: `alloc` serves other growths.
+    /// The empty text. It takes no memory, and `alloc` is not used.
     pub fn new(_alloc: Global) -> Text
         ensures { result ≡ [] }
     {
         short("", "")
     }
 
-    /// A text of its own with the bytes of `text`, or `AllocError`. Up to 30 bytes take no memory.
+    /// A copy of `text`, or `AllocError`. Up to 30 bytes take no memory.
     pub fn copy(alloc: Global, text: &str) -> Result<Text, AllocError>
         ensures value { IfOk result (λ made. made ≡ text.now) }
         ensures free { length text.now ≤ 30 → IsOk result }
@@ -102,8 +102,8 @@ impl Text {
         Text::joined(alloc, text, "")
     }
 
-    /// A text of its own with the bytes of `front` and then those of `back`, or `AllocError`. Up to
-    /// 30 bytes take no memory.
+    /// A text with the bytes of `front` and then those of `back`, or `AllocError`. Up to 30 bytes
+    /// take no memory.
     pub fn joined(alloc: Global, front: &str, back: &str) -> Result<Text, AllocError>
         ensures value { IfOk result (λ made. made ≡ front.now ++ back.now) }
         ensures free { length front.now + length back.now ≤ 30 → IsOk result }
@@ -117,7 +117,7 @@ impl Text {
         })
     }
 
-    /// The string as a text. A short one gives its memory back.
+    /// The string as a text. If it has at most 30 bytes, its memory is given back.
     pub fn from_string(content: String) -> Text
         ensures { result ≡ string_bytes content }
     {
@@ -129,7 +129,8 @@ impl Text {
         }
     }
 
-    /// A text that is lent or owned, or `AllocError`. Up to 30 bytes take no memory.
+    /// A borrowed or owned text as a `Text`, or `AllocError`. Up to 30 bytes take no memory, and
+    /// neither does an owned text.
     pub fn from_cow(alloc: Global, text: CowStr<'_>) -> Result<Text, AllocError>
         ensures { IfOk result (λ made. made ≡ cow_str_bytes text.entry) }
     {
@@ -139,7 +140,8 @@ impl Text {
         }
     }
 
-    /// The text as a string, or `AllocError`. What lies in a string takes no memory.
+    /// The text as a string, or `AllocError`. It takes no memory if the bytes lie in a string
+    /// already.
     pub fn into_string(self, alloc: Global) -> Result<String, AllocError>
         ensures { IfOk result (λ string. string_bytes string ≡ self) }
     {
@@ -152,7 +154,7 @@ impl Text {
         }
     }
 
-    /// The text, lent.
+    /// The text, borrowed.
     pub fn as_str(&self) -> &str
         ensures { result.now ≡ self.now }
     {
@@ -172,14 +174,15 @@ impl Text {
         }
     }
 
-    /// Whether there is no byte.
+    /// Whether the text has no bytes.
     pub fn is_empty(&self) -> bool
         ensures { result ≡ (length self.now == 0) }
     {
         self.len() == 0
     }
 
-    /// Appends `more`. On `AllocError` the text is unchanged. Up to 30 bytes in all take no memory.
+    /// Appends `more`. On `AllocError` the text is unchanged. It takes no memory if the whole text
+    /// has at most 30 bytes.
     pub fn push_str(&mut self, alloc: Global, more: &str) -> Result<(), AllocError>
         ensures ok { OnOk result (self.new ≡ self.old ++ more.now) }
         ensures err { OnErr result (self.new ≡ self.old) }
@@ -207,7 +210,7 @@ impl Eq for Text {
     ghost laws = { nat_list_eq_equiv };
 }
 
-/// Byte by byte, and a text before those that begin with it.
+/// Compares byte by byte. A text comes before all longer ones that begin with it.
 impl PartialOrd for Text {
     ghost partial_cmp = { λ first second. Some (slice_cmp nat_cmp first second) };
 

@@ -1,4 +1,5 @@
--- A location that its comments stand around, and locations that the definition refuses: their comments stand elsewhere, or in another order.
+-- A location with its comments around it, and locations that the definition refuses: their comments
+-- are elsewhere, or in another order.
 use Prim.Native.String.{String}
 use Rattle.std.proofs.Common.{◌≡◌, ℕ, zero, suc, ◌<◌, Bool, true, false, if◌then◌else◌, inl, inr, List, [], ◌∷◌, ◌++◌, flat_map, Option, Some, None, refl, ap, sym, subst, append_assoc, ◌∙◌, arith}
 use Rattle.std.specs.Prelude.{◌==◌, codes, ℤ, pos, nat_abs, slice_get, unwrap_or}

@@ -127,7 +127,7 @@ nested-places : table nested_source (filled nested_file nested_tree) ≡
     ∷ []
 nested-places = table-of nested_source nested_file nested_tree
 
--- ---- `optional` in proto3: the oneof that is made stands behind the one that is written, and has no place
+-- ---- `optional` in proto3: the oneof made for it comes after the written one, without a location
 
 abbrev synthetic_source : String
 synthetic_source = "syntax='proto3'; message M { optional int32 _a = 1; oneof o { int32 b = 2; } }"
@@ -169,7 +169,8 @@ synthetic-places : table synthetic_source (filled synthetic_file synthetic_tree)
     ∷ []
 synthetic-places = table-of synthetic_source synthetic_file synthetic_tree
 
--- ---- a JSON name: the option and then its value at one path, the list though nothing is left in it
+-- ---- a JSON name: the option and then its value at one path; and the brackets, though no option
+-- is left in them
 
 abbrev json_source : String
 json_source = "message A { optional int32 a = 1 [json_name='x']; }"

@@ -89,7 +89,8 @@ service-descriptor : (file_proto (codes "a.proto") (filled service_file service_
 } ∷ []
 service-descriptor = refl
 
--- ---- extensions: those of all `extend` blocks are numbered together, and each block stands at the path of all
+-- ---- extensions: those of all `extend` statements are numbered together, and each statement is at
+-- the path of the list
 
 abbrev extends_source : String
 extends_source = "extend A { optional int32 x = 1; } extend B { optional int32 y = 2; }"

@@ -1,4 +1,5 @@
--- A file in which each kind of place stands: what has a location, which of them have comments, and in which order.
+-- A file with each kind of location: which parts have one, which of these have comments, and their
+-- order.
 use Rattle.std.proofs.Common.{◌≡◌, List, [], ◌∷◌, Some, None, true, pos, negsuc, codes, refl}
 use Rattle.protox_ast.specs.declared.ast.Enum.{Enum}
 use Rattle.protox_ast.specs.declared.ast.File.{File}

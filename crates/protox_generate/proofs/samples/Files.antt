@@ -1,4 +1,4 @@
--- Files that compute, for examples: their descriptors, locations and faults, each with the law that it is so.
+-- Files for examples: their descriptors, locations and faults are computed, each with its law.
 use Prim.Native.String.{String}
 use Rattle.std.proofs.Common.{◌≡◌, ℕ, List, [], ◌∷◌, ◌++◌, map, flat_map, codes, refl, ap, ap₂, ℤ}
 use Rattle.protox_fault.specs.Faults.{Span}

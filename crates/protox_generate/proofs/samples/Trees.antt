@@ -1,4 +1,4 @@
--- Syntax trees that compute: a tree as data, the syntax tree that it makes, and what the levels of that give.
+-- Syntax trees for examples: a tree as data, the syntax tree made of it, and what its levels give.
 use Rattle.std.proofs.Common.{◌≡◌, List, [], ◌∷◌, map, Option, refl, ap, ap₂, ◌∙◌}
 use Rattle.protox_fault.specs.Faults.{Span}
 use Rattle.protox_ast.specs.Steps.{Steps, of_message, of_body, of_item, of_field, of_kind, of_oneof, of_extend}

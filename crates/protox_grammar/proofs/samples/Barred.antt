@@ -1,4 +1,4 @@
--- For each keyword rule a file that breaks it alone, and words that no rule bars.
+-- For each keyword rule a file that breaks only this rule. Then words that no rule bars.
 use Rattle.std.proofs.Common.{◌≡◌, ℕ, false, List, [], ◌∷◌, ◌++◌, None, codes, refl, arith}
 use Rattle.protox_lexeme.specs.Shapes.{Mark, Newline, Invalid}
 use Rattle.protox_ast.specs.Tree as t
@@ -58,7 +58,7 @@ braces-closed h = omega (arith, h.0.0.0 1)
 braces-open : Breaks (b.file (t.an_option (b.option "yes" (t.aggregate tt (rows (Mark s.open_brace ∷ [])) tt)) ∷ []))
 braces-open h = omega (arith, h.0.0.1)
 
--- what is no token stands in no aggregate
+-- What is no token may not stand in an aggregate.
 invalid-inside : Breaks (b.file (t.an_option (b.option "yes" (t.aggregate tt (rows (Invalid ∷ [])) tt)) ∷ []))
 invalid-inside h = let e = h.0.1.0 in absurd cc
 
@@ -80,7 +80,7 @@ others = codes "syntax" ∷ codes "package" ∷ codes "import" ∷ codes "weak" 
 abbrev kinds : List (List ℕ)
 kinds = codes "map" ∷ codes "group" ∷ k.scalars
 
--- the word is none of these, as the table of keywords tells
+-- The word is none of these, by the table of keywords.
 abbrev IsOutside : List (List ℕ) → List ℕ → Type 0
 IsOutside ks w = among (places ks) (place keywords w) ≡ false
 
@@ -117,7 +117,7 @@ in-message = (
   ),
 )
 
--- in a oneof also what begins other elements of a message
+-- In a oneof also the words that begin other elements of a message.
 in-oneof : k.Each (λ w. KeptInOneof (named w)) (codes "oneof" ∷ codes "enum" ∷ codes "message" ∷ codes "extend" ∷ codes "reserved" ∷ codes "extensions" ∷ [])
 in-oneof = (oneof-kept _ refl refl refl, (oneof-kept _ refl refl refl, (oneof-kept _ refl refl refl, (oneof-kept _ refl refl refl, (oneof-kept _ refl refl refl, (oneof-kept _ refl refl refl, tt))))))
 

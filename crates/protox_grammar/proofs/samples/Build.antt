@@ -1,4 +1,4 @@
--- Small trees and rows without marks, written shortly.
+-- Small trees and rows without tags, in short notation.
 use Prim.Native.String.{String}
 use Rattle.std.specs.Prelude.{ℕ, List, [], ◌∷◌, map, Option, Some, None, codes}
 use Rattle.protox_lexeme.specs.Shapes.{Shape, Ident, Int, Float, Str, Rows}

@@ -1,11 +1,11 @@
--- Files that the parser's checks refuse, and neighbours that they don't.
+-- Files that the parser's checks refuse, and similar files that they accept.
 use Rattle.std.proofs.Common.{◌≡◌, true, List, ℕ, [], ◌∷◌, None, codes, refl, sym, true≢false}
 use Rattle.protox_ast.specs.Places.{Place}
 use Rattle.protox_ast.specs.Tree as t
 use Rattle.protox_ast.specs.Ast.{text_of}
 use Rattle.protox_ast.specs.CheckedNodes.{checked_nodes}
 use Rattle.protox_ast.specs.Checks.{is_text, is_ident}
-use Rattle.protox_ast.specs.Fine.{IsFine}
+use Rattle.protox_ast.specs.inner.Fine.{IsFine}
 use Rattle.protox_ast.specs.Keywords.{Each}
 
 abbrev at : Place
@@ -14,7 +14,7 @@ at = record { span = record { start = 0; end = 0 }; detached = []; leading = Non
 abbrev file : List (t.Statement Place) → t.File Place
 file xs = record { syntax = None; statements = xs }
 
--- each of the nodes that are checked is fine
+-- Each checked node is fine.
 abbrev AreFine : t.File Place → Type 0
 AreFine f = Each IsFine (checked_nodes f)
 
@@ -38,7 +38,7 @@ in_message x = file (t.a_message (t.message_of at (codes "M", at) (t.mbody_of at
 capital : AreFine (in_message (t.field (group (codes "G"))))
 capital = (refl, tt)
 
--- its name begins with a capital, wherever it stands
+-- The name of a group begins with a capital, wherever the group stands.
 small : AreFine (in_message (t.field (group (codes "g")))) → ⊥
 small h = true≢false (sym h.0)
 
@@ -48,7 +48,7 @@ small-in-oneof h = true≢false (sym h.0)
 small-in-extend : AreFine (in_message (t.extend (t.extend_of at (record { leading_dot = None; name = record { first = (codes "A", at); others = [] } }) at (t.extend_elements (t.extend_field (group (codes "g"))) t.no_extend_elements) at))) → ⊥
 small-in-extend h = true≢false (sym h.0)
 
--- each reserved name is asked to be text and an identifier, in messages and in enums
+-- Each reserved name must be UTF-8 and an identifier, in messages and in enums.
 abbrev names : t.Reserved Place
 names = record { keyword = at; kind = t.names (record { first = record { first = (codes "a", at); others = [] }; others = (at, record { first = (codes "b", at); others = (codes "c", at) ∷ [] }) ∷ [] }); end = at }
 

@@ -1,4 +1,4 @@
--- Aggregates at each place where an option may stand, by computing.
+-- Aggregates wherever an option may stand, by computing.
 use Rattle.std.proofs.Common.{◌≡◌, List, [], ◌∷◌, refl}
 use Rattle.protox_lexeme.specs.Shapes.{Shape, Mark}
 use Rattle.protox_ast.specs.Fronts.{aggregates}
@@ -38,7 +38,7 @@ everywhere =
     word "F" ∷ Mark s.open_brace ∷ word "option" ∷ word "x" ∷ Mark s.equals ∷ Mark s.open_brace ∷ Mark s.close_brace ∷ Mark s.semicolon ∷
     Mark s.close_brace ∷ []
 
--- each `{` behind an equals sign, and the brace that closes it
+-- Each `{` after an equals sign, and the brace that closes it.
 record AreAll : Type 0 where
   is_made : IsMade everywhere
   braces : aggregates (made everywhere) ≡ (3, 7) ∷ (15, 16) ∷ (29, 30) ∷ (45, 46) ∷ (56, 57) ∷ (63, 64) ∷ (73, 74) ∷ (83, 84) ∷ (94, 95) ∷ (103, 104) ∷ (119, 120) ∷ (131, 132) ∷ (141, 142) ∷ (152, 153) ∷ (168, 169) ∷ (183, 184) ∷ (194, 195) ∷ []

@@ -1,5 +1,5 @@
--- The syntax trees of two files, by computing. The n-th token, from 0, has the span from n to n + 1, and its number as the text of the comments
--- before and behind it.
+-- The syntax trees of two files, by computing. Token n, counted from 0, has the span from n to n +
+-- 1. The comments before and after it have its number as their text.
 use Rattle.std.proofs.Common.{◌≡◌, ℕ, suc, List, [], ◌∷◌, Some, None, false, true, codes, refl}
 use Rattle.protox_fault.specs.Faults.{Span}
 use Rattle.protox_lexeme.specs.Shapes.{Shape, Ident, Str, Mark, Row}

@@ -1,4 +1,4 @@
--- What is noted while small sources are read, up to each of some tokens, by computing.
+-- What is noted while small sources are read, up to some of their tokens. All by computing.
 use Rattle.std.proofs.Common.{◌≡◌, ℕ, ◌+◌, Bool, true, false, List, [], ◌∷◌, ◌++◌, length, None, codes, refl}
 use Rattle.protox_fault.specs.Faults.{span_from}
 use Rattle.protox_lexeme.specs.Lexemes.{Lexeme}
@@ -8,7 +8,7 @@ use Rattle.protox_ast.specs.Places.{Place}
 use Rattle.protox_ast.specs.Spelling as s
 use Rattle.protox_ast.specs.Tree as t
 use Rattle.protox_grammar.specs.CheckLaws.{noted_by, steps_by, is_too_deep_by}
-use Rattle.protox_grammar.specs.MarkLaws.{placed_nodes_by}
+use Rattle.protox_grammar.specs.TagLaws.{placed_nodes_by}
 use Rattle.protox_grammar.specs.Noted.{open_behind}
 use Rattle.protox_grammar.specs.Steps.{tokens, star_trace}
 use Rattle.protox_grammar.specs.Reader as reader
@@ -37,12 +37,12 @@ stray = x.at (x.word "import") 0 6 ∷ x.at (x.text "..") 7 11 ∷ x.at (Mark s.
 abbrev option_whole : List Lexeme
 option_whole = x.option_front ++ (x.at (Mark s.close_brace) 13 14 ∷ x.at (Mark s.semicolon) 15 16 ∷ x.at (x.word "message") 17 24 ∷ [])
 
--- whether an aggregate is open behind the first n tokens
+-- Whether an aggregate is open after the first n tokens.
 abbrev is_open : List Lexeme → ℕ → Bool
 is_open xs n = open_behind false (steps_by xs n)
 
 record AreNoted : Type 0 where
-  -- a run of strings is noted at its end, and not while it may go on
+  -- a run of strings is noted at its end, not while it may go on
   run_so_far : noted_by x.unknown_run 3 ≡ []
   run_whole : noted_by x.unknown_run 4 ≡ ASyntax two_strings ∷ []
   import_before : noted_by x.parent 1 ≡ []
@@ -53,19 +53,19 @@ record AreNoted : Type 0 where
   -- the name of a group, before the group is whole
   group_before : noted_by x.small_group 5 ≡ []
   group_there : noted_by x.small_group 6 ≡ AGroupName (codes "ab", 5) ∷ []
-  -- of packages each behind the first, at its `;`
+  -- each package statement after the first is noted at its `;`
   package_before : noted_by x.packages 5 ≡ []
   package_there : noted_by x.packages 6 ≡ APackageAgain (package_at (codes "a") 0) (package_at (codes "b") 3) ∷ []
-  -- behind a token that is not expected nothing is noted
+  -- after an unexpected token nothing is noted
   stray_there : noted_by stray 5 ≡ AnImport (run (codes "..") 1) ∷ []
   stray_length : length (tokens (steps_by stray 5)) ≡ 2
-  -- nor behind the `{` of a body of level 32
+  -- nor after the `{` of a body of level 32
   level_before : noted_by (x.nested 33 0) 95 ≡ []
   level_there : noted_by (x.nested 33 0) 96 ≡ ATooDeep 93 95 ∷ []
   level_behind : noted_by (x.nested 33 0) 99 ≡ ATooDeep 93 95 ∷ []
   shallow_before : is_too_deep_by (x.nested 33 0) 95 ≡ false
   deep_there : is_too_deep_by (x.nested 33 0) 96 ≡ true
-  -- from behind the `{` of an aggregate to before its `}`
+  -- from after the `{` of an aggregate to before its `}`
   open_before : is_open option_whole 3 ≡ false
   open_behind_brace : is_open option_whole 4 ≡ true
   open_behind_end : is_open option_whole 5 ≡ false

@@ -1,4 +1,4 @@
--- Which rows are read, and where the reading of others stops, by computing.
+-- Which rows are read, and where reading stops for others. All by computing.
 use Rattle.std.proofs.Common.{◌≡◌, ℕ, List, [], ◌∷◌, Option, Some, None, Result, Ok, Err, refl}
 use Rattle.protox_lexeme.specs.Shapes.{Shape, Mark, Invalid}
 use Rattle.protox_ast.specs.Tree as t
@@ -11,7 +11,7 @@ use Rattle.protox_grammar.specs.Reads.{read}
 use Rattle.protox_grammar.proofs.samples.Build as b
 use Rattle.protox_grammar.proofs.samples.Build.{rows, word, number, text}
 
--- how many rows are left where the reading of a message with these rows stops
+-- How many rows are left where reading a message with these rows stops.
 abbrev left : Result (t.File b.NoMark) Refusal → Option Refusal
 left (Ok f) = None
 left (Err e) = Some e
@@ -19,7 +19,7 @@ left (Err e) = Some e
 abbrev stop : ℕ → List Shape → Option Refusal
 stop n ss = left (read n (rows (word "message" ∷ word "M" ∷ Mark s.open_brace ∷ ss)))
 
--- the same of a file with these rows
+-- The same for a file with these rows.
 abbrev of_file : List Shape → Option Refusal
 of_file ss = left (read 31 (rows ss))
 
@@ -79,7 +79,7 @@ record AreThere : Type 0 where
   -- a group at the last level, and one too deep
   last_level : stop 2 a_group ≡ None
   too_deep : stop 1 a_group ≡ Some (Deep 3)
-  -- where no brace follows, that row is unexpected
+  -- if no brace follows, that row is unexpected
   no_brace : stop 1 (word "group" ∷ word "G" ∷ Mark s.equals ∷ number 1 ∷ Mark s.semicolon ∷ Mark s.close_brace ∷ []) ≡ Some (Unexpected 2)
 
 are_there : AreThere

@@ -1,4 +1,4 @@
--- Small sources by their lexemes, and files that go on behind their tokens.
+-- Small sources with their lexemes, and files that begin with their tokens.
 use Rattle.std.proofs.Common.{◌≡◌, ◌≤◌, ℕ, suc, ◌+◌, zero, true, List, [], ◌∷◌, ◌++◌, take, length, None, Result, Ok, Err, codes, arith}
 use Rattle.protox_fault.specs.Faults.{Span, span_from}
 use Rattle.protox_lexeme.specs.Lexemes.{Lexeme}
@@ -15,7 +15,7 @@ use Rattle.protox_grammar.proofs.Main as main
 use Rattle.protox_grammar.proofs.Numbers.{shapes-length}
 pub use Rattle.protox_grammar.proofs.samples.Build.{word, number, text}
 
--- a lexeme at its place, without a fault
+-- A lexeme at its place, without a fault.
 abbrev pub at : Shape → ℕ → ℕ → Lexeme
 at shape start stop = record { start = start; stop = stop; shape = shape; borrowed = true; faults = [] }
 
@@ -25,13 +25,13 @@ row start end shape = record { shape = shape; at = span_from start end }
 abbrev pub faulty : Lexeme → List ParseErrorKind → Lexeme
 faulty x faults = record x { faults = faults }
 
--- ---- files that go on
+-- ---- files that begin with some tokens
 
 abbrev or_empty : Result (t.File ℕ) Refusal → t.File ℕ
 or_empty (Ok f) = f
 or_empty (Err e) = record { syntax = None; statements = [] }
 
--- the file of these tokens, each marked with its number
+-- The file of these tokens, each tagged with its number.
 abbrev pub made : List Shape → t.File ℕ
 made ss = or_empty (read 40 (numbered 0 ss))
 
@@ -102,7 +102,7 @@ small_group =
     at (word "message") 0 7 ∷ at (word "M") 8 9 ∷ at (Mark s.open_brace) 10 11 ∷ at (word "optional") 12 20 ∷ at (word "group") 21 26 ∷ at (word "ab") 27 29
     ∷ at (Mark s.equals) 30 31 ∷ at (number 1) 32 33 ∷ at (Mark s.open_brace) 34 35 ∷ at (Mark s.close_brace) 36 37 ∷ at (Mark s.close_brace) 38 39 ∷ []
 
--- how a file goes on behind the name of a group in a message
+-- How a file goes on after the name of a group in a message.
 abbrev pub group_end : List Shape
 group_end = Mark s.equals ∷ number 1 ∷ Mark s.open_brace ∷ Mark s.close_brace ∷ Mark s.close_brace ∷ []
 

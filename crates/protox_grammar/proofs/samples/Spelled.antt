@@ -12,7 +12,7 @@ use Rattle.protox_grammar.proofs.Begin.{among-none}
 use Rattle.protox_grammar.proofs.samples.Build as b
 use Rattle.protox_grammar.proofs.samples.Build.{rows, word, number, float, text}
 
--- a tree keeps the rules where its parts do
+-- A tree keeps the rules if its parts do.
 kept : (f : t.File b.NoMark) → k.KeepsFile f → k.KeepsKeywords f
 kept f h = (nodes-keep f).1 h
 
@@ -135,7 +135,7 @@ bodies-spelled = (
   ),
 )
 
--- a group in a oneof counts a level, and a message in a message; extends and oneofs don't
+-- A group in a oneof adds a level, and so does a message in a message. Extends and oneofs don't.
 bodies-deep : d.depth bodies ≡ 3
 bodies-deep = refl
 

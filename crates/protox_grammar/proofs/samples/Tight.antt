@@ -1,4 +1,5 @@
--- What is tight, what stands in a source, and which are its lexemes' faults: of small sources, and what is not.
+-- For small sources: which first faults have no fault before them, which faults stand in the
+-- source, and which are those of its lexemes; and which are not.
 use Rattle.std.proofs.Common.{◌≡◌, ◌<◌, ◌≤◌, inl, inr, ◌⊎◌, ℕ, zero, suc, true, false, List, [], ◌∷◌, ◌++◌, length, Any, Option, Some, codes, refl, sym, ap, subst, ◌∙◌, arith, is_some, slice_index_or, drop}
 use Rattle.protox_fault.specs.Faults.{Span, span_from}
 use Rattle.protox_lexeme.specs.Lexemes.{Lexeme}
@@ -8,7 +9,7 @@ use Rattle.protox_fault.specs.declared.error.ParseErrorKind.{ParseErrorKind}
 use Rattle.protox_fault.specs.declared.error.ParseErrorKind.TheVariants as fault
 use Rattle.protox_ast.specs.Basics.{first_of}
 use Rattle.protox_ast.specs.FaultList.{AreFaultsOf, IsOwn, StandIn, is_lexical}
-use Rattle.protox_ast.specs.FirstFault.{IsFirstOfLexemes, IsFirstUnexpected, IsTightOf}
+use Rattle.protox_ast.specs.FirstFault.{IsFirstFault, IsFirstOfLexemes, IsFirstUnexpected}
 use Rattle.protox_ast.specs.Fronts.{AreCleanBehind}
 use Rattle.protox_ast.specs.Spells.{IsUnexpected, shapes}
 use Rattle.protox_ast.specs.Truth.{IsWrongBehind, source_row}
@@ -35,28 +36,31 @@ nothing-made : IsMade []
 unfolding read r.strings r.syntax r.import_kind r.«import» r.fullident r.«package» rule.statement rule.file reader.star_at reader.star
 nothing-made = refl
 
--- ---- in front of the first fault
+-- ---- before the first fault
 
--- the first comment is tight
-first-tight : IsTightOf hashes hash_fault
-first-tight = record {
-  before = [];
-  here = x.hash;
-  behind = later ∷ [];
-  parts = refl;
-  is_first = refl;
-  clean = tt;
-  begins = (x.made [], goes-on hashes 0 [] (omega arith) nothing-made);
-  none_before = λ k wrong l h. absurd (omega (arith, l));
-}
+-- No fault comes before the first comment.
+hash-is-first : IsFirstFault hashes hash_fault
+hash-is-first = (
+  record {
+    before = [];
+    here = x.hash;
+    behind = later ∷ [];
+    parts = refl;
+    is_first = refl;
+    clean = tt;
+    begins = (x.made [], goes-on hashes 0 [] (omega arith) nothing-made);
+    none_before = λ k wrong l h. absurd (omega (arith, l));
+  },
+  inside-none hashes,
+)
 
 abbrev start_of : Option ParseErrorKind → ℕ
 start_of (Some (fault.HashCommentOutsideTextFormat span)) = span.start
 start_of _ = 9
 
--- The second is not: the one before it isn't clean.
-second-loose : IsTightOf hashes (fault.HashCommentOutsideTextFormat (span_from 4 7)) → ⊥
-second-loose h = by h.before h.parts h.clean
+-- This doesn't hold for the second comment: the one before it isn't clean.
+later-is-not-first : IsFirstFault hashes (fault.HashCommentOutsideTextFormat (span_from 4 7)) → ⊥
+later-is-not-first (h, outside) = by h.before h.parts h.clean
   where
     by : (before : List Lexeme) → hashes ≡ before ++ (h.here ∷ h.behind) → AreCleanBehind hashes 0 before → ⊥
     by [] e c = absurd (omega (arith, ap (λ l. start_of (first_of (row_faults (slice_index_or l 0 h.here)))) e, ap start_of h.is_first))
@@ -64,9 +68,10 @@ second-loose h = by h.before h.parts h.clean
         let same : x.hash ≡ b = ap (λ l. slice_index_or l 0 x.hash) e in
         inside-none hashes (c.0.2 (λ none. let z : 1 ≡ 0 = ap length (ap (λ (u : Lexeme). u.faults) same ∙ none) in omega (arith, z)))
 
--- `import '..' message`: that `message` doesn't fit is not tight, as the import is wrong before it
-message-loose : (expected found : List ℕ) → IsTightOf x.parent (fault.UnexpectedToken (span_from 12 19) expected found) → ⊥
-message-loose expected found h = by h.number h.unexpected h.place h.none_before
+-- `import '..' message`: the unexpected `message` is not the first fault, since the import before
+-- it is wrong.
+message-is-not-first : (expected found : List ℕ) → IsFirstFault x.parent (fault.UnexpectedToken (span_from 12 19) expected found) → ⊥
+message-is-not-first expected found h = by h.number h.unexpected h.place h.none_before
   where
     by : (n : ℕ) → IsUnexpected (shapes (rows_of x.parent)) n → span_from 12 19 ≡ (source_row (rows_of x.parent) n).at → ((k : ℕ) (wrong : ParseErrorKind) → k < suc n → IsWrongBehind x.parent k wrong → ⊥) → ⊥
     by zero u p none = let z : 12 ≡ 0 = ap (λ v. v.start) p in omega (arith, z)
@@ -75,7 +80,7 @@ message-loose expected found h = by h.number h.unexpected h.place h.none_before
 
 -- ---- where faults stand
 
--- no fault of a lexeme stands twice
+-- No fault of a lexeme is twice in the list.
 not-twice : StandIn (x.hash ∷ []) (hash_fault ∷ (hash_fault ∷ [])) → ⊥
 not-twice h = let z : true ≡ false = h.1 [] [] [] hash_fault refl in absurd cc
 
@@ -83,7 +88,7 @@ abbrev is_invalid_token : ParseErrorKind → ℕ
 is_invalid_token (fault.InvalidToken span) = 1
 is_invalid_token _ = 0
 
--- and none that no lexeme has
+-- No fault is in the list that no lexeme has.
 not-nowhere : StandIn (x.hash ∷ []) (fault.InvalidToken (span_from 0 3) ∷ []) → ⊥
 not-nowhere h =
     let wrong : ParseErrorKind = fault.InvalidToken (span_from 0 3) in
@@ -97,7 +102,7 @@ not-nowhere h =
 
 -- ---- the faults of lexemes
 
--- that of the comment is among them
+-- The fault of the comment is among them.
 not-none : AreFaultsOf (x.hash ∷ []) [] → ⊥
 not-none (own, others, parts, has, behind) =
     let its : own ≡ hash_fault ∷ [] = has.1 (inside-none (x.hash ∷ [])) in

@@ -32,7 +32,7 @@ use Rattle.protox_grammar.proofs.Truths.{stop-is-true, end-is-true}
 use Rattle.protox_grammar.proofs.samples.Sources as x
 use Rattle.protox_grammar.proofs.samples.Sources.{made, joined, IsMade, goes-on}
 
--- ---- files that go on, by computing
+-- ---- files that begin with some tokens, by computing
 
 abbrev NodesAre : List Shape → List (CheckedNode ℕ) → Type 0
 NodesAre ss nodes = IsMade ss × (checked_nodes (made ss) ≡ nodes)
@@ -79,7 +79,7 @@ are_made = record {
 
 -- ---- lexemes
 
--- an invalid character is one where it stands, and nowhere else
+-- An invalid character is a fault where it stands, and nowhere else.
 invalid-there : IsTrueOf x.accent (fault.InvalidToken (span_from 0 2))
 invalid-there = any-from (λ y. (y.shape ≡ Invalid) × (span_from 0 2 ≡ span_from y.start y.stop)) x.accent (inl (refl, refl))
 
@@ -93,7 +93,7 @@ invalid-elsewhere span other h = elim (somewhere-from (λ y. (y.shape ≡ Invali
   | inr q ↦ elim q as (λ _. ⊥) [ inl p ↦ (let z : 1 ≡ 0 = ap is_mark p.0 in omega (arith, z)) | inr e ↦ e ]
 ]
 
--- of two faults of a lexeme the first is true alone
+-- Of two faults of a lexeme only the first is true.
 abbrev two : List Lexeme
 two = x.faulty (x.at (Int 0) 0 21) (fault.NoSpaceBetweenIntAndIdent (span_from 0 22) ∷ fault.IntegerOutOfRange (span_from 0 21) ∷ []) ∷ []
 
@@ -114,7 +114,7 @@ inside-none lexemes h = none (aggregates h.0) h.2
     none : (all : List (ℕ × ℕ)) → Any (λ braces. (braces.0 < 0) × (0 ≤ braces.1)) all → ⊥
     none all k = omega (arith, k.4)
 
--- each fault of a lexeme, where it is the first
+-- Each fault of a lexeme, if it is the first.
 abbrev alone : ParseErrorKind → List Lexeme
 alone wrong = x.faulty (x.at (Int 0) 0 1) (wrong ∷ []) ∷ []
 
@@ -195,7 +195,7 @@ clean-inside = (
   ),
 )
 
--- before so many of these lexemes there is no fault: it is the last that has one
+-- The first lexemes have no fault; the last one has one.
 only-last : (xs : List Lexeme) (y : Lexeme) (before behind : List Lexeme) (here : Lexeme) (wrong : ParseErrorKind)
     → Each (λ v. v.faults ≡ []) xs → xs ++ (y ∷ []) ≡ before ++ (here ∷ behind) → first_of here.faults ≡ Some wrong → before ≡ xs
 only-last [] y [] behind here wrong c e f = refl
@@ -225,7 +225,7 @@ brace-there expected =
 end-there : IsTrueOf x.unclosed (fault.UnexpectedEof (codes "'}'"))
 end-there = end-is-true x.unclosed 31 (codes "'}'") are_made.message_ends refl
 
--- `message` isn't unexpected there, as it begins a file
+-- `message` isn't unexpected there, since it begins a file.
 begins-message : BeginsFile (shapes (rows_of x.nameless)) 1
 begins-message = let u = fronts.unexpected (span_from 0 0) 31 1 (rows_of x.nameless) are_made.message_stops in subst (BeginsFile (shapes (rows_of x.nameless))) (omega (arith, u.1)) u.2.1
 
@@ -240,7 +240,7 @@ message-expected expected found h = not-first h.0 h.1 h.2
 
 -- ---- nodes that are checked
 
--- the only node of a file that goes on is wrong
+-- The only node of a file that begins with these tokens is wrong.
 by-node : (xs : List Lexeme) (n : ℕ) (more : List Shape) (wrong : ParseErrorKind) (v : CheckedNode ℕ)
     → n ≤ length (rows_of xs) → NodesAre (joined xs n more) (v ∷ []) → IsWrongBefore xs n wrong v → IsWrongBehind xs n wrong
 by-node xs n more wrong v l made_so w =
@@ -253,7 +253,7 @@ unknown-there = (
       (refl, (λ _. refl), (refl, ap (λ v. fault.UnknownSyntax (span_from 9 12) v) (sym (text-same (codes "x") refl)))),
 )
 
--- of a run of strings the value and the span are those of all
+-- A run of strings has the value and the span of all of them.
 run-there : IsTrueOf x.unknown_run (fault.UnknownSyntax (span_from 9 20) (codes "proto4"))
 run-there = (
   4,
@@ -261,7 +261,7 @@ run-there = (
       (refl, (λ _. refl), (refl, ap (λ v. fault.UnknownSyntax (span_from 9 20) v) (sym (text-same (codes "proto4") refl)))),
 )
 
--- a byte that begins no character is no text
+-- A byte that begins no character is not UTF-8.
 no-text : is_text (255 ∷ []) ≡ false
 unfolding utf8_valid_len is_utf8 chars
 no-text = refl
@@ -273,7 +273,7 @@ text-there = (
       (refl, (λ _. refl), inl (no-text, refl)),
 )
 
--- import '..' is wrong, whatever stands behind it but a string
+-- import '..' is wrong, whatever follows it, unless that is a string.
 pub parent-behind : IsWrongBehind x.parent 2 (fault.InvalidImport (span_from 7 11))
 parent-behind =
     by-node x.parent 2 (Mark s.semicolon ∷ []) (fault.InvalidImport (span_from 7 11)) (node.AnImport (run (codes "..") 1)) (omega arith) are_made.import_made
@@ -303,7 +303,7 @@ name-there = (
       (refl, (λ _. refl), inr (ap is_ident (text-same (codes "0foo") refl), refl)),
 )
 
--- the 32nd `message` of 32 that stand in one another
+-- The 32nd `message` of 32 nested ones.
 deep-there : IsTrueOf (x.nested 32 0) (fault.MessageNestingTooDeep (span_from 372 379))
 deep-there = (
   96,
@@ -311,7 +311,7 @@ deep-there = (
       (refl, (λ e. absurd (true≢false (sym e))), refl),
 )
 
--- A run of strings is taken whole: `syntax = "pro"` isn't wrong where "to3" follows.
+-- A run of strings is taken whole: `syntax = "pro"` isn't wrong if "to3" follows.
 abbrev is_unknown : ParseErrorKind → ℕ
 is_unknown (fault.UnknownSyntax span value) = 1
 is_unknown _ = 0
@@ -332,7 +332,7 @@ piece-there h = none (checked_nodes h.0) (somewhere-from (IsWrongBefore x.pieces
     none (v ∷ vs) (inl w) = not-alone v w
     none (v ∷ vs) (inr k) = none vs k
 
--- of `;` and `# x` the first alone is clean
+-- Of `;` and `# x` only the first is clean.
 abbrev begun : List Lexeme
 begun = x.at (Mark s.semicolon) 0 1 ∷ x.hash ∷ []
 

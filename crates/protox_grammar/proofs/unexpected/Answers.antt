@@ -2,4 +2,4 @@ use Rattle.protox_grammar.proofs.Fronts as fronts
 use Rattle.protox_grammar.proofs.unexpected.Goals as goal
 
 pub returns : goal.returns
-returns g c = fronts.unexpected c.args._mark.now
+returns g c = fronts.unexpected c.args._tag.now

@@ -1,4 +1,4 @@
--- What a list without a lost check holds of a small source.
+-- The list of a small source, by the law that no check is lost.
 use Rattle.std.proofs.Common.{◌≡◌, ◌<◌, ℕ, suc, List, [], ◌∷◌, ◌++◌, Any, codes, refl, sym, subst, arith, true≢false, inl}
 use Rattle.std.specs.Prelude.{Contains}
 use Rattle.protox_fault.specs.Faults.{span_from}
@@ -40,7 +40,7 @@ is-file : IsFile
 unfolding read r.syntax r.fullident r.«package» rule.statement rule.file reader.fixed reader.leaf reader.star_at reader.star
 is-file = record { is_read = refl; nodes = refl }
 
--- The second package is in the list, though an invalid character stands behind it.
+-- The second package is in the list, though an invalid character follows it.
 second-package : (errors : List ParseErrorKind) → NoneIsLost packages errors → Contains errors (fault.DuplicatePackage (span_from 0 10) (span_from 11 21))
 second-package errors none =
     let wrong = fault.DuplicatePackage (span_from 0 10) (span_from 11 21) in

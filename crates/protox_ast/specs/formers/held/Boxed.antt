@@ -1,5 +1,5 @@
--- Machinery: how a `Boxed` stores its value, so that a type may hold itself through one.
--- A value of it is the value that it holds; below the model lies a `Box` of that.
+-- How a `Boxed` stores its value, so that a type may hold itself through one. Its value
+-- is the value that it holds. In memory it is a `Box` of that.
 use mathlib.Core.Path.{refl}
 use mathlib.Core.Former.{Former, this, const, pair, via}
 use base.Fml.{ftrue}
@@ -23,20 +23,20 @@ use Rattle.protox_ast.specs.contracts.held.Boxed.TheInside as layout
 use Rattle.protox_ast.specs.declared.held.Boxed.TheInside.{Inside}
 use Rattle.protox_ast.specs.declared.held.Boxed.TheView.{view, invariant}
 
--- its value at g's values: one of them
+-- The value for a type g: a value of g.
 abbrev pub the_former : Former {0} → Former {0}
 the_former g = g
 
--- the measure of the value
+-- The measure of the value.
 abbrev pub the_weighed : {g : Former {0}} → Weighed g → Weighed (the_former g)
 the_weighed w = w
 
--- the record of the one private field
+-- The struct with its one private field.
 abbrev record_of : Former {0}
 record_of = via (pair (const (Ptr × Global)) this) Inside (λ X fields. ((fields.held.ptr, fields.held.alloc), fields.held.value))
     (λ X parts. record { held = record { ptr = parts.0.0; alloc = parts.0.1; value = parts.1 } }) (λ X fields. refl) (λ X parts. refl)
 
--- the block with another value
+-- The box with another value.
 abbrev holding : {X Y : Type 0} → Box X Global → Y → Box Y Global
 holding b y = record { ptr = b.ptr; alloc = b.alloc; value = y }
 

@@ -2,8 +2,8 @@ use Rattle.std.proofs.Common.{sym, subst, ◌∙◌}
 use Rattle.std.proofs.lemmas.Result.{err_from_is_err_and}
 use Rattle.protox_grammar.specs.Class.{but, in_set}
 use Rattle.protox_rows.proofs.Turns as turns
-use Rattle.protox_rows.specs.Notes.{Adds, AddsTo}
-use Rattle.protox_bodies.specs.Bodies as rule
+use Rattle.protox_rows.specs.inner.Notes.{Adds, AddsTo}
+use Rattle.protox_bodies.specs.inner.Bodies as rule
 use Rattle.protox_bodies.proofs.Turns.{element-eats, oneof_element-eats, extend_element-eats, one_level, no_level}
 use Rattle.protox_bodies.proofs.bodies.+bodies.Goals as goal
 
@@ -22,7 +22,7 @@ elements-more-smaller t c = turns.shorter (rule.element_at c.args.level) (elemen
 
 pub elements-more-preserved : goal.elements-more-preserved
 elements-more-preserved t c = record {
-  read = rw c.in_ok-put.ensures (turns.more rule.add_element (in_set (but 48)) (rule.element_at c.args.level) (element-eats c.args.level) (rule.elements_at c.args.level c.args.rows.now) _ _ _ _ (sym c.sees_other.ensures ∙ c.more-test.true) c.in_ok-element.ensures.read c.more.invariant.read);
+  read = rw c.in_ok-add_element.ensures (turns.more rule.add_element (in_set (but 48)) (rule.element_at c.args.level) (element-eats c.args.level) (rule.elements_at c.args.level c.args.rows.now) _ _ _ _ (sym c.sees_other.ensures ∙ c.more-test.true) c.in_ok-element.ensures.read c.more.invariant.read);
   notes = turns.more-notes (but 48) (rule.element_at c.args.level) (rule.element_notes c.args.level) (element-eats c.args.level) c.args.notes.now.items c.more.notes.items c.element.new.notes.items (rule.elements_notes c.args.level c.args.rows.now) c.more.rows c.element.new.rows _ (sym c.sees_other.ensures ∙ c.more-test.true) c.in_ok-element.ensures.read c.in_ok-element.ensures.notes c.more.invariant.notes;
 }
 
@@ -35,7 +35,7 @@ elements-returns-clause-notes t c = turns.no-notes (but 48) (rule.element_at c.a
 pub oneof_elements-returns-in_err-element-clause-read : goal.oneof_elements-returns-in_err-element-clause-read
 oneof_elements-returns-in_err-element-clause-read t c =
     let p = err_from_is_err_and c.from_residual.result c.from_residual.ensures.1 in
-    rw (p.1, p.2) (turns.ends rule.add_oneof (in_set (but 48)) (rule.oneof_element_at c.args.level) (oneof_element-eats c.args.level) (rule.oneof_elements_at c.args.level c.args.rows.now) c.in_err-element.field-0.0 _ _ (sym c.sees_other.ensures ∙ c.oneof-test.true) c.in_err-element.ensures.read c.oneof.invariant.read)
+    rw (p.1, p.2) (turns.ends rule.add_oneof_element (in_set (but 48)) (rule.oneof_element_at c.args.level) (oneof_element-eats c.args.level) (rule.oneof_elements_at c.args.level c.args.rows.now) c.in_err-element.field-0.0 _ _ (sym c.sees_other.ensures ∙ c.oneof-test.true) c.in_err-element.ensures.read c.oneof.invariant.read)
 
 pub oneof_elements-returns-in_err-element-clause-notes : goal.oneof_elements-returns-in_err-element-clause-notes
 oneof_elements-returns-in_err-element-clause-notes t c =
@@ -47,12 +47,12 @@ oneof_elements-oneof-smaller t c = turns.shorter (rule.oneof_element_at c.args.l
 
 pub oneof_elements-oneof-preserved : goal.oneof_elements-oneof-preserved
 oneof_elements-oneof-preserved t c = record {
-  read = rw c.in_ok-put_in_oneof.ensures (turns.more rule.add_oneof (in_set (but 48)) (rule.oneof_element_at c.args.level) (oneof_element-eats c.args.level) (rule.oneof_elements_at c.args.level c.args.rows.now) _ _ _ _ (sym c.sees_other.ensures ∙ c.oneof-test.true) c.in_ok-element.ensures.read c.oneof.invariant.read);
+  read = rw c.in_ok-add_oneof_element.ensures (turns.more rule.add_oneof_element (in_set (but 48)) (rule.oneof_element_at c.args.level) (oneof_element-eats c.args.level) (rule.oneof_elements_at c.args.level c.args.rows.now) _ _ _ _ (sym c.sees_other.ensures ∙ c.oneof-test.true) c.in_ok-element.ensures.read c.oneof.invariant.read);
   notes = turns.more-notes (but 48) (rule.oneof_element_at c.args.level) (rule.oneof_element_notes c.args.level) (oneof_element-eats c.args.level) c.args.notes.now.items c.oneof.notes.items c.oneof_element.new.notes.items (rule.oneof_elements_notes c.args.level c.args.rows.now) c.oneof.rows c.oneof_element.new.rows _ (sym c.sees_other.ensures ∙ c.oneof-test.true) c.in_ok-element.ensures.read c.in_ok-element.ensures.notes c.oneof.invariant.notes;
 }
 
 pub oneof_elements-returns-clause-read : goal.oneof_elements-returns-clause-read
-oneof_elements-returns-clause-read t c = turns.done rule.add_oneof (in_set (but 48)) (rule.oneof_element_at c.args.level) (oneof_element-eats c.args.level) (rule.oneof_elements_at c.args.level c.args.rows.now) _ _ (sym c.sees_other.ensures ∙ c.oneof-test.false) c.oneof.invariant.read
+oneof_elements-returns-clause-read t c = turns.done rule.add_oneof_element (in_set (but 48)) (rule.oneof_element_at c.args.level) (oneof_element-eats c.args.level) (rule.oneof_elements_at c.args.level c.args.rows.now) _ _ (sym c.sees_other.ensures ∙ c.oneof-test.false) c.oneof.invariant.read
 
 pub oneof_elements-returns-clause-notes : goal.oneof_elements-returns-clause-notes
 oneof_elements-returns-clause-notes t c = turns.no-notes (but 48) (rule.oneof_element_at c.args.level) (rule.oneof_element_notes c.args.level) (oneof_element-eats c.args.level) c.args.notes.now.items c.oneof.notes.items (rule.oneof_elements_notes c.args.level c.args.rows.now) c.oneof.rows (sym c.sees_other.ensures ∙ c.oneof-test.false) c.oneof.invariant.notes
@@ -60,7 +60,7 @@ oneof_elements-returns-clause-notes t c = turns.no-notes (but 48) (rule.oneof_el
 pub extend_elements-returns-in_err-element-clause-read : goal.extend_elements-returns-in_err-element-clause-read
 extend_elements-returns-in_err-element-clause-read t c =
     let p = err_from_is_err_and c.from_residual.result c.from_residual.ensures.1 in
-    rw (p.1, p.2) (turns.ends rule.add_field (in_set (but 48)) (rule.extend_element_at c.args.level) (extend_element-eats c.args.level) (rule.extend_elements_at c.args.level c.args.rows.now) c.in_err-element.field-0.0 _ _ (sym c.sees_other.ensures ∙ c.extend-test.true) c.in_err-element.ensures.read c.extend.invariant.read)
+    rw (p.1, p.2) (turns.ends rule.add_extend_element (in_set (but 48)) (rule.extend_element_at c.args.level) (extend_element-eats c.args.level) (rule.extend_elements_at c.args.level c.args.rows.now) c.in_err-element.field-0.0 _ _ (sym c.sees_other.ensures ∙ c.extend-test.true) c.in_err-element.ensures.read c.extend.invariant.read)
 
 pub extend_elements-returns-in_err-element-clause-notes : goal.extend_elements-returns-in_err-element-clause-notes
 extend_elements-returns-in_err-element-clause-notes t c =
@@ -72,19 +72,19 @@ extend_elements-extend-smaller t c = turns.shorter (rule.extend_element_at c.arg
 
 pub extend_elements-extend-preserved : goal.extend_elements-extend-preserved
 extend_elements-extend-preserved t c = record {
-  read = rw c.in_ok-put_in_extend.ensures (turns.more rule.add_field (in_set (but 48)) (rule.extend_element_at c.args.level) (extend_element-eats c.args.level) (rule.extend_elements_at c.args.level c.args.rows.now) _ _ _ _ (sym c.sees_other.ensures ∙ c.extend-test.true) c.in_ok-element.ensures.read c.extend.invariant.read);
+  read = rw c.in_ok-add_extend_element.ensures (turns.more rule.add_extend_element (in_set (but 48)) (rule.extend_element_at c.args.level) (extend_element-eats c.args.level) (rule.extend_elements_at c.args.level c.args.rows.now) _ _ _ _ (sym c.sees_other.ensures ∙ c.extend-test.true) c.in_ok-element.ensures.read c.extend.invariant.read);
   notes = turns.more-notes (but 48) (rule.extend_element_at c.args.level) (rule.extend_element_notes c.args.level) (extend_element-eats c.args.level) c.args.notes.now.items c.extend.notes.items c.extend_element.new.notes.items (rule.extend_elements_notes c.args.level c.args.rows.now) c.extend.rows c.extend_element.new.rows _ (sym c.sees_other.ensures ∙ c.extend-test.true) c.in_ok-element.ensures.read c.in_ok-element.ensures.notes c.extend.invariant.notes;
 }
 
 pub extend_elements-returns-clause-read : goal.extend_elements-returns-clause-read
-extend_elements-returns-clause-read t c = turns.done rule.add_field (in_set (but 48)) (rule.extend_element_at c.args.level) (extend_element-eats c.args.level) (rule.extend_elements_at c.args.level c.args.rows.now) _ _ (sym c.sees_other.ensures ∙ c.extend-test.false) c.extend.invariant.read
+extend_elements-returns-clause-read t c = turns.done rule.add_extend_element (in_set (but 48)) (rule.extend_element_at c.args.level) (extend_element-eats c.args.level) (rule.extend_elements_at c.args.level c.args.rows.now) _ _ (sym c.sees_other.ensures ∙ c.extend-test.false) c.extend.invariant.read
 
 pub extend_elements-returns-clause-notes : goal.extend_elements-returns-clause-notes
 extend_elements-returns-clause-notes t c = turns.no-notes (but 48) (rule.extend_element_at c.args.level) (rule.extend_element_notes c.args.level) (extend_element-eats c.args.level) c.args.notes.now.items c.extend.notes.items (rule.extend_elements_notes c.args.level c.args.rows.now) c.extend.rows (sym c.sees_other.ensures ∙ c.extend-test.false) c.extend.invariant.notes
 
 pub mbody-returns-then-level-eq0-clause-notes : goal.mbody-returns-then-level-eq0-clause-notes
 mbody-returns-then-level-eq0-clause-notes t c =
-    subst (λ v. AddsTo c.sunk.result c.args.notes.now.items v c.sunk.new.notes.items) (sym (no_level c.args.level c.if-level-eq0.true c.args.word.now c.args.rows.now)) c.sunk.ensures.notes
+    subst (λ v. AddsTo c.refuse_deep_body.result c.args.notes.now.items v c.refuse_deep_body.new.notes.items) (sym (no_level c.args.level c.if-level-eq0.true c.args.word.now c.args.rows.now)) c.refuse_deep_body.ensures.notes
 
 pub mbody-returns-clause-notes : goal.mbody-returns-clause-notes
 mbody-returns-clause-notes t c =

@@ -2,7 +2,7 @@ use Rattle.std.proofs.Common.{◌≡◌, ◌+◌, ◌*◌, ◌++◌, length}
 use Rattle.protox_grammar.specs.Class.{but, in_set}
 use Rattle.protox_grammar.specs.Reader.{star, gathered}
 use Rattle.protox_grammar.proofs.Telling.{star_notes}
-use Rattle.protox_bodies.specs.Bodies as rule
+use Rattle.protox_bodies.specs.inner.Bodies as rule
 use Rattle.protox_bodies.proofs.bodies.+bodies.Given as goal
 
 abbrev pub decreases-mbody : goal.decreases-mbody
@@ -11,8 +11,8 @@ decreases-mbody l = l.level * 13
 abbrev pub decreases-group : goal.decreases-group
 decreases-group l = l.level * 13 + 2
 
-abbrev pub decreases-numbered : goal.decreases-numbered
-decreases-numbered l = l.level * 13 + 1
+abbrev pub decreases-number_and_body : goal.decreases-number_and_body
+decreases-number_and_body l = l.level * 13 + 1
 
 abbrev pub decreases-message : goal.decreases-message
 decreases-message l = l.level * 13 + 2
@@ -44,8 +44,8 @@ decreases-extend_elements l = l.level * 13 + 7
 abbrev pub decreases-extend : goal.decreases-extend
 decreases-extend l = l.level * 13 + 8
 
-abbrev pub decreases-special : goal.decreases-special
-decreases-special l = l.level * 13 + 9
+abbrev pub decreases-keyword_element : goal.decreases-keyword_element
+decreases-keyword_element l = l.level * 13 + 9
 
 abbrev pub decreases-element : goal.decreases-element
 decreases-element l = l.level * 13 + 10
@@ -67,7 +67,7 @@ decreases-elements-more l = length l.rows
 
 abbrev pub invariant-oneof_elements-oneof : goal.invariant-oneof_elements-oneof
 invariant-oneof_elements-oneof l = record {
-  read : gathered rule.add_oneof l.inside (star (in_set (but 48)) (rule.oneof_element_at l.level) l.rows) ≡ rule.oneof_elements_at l.level l.fn.rows;
+  read : gathered rule.add_oneof_element l.inside (star (in_set (but 48)) (rule.oneof_element_at l.level) l.rows) ≡ rule.oneof_elements_at l.level l.fn.rows;
   notes : l.notes.items ++ star_notes (in_set (but 48)) (rule.oneof_element_at l.level) (rule.oneof_element_notes l.level) l.rows ≡ l.fn.notes.items ++ rule.oneof_elements_notes l.level l.fn.rows;
 }
 
@@ -76,7 +76,7 @@ decreases-oneof_elements-oneof l = length l.rows
 
 abbrev pub invariant-extend_elements-extend : goal.invariant-extend_elements-extend
 invariant-extend_elements-extend l = record {
-  read : gathered rule.add_field l.fields (star (in_set (but 48)) (rule.extend_element_at l.level) l.rows) ≡ rule.extend_elements_at l.level l.fn.rows;
+  read : gathered rule.add_extend_element l.fields (star (in_set (but 48)) (rule.extend_element_at l.level) l.rows) ≡ rule.extend_elements_at l.level l.fn.rows;
   notes : l.notes.items ++ star_notes (in_set (but 48)) (rule.extend_element_at l.level) (rule.extend_element_notes l.level) l.rows ≡ l.fn.notes.items ++ rule.extend_elements_notes l.level l.fn.rows;
 }
 

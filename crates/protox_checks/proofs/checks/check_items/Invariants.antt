@@ -1,6 +1,6 @@
 use Rattle.std.proofs.Common.{flat_map, take}
 use Rattle.protox_checks.specs.Nodes.{item_nodes}
-use Rattle.protox_checks.specs.Walk.{AddsIn}
+use Rattle.protox_checks.specs.inner.Walk.{AddsIn}
 use Rattle.protox_checks.proofs.checks.check_items.Given as goal
 
 abbrev pub invariant-loop-item : goal.invariant-loop-item

@@ -9,7 +9,7 @@ use Rattle.protox_ast.proofs.Levels.{item-enum}
 use Rattle.protox_checks.specs.Checks.{nodes_faults}
 use Rattle.protox_checks.specs.FieldFaults.{InExtend, InOneof}
 use Rattle.protox_checks.specs.Nodes.{AField, AMessageNumber, empty_nodes, fields_nodes, node_steps, option_nodes}
-use Rattle.protox_checks.specs.Walk.{field_node}
+use Rattle.protox_checks.specs.inner.Walk.{field_node}
 use Rattle.protox_checks.proofs.Adding.{in-all, in-both, in-both-at, in-one, on-ok}
 use Rattle.protox_checks.proofs.NodeLevels.{aside, body-nodes, extend-nodes, field_in, field_options, field-nodes, fields-flat, inside, oneof-nodes}
 use Rattle.protox_checks.proofs.messages.+messages.Goals as goal

@@ -2,7 +2,7 @@ use Rattle.std.proofs.Common.{flat_map, take}
 use Rattle.protox_ast.specs.Steps.{of_item}
 use Rattle.protox_checks.specs.FieldFaults.{InExtend, InOneof}
 use Rattle.protox_checks.specs.Nodes.{node_steps}
-use Rattle.protox_checks.specs.Walk.{AddsIn}
+use Rattle.protox_checks.specs.inner.Walk.{AddsIn}
 use Rattle.protox_checks.proofs.NodeLevels.{field_in}
 use Rattle.protox_checks.proofs.messages.+messages.Given as goal
 

@@ -1,7 +1,7 @@
 use Rattle.std.proofs.Common.{ap, flat_map, sym, ◌∙◌}
 use Rattle.protox_ast.specs.Ranges.{kind_ranges}
 use Rattle.protox_checks.specs.Nodes.{range_nodes}
-use Rattle.protox_checks.specs.Walk.{number_node}
+use Rattle.protox_checks.specs.inner.Walk.{number_node}
 use Rattle.protox_checks.proofs.Adding.{on-ok, same}
 use Rattle.protox_checks.proofs.numbers.check_kind_ranges.Goals as goal
 

@@ -1,6 +1,6 @@
 use Rattle.std.proofs.Common.{[], ◌∷◌}
 use Rattle.protox_checks.specs.Nodes.{end_nodes}
-use Rattle.protox_checks.specs.Walk.{number_node}
+use Rattle.protox_checks.specs.inner.Walk.{number_node}
 use Rattle.protox_checks.proofs.Adding.{both, on-ok}
 use Rattle.protox_checks.proofs.numbers.check_range.Goals as goal
 

@@ -1,6 +1,6 @@
 use Rattle.std.proofs.Common.{arith, refl}
 use Rattle.protox_checks.specs.Nodes.{range_nodes}
-use Rattle.protox_checks.specs.Walk.{number_node}
+use Rattle.protox_checks.specs.inner.Walk.{number_node}
 use Rattle.protox_checks.proofs.Adding.{all, more-at}
 use Rattle.protox_checks.proofs.numbers.check_ranges.Goals as goal
 

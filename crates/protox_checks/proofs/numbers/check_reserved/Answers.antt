@@ -1,5 +1,5 @@
 use Rattle.std.proofs.Common.{arith, refl}
-use Rattle.protox_checks.specs.Walk.{number_node}
+use Rattle.protox_checks.specs.inner.Walk.{number_node}
 use Rattle.protox_checks.proofs.Adding.{all, more, same}
 use Rattle.protox_checks.proofs.NodeLevels.{kind_nodes, reserved-flat}
 use Rattle.protox_checks.proofs.numbers.check_reserved.Goals as goal

@@ -1,5 +1,5 @@
 use Rattle.std.proofs.Common.{flat_map, take}
-use Rattle.protox_checks.specs.Walk.{Adds, number_node}
+use Rattle.protox_checks.specs.inner.Walk.{Adds, number_node}
 use Rattle.protox_checks.proofs.NodeLevels.{kind_nodes}
 use Rattle.protox_checks.proofs.numbers.check_reserved.Given as goal
 

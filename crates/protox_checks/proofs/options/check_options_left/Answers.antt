@@ -1,7 +1,7 @@
 use Rattle.std.proofs.Common.{ap, sym, ◌∙◌}
 use Rattle.protox_ast.specs.Options.{listed}
 use Rattle.protox_checks.specs.Nodes.{option_nodes}
-use Rattle.protox_checks.specs.Walk.{others}
+use Rattle.protox_checks.specs.inner.Walk.{others}
 use Rattle.protox_checks.proofs.Adding.{on-ok, same}
 use Rattle.protox_checks.proofs.options.check_options_left.Goals as goal
 

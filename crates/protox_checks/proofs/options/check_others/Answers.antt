@@ -1,6 +1,6 @@
 use Rattle.std.proofs.Common.{◌+◌, arith, codes, drop, refl, sym, ◌∙◌}
 use Rattle.protox_ast.specs.Options.{without_first}
-use Rattle.protox_checks.specs.Walk.{others}
+use Rattle.protox_checks.specs.inner.Walk.{others}
 use Rattle.protox_checks.proofs.Adding.{on-ok}
 use Rattle.protox_checks.proofs.Left.{at-end, both-kept, default-dropped, json_name-dropped, next, whole}
 use Rattle.protox_checks.proofs.options.check_others.Goals as goal

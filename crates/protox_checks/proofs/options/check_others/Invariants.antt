@@ -1,4 +1,4 @@
-use Rattle.protox_checks.specs.Walk.{others}
+use Rattle.protox_checks.specs.inner.Walk.{others}
 use Rattle.protox_checks.proofs.Left.{ToCome}
 use Rattle.protox_checks.proofs.options.check_others.Given as goal
 

@@ -1,5 +1,5 @@
 use Rattle.std.proofs.Common.{flat_map, take}
-use Rattle.protox_checks.specs.Walk.{Adds}
+use Rattle.protox_checks.specs.inner.Walk.{Adds}
 use Rattle.protox_checks.proofs.NodeLevels.{statement_node}
 use Rattle.protox_checks.proofs.options.check_statements.Given as goal
 

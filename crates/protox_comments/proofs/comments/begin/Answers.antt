@@ -2,7 +2,7 @@ use Rattle.std.proofs.Common.{◌≡◌, ℕ, ◌<◌, Bool, ◌∷◌, length, 
 use Rattle.std.proofs.lemmas.Bool.{eqb-false}
 use Rattle.std.specs.Cow.{cow_str_bytes}
 use Rattle.std.specs.Prelude.{if◌then◌else◌}
-use Rattle.protox_comments.specs.Attributing.{outcome, begins_newline}
+use Rattle.protox_comments.specs.inner.Attributing.{outcome, begins_newline}
 use Rattle.protox_comments.specs.CommentState.{empty}
 use Rattle.protox_lexeme.specs.Gaps.{attribution}
 use Rattle.protox_lexeme.specs.Shapes.{BlockComment}

@@ -1,5 +1,5 @@
 use Rattle.std.proofs.Common.{drop, map}
-use Rattle.protox_comments.specs.Attributing.{Newlines}
+use Rattle.protox_comments.specs.inner.Attributing.{Newlines}
 use Rattle.protox_lexeme.specs.Tokens.{shape_of}
 use Rattle.protox_comments.proofs.comments.is_bare.Given as goal
 

@@ -3,7 +3,7 @@ use Rattle.std.specs.List.{flat_map}
 use Rattle.std.specs.Vec.Iter.{into_iter_items}
 use Rattle.protox_describe.specs.File.{item_messages}
 use Rattle.protox_describe.specs.Siblings.{greatest}
-use Rattle.protox_describe.specs.Widths.{file_item_width}
+use Rattle.protox_describe.specs.inner.Widths.{file_item_width}
 use Rattle.protox_describe.proofs.file.messages.Given as goal
 
 abbrev pub invariant-loop-item : goal.invariant-loop-item

@@ -2,7 +2,7 @@ use Rattle.std.proofs.Common.{◌≡◌, ◌+◌, ◌<◌, ◌≤◌, ◌++◌, 
 use Rattle.std.specs.Prelude.{if◌then◌else◌}
 use Rattle.protox_ast.specs.Steps.{of_item}
 use Rattle.protox_describe.specs.Descriptor.{descriptor_steps, fields_of, is_oneof, synthetic_of}
-use Rattle.protox_describe.specs.Pass.{item_fields}
+use Rattle.protox_describe.specs.inner.Pass.{item_fields}
 use Rattle.protox_describe.specs.Siblings.{count, each_after}
 use Rattle.protox_describe.proofs.Lists.{count-rest, count-take_more, count-within, length-flat-take_more, map-take_more}
 use Rattle.protox_describe.proofs.Oneofs.{fields-more}

@@ -4,7 +4,7 @@ use Rattle.protox_ast.specs.Steps.{of_field, of_item}
 use Rattle.protox_ast.specs.declared.ast.Extend.{out-Extend}
 use Rattle.protox_ast.proofs.Levels.{extend-gives, oneof-gives}
 use Rattle.protox_describe.specs.Descriptor.{Gives, descriptor_steps, extending, nested_of}
-use Rattle.protox_describe.specs.Widths.{widths}
+use Rattle.protox_describe.specs.inner.Widths.{widths}
 use Rattle.protox_describe.proofs.Lists.{greatest-drop_more, more-flat}
 use Rattle.protox_describe.proofs.Oneofs.{extending-nested}
 use Rattle.protox_describe.proofs.messages.+messages.Goals as goal

@@ -3,7 +3,7 @@ use Rattle.std.specs.List.{flat_map}
 use Rattle.protox_ast.specs.Steps.{of_field, of_item}
 use Rattle.protox_describe.specs.Descriptor.{Gives, descriptor_steps, nested_of}
 use Rattle.protox_describe.specs.Siblings.{greatest}
-use Rattle.protox_describe.specs.Widths.{widths}
+use Rattle.protox_describe.specs.inner.Widths.{widths}
 use Rattle.protox_describe.proofs.messages.+messages.Given as goal
 
 abbrev pub invariant-nested-loop-item : goal.invariant-nested-loop-item

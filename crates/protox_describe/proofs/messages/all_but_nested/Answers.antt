@@ -11,7 +11,7 @@ use Rattle.protox_describe.specs.Descriptor.{all_oneofs, descriptor_steps, enums
 use Rattle.protox_describe.specs.Siblings.{count, each_after}
 use Rattle.protox_describe.proofs.messages.all_but_nested.Goals as goal
 
--- a message's options where it is no map's entry
+-- the options of a message that is no map entry
 abbrev plain : List UninterpretedOption → MessageOptions
 plain options = record { map_entry = None; uninterpreted_option = options }
 

@@ -2,7 +2,7 @@ use Rattle.std.proofs.Common.{◌≡◌, ℕ, ◌+◌, ◌≤◌, inl, inr, List
 use Rattle.std.specs.Option.{option_map}
 use Rattle.protox_fault.specs.declared.error.ParseErrorKind.{ParseErrorKind}
 use Rattle.protox_lexeme.specs.BlockComments.{marks, marks_of, ending, faults_to}
-use Rattle.protox_lexeme.specs.Nesting.{in_front, read_len, run, run_out}
+use Rattle.protox_lexeme.specs.inner.Nesting.{in_front, read_len, run, run_out}
 use Rattle.protox_lexeme.proofs.BlockExtent.{mark_within}
 use Rattle.protox_lexeme.proofs.Literal.{ok_map}
 use Rattle.protox_lexeme.proofs.Nesting.{faultless, no_marks, run_ending, run_ends, no_open}
@@ -37,7 +37,7 @@ returns-in_err-at-clause-free c h =
       | inr other ↦ let ok = c.in_err-at.ensures.none other in absurd (cc)
     ]
 
--- at the end of the text no mark is left
+-- At the end of the text no `/*` and no `*/` is left.
 module _ (start at inner : ℕ) (bytes : List ℕ) (last : Option ℕ) (settled since : List ParseErrorKind) where
   out : length bytes ≤ at + 1 → run start (marks at (drop at bytes)) inner last settled since ≡ run start (marks_of bytes) 0 None [] []
       → run_out last settled since ≡ (option_map (λ e. e.at) (ending (marks_of bytes)), faults_to start (marks_of bytes) (ending (marks_of bytes)))

@@ -1,6 +1,6 @@
 use Rattle.std.proofs.Common.{◌≡◌, ℕ, ◌≤◌, ◌-◌, List, [], ◌∷◌, length, drop, None}
 use Rattle.protox_lexeme.specs.BlockComments.{Mark, closes, marks, marks_of}
-use Rattle.protox_lexeme.specs.Nesting.{run}
+use Rattle.protox_lexeme.specs.inner.Nesting.{run}
 use Rattle.protox_lexeme.proofs.block_comment.read_marks.Given as goal
 
 abbrev pub invariant-marks : goal.invariant-marks

@@ -5,7 +5,7 @@ use Rattle.std.proofs.lemmas.Iterator.Consumers.{YieldsList-turn, YieldsList-end
 use Rattle.std.specs.Prelude.{encode_utf8_all, false}
 use Rattle.std.specs.Str.{chars}
 use Rattle.protox_lexeme.specs.BlockComments.{without_margins, without_returns, comment_text}
-use Rattle.protox_lexeme.specs.Kept.{finished}
+use Rattle.protox_lexeme.specs.inner.Kept.{finished}
 use Rattle.protox_lexeme.proofs.comment_text.without_margins.Goals as goal
 
 pub loop-c-init : goal.loop-c-init

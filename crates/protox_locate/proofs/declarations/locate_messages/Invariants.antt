@@ -1,9 +1,9 @@
 use Rattle.std.proofs.Common.{◌≤◌, ◌+◌, map, flat_map, drop}
 use Rattle.protox_descriptor.specs.declared.tag.file.TheConstants.{MESSAGE_TYPE}
-use Rattle.protox_locate.specs.Bounds.{file_item_reach, file_item_weight, greatest, total}
+use Rattle.protox_locate.specs.inner.Bounds.{file_item_reach, file_item_weight, greatest, total}
 use Rattle.protox_places.specs.Lines.{numbers_at}
 use Rattle.protox_locate.specs.Locations.{item_messages}
-use Rattle.protox_locate.specs.Walk.{ToCome}
+use Rattle.protox_locate.specs.inner.Walk.{ToCome}
 use Rattle.protox_locate.proofs.declarations.locate_messages.Given as goal
 
 abbrev pub invariant-loop-item : goal.invariant-loop-item

@@ -1,7 +1,7 @@
 use Rattle.std.proofs.Common.{◌≡◌, ◌≤◌, map, drop}
 use Rattle.std.specs.Prelude.{codes, find}
 use Rattle.protox_ast.specs.Options.{has_name}
-use Rattle.protox_locate.specs.Bounds.{body_reach, greatest}
+use Rattle.protox_locate.specs.inner.Bounds.{body_reach, greatest}
 use Rattle.protox_locate.proofs.defaults.default_in.Given as goal
 
 abbrev pub invariant-loop-body : goal.invariant-loop-body

@@ -1,9 +1,9 @@
 use Rattle.std.proofs.Common.{◌≤◌, ◌+◌, length, map, drop, false}
 use Rattle.protox_descriptor.specs.declared.tag.TheConstants.{UNINTERPRETED_OPTION}
-use Rattle.protox_locate.specs.Bounds.{body_reach, greatest}
+use Rattle.protox_locate.specs.inner.Bounds.{body_reach, greatest}
 use Rattle.protox_places.specs.Lines.{numbers_at}
 use Rattle.protox_locate.specs.LocationWords.{option_body}
-use Rattle.protox_locate.specs.Walk.{ToCome, left}
+use Rattle.protox_locate.specs.inner.Walk.{ToCome, left}
 use Rattle.protox_locate.proofs.defaults.number_others.Given as goal
 
 abbrev pub invariant-loop-body : goal.invariant-loop-body

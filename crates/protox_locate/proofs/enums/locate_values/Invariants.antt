@@ -1,9 +1,9 @@
 use Rattle.std.proofs.Common.{◌≤◌, ◌+◌, map, drop}
 use Rattle.protox_descriptor.specs.declared.tag.enum_.TheConstants.{VALUE}
-use Rattle.protox_locate.specs.Bounds.{greatest, total, value_reach, value_weight}
+use Rattle.protox_locate.specs.inner.Bounds.{greatest, total, value_reach, value_weight}
 use Rattle.protox_places.specs.Lines.{numbers_at}
 use Rattle.protox_locate.specs.EnumLocations.{enum_value_locations}
-use Rattle.protox_locate.specs.Walk.{ToCome}
+use Rattle.protox_locate.specs.inner.Walk.{ToCome}
 use Rattle.protox_locate.proofs.enums.locate_values.Given as goal
 
 abbrev pub invariant-loop-value : goal.invariant-loop-value

@@ -8,7 +8,7 @@ use Rattle.protox_ast.specs.declared.ast.Field.{Field}
 use Rattle.protox_locate.specs.FieldLocations.{OfField}
 use Rattle.protox_places.specs.Lines.{numbers_at}
 use Rattle.protox_locate.specs.Locations.{location_steps}
-use Rattle.protox_locate.specs.Walk.{Numbers}
+use Rattle.protox_locate.specs.inner.Walk.{Numbers}
 use Rattle.protox_locate.proofs.fields.extensions_in.Goals as goal
 
 pub returns-clause-siblings : goal.returns-clause-siblings

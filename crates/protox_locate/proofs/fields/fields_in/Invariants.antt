@@ -2,11 +2,11 @@ use Rattle.std.proofs.Common.{◌≤◌, ◌+◌, map, drop}
 use Rattle.std.specs.Prelude.{None}
 use Rattle.protox_ast.specs.Steps.{of_field}
 use Rattle.protox_descriptor.specs.declared.tag.message.TheConstants.{FIELD}
-use Rattle.protox_locate.specs.Bounds.{greatest, reaches, total, weights}
+use Rattle.protox_locate.specs.inner.Bounds.{greatest, reaches, total, weights}
 use Rattle.protox_places.specs.Lines.{numbers_at}
 use Rattle.protox_locate.specs.FieldLocations.{OfField}
 use Rattle.protox_locate.specs.Locations.{location_steps}
-use Rattle.protox_locate.specs.Walk.{ToCome}
+use Rattle.protox_locate.specs.inner.Walk.{ToCome}
 use Rattle.protox_locate.proofs.fields.fields_in.Given as goal
 
 abbrev pub invariant-loop-field : goal.invariant-loop-field

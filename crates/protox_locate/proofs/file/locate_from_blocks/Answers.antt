@@ -6,7 +6,7 @@ use Rattle.protox_descriptor.specs.declared.tag.file.TheConstants as tag
 use Rattle.protox_places.specs.Lines.{numbers_at}
 use Rattle.protox_locate.specs.LocationWords.{Path, part, each_at, siblings_at, option_statements}
 use Rattle.protox_locate.specs.Locations.{item_blocks, item_extensions, public_words, weak_words, syntax_locations}
-use Rattle.protox_locate.specs.Walk.{Emits}
+use Rattle.protox_locate.specs.inner.Walk.{Emits}
 use Rattle.protox_locate.proofs.Numbered.{first_then_ok}
 use Rattle.protox_locate.proofs.file.locate_from_blocks.Goals as goal
 

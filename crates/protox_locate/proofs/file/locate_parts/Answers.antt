@@ -5,7 +5,7 @@ use Rattle.protox_descriptor.specs.declared.tag.file.TheConstants as tag
 use Rattle.protox_places.specs.Lines.{numbers_at}
 use Rattle.protox_locate.specs.LocationWords.{Path, siblings_at, bare}
 use Rattle.protox_locate.specs.Locations.{item_messages, item_enums, item_services, import_locations, package_locations, file_from_blocks}
-use Rattle.protox_locate.specs.Walk.{Emits}
+use Rattle.protox_locate.specs.inner.Walk.{Emits}
 use Rattle.protox_locate.proofs.Numbered.{first_then_ok}
 use Rattle.protox_locate.proofs.file.locate_parts.Goals as goal
 

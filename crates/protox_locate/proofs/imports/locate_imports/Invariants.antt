@@ -1,9 +1,9 @@
 use Rattle.std.proofs.Common.{◌≤◌, ◌+◌, length, map, drop}
 use Rattle.protox_descriptor.specs.declared.tag.file.TheConstants.{DEPENDENCY}
-use Rattle.protox_locate.specs.Bounds.{greatest, import_reach}
+use Rattle.protox_locate.specs.inner.Bounds.{greatest, import_reach}
 use Rattle.protox_places.specs.Lines.{numbers_at}
 use Rattle.protox_locate.specs.Locations.{import_locations}
-use Rattle.protox_locate.specs.Walk.{ToCome}
+use Rattle.protox_locate.specs.inner.Walk.{ToCome}
 use Rattle.protox_locate.proofs.imports.locate_imports.Given as goal
 
 abbrev pub invariant-loop-statement : goal.invariant-loop-statement

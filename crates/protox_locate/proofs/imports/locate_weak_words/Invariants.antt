@@ -1,10 +1,10 @@
 use Rattle.std.proofs.Common.{◌≤◌, ◌+◌, length, map, flat_map, drop}
 use Rattle.protox_ast.specs.declared.ast.Import.{Import}
 use Rattle.protox_descriptor.specs.declared.tag.file.TheConstants.{WEAK_DEPENDENCY}
-use Rattle.protox_locate.specs.Bounds.{greatest, import_reach}
+use Rattle.protox_locate.specs.inner.Bounds.{greatest, import_reach}
 use Rattle.protox_places.specs.Lines.{numbers_at}
 use Rattle.protox_locate.specs.Locations.{weak_words}
-use Rattle.protox_locate.specs.Walk.{ToCome}
+use Rattle.protox_locate.specs.inner.Walk.{ToCome}
 use Rattle.protox_locate.proofs.imports.locate_weak_words.Given as goal
 
 abbrev pub invariant-loop-statement : goal.invariant-loop-statement

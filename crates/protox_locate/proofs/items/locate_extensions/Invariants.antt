@@ -1,10 +1,10 @@
 use Rattle.std.proofs.Common.{◌≤◌, ◌+◌, map, flat_map, drop}
 use Rattle.protox_ast.specs.Steps.{of_item}
 use Rattle.protox_descriptor.specs.declared.tag.message.TheConstants.{EXTENSION}
-use Rattle.protox_locate.specs.Bounds.{greatest, reaches, total, weights}
+use Rattle.protox_locate.specs.inner.Bounds.{greatest, reaches, total, weights}
 use Rattle.protox_places.specs.Lines.{numbers_at}
 use Rattle.protox_locate.specs.Locations.{OfItem, location_steps}
-use Rattle.protox_locate.specs.Walk.{ToCome}
+use Rattle.protox_locate.specs.inner.Walk.{ToCome}
 use Rattle.protox_locate.proofs.items.locate_extensions.Given as goal
 
 abbrev pub invariant-loop-item : goal.invariant-loop-item

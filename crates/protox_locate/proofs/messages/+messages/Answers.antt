@@ -1,4 +1,4 @@
--- A loop, and one part of a body after another. The search for the latter takes a minute.
+-- A loop, and the parts of a body one after another. The prover takes a minute for the latter.
 use Rattle.std.proofs.Common.{List, ◌++◌, ◌<◌, length, map, sym, subst, Result, arith}
 use Rattle.std.specs.Prelude.{ℤ, OnOk}
 use Rattle.protox_ast.specs.Options.{OptionStatement}
@@ -12,7 +12,7 @@ use Rattle.protox_ast.proofs.Levels.{body-gives}
 use Rattle.protox_places.specs.Lines.{numbers_at}
 use Rattle.protox_locate.specs.LocationWords.{Part, extensions_statements}
 use Rattle.protox_locate.specs.Locations.{OfItem, all_of, from_blocks, location_steps}
-use Rattle.protox_locate.specs.Walk.{Emits}
+use Rattle.protox_locate.specs.inner.Walk.{Emits}
 use Rattle.protox_locate.specs.declared.context.Context.{Context}
 use Rattle.protox_locate.proofs.Numbered.{first_then_ok, some_more, walk}
 use Rattle.protox_locate.proofs.messages.+messages.Goals as goal

@@ -1,10 +1,10 @@
 use Rattle.std.proofs.Common.{◌≤◌, ◌+◌, map, flat_map, drop}
 use Rattle.protox_ast.specs.Steps.{of_field, of_item}
 use Rattle.protox_descriptor.specs.declared.tag.message.TheConstants.{NESTED_TYPE}
-use Rattle.protox_locate.specs.Bounds.{greatest, reaches, total, weights}
+use Rattle.protox_locate.specs.inner.Bounds.{greatest, reaches, total, weights}
 use Rattle.protox_places.specs.Lines.{numbers_at}
 use Rattle.protox_locate.specs.Locations.{OfItem, location_steps, messages_of}
-use Rattle.protox_locate.specs.Walk.{ToCome}
+use Rattle.protox_locate.specs.inner.Walk.{ToCome}
 use Rattle.protox_locate.proofs.messages.+messages.Given as goal
 
 abbrev pub invariant-locate_messages-loop-item : goal.invariant-locate_messages-loop-item

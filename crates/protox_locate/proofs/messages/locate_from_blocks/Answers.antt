@@ -1,4 +1,4 @@
--- One part of a body after another. The search for this takes a minute.
+-- The parts of a body one after another. The prover takes a minute for this.
 use Rattle.std.proofs.Common.{List, ◌++◌, flat_map, map, sym, ◌∙◌, subst, Result}
 use Rattle.std.specs.Prelude.{ℤ, OnOk}
 use Rattle.protox_ast.specs.Options.{OptionStatement}
@@ -10,7 +10,7 @@ use Rattle.protox_fault.specs.Faults.{Span}
 use Rattle.protox_places.specs.Lines.{numbers_at}
 use Rattle.protox_locate.specs.LocationWords.{Part, each_at, name_statements, option_statements, part, range_statements}
 use Rattle.protox_locate.specs.Locations.{OfItem, all_of, from_blocks, location_steps}
-use Rattle.protox_locate.specs.Walk.{Emits}
+use Rattle.protox_locate.specs.inner.Walk.{Emits}
 use Rattle.protox_locate.specs.declared.context.Context.{Context}
 use Rattle.protox_locate.proofs.Numbered.{first_then_ok}
 use Rattle.protox_locate.proofs.messages.locate_from_blocks.Goals as goal

@@ -1,8 +1,8 @@
 use Rattle.std.proofs.Common.{◌≤◌, map, drop}
-use Rattle.protox_locate.specs.Bounds.{options_reach}
+use Rattle.protox_locate.specs.inner.Bounds.{options_reach}
 use Rattle.protox_places.specs.Lines.{numbers_at}
 use Rattle.protox_locate.specs.LocationWords.{option_place}
-use Rattle.protox_locate.specs.Walk.{ToAdd}
+use Rattle.protox_locate.specs.inner.Walk.{ToAdd}
 use Rattle.protox_locate.proofs.options.add_statements.Given as goal
 
 abbrev pub invariant-loop-statement : goal.invariant-loop-statement

@@ -1,9 +1,9 @@
 use Rattle.std.proofs.Common.{◌≤◌, ◌+◌, length, map, drop}
 use Rattle.protox_descriptor.specs.declared.tag.TheConstants.{UNINTERPRETED_OPTION}
-use Rattle.protox_locate.specs.Bounds.{body_reach, greatest}
+use Rattle.protox_locate.specs.inner.Bounds.{body_reach, greatest}
 use Rattle.protox_places.specs.Lines.{numbers_at}
 use Rattle.protox_locate.specs.LocationWords.{option_body}
-use Rattle.protox_locate.specs.Walk.{ToCome}
+use Rattle.protox_locate.specs.inner.Walk.{ToCome}
 use Rattle.protox_locate.proofs.options.number_bodies.Given as goal
 
 abbrev pub invariant-loop-body : goal.invariant-loop-body

@@ -1,9 +1,9 @@
 use Rattle.std.proofs.Common.{◌≤◌, ◌+◌, length, map, drop}
 use Rattle.protox_descriptor.specs.declared.tag.TheConstants.{UNINTERPRETED_OPTION}
-use Rattle.protox_locate.specs.Bounds.{options_reach}
+use Rattle.protox_locate.specs.inner.Bounds.{options_reach}
 use Rattle.protox_places.specs.Lines.{numbers_at}
 use Rattle.protox_locate.specs.LocationWords.{option_statement}
-use Rattle.protox_locate.specs.Walk.{ToCome}
+use Rattle.protox_locate.specs.inner.Walk.{ToCome}
 use Rattle.protox_locate.proofs.options.number_statements.Given as goal
 
 abbrev pub invariant-loop-statement : goal.invariant-loop-statement

@@ -1,9 +1,9 @@
 use Rattle.std.proofs.Common.{◌≤◌, map, drop}
 use Rattle.protox_descriptor.specs.declared.tag.message.TheConstants.{EXTENSION_RANGE}
-use Rattle.protox_locate.specs.Bounds.{extensions_reach, greatest}
+use Rattle.protox_locate.specs.inner.Bounds.{extensions_reach, greatest}
 use Rattle.protox_places.specs.Lines.{numbers_at}
 use Rattle.protox_locate.specs.LocationWords.{extensions_statement}
-use Rattle.protox_locate.specs.Walk.{ToAdd}
+use Rattle.protox_locate.specs.inner.Walk.{ToAdd}
 use Rattle.protox_locate.proofs.ranges.add_extensions.Given as goal
 
 abbrev pub invariant-loop-statement : goal.invariant-loop-statement

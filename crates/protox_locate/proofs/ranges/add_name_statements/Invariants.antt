@@ -1,9 +1,9 @@
 use Rattle.std.proofs.Common.{◌≤◌, map, flat_map, drop}
 use Rattle.protox_ast.specs.declared.ast.Reserved.{Reserved}
-use Rattle.protox_locate.specs.Bounds.{greatest, reserved_reach}
+use Rattle.protox_locate.specs.inner.Bounds.{greatest, reserved_reach}
 use Rattle.protox_places.specs.Lines.{numbers_at}
 use Rattle.protox_locate.specs.LocationWords.{name_statement}
-use Rattle.protox_locate.specs.Walk.{ToAdd}
+use Rattle.protox_locate.specs.inner.Walk.{ToAdd}
 use Rattle.protox_locate.proofs.ranges.add_name_statements.Given as goal
 
 abbrev pub invariant-loop-statement : goal.invariant-loop-statement

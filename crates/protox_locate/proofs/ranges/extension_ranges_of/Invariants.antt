@@ -1,9 +1,9 @@
 use Rattle.std.proofs.Common.{◌≤◌, ◌+◌, length, map, drop}
 use Rattle.protox_descriptor.specs.declared.tag.message.TheConstants.{EXTENSION_RANGE}
-use Rattle.protox_locate.specs.Bounds.{greatest, range_reach}
+use Rattle.protox_locate.specs.inner.Bounds.{greatest, range_reach}
 use Rattle.protox_places.specs.Lines.{numbers_at}
 use Rattle.protox_locate.specs.LocationWords.{extension_range}
-use Rattle.protox_locate.specs.Walk.{ToCome}
+use Rattle.protox_locate.specs.inner.Walk.{ToCome}
 use Rattle.protox_locate.proofs.ranges.extension_ranges_of.Given as goal
 
 abbrev pub invariant-loop-range : goal.invariant-loop-range

@@ -1,8 +1,8 @@
 use Rattle.std.proofs.Common.{◌≤◌, ◌+◌, length, map, drop}
-use Rattle.protox_locate.specs.Bounds.{greatest, name_reach}
+use Rattle.protox_locate.specs.inner.Bounds.{greatest, name_reach}
 use Rattle.protox_places.specs.Lines.{numbers_at}
 use Rattle.protox_locate.specs.LocationWords.{reserved_name}
-use Rattle.protox_locate.specs.Walk.{ToCome}
+use Rattle.protox_locate.specs.inner.Walk.{ToCome}
 use Rattle.protox_locate.proofs.ranges.names_in.Given as goal
 
 abbrev pub invariant-loop-name : goal.invariant-loop-name

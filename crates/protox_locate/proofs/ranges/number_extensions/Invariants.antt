@@ -1,10 +1,10 @@
 use Rattle.std.proofs.Common.{◌≤◌, ◌+◌, map, flat_map, drop}
 use Rattle.protox_ast.specs.declared.ast.Extensions.{Extensions}
 use Rattle.protox_descriptor.specs.declared.tag.message.TheConstants.{EXTENSION_RANGE}
-use Rattle.protox_locate.specs.Bounds.{extensions_reach, extensions_weight, greatest, total}
+use Rattle.protox_locate.specs.inner.Bounds.{extensions_reach, extensions_weight, greatest, total}
 use Rattle.protox_places.specs.Lines.{numbers_at}
 use Rattle.protox_locate.specs.LocationWords.{extension_range}
-use Rattle.protox_locate.specs.Walk.{ToCome}
+use Rattle.protox_locate.specs.inner.Walk.{ToCome}
 use Rattle.protox_locate.proofs.ranges.number_extensions.Given as goal
 
 abbrev pub invariant-loop-statement : goal.invariant-loop-statement

@@ -1,10 +1,10 @@
 use Rattle.std.proofs.Common.{◌≤◌, ◌+◌, map, flat_map, drop}
 use Rattle.protox_ast.specs.declared.ast.Reserved.{Reserved}
 use Rattle.protox_ast.specs.Ranges.{kind_names}
-use Rattle.protox_locate.specs.Bounds.{greatest, reserved_reach, reserved_weight, total}
+use Rattle.protox_locate.specs.inner.Bounds.{greatest, reserved_reach, reserved_weight, total}
 use Rattle.protox_places.specs.Lines.{numbers_at}
 use Rattle.protox_locate.specs.LocationWords.{reserved_name}
-use Rattle.protox_locate.specs.Walk.{ToCome}
+use Rattle.protox_locate.specs.inner.Walk.{ToCome}
 use Rattle.protox_locate.proofs.ranges.number_names.Given as goal
 
 abbrev pub invariant-loop-statement : goal.invariant-loop-statement

@@ -1,10 +1,10 @@
 use Rattle.std.proofs.Common.{◌≤◌, ◌+◌, map, flat_map, drop}
 use Rattle.protox_ast.specs.declared.ast.Reserved.{Reserved}
 use Rattle.protox_ast.specs.Ranges.{kind_ranges}
-use Rattle.protox_locate.specs.Bounds.{greatest, reserved_reach, reserved_weight, total}
+use Rattle.protox_locate.specs.inner.Bounds.{greatest, reserved_reach, reserved_weight, total}
 use Rattle.protox_places.specs.Lines.{numbers_at}
 use Rattle.protox_locate.specs.LocationWords.{range_locations}
-use Rattle.protox_locate.specs.Walk.{ToCome}
+use Rattle.protox_locate.specs.inner.Walk.{ToCome}
 use Rattle.protox_locate.proofs.ranges.number_ranges.Given as goal
 
 abbrev pub invariant-loop-statement : goal.invariant-loop-statement

@@ -1,9 +1,9 @@
 use Rattle.std.proofs.Common.{◌≤◌, ◌+◌, map, drop}
 use Rattle.protox_descriptor.specs.declared.tag.service.TheConstants.{METHOD}
-use Rattle.protox_locate.specs.Bounds.{greatest, method_reach, method_weight, total}
+use Rattle.protox_locate.specs.inner.Bounds.{greatest, method_reach, method_weight, total}
 use Rattle.protox_places.specs.Lines.{numbers_at}
 use Rattle.protox_locate.specs.ServiceLocations.{method_locations}
-use Rattle.protox_locate.specs.Walk.{ToCome}
+use Rattle.protox_locate.specs.inner.Walk.{ToCome}
 use Rattle.protox_locate.proofs.services.locate_methods.Given as goal
 
 abbrev pub invariant-loop-method : goal.invariant-loop-method

@@ -3,8 +3,8 @@ use Rattle.protox_grammar.specs.Class.{only, in_set}
 use Rattle.protox_grammar.specs.Reader.{star, gathered}
 use Rattle.protox_grammar.specs.Token as token
 use Rattle.protox_grammar.proofs.Telling.{star_notes}
-use Rattle.protox_rows.specs.Reads.{push}
-use Rattle.protox_options.specs.Options.{more_body, bodies}
+use Rattle.protox_rows.specs.inner.Reads.{push}
+use Rattle.protox_options.specs.inner.Options.{more_body, bodies}
 use Rattle.protox_options.proofs.options.bodies.Given as goal
 
 abbrev pub invariant-more : goal.invariant-more

@@ -1,5 +1,5 @@
 use Rattle.std.proofs.Common.{◌≡◌, ◌+◌, ◌≤◌, length}
-use Rattle.protox_options.specs.Options.{inside}
+use Rattle.protox_options.specs.inner.Options.{inside}
 use Rattle.protox_options.proofs.Aggregates.{left_inside}
 use Rattle.protox_options.proofs.values.inside.Given as goal
 

@@ -4,7 +4,7 @@ use Rattle.std.specs.Int.{w32}
 use Rattle.std.specs.Option.{option_copied}
 use Rattle.protox_ast.specs.Basics.{Each}
 use Rattle.protox_places.specs.Innermost.{Holds, IsInnermost}
-use Rattle.protox_places.specs.Nearer.{best_of}
+use Rattle.protox_places.specs.inner.Nearer.{best_of}
 use Rattle.protox_places.proofs.Nearest.{innermost_of, none_of}
 use Rattle.protox_places.proofs.at.declaration_at.Goals as goal
 

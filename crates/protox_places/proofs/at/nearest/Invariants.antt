@@ -1,6 +1,6 @@
 use Rattle.std.proofs.Common.{◌≡◌, None, drop}
 use Rattle.std.specs.Option.{option_copied}
-use Rattle.protox_places.specs.Nearer.{best_of}
+use Rattle.protox_places.specs.inner.Nearer.{best_of}
 use Rattle.protox_places.proofs.at.nearest.Given as goal
 
 abbrev pub invariant-loop-location : goal.invariant-loop-location

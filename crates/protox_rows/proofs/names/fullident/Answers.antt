@@ -3,8 +3,8 @@ use Rattle.std.proofs.lemmas.List.{length-append}
 use Rattle.std.proofs.lemmas.Result.{err_from_is_err_and}
 use Rattle.protox_grammar.specs.Class.{only, in_set}
 use Rattle.protox_grammar.specs.Token as token
-use Rattle.protox_rows.specs.Names.{more_part, fullident}
-use Rattle.protox_rows.specs.Reads.{push}
+use Rattle.protox_rows.specs.inner.Names.{more_part, fullident}
+use Rattle.protox_rows.specs.inner.Reads.{push}
 use Rattle.protox_rows.proofs.Same.{more_part-eats}
 use Rattle.protox_rows.proofs.Turns as turns
 use Rattle.protox_rows.proofs.names.fullident.Goals as goal

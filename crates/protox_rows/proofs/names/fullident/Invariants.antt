@@ -2,8 +2,8 @@ use Rattle.std.proofs.Common.{◌≡◌, ◌<◌, length}
 use Rattle.protox_grammar.specs.Reader.{star, gathered}
 use Rattle.protox_grammar.specs.Class.{only, in_set}
 use Rattle.protox_grammar.specs.Token as token
-use Rattle.protox_rows.specs.Names.{more_part, fullident}
-use Rattle.protox_rows.specs.Reads.{push}
+use Rattle.protox_rows.specs.inner.Names.{more_part, fullident}
+use Rattle.protox_rows.specs.inner.Reads.{push}
 use Rattle.protox_rows.proofs.names.fullident.Given as goal
 
 abbrev pub invariant-more : goal.invariant-more

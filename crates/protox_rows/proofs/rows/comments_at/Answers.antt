@@ -1,6 +1,6 @@
 use Rattle.std.proofs.Common.{◌≡◌, [], sym, ap, subst, ◌∙◌, IfOk}
 use Rattle.std.specs.Prelude.{option_map}
-use Rattle.protox_comments.specs.Attributing.{attribution_of}
+use Rattle.protox_comments.specs.inner.Attributing.{attribution_of}
 use Rattle.protox_lexeme.specs.Gaps.{attribution}
 use Rattle.protox_lex.specs.TableView.{shapes_of_lent}
 use Rattle.protox_rows.specs.Rows.{shape_of_row}

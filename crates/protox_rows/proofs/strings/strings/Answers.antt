@@ -2,7 +2,7 @@ use Rattle.std.proofs.Common.{sym, ◌∙◌}
 use Rattle.std.proofs.lemmas.Result.{err_from_is_err_and}
 use Rattle.protox_grammar.specs.Class.{only, in_set}
 use Rattle.protox_grammar.specs.Token as token
-use Rattle.protox_rows.specs.Strings.{more_string, string, strings}
+use Rattle.protox_rows.specs.inner.Strings.{more_string, string, strings}
 use Rattle.protox_rows.proofs.Same.{string-eats}
 use Rattle.protox_rows.proofs.Turns as turns
 use Rattle.protox_rows.proofs.strings.strings.Goals as goal

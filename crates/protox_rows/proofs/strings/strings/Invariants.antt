@@ -2,7 +2,7 @@ use Rattle.std.proofs.Common.{◌≡◌, length}
 use Rattle.protox_grammar.specs.Class.{only, in_set}
 use Rattle.protox_grammar.specs.Reader.{star, gathered}
 use Rattle.protox_grammar.specs.Token as token
-use Rattle.protox_rows.specs.Strings.{more_string, string, strings}
+use Rattle.protox_rows.specs.inner.Strings.{more_string, string, strings}
 use Rattle.protox_rows.proofs.strings.strings.Given as goal
 
 abbrev pub invariant-more : goal.invariant-more

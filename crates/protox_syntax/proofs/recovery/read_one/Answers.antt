@@ -1,10 +1,10 @@
 use Rattle.std.proofs.Common.{◌-◌, ◌++◌, length, sym, ap, subst, ◌∙◌, append_assoc, arith}
-use Rattle.protox_syntax.specs.Recovery.{AreLast, LiesToo}
-use Rattle.protox_syntax.specs.Statements as rule
-use Rattle.protox_syntax.specs.Leading.{Leads}
+use Rattle.protox_syntax.specs.inner.Recovery.{AreLast, LiesToo}
+use Rattle.protox_syntax.specs.inner.Statements as rule
+use Rattle.protox_syntax.specs.inner.Leading.{Leads}
 use Rattle.protox_syntax.proofs.Leading.{leads-behind, leads-more}
 use Rattle.protox_syntax.proofs.Recovering.{first-stays, last-behind, next-fewer, next-last, refused-later, statement-later}
-use Rattle.protox_syntax.proofs.Refusing.{added-behind, begun-lie, begun-notable, some-length}
+use Rattle.protox_syntax.proofs.Refusing.{added-behind, at_refusal-lie, at_refusal-notable, some-length}
 use Rattle.protox_syntax.proofs.Turns.{statement-eats}
 use Rattle.protox_syntax.proofs.recovery.read_one.Goals as goal
 
@@ -27,7 +27,7 @@ returns-in_ok-add_refused-in-Err-clause-added c =
     let is = added-behind c.args.table.now.rows c.in-Err.refused c.args.notes.now.items noted c.statement.new.notes.items b.0 b.2 c.in-Err.ensures.notes in (
       noted ++ b.0,
       b.1 ∙ ap (λ v. v ++ b.0) is ∙ append_assoc c.args.notes.now.items noted b.0,
-      refused-later c.args.table.now c.args.first.now c.args.rows.now b.0 c.requires.rows (begun-notable c.args.table.now c.in-Err.refused b.0 b.2) (begun-lie c.args.table.now c.in-Err.refused b.0 b.2),
+      refused-later c.args.table.now c.args.first.now c.args.rows.now b.0 c.requires.rows (at_refusal-notable c.args.table.now c.in-Err.refused b.0 b.2) (at_refusal-lie c.args.table.now c.in-Err.refused b.0 b.2),
     )
 
 pub returns-in_ok-add_refused-in-Err-clause-left : goal.returns-in_ok-add_refused-in-Err-clause-left

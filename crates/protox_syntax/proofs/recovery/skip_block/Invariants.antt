@@ -1,5 +1,5 @@
 use Rattle.std.proofs.Common.{◌≡◌, ◌≤◌, ◌+◌, length}
-use Rattle.protox_syntax.specs.Recovery.{behind_block}
+use Rattle.protox_syntax.specs.inner.Recovery.{behind_block}
 use Rattle.protox_syntax.proofs.recovery.skip_block.Given as goal
 
 abbrev pub invariant-rows : goal.invariant-rows

@@ -1,5 +1,5 @@
 use Rattle.std.proofs.Common.{◌≡◌, length}
-use Rattle.protox_syntax.specs.Recovery.{from_statement}
+use Rattle.protox_syntax.specs.inner.Recovery.{from_statement}
 use Rattle.protox_syntax.proofs.recovery.skip_to_statement.Given as goal
 
 abbrev pub invariant-rows : goal.invariant-rows

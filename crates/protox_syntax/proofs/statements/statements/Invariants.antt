@@ -2,9 +2,9 @@ use Rattle.std.proofs.Common.{◌≡◌, ◌++◌, None, length}
 use Rattle.protox_grammar.specs.Class.{all, in_set}
 use Rattle.protox_grammar.specs.Reader.{star, gathered}
 use Rattle.protox_lexeme.specs.Table.{Table}
-use Rattle.protox_syntax.specs.Leading.{Leads}
-use Rattle.protox_syntax.specs.Recovery.{FirstLies}
-use Rattle.protox_syntax.specs.Statements as rule
+use Rattle.protox_syntax.specs.inner.Leading.{Leads}
+use Rattle.protox_syntax.specs.inner.Recovery.{FirstLies}
+use Rattle.protox_syntax.specs.inner.Statements as rule
 use Rattle.protox_syntax.proofs.Recovering.{IsLastOf}
 use Rattle.protox_syntax.proofs.statements.statements.Given as goal
 

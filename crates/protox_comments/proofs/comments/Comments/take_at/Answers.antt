@@ -1,6 +1,6 @@
 use Rattle.std.proofs.Common.{◌+◌, ◌∷◌, drop, map, ap, sym, ◌∙◌}
 use Rattle.std.specs.Cow.{cow_str_bytes}
-use Rattle.protox_comments.specs.Attributing.{outcome}
+use Rattle.protox_comments.specs.inner.Attributing.{outcome}
 use Rattle.protox_comments.specs.CommentState.{with_line, with_block}
 use Rattle.protox_lexeme.specs.Tokens.{shape_of}
 use Rattle.protox_comments.proofs.Attributing.{shapes_at, line_turn, block_turn, flush_turn, no_other, gap_at}

@@ -1,5 +1,5 @@
 use Rattle.std.proofs.Common.{◌≡◌, ◌≤◌, ◌-◌, length, drop, map, Option}
-use Rattle.protox_comments.specs.Attributing.{outcome}
+use Rattle.protox_comments.specs.inner.Attributing.{outcome}
 use Rattle.protox_lexeme.specs.Shapes.{Shape}
 use Rattle.protox_lexeme.specs.Tokens.{shape_of}
 use Rattle.protox_comments.proofs.comments.Comments.take_from.Given as goal

@@ -1,5 +1,5 @@
--- Machinery: how an `Items` stores its elements, so that a type may hold itself through one.
--- A value of it is the list of its elements, in order; below the model lies one `Vec` of them.
+-- How an `Items` stores its elements, so that a type may hold itself through one. Its
+-- value is the list of its elements in order. In memory it is one `Vec` of them.
 use mathlib.Core.Path.{◌≡◌, refl, sym}
 use mathlib.Core.List.{List, []}
 use mathlib.Core.Former.{Former, this, list, via, children}
@@ -20,26 +20,27 @@ use Rattle.protox_descriptor.specs.declared.values.items.Items.TheView.{view, in
 use Rattle.protox_descriptor.specs.contracts.values.items.Items as contract
 use Rattle.protox_descriptor.specs.contracts.values.items.Items.TheInside as layout
 
--- its value at g's values: a list of them
+-- The value for elements of type g: a list of them.
 abbrev pub the_former : Former {0} → Former {0}
 the_former g = list g
 
--- the largest measure among the elements
+-- The largest measure of an element.
 abbrev pub the_weighed : {g : Former {0}} → Weighed g → Weighed (the_former g)
 the_weighed w = w_list w
 
--- the list with no element, whatever the type
+-- The empty list, whatever the type.
 pub the_empty : List ⊥
 the_empty = []
 
--- the elements, which are the value
+-- The elements, which are the value itself.
 abbrev pub the_items : (X : Type 0) → List X → List X
 the_items X elements = elements
 
+-- The parts of the value are its elements, each once and in order.
 pub the_items_listed : (X : Type 0) (elements : List X) → listed _ (children (the_former this) X elements) ≡ the_items X elements
 the_items_listed X elements = list-listed X elements
 
--- the record of the one private field
+-- The struct with its one private field.
 abbrev record_of : Former {0}
 record_of = via (vector.the_former this Global) Inside (λ X fields. fields.elements) (λ X elements. record { elements = elements }) (λ X fields. refl) (λ X elements. refl)
 

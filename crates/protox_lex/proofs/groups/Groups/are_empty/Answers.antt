@@ -2,7 +2,7 @@ use Rattle.std.proofs.Common.{◌≡◌, [], ◌∷◌, length, get_or, eqb, sym
 use Rattle.std.specs.List.{All}
 use Rattle.std.specs.Prelude.{◌↔◌, IsTrue}
 use Rattle.std.proofs.lemmas.Bool.{eqb-true}
-use Rattle.protox_lex.specs.Grouping.{last_end}
+use Rattle.protox_lex.specs.inner.Grouping.{last_end}
 use Rattle.protox_lex.proofs.Splitting.{start_is_end, all_empty, last_of_empty}
 use Rattle.protox_lex.proofs.groups.Groups.are_empty.Goals as goal
 

@@ -2,14 +2,14 @@ use Rattle.std.proofs.Common.{◌≡◌, ◌+◌, ◌++◌, ◌∷◌, [], List,
 use Rattle.protox_fault.specs.Faults.{span_from}
 use Rattle.protox_lexeme.specs.Shapes.{Mark}
 use Rattle.protox_lex.specs.declared.row_list.NumberedRow.{NumberedRow}
-use Rattle.protox_lex.specs.Sharing.{shape_at, len_at, len_by, rows_seen, and_row, IsKept, AreShared}
+use Rattle.protox_lex.specs.inner.Sharing.{shape_at, len_at, len_by, rows_seen, and_row, IsKept, AreShared}
 use Rattle.protox_lex.proofs.Sharing.{mark_push, shared_known}
 use Rattle.protox_lex.proofs.shared_rows.SharedRows.push_mark.Goals as goal
 
 pub known_mark-requires-clause-kept : goal.known_mark-requires-clause-kept
 known_mark-requires-clause-kept c = rw (c.deref.ensures.value, c.deref-2.ensures.value) c.self.invariant.marks_are
 
--- the row is of a token that is kept
+-- The row has a token that is kept.
 pub invariant_of-self : goal.invariant_of-self
 invariant_of-self c =
     let tokens = c.self.inside.tokens.items in
@@ -27,7 +27,7 @@ invariant_of-self c =
     by_result (Ok x) P old new row ok err more same = subst P (sym ok) more
     by_result (Err x) P old new row ok err more same = subst P (sym err) same
 
--- a mark that is kept is one row more
+-- A mark that is kept adds one row.
 pub returns-in-Some : goal.returns-in-Some
 returns-in-Some c =
     let tokens = c.self.inside.tokens.items in

@@ -1,0 +1,4 @@
+pub mod HeldComments
+pub mod CheckWalk
+pub mod Fine
+pub mod AggregateWalk

@@ -1,0 +1,5 @@
+pub mod HeldComments
+pub mod HeldField
+pub mod HeldNumbers
+pub mod HeldText
+pub mod SameFields

@@ -1,0 +1,62 @@
+//! The parser for callers in C and in each language that calls C. `examples/ffi/protox.h` declares
+//! the calls, and says what a caller owes.
+#![tactic(auto)]
+
+ghost use Rattle.std.specs.Prelude.{◌≡◌};
+ghost use Rattle.protox_ffi.specs.Answers.{Answered};
+ghost use Rattle.protox_ffi.specs.Outcomes.{HasNoDescriptor, HasNoReport, IsDescriptor, IsReport};
+
+mod found;
+mod outcome;
+
+use found::{descriptor, report};
+use outcome::{deliver, status};
+use std::alloc::Global;
+
+/// The version of the calls and of what they write.
+#[unsafe(no_mangle)]
+pub extern "C" fn protox_version() -> u32
+    ensures { result ≡ 1 }
+{
+    1
+}
+
+/// Writes the bytes of a source's descriptor to `out`, and how many there are to `out_len`.
+#[unsafe(no_mangle)]
+pub extern "C" fn protox_parse_to_descriptor(
+    alloc: Global,
+    name: &[u8],
+    source: &[u8],
+    out: &mut [u8],
+    out_len: &mut usize,
+) -> u32
+    ensures { Answered (IsDescriptor name.now source.now) (HasNoDescriptor name.now source.now) 0 out.old out.new out_len.new result }
+{
+    match descriptor(alloc, name, source) {
+        Ok(bytes) => deliver(bytes.as_slice(), 0, out, out_len),
+        Err(reason) => {
+            *out_len = 0;
+            status(reason)
+        }
+    }
+}
+
+/// Writes the records of a source's faults to `out`, and how many bytes they take to `out_len`.
+#[unsafe(no_mangle)]
+pub extern "C" fn protox_report(
+    alloc: Global,
+    name: &[u8],
+    source: &[u8],
+    out: &mut [u8],
+    out_len: &mut usize,
+) -> u32
+    ensures { Answered (IsReport name.now source.now) (HasNoReport name.now source.now) 1 out.old out.new out_len.new result }
+{
+    match report(alloc, name, source) {
+        Ok(bytes) => deliver(bytes.as_slice(), 1, out, out_len),
+        Err(reason) => {
+            *out_len = 0;
+            status(reason)
+        }
+    }
+}

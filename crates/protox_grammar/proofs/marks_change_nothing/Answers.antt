@@ -1,8 +1,0 @@
-use Rattle.protox_grammar.proofs.MarkLaws as laws
-use Rattle.protox_grammar.proofs.marks_change_nothing.Goals as goal
-
-pub returns-clause-outcome : goal.returns-clause-outcome
-returns-clause-outcome g c = laws.same_outcome
-
-pub returns-clause-steps : goal.returns-clause-steps
-returns-clause-steps g c = laws.same_steps

@@ -1,0 +1,3 @@
+pub mod Sharing
+pub mod RowList
+pub mod Grouping

@@ -1,0 +1,3 @@
+pub mod WordSlot
+pub mod Nesting
+pub mod Kept

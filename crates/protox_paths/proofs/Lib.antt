@@ -1,0 +1,3 @@
+pub mod Lists
+pub mod Under
+pub mod Folders

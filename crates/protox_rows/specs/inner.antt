@@ -1,0 +1,5 @@
+pub mod Names
+pub mod Strings
+pub mod Reads
+pub mod Outcome
+pub mod Notes

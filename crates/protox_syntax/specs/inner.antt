@@ -1,0 +1,6 @@
+pub mod Statements
+pub mod Whole
+pub mod Merge
+pub mod Recovery
+pub mod Leading
+pub mod ParsedTable

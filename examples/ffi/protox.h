@@ -1,0 +1,149 @@
+/*
+ * protox.h: a parser of Protocol Buffers source files (proto2 and proto3), as a C library.
+ *
+ * There are three calls. `protox_parse_to_descriptor` makes of a file's name and text the bytes of
+ * its FileDescriptorProto, with SourceCodeInfo: paths, spans and comments. `protox_report` says
+ * all that is wrong with a file, with places. `protox_version` numbers these calls and what they
+ * write.
+ *
+ * Link with libprotox_ffi.a, and behind it liblibc_c.a of the kit, which it takes memory from:
+ *
+ *     cc check.c libprotox_ffi.a liblibc_c.a -o check
+ *
+ * OWNERSHIP. The library keeps nothing: no pointer that you pass is held after the call, and no
+ * memory that it took is left. It writes to `out` and `*out_len` alone. So there is nothing to
+ * free.
+ *
+ * LENGTHS are in bytes. Texts need no NUL at their end, and may hold NULs. No pointer may be null,
+ * also where its length is 0. `out` and `out_len` may not lie within the texts or one another.
+ *
+ * ROOM. You give the buffer. Where it is too short the status is PROTOX_TOO_SHORT, `*out_len` is
+ * the room that is needed, and nothing was written to `out`. The next call parses again, so give
+ * room enough at first: 8 bytes for each byte of the source and 64 KiB more serve nearly every
+ * file, as memory that is never written to costs little. Reports need less.
+ *
+ * THREADS. The library has no state. Any number of threads may call at once, each with its own
+ * `out` and `out_len`. Memory comes from malloc, realloc and free, which must be of one allocator;
+ * when it runs out that is a status. Don't call from a signal handler.
+ *
+ * A SOURCE THAT YOU DON'T TRUST may be any bytes. A byte of it costs up to some 1,100 bytes of
+ * memory while it is parsed, so bound its length.
+ *
+ * VERSIONS. PROTOX_VERSION changes when a call, a status, a kind or a record does. A program that
+ * loads the library at run time compares it with protox_version(). Numbers of kinds and statuses
+ * keep their meaning, and new ones may come.
+ */
+#ifndef PROTOX_H
+#define PROTOX_H
+
+#include <stddef.h>
+#include <stdint.h>
+
+#ifdef __cplusplus
+extern "C" {
+#endif
+
+#define PROTOX_VERSION 1
+
+/* What a call answers. protox_parse_to_descriptor writes to `out` where it answers PROTOX_ACCEPTED,
+ * and protox_report where it answers PROTOX_REFUSED; else `out` stays as it was. */
+enum protox_status {
+    PROTOX_ACCEPTED = 0,      /* nothing is wrong with the source */
+    PROTOX_REFUSED = 1,       /* something is; protox_report says what */
+    PROTOX_OUT_OF_MEMORY = 2, /* memory ran out; nothing is said of the source */
+    PROTOX_TOO_SHORT = 3,     /* `out` is too short; *out_len is the room that is needed */
+    PROTOX_NOT_UTF8 = 4,      /* the name or the source is not UTF-8 */
+    PROTOX_TOO_LARGE = 5,     /* what is to be written takes 2 GiB or more */
+    PROTOX_NOT_A_FLOAT = 6    /* an option's value is no float; no file is known that has this */
+};
+
+/* PROTOX_VERSION of the library. */
+uint32_t protox_version(void);
+
+/*
+ * Writes the bytes of the file's FileDescriptorProto to `out`, and how many there are to
+ * `*out_len`. Names and options stay unresolved, as protobuf's own parser leaves them.
+ *
+ * PROTOX_ACCEPTED: `out` holds the descriptor. PROTOX_TOO_SHORT: call again with more room. Any
+ * other status: there is no descriptor, and `*out_len` is 0.
+ */
+uint32_t protox_parse_to_descriptor(const uint8_t *name, size_t name_len,
+                                    const uint8_t *source, size_t source_len,
+                                    uint8_t *out, size_t out_capacity, size_t *out_len);
+
+/*
+ * Writes a record for each fault of the source to `out`, and how many bytes they take to
+ * `*out_len`.
+ *
+ * PROTOX_REFUSED: `out` holds records, one at least. PROTOX_ACCEPTED: there is no fault, and
+ * `*out_len` is 0. PROTOX_TOO_SHORT: call again with more room. Any other status: `*out_len` is 0.
+ *
+ * Records stand one behind the other to the end. A number takes four bytes, the lowest first,
+ * without a sign. A text is the number of its bytes and then its bytes, in UTF-8, without a NUL at
+ * its end.
+ *
+ *     number  kind        enum protox_kind
+ *     number  start       where the fault is: the offset in bytes of its first byte
+ *     number  end         and of the one past its last
+ *     number  line        of its start, from 0
+ *     number  column      of its start, from 0, in bytes
+ *     text    message     what is wrong
+ *     text    label       what to write at the place; empty where there is nothing to write
+ *     text    help        what may help; empty where there is nothing to say
+ *     number  places      how many second places follow: 0 or 1
+ *       number  start, end, line, column
+ *       text    label
+ *
+ * Faults come in the order in which they were found, the first as the parser stopped or refused. A
+ * fault at the end of the source stands there, with an empty place; PROTOX_FILE_TOO_LARGE has no
+ * place, and four zeros. Don't rely on the words of a message.
+ */
+uint32_t protox_report(const uint8_t *name, size_t name_len,
+                       const uint8_t *source, size_t source_len,
+                       uint8_t *out, size_t out_capacity, size_t *out_len);
+
+/* The kinds of faults. */
+enum protox_kind {
+    PROTOX_INVALID_TOKEN = 1,                     /* no token begins with this character */
+    PROTOX_INTEGER_OUT_OF_RANGE = 2,              /* an integer above 2^64 - 1 */
+    PROTOX_INVALID_STRING_CHARACTERS = 3,         /* characters that no string may hold */
+    PROTOX_UNTERMINATED_STRING = 4,               /* a line ends within a string */
+    PROTOX_INVALID_STRING_ESCAPE = 5,             /* a backslash that begins no escape */
+    PROTOX_INVALID_UTF8_STRING = 6,               /* a string that has to be text is not UTF-8 */
+    PROTOX_NESTED_BLOCK_COMMENT = 7,              /* a block comment opens within another */
+    PROTOX_UNKNOWN_SYNTAX = 8,                    /* neither proto2 nor proto3 */
+    PROTOX_INVALID_IDENTIFIER = 9,                /* a reserved name is no identifier */
+    PROTOX_INVALID_GROUP_NAME = 10,               /* a group's name begins with no capital */
+    PROTOX_INVALID_IMPORT = 11,                   /* an import's path has a part such as `..` */
+    PROTOX_DUPLICATE_PACKAGE = 12,                /* a second package; it has a second place */
+    PROTOX_NO_SPACE_BETWEEN_INT_AND_IDENT = 13,   /* a letter follows an integer at once */
+    PROTOX_HASH_COMMENT_OUTSIDE_TEXT_FORMAT = 14, /* a `#` comment outside an aggregate */
+    PROTOX_FLOAT_SUFFIX_OUTSIDE_TEXT_FORMAT = 15, /* a float ends in `f` outside an aggregate */
+    PROTOX_UNEXPECTED_TOKEN = 16,                 /* another token was expected */
+    PROTOX_UNEXPECTED_EOF = 17,                   /* more was expected at the end */
+    PROTOX_NEGATIVE_IDENT_OUTSIDE_DEFAULT = 18,   /* a negated identifier */
+    PROTOX_INVALID_MESSAGE_NUMBER = 19,           /* a field number outside 1 to 536870911 */
+    PROTOX_INVALID_ENUM_NUMBER = 20,              /* an enum number that 32 bits cannot hold */
+    PROTOX_INVALID_DEFAULT = 21,                  /* a default value on a field of this kind */
+    PROTOX_PROTO3_DEFAULT_VALUE = 22,             /* a default value in proto3 */
+    PROTOX_INVALID_EXTEND_FIELD_KIND = 23,        /* an extension of this kind */
+    PROTOX_REQUIRED_EXTEND_FIELD = 24,            /* a required extension */
+    PROTOX_MAP_FIELD_WITH_LABEL = 25,             /* a map field with a label */
+    PROTOX_ONEOF_FIELD_WITH_LABEL = 26,           /* a field of a oneof with a label */
+    PROTOX_PROTO2_FIELD_MISSING_LABEL = 27,       /* a field without a label in proto2 */
+    PROTOX_PROTO3_GROUP_FIELD = 28,               /* a group in proto3 */
+    PROTOX_PROTO3_REQUIRED_FIELD = 29,            /* a required field in proto3 */
+    PROTOX_INVALID_ONEOF_FIELD_KIND = 30,         /* a field of this kind in a oneof */
+    PROTOX_INVALID_MAP_FIELD_KEY_TYPE = 31,       /* a map key of this type */
+    PROTOX_VALUE_INVALID_TYPE = 32,               /* a value of another type than is asked for */
+    PROTOX_INTEGER_VALUE_OUT_OF_RANGE = 33,       /* an integer outside the range of its place */
+    PROTOX_EMPTY_ONEOF = 34,                      /* a oneof without a field */
+    PROTOX_MESSAGE_NESTING_TOO_DEEP = 35,         /* more than 31 levels of messages and groups */
+    PROTOX_FILE_TOO_LARGE = 36                    /* a source of more than 2,147,483,647 bytes */
+};
+
+#ifdef __cplusplus
+}
+#endif
+
+#endif

@@ -2,17 +2,21 @@
 """Runs the cases of crates/protocases by a build without proofs, and shows the lines that differ.
 
 usage: cases.py [NAME..]        at the top of the repository; a NAME is a line of args, as foo.proto
+       cases.py --calls         the same of crates/callcases: other calls, bytes, command lines
 
-It takes about a minute, most of it for the build. A case is a line of `stdout` that begins with `== `,
-and the lines below it. Of each case whose lines differ from those in `stdout` it shows the first that
-does. The large sources take too long in such a build: they are left to the gate. The last line is
+It takes less than a minute, most of it for the build. A case is a line of `stdout` that begins with
+`== `, and the lines below it. Of each case whose lines differ from those in `stdout` it shows the first
+that does. The large sources take too long in such a build: they are left to the gate. The last line is
 'N passed, M failed'.
 """
 import itertools
+import os
 import subprocess
 import sys
 
-FOLDER = 'crates/protocases'
+CALLS = '--calls' in sys.argv[1:]
+NAMES = [word for word in sys.argv[1:] if word != '--calls']
+FOLDER = 'crates/callcases' if CALLS else 'crates/protocases'
 LARGE = '--large'
 
 
@@ -35,10 +39,14 @@ def words_of(names):
     return [word for word in words if word != LARGE and (word.startswith('--') or not names or word in names)]
 
 
+def files_below(folder):
+    """The files of a folder and of those in it, by their paths from it."""
+    return sorted(os.path.relpath(f'{at}/{name}', folder) for at, _, names in os.walk(folder) for name in names)
+
+
 def run(words):
     """What the program prints, built without proofs."""
-    files = dict.fromkeys(f'--data={word}=data/{word}' for word in words if not word.startswith('--'))
-    flags = list(itertools.chain.from_iterable(flag.split('=', 1) for flag in files))
+    flags = list(itertools.chain.from_iterable(('--data', f'{name}=data/{name}') for name in files_below(f'{FOLDER}/data')))
     ran = subprocess.run(['rt', 'try', *flags, '--', *words], cwd=FOLDER, capture_output=True, text=True, check=False)
     if ran.returncode:
         sys.exit(f'{ran.stdout[-2000:]}{ran.stderr[-2000:]}\nthe program ended with status {ran.returncode}')
@@ -46,12 +54,12 @@ def run(words):
 
 
 def main():
-    words = words_of(sys.argv[1:])
+    words = words_of(NAMES)
     with open(f'{FOLDER}/stdout', encoding='utf-8') as file:
         wanted = cases_in(file.read())
     found = cases_in(run(words))
     passed = failed = 0
-    for name in found if sys.argv[1:] else dict.fromkeys(case for case in [*wanted, *found] if case != LARGE):
+    for name in found if NAMES else dict.fromkeys(case for case in [*wanted, *found] if case != LARGE):
         pairs = itertools.zip_longest(found.get(name, []), wanted.get(name, []), fillvalue='(no line)')
         differing = [pair for pair in pairs if pair[0] != pair[1] and pair != ('', '(no line)')]
         passed, failed = passed + (not differing), failed + bool(differing)

@@ -6,12 +6,6 @@ use protox_walk::declarations;
 use std::alloc::Global;
 use std::io::{self, Write};
 
-// A line and a column with a colon between them.
-fn place(text: &str) -> Option<(i32, i32)> {
-    let (line, column) = text.split_once(":")?;
-    Some((line.parse::<i32>().ok()?, column.parse::<i32>().ok()?))
-}
-
 pub fn under<W: Write>(
     alloc: Global,
     out: &mut W,
@@ -26,18 +20,17 @@ pub fn under<W: Write>(
         return writeln!(out, "nothing");
     };
     for declaration in &declarations(alloc, file)? {
-        if found
-            .path
-            .as_slice()
-            .starts_with(declaration.path.as_slice())
-        {
-            writeln!(
-                out,
-                "in {} {}",
-                declaration.part.kind(),
-                declaration.full_name
-            )?;
+        let path = declaration.path.as_slice();
+        if found.path.as_slice().starts_with(path) {
+            let (kind, name) = (declaration.part.kind(), &declaration.full_name);
+            writeln!(out, "in {kind} {name}")?;
         }
     }
     Ok(())
+}
+
+// A line and a column with a colon between them.
+fn place(text: &str) -> Option<(i32, i32)> {
+    let (line, column) = text.split_once(":")?;
+    Some((line.parse::<i32>().ok()?, column.parse::<i32>().ok()?))
 }

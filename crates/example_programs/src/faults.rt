@@ -2,13 +2,15 @@
 
 use protox_parse::ParseError;
 use protox_parse::error::{ParseErrorKind, Span};
-use protox_places::faults::first_place;
+use protox_parse::faults::first_place;
 use std::alloc::Global;
 use std::io::{self, Write};
 
-fn write_place<W: Write>(out: &mut W, error: &ParseError, span: &Span) -> io::Result<()> {
-    let (line, column) = error.line_column(span.start);
-    write!(out, "{}:{line}:{column}: ", error.file())
+pub fn faults<W: Write>(alloc: Global, out: &mut W, error: &ParseError) -> io::Result<()> {
+    for fault in error.errors() {
+        write_fault(alloc, out, error, fault)?;
+    }
+    Ok(())
 }
 
 fn write_fault<W: Write>(
@@ -34,9 +36,7 @@ fn write_fault<W: Write>(
     Ok(())
 }
 
-pub fn faults<W: Write>(alloc: Global, out: &mut W, error: &ParseError) -> io::Result<()> {
-    for fault in error.errors() {
-        write_fault(alloc, out, error, fault)?;
-    }
-    Ok(())
+fn write_place<W: Write>(out: &mut W, error: &ParseError, span: &Span) -> io::Result<()> {
+    let (line, column) = error.line_column(span.start);
+    write!(out, "{}:{line}:{column}: ", error.file())
 }

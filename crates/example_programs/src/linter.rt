@@ -10,14 +10,6 @@ use protox_walk::declarations;
 use std::alloc::Global;
 use std::io::{self, Write};
 
-fn is_customary(kind: &str, name: &str) -> bool {
-    match kind {
-        "field" | "extension" | "oneof" => name.bytes().all(|byte| !byte.is_ascii_uppercase()),
-        "value" => name.bytes().all(|byte| !byte.is_ascii_lowercase()),
-        _ => name.bytes().all(|byte| byte != b'_'),
-    }
-}
-
 pub fn lint<W: Write>(
     alloc: Global,
     out: &mut W,
@@ -37,4 +29,12 @@ pub fn lint<W: Write>(
         }
     }
     Ok(())
+}
+
+fn is_customary(kind: &str, name: &str) -> bool {
+    match kind {
+        "field" | "extension" | "oneof" => name.bytes().all(|byte| !byte.is_ascii_uppercase()),
+        "value" => name.bytes().all(|byte| !byte.is_ascii_lowercase()),
+        _ => name.bytes().all(|byte| byte != b'_'),
+    }
 }

@@ -8,16 +8,6 @@ use protox_walk::{Part, declarations};
 use std::alloc::Global;
 use std::io::{self, Write};
 
-fn write_type<W: Write>(out: &mut W, field: &FieldDescriptorProto) -> io::Result<()> {
-    if let Some(name) = &field.type_name {
-        write!(out, ": {name}")
-    } else if let Some(scalar) = field.field_type.and_then(FieldType::from_number) {
-        write!(out, ": {scalar}")
-    } else {
-        Ok(())
-    }
-}
-
 pub fn list<W: Write>(
     alloc: Global,
     out: &mut W,
@@ -39,4 +29,14 @@ pub fn list<W: Write>(
         writeln!(out, "")?;
     }
     Ok(())
+}
+
+fn write_type<W: Write>(out: &mut W, field: &FieldDescriptorProto) -> io::Result<()> {
+    if let Some(name) = &field.type_name {
+        write!(out, ": {name}")
+    } else if let Some(scalar) = field.field_type.and_then(FieldType::from_number) {
+        write!(out, ": {scalar}")
+    } else {
+        Ok(())
+    }
 }

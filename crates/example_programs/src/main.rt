@@ -2,8 +2,6 @@
 //! `todos`, `faults`, or a line and a column from 0 with a colon between them, of a cursor.
 #![tactic(auto)]
 
-ghost use Rattle.protox_places.specs.Order.{AreByPath};
-
 mod cursor;
 mod faults;
 mod linter;
@@ -11,31 +9,12 @@ mod listing;
 mod options;
 mod todos;
 
-use protox_parse::descriptor::{FileDescriptorProto, SourceCodeInfo};
 use protox_parse::{ParseFailure, parse};
 use std::alloc::Global;
 use std::io::{self, Write};
-use std::process::ExitCode;
 use std::{env, fs};
 
-// What is asked of an accepted file.
-fn answer<W: Write>(
-    alloc: Global,
-    out: &mut W,
-    what: &str,
-    file: &FileDescriptorProto,
-    info: &SourceCodeInfo,
-) -> io::Result<()>
-    requires { AreByPath info.now.location }
-{
-    match what {
-        "list" => listing::list(alloc, out, file, info),
-        "lint" => linter::lint(alloc, out, file, info),
-        "options" => options::options(alloc, out, file),
-        _ => cursor::under(alloc, out, file, info, what),
-    }
-}
-
+// Parses the source, and does what is asked.
 fn work<W: Write>(
     alloc: Global,
     out: &mut W,
@@ -46,40 +25,33 @@ fn work<W: Write>(
     if what == "todos" {
         return todos::todos(alloc, out, name, source);
     }
-    match parse(alloc, name, source) {
-        Ok(file) => match &file.source_code_info {
-            Some(info) => answer(alloc, out, what, &file, info),
-            None => Ok(()),
-        },
-        Err(ParseFailure::Refused(error)) => faults::faults(alloc, out, &error),
-        Err(ParseFailure::OutOfMemory) => writeln!(out, "out of memory"),
+    let file = match parse(alloc, name, source) {
+        Ok(file) => file,
+        Err(ParseFailure::Refused(error)) => return faults::faults(alloc, out, &error),
+        Err(ParseFailure::OutOfMemory) => return writeln!(out, "out of memory"),
+    };
+    let Some(info) = &file.source_code_info else {
+        return Ok(());
+    };
+    match what {
+        "list" => listing::list(alloc, out, &file, info),
+        "lint" => linter::lint(alloc, out, &file, info),
+        "options" => options::options(alloc, out, &file),
+        cursor => cursor::under(alloc, out, &file, info, cursor),
     }
 }
 
-fn start(rt: &HostRuntime) -> io::Result<u8> {
+fn main(rt: HostRuntime) -> io::Result<()> {
     let mut words = Vec::new(rt.alloc());
-    for word in env::args(rt)?.skip(1) {
+    for word in env::args(&rt)?.skip(1) {
         words.push(word)?;
     }
     for pair in words.chunks(2) {
-        let [what, name] = pair else {
-            return Ok(2);
-        };
-        let bytes = fs::read(rt, name.as_str())?;
-        let Ok(source) = str::from_utf8(&bytes) else {
-            return Ok(2);
-        };
-        work(
-            rt.alloc(),
-            &mut rt.stdout(),
-            what.as_str(),
-            name.as_str(),
-            source,
-        )?;
+        if let [what, name] = pair {
+            let source = fs::read_to_string(&rt, name.as_str())?;
+            let (what, name) = (what.as_str(), name.as_str());
+            work(rt.alloc(), &mut rt.stdout(), what, name, source.as_str())?;
+        }
     }
-    Ok(0)
-}
-
-fn main(rt: HostRuntime) -> ExitCode {
-    ExitCode::from(start(&rt).unwrap_or(2))
+    Ok(())
 }

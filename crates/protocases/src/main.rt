@@ -1,19 +1,16 @@
-//! `protocases [FILE..] [--lexemes FILE..] [--fronts FILE..] [--returns FILE..] [--large]
-//! [--calls]` prints what the parser answers for each file: its descriptor in text format, and a
-//! line for each location with its comments; or what is wrong with the file. A case is a file in
-//! `data/` and its lines in `stdout`. The words between the files change what is printed for the
-//! files behind them:
+//! `protocases [FILE..] [--lexemes FILE..] [--fronts FILE..] [--returns FILE..] [--large]` prints what
+//! the parser answers for each file: its descriptor in text format, and a line for each location
+//! with its comments; or what is wrong with the file. A case is a file in `data/` and its lines in
+//! `stdout`. The words between the files change what is printed for the files behind them:
 //!
 //! - `--lexemes`: the lexemes and faults that the lexer gives, and the rows, gaps, comments and
 //!   faults of the table
 //! - `--fronts`: whether each front of the file is accepted
 //! - `--returns`: whether the answer is the same when the lines end with `\r\n`
 //!
-//! `--large` prints the answers for sources that are deep or long. `--calls` prints what calls that
-//! take memory answer.
+//! `--large` prints the answers for sources that are deep or long.
 #![tactic(auto)]
 
-mod calls;
 mod cases;
 mod fronts;
 mod large;
@@ -21,10 +18,8 @@ mod lexemes;
 mod locations;
 mod returns;
 mod shown;
-mod states;
 mod table;
 
-use calls::write_calls;
 use cases::write_case;
 use fronts::write_fronts;
 use large::write_large;
@@ -72,7 +67,6 @@ fn write_file<W: Write>(
 fn write_word<W: Write>(rt: &HostRuntime, out: &mut W, mode: Mode, word: &str) -> io::Result<()> {
     match word {
         "--large" => write_large(rt.alloc(), out),
-        "--calls" => write_calls(rt.alloc(), out),
         name => {
             let bytes = fs::read(rt, name)?;
             write_file(rt.alloc(), out, mode, name, bytes.as_slice())
@@ -80,7 +74,7 @@ fn write_word<W: Write>(rt: &HostRuntime, out: &mut W, mode: Mode, word: &str) -
     }
 }
 
-fn write_words(rt: &HostRuntime) -> io::Result<()> {
+fn write_all(rt: &HostRuntime) -> io::Result<()> {
     let mut out = BufWriter::new(rt.alloc(), rt.stdout())?;
     let mut mode = Mode::Case;
     for word in env::args(rt)?.skip(1) {
@@ -102,7 +96,7 @@ fn failed(rt: &HostRuntime, error: &io::Error) -> u8 {
 }
 
 fn main(rt: HostRuntime) -> ExitCode {
-    ExitCode::from(match write_words(&rt) {
+    ExitCode::from(match write_all(&rt) {
         Ok(()) => 0,
         Err(error) => failed(&rt, &error),
     })

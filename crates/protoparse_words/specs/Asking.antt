@@ -33,10 +33,11 @@ AreNamed (Unknown word) = Unit {0}
 abbrev pub path_of : Task → List ℕ
 path_of task = task.path.now
 
--- Nothing is asked for but work on the files with these paths, in their order, and no folder is named.
+-- Nothing is asked for but work on the files with these paths, in their order, and no folder is
+-- named. Where there is no file, nothing is asked for.
 abbrev pub IsWorkOn : List (List ℕ) → Asked → Type 0
 IsWorkOn paths (Work work) = (map path_of work.tasks.items ≡ paths) × (work.folders.items ≡ [])
-IsWorkOn paths Nothing = Unit {0}
+IsWorkOn paths Nothing = paths ≡ []
 IsWorkOn paths Help = ⊥
 IsWorkOn paths Version = ⊥
 IsWorkOn paths (NoFolder word) = ⊥

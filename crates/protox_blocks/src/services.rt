@@ -127,7 +127,7 @@ fn output<'t, 'a>(
     ),
     Refused,
 >
-    ensures read { Gives (λ x. (x.0, (x.1.0, x.1.1.at))) result rows.new ((rule.output).code rows.old) }
+    ensures read { Gives (λ (ty, (options, end)). (ty, (options, end.at))) result rows.new ((rule.output).code rows.old) }
     ensures notes { Adds result notes.old.items ((rule.output).notes rows.old) notes.new.items }
 {
     expect_word(rows, "returns", Expected::Returns)?;

@@ -67,7 +67,7 @@ fn group<'t, 'a>(
     rows: &mut Unread<'t, 'a>,
     level: usize,
 ) -> Result<(FieldParts, (RowAt<'t, 'a>, RowAt<'t, 'a>)), Refused>
-    ensures read { Gives (λ x. (x.0, (x.1.0.at, x.1.1.at))) result rows.new (rule.group_at level rows.old) }
+    ensures read { Gives (λ (kind, (first, last)). (kind, (first.at, last.at))) result rows.new (rule.group_at level rows.old) }
     ensures notes { Adds result notes.old.items (rule.group_notes level rows.old) notes.new.items }
 {
     let start = expect_word(rows, "group", Expected::Type)?;
@@ -94,7 +94,7 @@ fn field_kind<'t, 'a>(
     level: usize,
     expected: Expected,
 ) -> Result<(FieldParts, (RowAt<'t, 'a>, RowAt<'t, 'a>)), Refused>
-    ensures read { Gives (λ x. (x.0, (x.1.0.at, x.1.1.at))) result rows.new (rule.field_kind_at level rows.old) }
+    ensures read { Gives (λ (kind, (first, last)). (kind, (first.at, last.at))) result rows.new (rule.field_kind_at level rows.old) }
     ensures notes { Adds result notes.old.items (rule.field_kind_notes level rows.old) notes.new.items }
 {
     if !sees_any(rows, &[MAP, GROUP]) {
@@ -122,7 +122,7 @@ fn labelled_kind<'t, 'a>(
     ),
     Refused,
 >
-    ensures read { Gives (λ x. (x.0, (x.1.0, (x.1.1.0.at, x.1.1.1.at)))) result rows.new (rule.labelled_kind_at level rows.old) }
+    ensures read { Gives (λ (label, (kind, (first, last))). (label, (kind, (first.at, last.at)))) result rows.new (rule.labelled_kind_at level rows.old) }
     ensures notes { Adds result notes.old.items (rule.labelled_kind_notes level rows.old) notes.new.items }
 {
     if sees_any(rows, &[OPTIONAL, REQUIRED, REPEATED]) {
@@ -428,7 +428,7 @@ fn braces<'t, 'a>(
     level: usize,
     expected: Expected,
 ) -> Result<(MessageBody, (RowAt<'t, 'a>, RowAt<'t, 'a>)), Refused>
-    ensures read { Gives (λ x. (x.0, (x.1.0.at, x.1.1.at))) result rows.new (rule.braces_at level rows.old) }
+    ensures read { Gives (λ (kind, (first, last)). (kind, (first.at, last.at))) result rows.new (rule.braces_at level rows.old) }
     ensures notes { Adds result notes.old.items (rule.braces_notes level rows.old) notes.new.items }
 {
     let open = expect_mark(rows, b'{', expected)?;
@@ -460,7 +460,7 @@ fn mbody<'t, 'a>(
     word: &Span,
     expected: Expected,
 ) -> Result<(MessageBody, (RowAt<'t, 'a>, RowAt<'t, 'a>)), Refused>
-    ensures read { Gives (λ x. (x.0, (x.1.0.at, x.1.1.at))) result rows.new ((rule.mbody_at level).code rows.old) }
+    ensures read { Gives (λ (kind, (first, last)). (kind, (first.at, last.at))) result rows.new ((rule.mbody_at level).code rows.old) }
     ensures notes { Adds result notes.old.items ((rule.mbody_at level).notes word.now rows.old) notes.new.items }
 {
     if level == 0 {

@@ -54,7 +54,7 @@ pub(crate) fn normal<'t, 'a>(
     rows: &mut Unread<'t, 'a>,
     expected: Expected,
 ) -> Result<(FieldParts, (RowAt<'t, 'a>, RowAt<'t, 'a>)), Refused>
-    ensures read { Gives (λ x. (x.0, (x.1.0.at, x.1.1.at))) result rows.new ((rule.normal).code rows.old) }
+    ensures read { Gives (λ (kind, (first, last)). (kind, (first.at, last.at))) result rows.new ((rule.normal).code rows.old) }
     ensures notes { Adds result notes.old.items ((rule.normal).notes rows.old) notes.new.items }
 {
     let (ty, ty_span) = field_type(alloc, rows, expected)?;
@@ -77,7 +77,7 @@ pub(crate) fn map_field<'t, 'a>(
     notes: &mut Vec<Note>,
     rows: &mut Unread<'t, 'a>,
 ) -> Result<(FieldParts, (RowAt<'t, 'a>, RowAt<'t, 'a>)), Refused>
-    ensures read { Gives (λ x. (x.0, (x.1.0.at, x.1.1.at))) result rows.new ((rule.map_field).code rows.old) }
+    ensures read { Gives (λ (kind, (first, last)). (kind, (first.at, last.at))) result rows.new ((rule.map_field).code rows.old) }
     ensures notes { Adds result notes.old.items ((rule.map_field).notes rows.old) notes.new.items }
 {
     let start = expect_word(rows, "map", Expected::Type)?;

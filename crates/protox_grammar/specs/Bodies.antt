@@ -108,7 +108,7 @@ sealed P F read steps trace = record { spell = s.mbody; may = P; fits = F; ends 
 -- ---- the rules of messages, given the rule of a body
 
 abbrev pub to_group : {M : Type 0} → M × (t.Word M × (M × (t.Int M × (Option (t.OptionList M) × t.Mbody M)))) → t.Group M
-to_group x = t.group_of x.0 x.1.0 x.1.1.0 x.1.1.1.0 x.1.1.1.1.0 x.1.1.1.1.1
+to_group = λ (keyword, (name, (equals_sign, (number, (options, body))))). t.group_of keyword name equals_sign number options body
 
 abbrev pub from_group : {M : Type 0} → t.Group M → M × (t.Word M × (M × (t.Int M × (Option (t.OptionList M) × t.Mbody M))))
 from_group (t.group_of m n e i l b) = (m, (n, (e, (i, (l, b)))))
@@ -169,7 +169,7 @@ unfoldable pub oneof_elements : {M : Type 0} → Rule M (t.Mbody M) → Rule M (
 oneof_elements b = named_fits s.oneof_elements (OneofElementsHas b.may) (OneofElementsHas b.fits) to_oneof_elements from_oneof_elements (times (but_mark s.close_brace) (oneof_element b))
 
 abbrev pub to_oneof : {M : Type 0} → M × (t.Word M × (M × (t.OneofElements M × M))) → t.Oneof M
-to_oneof x = t.oneof_of x.0 x.1.0 x.1.1.0 x.1.1.1.0 x.1.1.1.1
+to_oneof = λ (keyword, (name, (open_at, (inside, close_at)))). t.oneof_of keyword name open_at inside close_at
 
 abbrev pub from_oneof : {M : Type 0} → t.Oneof M → M × (t.Word M × (M × (t.OneofElements M × M)))
 from_oneof (t.oneof_of m n o es c) = (m, (n, (o, (es, c))))
@@ -202,7 +202,7 @@ unfoldable pub extend_elements : {M : Type 0} → Rule M (t.Mbody M) → Rule M 
 extend_elements b = named_fits s.extend_elements (ExtendElementsHas b.may) (ExtendElementsHas b.fits) to_extend_elements from_extend_elements (times (but_mark s.close_brace) (extend_element b))
 
 abbrev pub to_extend : {M : Type 0} → M × (t.TypeName M × (M × (t.ExtendElements M × M))) → t.Extend M
-to_extend x = t.extend_of x.0 x.1.0 x.1.1.0 x.1.1.1.0 x.1.1.1.1
+to_extend = λ (keyword, (extendee, (open_at, (inside, close_at)))). t.extend_of keyword extendee open_at inside close_at
 
 abbrev pub from_extend : {M : Type 0} → t.Extend M → M × (t.TypeName M × (M × (t.ExtendElements M × M)))
 from_extend (t.extend_of m n o es c) = (m, (n, (o, (es, c))))
@@ -212,7 +212,7 @@ extend b = named_fits s.extend (ExtendHas b.may) (ExtendHas b.fits) to_extend fr
     (seq (the (codes "extend")) (seq typename (seq (sign s.open_brace) (seq (extend_elements b) (sign s.close_brace)))))
 
 abbrev pub to_message : {M : Type 0} → M × (t.Word M × t.Mbody M) → t.Message M
-to_message x = t.message_of x.0 x.1.0 x.1.1
+to_message = λ (keyword, (name, body)). t.message_of keyword name body
 
 abbrev pub from_message : {M : Type 0} → t.Message M → M × (t.Word M × t.Mbody M)
 from_message (t.message_of m n b) = (m, (n, b))
@@ -267,7 +267,7 @@ unfoldable pub elements : {M : Type 0} → Rule M (t.Mbody M) → Rule M (t.Elem
 elements b = named_fits s.elements (ElementsHas b.may) (ElementsHas b.fits) to_elements from_elements (times (but_mark s.close_brace) (element b))
 
 abbrev pub to_mbody : {M : Type 0} → M × (t.Elements M × M) → t.Mbody M
-to_mbody x = t.mbody_of x.0 x.1.0 x.1.1
+to_mbody = λ (open_at, (inside, close_at)). t.mbody_of open_at inside close_at
 
 abbrev pub from_mbody : {M : Type 0} → t.Mbody M → M × (t.Elements M × M)
 from_mbody (t.mbody_of o es c) = (o, (es, c))

@@ -1,14 +1,9 @@
-//! One run of each public call of the crates below, as far as a program's lines cannot show it:
-//! equality, and answers by value. Cases of the parser and the lexer, and calls that memory may be
-//! refused to, are lines of the program `protocases`.
+//! Runs that the lines of a program can't show: laws, equality of large answers, and writers that
+//! refuse. Other calls are lines of the program `callcases`, and cases of `protocases`.
 #![tactic(auto)]
 
 #[cfg(test)]
-mod changing;
-#[cfg(test)]
 mod copying;
-#[cfg(test)]
-mod descriptors;
 #[cfg(test)]
 mod laws;
 #[cfg(test)]
@@ -16,6 +11,6 @@ mod lexing;
 #[cfg(test)]
 mod parsing;
 #[cfg(test)]
-mod running;
+mod printing;
 #[cfg(test)]
-mod trees;
+mod running;

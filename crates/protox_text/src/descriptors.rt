@@ -1,66 +1,68 @@
 //! The text format of a file's descriptor.
 
-use crate::enums::write_enum;
-use crate::fields::write_field;
-use crate::lines::{Level, write_numbers, write_text, write_texts};
-use crate::messages::write_message;
-use crate::options::write_options_field;
-use crate::services::write_service;
-use crate::source_info::write_source_info;
-use protox_descriptor::descriptor::FileDescriptorProto;
+ghost use Rattle.std.specs.Prelude.{◌≡◌, OnOk};
+ghost use Rattle.std.specs.Io.KnownBytes.{Appends};
+ghost use Rattle.std.specs.Option.{option_copied};
+ghost use Rattle.protox_text.specs.TextFormat.{asked, file_text, file_end_text, types_text};
+
+use crate::each::{write_any, write_items, write_lent};
+use crate::lines::Level;
+use protox_descriptor::descriptor::{FileDescriptorProto, SourceCodeInfo};
 use std::alloc::Global;
 use std::io::{self, Write};
 
-// How deep messages nest at most in an accepted file, groups included.
-const LEVELS: u32 = 31;
+fn write_types<W: Write>(alloc: Global, out: &mut W, file: &FileDescriptorProto) -> io::Result<()>
+    ensures { OnOk result (Appends (W.contents out.old) (W.contents out.new) (types_text file.now)) }
+{
+    let level = Level { alloc, depth: 0 };
+    write_items(out, level, "message_type", &file.message_type)?;
+    write_items(out, level, "enum_type", &file.enum_type)?;
+    write_items(out, level, "service", &file.service)?;
+    write_items(out, level, "extension", &file.extension)
+}
 
-fn write_types<W: Write>(out: &mut W, level: Level, file: &FileDescriptorProto) -> io::Result<()> {
-    for message in file.message_type.iter() {
-        write_message(out, level, LEVELS, "message_type", message)?;
+// The locations, if they are asked for.
+fn asked(is_asked: bool, info: &Option<SourceCodeInfo>) -> Option<&SourceCodeInfo>
+    ensures { option_copied result ≡ asked is_asked info.now }
+{
+    match info {
+        Some(info) if is_asked => Some(info),
+        _ => None,
     }
-    for described in file.enum_type.iter() {
-        write_enum(out, level, described)?;
-    }
-    for service in file.service.iter() {
-        write_service(out, level, service)?;
-    }
-    for field in file.extension.iter() {
-        write_field(out, level, "extension", field)?;
-    }
-    Ok(())
+}
+
+// Writes what stands behind the definitions.
+fn write_end<W: Write>(
+    alloc: Global,
+    out: &mut W,
+    file: &FileDescriptorProto,
+    source_info: bool,
+) -> io::Result<()>
+    ensures { OnOk result (Appends (W.contents out.old) (W.contents out.new) (file_end_text source_info file.now)) }
+{
+    let level = Level { alloc, depth: 0 };
+    write_any(out, level, "options", &file.options)?;
+    let info = asked(source_info, &file.source_code_info);
+    write_lent(out, level, "source_code_info", info)?;
+    write_items(out, level, "public_dependency", &file.public_dependency)?;
+    write_items(out, level, "weak_dependency", &file.weak_dependency)?;
+    write_any(out, level, "syntax", &file.syntax)
 }
 
 /// Writes the fields of a file's descriptor in the order of their numbers; `source_code_info` only
-/// if `source_info` is true.
+/// if `source_info` is true. It fails if the writer fails, or if memory runs out.
 pub fn write_file<W: Write>(
     alloc: Global,
     out: &mut W,
     file: &FileDescriptorProto,
     source_info: bool,
-) -> io::Result<()> {
+) -> io::Result<()>
+    ensures { OnOk result (Appends (W.contents out.old) (W.contents out.new) (file_text source_info file.now)) }
+{
     let level = Level { alloc, depth: 0 };
-    write_text(out, level, "name", file.name.as_ref())?;
-    write_text(out, level, "package", file.package.as_ref())?;
-    write_texts(out, level, "dependency", &file.dependency)?;
-    write_types(out, level, file)?;
-    if let Some(options) = &file.options {
-        write_options_field(out, level, options.uninterpreted_option.as_slice())?;
-    }
-    match &file.source_code_info {
-        Some(info) if source_info => write_source_info(out, level, info)?,
-        _ => (),
-    }
-    write_numbers(
-        out,
-        level,
-        "public_dependency",
-        file.public_dependency.as_slice(),
-    )?;
-    write_numbers(
-        out,
-        level,
-        "weak_dependency",
-        file.weak_dependency.as_slice(),
-    )?;
-    write_text(out, level, "syntax", file.syntax.as_ref())
+    write_any(out, level, "name", &file.name)?;
+    write_any(out, level, "package", &file.package)?;
+    write_items(out, level, "dependency", &file.dependency)?;
+    write_types(alloc, out, file)?;
+    write_end(alloc, out, file, source_info)
 }

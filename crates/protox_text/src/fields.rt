@@ -1,14 +1,21 @@
 //! The text format of fields and oneofs.
 
-use crate::lines::{
-    Level, write_close, write_flag, write_number, write_open, write_text, write_word,
-};
-use crate::options::write_options_field;
+ghost use Rattle.std.specs.Prelude.{◌≡◌, OnOk};
+ghost use Rattle.std.specs.Io.KnownBytes.{Appends};
+ghost use Rattle.protox_text.specs.TextFormat.{field_type_text, field_end_text, label_line, type_line};
+ghost use Rattle.protox_text.specs.TextLines.{if_any};
+ghost use Rattle.protox_text.specs.TextNames.{label_name, type_name};
+
+use crate::each::{InText, write_any, write_lent};
+use crate::lines::{Level, write_close, write_open, write_value};
 use protox_descriptor::descriptor::{FieldDescriptorProto, OneofDescriptorProto};
 use std::io::{self, Write};
 
 // The names of labels in descriptor.proto.
-fn label_name(number: i32) -> &'static str {
+#[tactic(auto, unfolding(crate::specs::TextNames::label_name))]
+fn label_name(number: i32) -> &'static str
+    ensures { result.now ≡ label_name number }
+{
     match number {
         1 => "LABEL_OPTIONAL",
         2 => "LABEL_REQUIRED",
@@ -18,7 +25,10 @@ fn label_name(number: i32) -> &'static str {
 }
 
 // The names of types in descriptor.proto.
-fn type_name(number: i32) -> &'static str {
+#[tactic(auto, unfolding(crate::specs::TextNames::type_name))]
+fn type_name(number: i32) -> &'static str
+    ensures { result.now ≡ type_name number }
+{
     match number {
         1 => "TYPE_DOUBLE",
         2 => "TYPE_FLOAT",
@@ -42,49 +52,89 @@ fn type_name(number: i32) -> &'static str {
     }
 }
 
-fn write_type<W: Write>(out: &mut W, level: Level, field: &FieldDescriptorProto) -> io::Result<()> {
-    if let Some(number) = field.label {
-        write_word(out, level, "label", label_name(number))?;
-    }
-    if let Some(number) = field.field_type {
-        write_word(out, level, "type", type_name(number))?;
-    }
-    write_text(out, level, "type_name", field.type_name.as_ref())
-}
-
-/// Writes a field under this name: `field` or `extension`.
-pub fn write_field<W: Write>(
+fn write_label<W: Write>(
     out: &mut W,
     level: Level,
     name: &str,
-    field: &FieldDescriptorProto,
-) -> io::Result<()> {
-    write_open(out, level, name)?;
-    let inner = level.inner();
-    write_text(out, inner, "name", field.name.as_ref())?;
-    write_text(out, inner, "extendee", field.extendee())?;
-    write_number(out, inner, "number", field.number)?;
-    write_type(out, inner, field)?;
-    write_text(out, inner, "default_value", field.default_value())?;
-    if let Some(options) = field.options() {
-        write_options_field(out, inner, options.uninterpreted_option.as_slice())?;
+    number: Option<i32>,
+) -> io::Result<()>
+    ensures { OnOk result (Appends (W.contents out.old) (W.contents out.new) (if_any label_line number level.depth name.now)) }
+{
+    match number {
+        Some(number) => write_value(out, level, name, label_name(number)),
+        None => Ok(()),
     }
-    write_number(out, inner, "oneof_index", field.oneof_index())?;
-    write_text(out, inner, "json_name", field.json_name())?;
-    write_flag(out, inner, "proto3_optional", field.proto3_optional())?;
-    write_close(out, level)
 }
 
-/// Writes a oneof as the field `oneof_decl`.
-pub fn write_oneof<W: Write>(
+fn write_type<W: Write>(
     out: &mut W,
     level: Level,
-    oneof: &OneofDescriptorProto,
-) -> io::Result<()> {
-    write_open(out, level, "oneof_decl")?;
-    write_text(out, level.inner(), "name", oneof.name.as_ref())?;
-    if let Some(options) = &oneof.options {
-        write_options_field(out, level.inner(), options.uninterpreted_option.as_slice())?;
+    name: &str,
+    number: Option<i32>,
+) -> io::Result<()>
+    ensures { OnOk result (Appends (W.contents out.old) (W.contents out.new) (if_any type_line number level.depth name.now)) }
+{
+    match number {
+        Some(number) => write_value(out, level, name, type_name(number)),
+        None => Ok(()),
     }
-    write_close(out, level)
+}
+
+// Writes a field from its label on.
+fn write_field_type<W: Write>(
+    out: &mut W,
+    inner: Level,
+    field: &FieldDescriptorProto,
+) -> io::Result<()>
+    ensures { OnOk result (Appends (W.contents out.old) (W.contents out.new) (field_type_text field.now inner.depth)) }
+{
+    write_label(out, inner, "label", field.label)?;
+    write_type(out, inner, "type", field.field_type)?;
+    write_any(out, inner, "type_name", &field.type_name)
+}
+
+// Writes a field from its default value on.
+fn write_field_end<W: Write>(
+    out: &mut W,
+    inner: Level,
+    field: &FieldDescriptorProto,
+) -> io::Result<()>
+    ensures { OnOk result (Appends (W.contents out.old) (W.contents out.new) (field_end_text field.now inner.depth)) }
+{
+    write_lent(out, inner, "default_value", field.default_value())?;
+    write_lent(out, inner, "options", field.options())?;
+    write_any(out, inner, "oneof_index", &field.oneof_index())?;
+    write_lent(out, inner, "json_name", field.json_name())?;
+    write_any(out, inner, "proto3_optional", &field.proto3_optional())
+}
+
+impl InText for FieldDescriptorProto {
+    ghost use Rattle.protox_text.specs.TextFormat.{field_text};
+
+    ghost text = { field_text };
+
+    fn write_to<W: Write>(&self, out: &mut W, level: Level, name: &str) -> io::Result<()> {
+        write_open(out, level, name)?;
+        let inner = level.inner();
+        write_any(out, inner, "name", &self.name)?;
+        write_lent(out, inner, "extendee", self.extendee())?;
+        write_any(out, inner, "number", &self.number)?;
+        write_field_type(out, inner, self)?;
+        write_field_end(out, inner, self)?;
+        write_close(out, level)
+    }
+}
+
+impl InText for OneofDescriptorProto {
+    ghost use Rattle.protox_text.specs.TextFormat.{oneof_text};
+
+    ghost text = { oneof_text };
+
+    fn write_to<W: Write>(&self, out: &mut W, level: Level, name: &str) -> io::Result<()> {
+        write_open(out, level, name)?;
+        let inner = level.inner();
+        write_any(out, inner, "name", &self.name)?;
+        write_any(out, inner, "options", &self.options)?;
+        write_close(out, level)
+    }
 }

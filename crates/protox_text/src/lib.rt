@@ -2,6 +2,7 @@
 #![tactic(auto)]
 
 pub mod descriptors;
+mod each;
 mod enums;
 mod fields;
 pub mod lines;
@@ -9,3 +10,4 @@ mod messages;
 mod options;
 mod services;
 mod source_info;
+mod values;

@@ -1,21 +1,28 @@
-//! Lines of the text format of Protocol Buffers: a field and its value, or a message in braces. A
-//! field that is absent has no line.
+//! Lines of the text format of Protocol Buffers: a field and its value, or a message in braces.
+
+ghost use Rattle.std.specs.Prelude.{◌≡◌, OnOk};
+ghost use Rattle.std.specs.Io.KnownBytes.{Appends};
+ghost use Rattle.protox_text.specs.TextLines.{indent, deeper, value_line, opened, closed, bytes_line};
 
 use protox_ast::ast;
-use protox_descriptor::values::{Items, Text};
+use protox_descriptor::values::Items;
 use std::alloc::Global;
 use std::io::{self, Write};
 
 /// The indentation of a line, two spaces for each level, and the allocator.
 #[derive(Clone, Copy)]
 pub struct Level {
+    /// Serves the writing of bytes.
     pub alloc: Global,
+    /// How many levels.
     pub depth: u32,
 }
 
 impl Level {
-    /// one level more
-    pub fn inner(self) -> Level {
+    /// One level more.
+    pub fn inner(self) -> Level
+        ensures { result ≡ record { alloc = self.alloc; depth = deeper self.depth } }
+    {
         Level {
             alloc: self.alloc,
             depth: self.depth.saturating_add(1),
@@ -24,7 +31,10 @@ impl Level {
 }
 
 /// Writes the indentation of a line.
-pub fn write_indent<W: Write>(out: &mut W, level: Level) -> io::Result<()> {
+#[tactic(auto, using(crate::proofs::Written::blanks))]
+pub(crate) fn write_indent<W: Write>(out: &mut W, level: Level) -> io::Result<()>
+    ensures { OnOk result (Appends (W.contents out.old) (W.contents out.new) (indent level.depth)) }
+{
     for _ in 0..level.depth {
         write!(out, "  ")?;
     }
@@ -32,103 +42,43 @@ pub fn write_indent<W: Write>(out: &mut W, level: Level) -> io::Result<()> {
 }
 
 /// Writes `name {`.
-pub fn write_open<W: Write>(out: &mut W, level: Level, name: &str) -> io::Result<()> {
+pub(crate) fn write_open<W: Write>(out: &mut W, level: Level, name: &str) -> io::Result<()>
+    ensures { OnOk result (Appends (W.contents out.old) (W.contents out.new) (opened level.depth name.now)) }
+{
     write_indent(out, level)?;
     writeln!(out, "{name} {{")
 }
 
 /// Writes `}`.
-pub fn write_close<W: Write>(out: &mut W, level: Level) -> io::Result<()> {
+pub(crate) fn write_close<W: Write>(out: &mut W, level: Level) -> io::Result<()>
+    ensures { OnOk result (Appends (W.contents out.old) (W.contents out.new) (closed level.depth)) }
+{
     write_indent(out, level)?;
     writeln!(out, "}}")
 }
 
-/// Writes `name: word`.
-pub fn write_word<W: Write>(out: &mut W, level: Level, name: &str, word: &str) -> io::Result<()> {
-    write_indent(out, level)?;
-    writeln!(out, "{name}: {word}")
-}
-
-/// Writes `name: "bytes"`, escaped as the tree prints string literals.
-pub fn write_bytes<W: Write>(
+/// Writes `name: value`.
+pub(crate) fn write_value<W: Write>(
     out: &mut W,
     level: Level,
     name: &str,
-    bytes: &[u8],
-) -> io::Result<()> {
+    value: &str,
+) -> io::Result<()>
+    ensures { OnOk result (Appends (W.contents out.old) (W.contents out.new) (value_line value.now level.depth name.now)) }
+{
+    write_indent(out, level)?;
+    writeln!(out, "{name}: {value}")
+}
+
+/// Writes `name: "bytes"`, escaped as the tree prints string literals. It fails if the writer fails,
+/// or if memory runs out.
+pub fn write_bytes<W: Write>(out: &mut W, level: Level, name: &str, bytes: &[u8]) -> io::Result<()>
+    ensures { OnOk result (Appends (W.contents out.old) (W.contents out.new) (bytes_line bytes.now level.depth name.now)) }
+{
     let literal = ast::String {
         value: Items::from_slice(level.alloc, bytes)?,
         span: 0..0,
     };
     write_indent(out, level)?;
     writeln!(out, "{name}: \"{literal}\"")
-}
-
-/// Writes `name: "text"`, or nothing for None.
-pub fn write_text<W: Write>(
-    out: &mut W,
-    level: Level,
-    name: &str,
-    text: Option<&Text>,
-) -> io::Result<()> {
-    match text {
-        Some(text) => write_bytes(out, level, name, text.as_str().as_bytes()),
-        None => Ok(()),
-    }
-}
-
-/// Writes a line `name: "text"` for each of the texts.
-pub fn write_texts<W: Write>(
-    out: &mut W,
-    level: Level,
-    name: &str,
-    texts: &Items<Text>,
-) -> io::Result<()> {
-    for text in texts.iter() {
-        write_bytes(out, level, name, text.as_str().as_bytes())?;
-    }
-    Ok(())
-}
-
-/// Writes `name: number`, or nothing for None.
-pub fn write_number<W: Write>(
-    out: &mut W,
-    level: Level,
-    name: &str,
-    number: Option<i32>,
-) -> io::Result<()> {
-    match number {
-        Some(number) => {
-            write_indent(out, level)?;
-            writeln!(out, "{name}: {number}")
-        }
-        None => Ok(()),
-    }
-}
-
-/// Writes a line `name: number` for each of the numbers.
-pub fn write_numbers<W: Write>(
-    out: &mut W,
-    level: Level,
-    name: &str,
-    numbers: &[i32],
-) -> io::Result<()> {
-    for number in numbers {
-        write_number(out, level, name, Some(*number))?;
-    }
-    Ok(())
-}
-
-/// Writes `name: true` or `name: false`, or nothing for None.
-pub fn write_flag<W: Write>(
-    out: &mut W,
-    level: Level,
-    name: &str,
-    flag: Option<bool>,
-) -> io::Result<()> {
-    match flag {
-        Some(true) => write_word(out, level, name, "true"),
-        Some(false) => write_word(out, level, name, "false"),
-        None => Ok(()),
-    }
 }

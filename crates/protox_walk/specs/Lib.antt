@@ -1,3 +1,4 @@
 pub mod Parts
 pub mod Words
 pub mod Declarations
+pub mod Names

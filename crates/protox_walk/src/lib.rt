@@ -2,10 +2,12 @@
 #![tactic(auto)]
 
 ghost use Rattle.std.specs.Prelude.{◌≡◌, map, IfOk};
+ghost use Rattle.std.specs.List.{find};
 ghost use Rattle.std.specs.Option.{option_copied};
 ghost use Rattle.protox_places.specs.First.{first_at, leading_of, trailing_of, detached_of};
 ghost use Rattle.protox_places.specs.Order.{AreByPath};
 ghost use Rattle.protox_walk.specs.Declarations.{file_declarations};
+ghost use Rattle.protox_walk.specs.Names.{is_at, name_at};
 ghost use Rattle.protox_walk.specs.Parts.{seen};
 
 mod each;
@@ -76,4 +78,36 @@ pub fn declarations<'a>(
     let mut found = Vec::new(alloc);
     push_file(alloc, &mut found, file)?;
     Ok(found)
+}
+
+// The declaration with this path, if there is one.
+fn with_path<'d, 'a>(found: &'d [Declaration<'a>], path: &[i32]) -> Option<&'d Declaration<'a>>
+    ensures { option_copied result ≡ find (is_at path.now) found.now }
+{
+    found
+        .iter()
+        .find(|declaration| declaration.path.as_slice() == path)
+}
+
+/// The full name of the declaration with this path, as `declarations` has it; None if there is none.
+/// Or `AllocError`, as `declarations` answers it. It walks over the whole file: for many paths, walk
+/// once.
+///
+/// ```
+/// // The full name of the second field of the first message.
+/// let name = name_at(alloc, &file, &[4, 0, 2, 1])?;
+/// ```
+#[tactic(auto, using(crate::proofs::ByPath::names_by_path))]
+pub fn name_at(
+    alloc: Global,
+    file: &FileDescriptorProto,
+    path: &[i32],
+) -> Result<Option<Text>, AllocError>
+    ensures { IfOk result (λ name. name ≡ name_at path.now (file_declarations file.now)) }
+{
+    let found = declarations(alloc, file)?;
+    match with_path(found.as_slice(), path) {
+        Some(declaration) => Ok(Some(Text::copy(alloc, declaration.full_name.as_str())?)),
+        None => Ok(None),
+    }
 }

@@ -1,0 +1,11 @@
+use Rattle.std.proofs.Common.{ap}
+use Rattle.protox_text.specs.TextFormat.{message_options_fields}
+use Rattle.protox_text.proofs.Written.{message, then}
+use Rattle.protox_text.proofs.options.MessageOptionsInText.write_to.Goals as goal
+
+pub returns : goal.returns
+returns g c =
+    message _ (message_options_fields c.args.self.now) _ _ _ _ _ _ _ (ap (λ l. l.depth) c.inner-inner.ensures) c.in_ok-write_open.ensures
+    (then _ _ _ _ _ c.in_ok-write_any.ensures
+    c.in_ok-write_listed.ensures)
+    c.write_close.ensures

@@ -1,0 +1,3 @@
+pub mod TextLines
+pub mod TextNames
+pub mod TextFormat

@@ -2,7 +2,8 @@
 """Runs the cases of crates/protocases by a build without proofs, and shows the lines that differ.
 
 usage: cases.py [NAME..]        at the top of the repository; a NAME is a line of args, as foo.proto
-       cases.py --calls         the same of crates/callcases: other calls, bytes, command lines
+       cases.py --calls         the same of crates/callcases: calls other than `parse`
+       cases.py --runs          the same of crates/runcases: bytes, and what the programs do
 
 It takes less than a minute, most of it for the build. A case is a line of `stdout` that begins with
 `== `, and the lines below it. Of each case whose lines differ from those in `stdout` it shows the first
@@ -14,9 +15,9 @@ import os
 import subprocess
 import sys
 
-CALLS = '--calls' in sys.argv[1:]
-NAMES = [word for word in sys.argv[1:] if word != '--calls']
-FOLDER = 'crates/callcases' if CALLS else 'crates/protocases'
+FOLDERS = {'--calls': 'crates/callcases', '--runs': 'crates/runcases'}
+NAMES = [word for word in sys.argv[1:] if word not in FOLDERS]
+FOLDER = next((FOLDERS[word] for word in sys.argv[1:] if word in FOLDERS), 'crates/protocases')
 LARGE = '--large'
 
 
@@ -34,6 +35,8 @@ def cases_in(text):
 
 def words_of(names):
     """The words of the program for these cases, or for all."""
+    if not os.path.isfile(f'{FOLDER}/args'):
+        return []
     with open(f'{FOLDER}/args', encoding='utf-8') as file:
         words = file.read().split()
     return [word for word in words if word != LARGE and (word.startswith('--') or not names or word in names)]

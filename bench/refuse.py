@@ -27,7 +27,7 @@ LEXED = ['lexemes/faults_of_gap_and_rows.proto', 'lexemes/escapes.proto', 'lexem
          'lexemes/comment_of_each_kind.proto']
 RUNS = [('protocases', [name]) for name in PARSED]
 RUNS += [('protocases', ['--lexemes', name]) for name in LEXED]
-RUNS += [('callcases', ['--calls'])]
+RUNS += [('callcases', [])]
 RUNS += [('protoscan', words) for words in (['foo.proto'], ['foo.proto', '4.0'], ['brace_for_name.proto'])]
 RUNS += [('protoscan', [f'../../../examples/{name}.proto']) for name in ('library', 'store')]
 

@@ -1,67 +1,16 @@
-//! `callcases [--calls] [--bytes LIST] [--scans LIST] [--words LIST]` prints what calls and programs
-//! answer. Its lines are in `stdout`.
-//!
-//! - `--calls`: what calls other than `parse` answer, one a line
-//! - `--bytes`: the bytes of the descriptors of the files that the lines of the list name
-//! - `--scans`: what `protoscan` does with the words of each line of the list
-//! - `--words`: what `protoparse` does with the words of each line of the list
+//! `callcases` prints what calls other than `parse` answer: a line in `stdout` for each.
 #![tactic(auto)]
 
-mod bytes;
 mod calls;
-mod scans;
 mod states;
-mod words;
 
-use bytes::write_bytes;
 use calls::write_calls;
-use scans::write_scans;
 use std::io::{self, BufWriter, Write};
 use std::process::ExitCode;
-use std::{env, fs};
-use words::write_words;
-
-// What is printed for a list.
-#[derive(Clone, Copy)]
-enum Mode {
-    Bytes,
-    Scans,
-    Words,
-}
-
-// The mode that a word sets for the lists behind it.
-fn mode_of(word: &str) -> Option<Mode> {
-    match word {
-        "--bytes" => Some(Mode::Bytes),
-        "--scans" => Some(Mode::Scans),
-        "--words" => Some(Mode::Words),
-        _ => None,
-    }
-}
-
-fn write_list<W: Write>(rt: &HostRuntime, out: &mut W, mode: Mode, name: &str) -> io::Result<()> {
-    let list = fs::read_to_string(rt, name)?;
-    writeln!(out, "== {name}")?;
-    match mode {
-        Mode::Bytes => write_bytes(rt, out, list.as_str()),
-        Mode::Scans => write_scans(rt, out, list.as_str()),
-        Mode::Words => {
-            out.flush()?;
-            write_words(rt, list.as_str())
-        }
-    }
-}
 
 fn write_all(rt: &HostRuntime) -> io::Result<()> {
     let mut out = BufWriter::new(rt.alloc(), rt.stdout())?;
-    let mut mode = Mode::Bytes;
-    for word in env::args(rt)?.skip(1) {
-        match (mode_of(word.as_str()), word.as_str()) {
-            (Some(set), _) => mode = set,
-            (None, "--calls") => write_calls(rt.alloc(), &mut out)?,
-            (None, name) => write_list(rt, &mut out, mode, name)?,
-        }
-    }
+    write_calls(rt.alloc(), &mut out)?;
     out.flush()
 }
 

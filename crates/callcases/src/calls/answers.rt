@@ -11,6 +11,7 @@ use protox_parse::syntax::{ExpectedToken, MAX_MESSAGE_NESTING_DEPTH};
 use protox_parse::{ParseError, ParseFailure, locate, parse, source_fits};
 use protox_walk::name_at;
 use std::alloc::{AllocError, Global};
+use std::fmt::Write;
 
 pub fn helps(alloc: Global) -> Result<String, AllocError> {
     let help = ParseErrorKind::InvalidGroupName { span: 0..1 }.help(alloc)?;
@@ -27,35 +28,44 @@ pub fn limits(alloc: Global) -> Result<String, AllocError> {
 }
 
 // The answer of each reader of a refusal.
-fn readers(alloc: Global, error: ParseError) -> Result<String, AllocError> {
-    let front = format!(in alloc; "{} {:?} {error}", error.file(), error.source())?;
-    let places = format!(in alloc; "{:?} {:?}", error.span(), error.first_place())?;
+fn read(alloc: Global, error: &ParseError) -> Result<String, AllocError> {
+    let (file, source) = (error.file(), error.source());
+    let (span, place) = (error.span(), error.first_place());
     let (line, column) = error.line_column(8);
     let (kind, faults) = (error.kind(), error.errors().len());
-    let found = format!(in alloc; "{front}; {places}; {line} {column}; {kind:?}; {faults}")?;
-    format!(in alloc; "{found} {}", error.into_inner().len())
+    format!(in alloc;
+        "{file} {source:?} {error}; {span:?} {place:?}; {line} {column}; {kind:?}; {faults}"
+    )
 }
 
 pub fn refusals(alloc: Global) -> Result<String, AllocError> {
     match parse(alloc, "foo.proto", "message {}") {
         Ok(_) => String::from_str(alloc, "accepted"),
-        Err(ParseFailure::Refused(error)) => readers(alloc, error),
+        Err(ParseFailure::Refused(error)) => read(alloc, &error),
         Err(ParseFailure::OutOfMemory) => Err(AllocError),
     }
 }
 
-pub fn expected_tokens(alloc: Global) -> Result<String, AllocError> {
-    let word = ExpectedToken::Token(Token::keyword(STREAM));
-    let mut out = format!(in alloc; "{word}, {}", ExpectedToken::Ident)?;
-    for token in [
-        Token::Ident("stream"),
-        Token::Ident("streams"),
-        Token::IntLiteral(1),
-        Token::Semicolon,
-    ] {
-        let (is_word, is_identifier) = (word.matches(&token), ExpectedToken::Ident.matches(&token));
-        out.push_str(format!(in alloc; "; {is_word} {is_identifier}")?.as_str())?;
+pub fn faults(alloc: Global) -> Result<String, AllocError> {
+    match parse(alloc, "foo.proto", "message {}") {
+        Err(ParseFailure::Refused(error)) => format!(in alloc; "{}", error.into_inner().len()),
+        _ => Err(AllocError),
     }
+}
+
+// Whether the token is the word, and whether it is an identifier.
+fn matched(alloc: Global, token: &Token<'_>) -> Result<String, AllocError> {
+    let is_word = ExpectedToken::Token(Token::keyword(STREAM)).matches(token);
+    let is_identifier = ExpectedToken::Ident.matches(token);
+    format!(in alloc; "; {is_word} {is_identifier}")
+}
+
+pub fn expected_tokens(alloc: Global) -> Result<String, AllocError> {
+    let mut out = format!(in alloc; "{}", ExpectedToken::Ident)?;
+    out.push_str(matched(alloc, &Token::Ident("stream"))?.as_str())?;
+    out.push_str(matched(alloc, &Token::Ident("streams"))?.as_str())?;
+    out.push_str(matched(alloc, &Token::IntLiteral(1))?.as_str())?;
+    out.push_str(matched(alloc, &Token::Semicolon)?.as_str())?;
     Ok(out)
 }
 
@@ -68,41 +78,22 @@ fn indices(alloc: Global, info: &SourceCodeInfo) -> Result<String, AllocError>
     format!(in alloc; "{root:?} {options:?} {later:?} {none:?}")
 }
 
-pub fn paths(alloc: Global) -> Result<String, AllocError> {
-    match parse(alloc, "a.proto", "option a = 1; /* x */\noption b = 2;") {
-        Ok(file) => match &file.source_code_info {
-            Some(info) => indices(alloc, info),
-            None => String::from_str(alloc, "no locations"),
-        },
-        Err(_) => Err(AllocError),
-    }
-}
-
 // The span of the first field, the comment of its message, and the path around each of seven places.
 fn around(alloc: Global, info: &SourceCodeInfo) -> Result<String, AllocError>
     requires { AreByPath info.now.location }
 {
-    let field = location(info, &[4, 0, 2, 0]).map(|location| &location.span);
-    let leading = comments(info, &[4, 0]).leading;
-    let mut out = format!(in alloc; "{field:?} {leading:?}")?;
-    for (line, column) in [(0, 0), (1, 0), (1, 8), (2, 10), (2, 11), (2, 17), (3, 1)] {
+    let mut out = String::new(alloc);
+    if let Some(field) = location(info, &[4, 0, 2, 0]) {
+        write!(out, "{:?}", field.span)?;
+    }
+    write!(out, " {:?}", comments(info, &[4, 0]).leading)?;
+    for (line, column) in [(3, 0), (4, 0), (4, 8), (5, 10), (5, 11), (5, 17), (6, 1)] {
         match declaration_at(info, line, column) {
-            Some(found) => out.push_str(format!(in alloc; "; {:?}", found.path)?.as_str())?,
+            Some(found) => write!(out, "; {:?}", found.path)?,
             None => out.push_str("; none")?,
         }
     }
     Ok(out)
-}
-
-pub fn declarations(alloc: Global) -> Result<String, AllocError> {
-    let source = "// of A\nmessage A {\n  optional int32 b = 1;\n}\n";
-    match parse(alloc, "a.proto", source) {
-        Ok(file) => match &file.source_code_info {
-            Some(info) => around(alloc, info),
-            None => String::from_str(alloc, "no locations"),
-        },
-        Err(_) => Err(AllocError),
-    }
 }
 
 // The full names of a field and of what is no declaration.
@@ -112,10 +103,29 @@ fn two_names(alloc: Global, file: &FileDescriptorProto) -> Result<String, AllocE
     format!(in alloc; "{field:?} {none:?}")
 }
 
-pub fn names_at_paths(alloc: Global) -> Result<String, AllocError> {
-    let source = "package p; message A { optional int32 b = 1; }";
+fn found_in(
+    alloc: Global,
+    file: &FileDescriptorProto,
+    info: &SourceCodeInfo,
+) -> Result<String, AllocError>
+    requires { AreByPath info.now.location }
+{
+    let mut out = indices(alloc, info)?;
+    out.push_str("; ")?;
+    out.push_str(around(alloc, info)?.as_str())?;
+    out.push_str("; ")?;
+    out.push_str(two_names(alloc, file)?.as_str())?;
+    Ok(out)
+}
+
+pub fn finds(alloc: Global) -> Result<String, AllocError> {
+    let source =
+        "package p;\noption a = 1; /* x */\noption b = 2;\n// of A\nmessage A {\n  optional int32 b = 1;\n}\n";
     match parse(alloc, "a.proto", source) {
-        Ok(file) => two_names(alloc, &file),
+        Ok(file) => match &file.source_code_info {
+            Some(info) => found_in(alloc, &file, info),
+            None => String::from_str(alloc, "no locations"),
+        },
         Err(_) => Err(AllocError),
     }
 }

@@ -6,6 +6,7 @@ use protox_parse::descriptor::{
 };
 use protox_parse::values::{Items, Numbers, Text};
 use std::alloc::{AllocError, Global};
+use std::fmt::Write;
 
 pub fn files(alloc: Global) -> Result<String, AllocError> {
     let file = FileDescriptorProto::new(alloc);
@@ -96,14 +97,28 @@ pub fn changed_locations(alloc: Global) -> Result<String, AllocError> {
 }
 
 // Which of five places a location of one line holds, and one of three.
+fn held(alloc: Global, short: &Location, long: &Location) -> Result<String, AllocError> {
+    let mut out = String::new(alloc);
+    for (line, column) in [(1, 1), (1, 2), (1, 4), (1, 5), (2, 3)] {
+        let (short, long) = (short.holds(line, column), long.holds(line, column));
+        write!(out, "; {short} {long}")?;
+    }
+    Ok(out)
+}
+
 pub fn places(alloc: Global) -> Result<String, AllocError> {
     let short = Location::bare(Numbers::new(), Numbers::few(&[1, 2, 5]));
     let long = Location::bare(Numbers::new(), Numbers::few(&[1, 2, 3, 1]));
-    let (first, second) = (short.start(), short.end());
-    let mut out = format!(in alloc; "{first:?} {second:?} {:?}", long.end())?;
-    for (line, column) in [(1, 1), (1, 2), (1, 4), (1, 5), (2, 3)] {
-        let (short, long) = (short.holds(line, column), long.holds(line, column));
-        out.push_str(format!(in alloc; "; {short} {long}")?.as_str())?;
-    }
-    Ok(out)
+    held(alloc, &short, &long)
+}
+
+// Where a location starts and ends.
+fn ends_of(alloc: Global, location: &Location) -> Result<String, AllocError> {
+    let (start, end) = (location.start(), location.end());
+    format!(in alloc; "{start:?} {end:?}")
+}
+
+pub fn ends(alloc: Global) -> Result<String, AllocError> {
+    let location = Location::bare(Numbers::new(), Numbers::few(&[1, 2, 3, 1]));
+    ends_of(alloc, &location)
 }

@@ -96,7 +96,7 @@ fn around(alloc: Global, info: &SourceCodeInfo) -> Result<String, AllocError>
     Ok(out)
 }
 
-// The full names of a field and of what is no declaration.
+// Looks up the names at two paths: that of a field, and one at which no declaration is.
 fn two_names(alloc: Global, file: &FileDescriptorProto) -> Result<String, AllocError> {
     let field = name_at(alloc, file, &[4, 0, 2, 0])?;
     let none = name_at(alloc, file, &[4, 0, 1])?;

@@ -1,3 +1,4 @@
 pub mod Ranges
 pub mod Enums
 pub mod Services
+pub mod Words

@@ -2,6 +2,8 @@
 
 ghost use Rattle.std.specs.Prelude.{◌≡◌, OnOk};
 ghost use Rattle.protox_rows.specs.inner.Outcome.{Gives};
+ghost use Rattle.protox_rows.specs.inner.Words.{Says};
+ghost use Rattle.protox_blocks.specs.inner.Words as said;
 ghost use Rattle.protox_rows.specs.inner.Notes.{Adds};
 ghost use Rattle.protox_blocks.specs.inner.Enums as rule;
 
@@ -36,7 +38,7 @@ pub(crate) struct EnumParts {
 }
 
 /// evalue = ident "=" int list? ";"
-#[tactic(auto, unfolding(crate::specs::inner::Enums::evalue))]
+#[tactic(auto, unfolding(crate::specs::inner::Enums::evalue, crate::specs::inner::Words::evalue))]
 fn evalue(
     alloc: Global,
     notes: &mut Vec<Note>,
@@ -44,6 +46,7 @@ fn evalue(
 ) -> Result<EnumValue, Refused>
     ensures read { Gives (λ x. x) result rows.new ((rule.evalue).code rows.old) }
     ensures notes { Adds result notes.old.items ((rule.evalue).notes rows.old) notes.new.items }
+    ensures words { Says result (said.evalue rows.old) }
 {
     let begun = rows.again();
     let name = ident(alloc, rows, Expected::EnumBody)?;
@@ -63,7 +66,7 @@ fn evalue(
 }
 
 /// ";" | option | reserved | evalue
-#[tactic(auto, unfolding(crate::specs::inner::Enums::enum_element))]
+#[tactic(auto, unfolding(crate::specs::inner::Enums::enum_element, crate::specs::inner::Words::enum_element))]
 fn enum_element(
     alloc: Global,
     notes: &mut Vec<Note>,
@@ -71,6 +74,7 @@ fn enum_element(
 ) -> Result<EnumElement, Refused>
     ensures read { Gives (λ x. x) result rows.new ((rule.enum_element).code rows.old) }
     ensures notes { Adds result notes.old.items ((rule.enum_element).notes rows.old) notes.new.items }
+    ensures words { Says result (said.enum_element rows.old) }
 {
     if sees(rows, SEMICOLON) {
         expect_mark(rows, b';', Expected::Semicolon)?;
@@ -99,7 +103,7 @@ fn put(parts: &mut EnumParts, element: EnumElement) -> Result<(), AllocError>
     }
 }
 
-#[tactic(auto, unfolding(crate::specs::inner::Enums::enum_elements))]
+#[tactic(auto, unfolding(crate::specs::inner::Enums::enum_elements, crate::specs::inner::Words::enum_elements))]
 fn enum_elements(
     alloc: Global,
     notes: &mut Vec<Note>,
@@ -107,6 +111,7 @@ fn enum_elements(
 ) -> Result<EnumParts, Refused>
     ensures read { Gives (λ x. x) result rows.new ((rule.enum_elements).code rows.old) }
     ensures notes { Adds result notes.old.items ((rule.enum_elements).notes rows.old) notes.new.items }
+    ensures words { Says result (said.enum_elements rows.old) }
 {
     let mut parts = EnumParts {
         options: Items::new(alloc),
@@ -121,7 +126,7 @@ fn enum_elements(
 }
 
 /// enum = "enum" ident "{" (";" | option | reserved | evalue)* "}"
-#[tactic(auto, unfolding(crate::specs::inner::Enums::enum_))]
+#[tactic(auto, unfolding(crate::specs::inner::Enums::enum_, crate::specs::inner::Words::enum_))]
 pub fn enum_(
     alloc: Global,
     notes: &mut Vec<Note>,
@@ -130,6 +135,7 @@ pub fn enum_(
 ) -> Result<Enum, Refused>
     ensures read { Gives (λ x. x) result rows.new ((rule.enum_).code rows.old) }
     ensures notes { Adds result notes.old.items ((rule.enum_).notes rows.old) notes.new.items }
+    ensures words { Says result (said.enum_ expected rows.old) }
 {
     let start = expect_word(rows, "enum", expected)?;
     let name = ident(alloc, rows, Expected::Ident)?;

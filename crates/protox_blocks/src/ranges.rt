@@ -4,6 +4,9 @@ ghost use Rattle.std.specs.Prelude.{◌≡◌, ◌++◌, IfOk, OnOk};
 ghost use Rattle.protox_ast.specs.Ast.{text_of};
 ghost use Rattle.protox_grammar.specs.Told.{name_notes};
 ghost use Rattle.protox_rows.specs.inner.Outcome.{Gives};
+ghost use Rattle.protox_rows.specs.inner.Words.{Says};
+ghost use Rattle.protox_blocks.specs.inner.Words as said;
+ghost use Rattle.protox_rows.specs.inner.Words as row_said;
 ghost use Rattle.protox_rows.specs.inner.Notes.{Adds};
 ghost use Rattle.protox_blocks.specs.inner.Ranges as rule;
 
@@ -25,9 +28,10 @@ use protox_rows::strings::{strings, text_of};
 use std::alloc::{AllocError, Global};
 
 // "to" (int | "max")
-#[tactic(auto, unfolding(crate::specs::inner::Ranges::range_end))]
+#[tactic(auto, unfolding(crate::specs::inner::Ranges::range_end, crate::specs::inner::Words::range_end))]
 fn range_end(rows: &mut Unread<'_, '_>) -> Result<ReservedRangeEnd, Refused>
-    ensures { Gives (λ x. x) result rows.new ((rule.range_end).code rows.old) }
+    ensures read { Gives (λ x. x) result rows.new ((rule.range_end).code rows.old) }
+    ensures words { Says result (said.range_end rows.old) }
 {
     expect_word(rows, "to", Expected::To)?;
     if sees_any(rows, &[INTEGER, MINUS]) {
@@ -41,7 +45,8 @@ fn range_end(rows: &mut Unread<'_, '_>) -> Result<ReservedRangeEnd, Refused>
 // ("to" (int | "max"))?
 #[tactic(auto, unfolding(crate::specs::inner::Ranges::stop))]
 fn stop(rows: &mut Unread<'_, '_>) -> Result<ReservedRangeEnd, Refused>
-    ensures { Gives (λ x. x) result rows.new ((rule.stop).code rows.old) }
+    ensures read { Gives (λ x. x) result rows.new ((rule.stop).code rows.old) }
+    ensures words { Says result (said.range_end rows.old) }
 {
     if sees(rows, TO) {
         return range_end(rows);
@@ -50,27 +55,30 @@ fn stop(rows: &mut Unread<'_, '_>) -> Result<ReservedRangeEnd, Refused>
 }
 
 /// range = int ("to" (int | "max"))?
-#[tactic(auto, unfolding(crate::specs::inner::Ranges::range))]
+#[tactic(auto, unfolding(crate::specs::inner::Ranges::range, crate::specs::inner::Words::range))]
 fn range(rows: &mut Unread<'_, '_>) -> Result<ReservedRange, Refused>
-    ensures { Gives (λ x. x) result rows.new ((rule.range).code rows.old) }
+    ensures read { Gives (λ x. x) result rows.new ((rule.range).code rows.old) }
+    ensures words { Says result (said.range rows.old) }
 {
     let start = int(rows)?;
     let end = stop(rows)?;
     Ok(ReservedRange { start, end })
 }
 
-#[tactic(auto, unfolding(crate::specs::inner::Ranges::more_range))]
+#[tactic(auto, unfolding(crate::specs::inner::Ranges::more_range, crate::specs::inner::Words::more_range))]
 fn more_range(rows: &mut Unread<'_, '_>) -> Result<ReservedRange, Refused>
-    ensures { Gives (λ x. x) result rows.new ((rule.more_range).code rows.old) }
+    ensures read { Gives (λ x. x) result rows.new ((rule.more_range).code rows.old) }
+    ensures words { Says result (said.more_range rows.old) }
 {
     expect_mark(rows, b',', Expected::Comma)?;
     range(rows)
 }
 
 /// range ("," range)*
-#[tactic(auto, unfolding(crate::specs::inner::Ranges::ranges))]
+#[tactic(auto, unfolding(crate::specs::inner::Ranges::ranges, crate::specs::inner::Words::ranges))]
 fn ranges(alloc: Global, rows: &mut Unread<'_, '_>) -> Result<Items<ReservedRange>, Refused>
-    ensures { Gives (λ x. x) result rows.new ((rule.ranges).code rows.old) }
+    ensures read { Gives (λ x. x) result rows.new ((rule.ranges).code rows.old) }
+    ensures words { Says result (said.ranges rows.old) }
 {
     let first = range(rows)?;
     let mut ranges = Items::new(alloc);
@@ -83,11 +91,14 @@ fn ranges(alloc: Global, rows: &mut Unread<'_, '_>) -> Result<Items<ReservedRang
 }
 
 // What may follow ranges: it depends on whether the last one has an end.
+#[tactic(auto, unfolding(crate::specs::inner::Words::behind_ranges))]
 fn behind_ranges(
     ranges: &[ReservedRange],
     behind_start: Expected,
     behind_end: Expected,
-) -> Expected {
+) -> Expected
+    ensures { result ≡ said.behind_ranges ranges.now behind_start behind_end }
+{
     match ranges.last() {
         Some(range) if matches!(&range.end, ReservedRangeEnd::None) => behind_start,
         _ => behind_end,
@@ -121,13 +132,14 @@ fn reserved_name(
 ) -> Result<Ident, Refused>
     ensures read { Gives (λ x. x) result rows.new ((rule.reserved_name).code rows.old) }
     ensures notes { Adds result notes.old.items ((rule.reserved_name).notes rows.old) notes.new.items }
+    ensures words { Says result (row_said.strings expected rows.old) }
 {
     let (bytes, span) = strings(alloc, rows, expected)?;
     let value = checked_name(alloc, notes, rows, &bytes, &span)?;
     Ok(Ident { value, span })
 }
 
-#[tactic(auto, unfolding(crate::specs::inner::Ranges::more_name))]
+#[tactic(auto, unfolding(crate::specs::inner::Ranges::more_name, crate::specs::inner::Words::more_name))]
 fn more_name(
     alloc: Global,
     notes: &mut Vec<Note>,
@@ -135,13 +147,14 @@ fn more_name(
 ) -> Result<Ident, Refused>
     ensures read { Gives (λ x. x) result rows.new ((rule.more_name).code rows.old) }
     ensures notes { Adds result notes.old.items ((rule.more_name).notes rows.old) notes.new.items }
+    ensures words { Says result (said.more_name rows.old) }
 {
     expect_mark(rows, b',', Expected::CommaOrSemicolon)?;
     reserved_name(alloc, notes, rows, Expected::StringLiteral)
 }
 
 /// string+ ("," string+)*
-#[tactic(auto, unfolding(crate::specs::inner::Ranges::names))]
+#[tactic(auto, unfolding(crate::specs::inner::Ranges::names, crate::specs::inner::Words::names_of))]
 fn names(
     alloc: Global,
     notes: &mut Vec<Note>,
@@ -149,6 +162,7 @@ fn names(
 ) -> Result<Items<Ident>, Refused>
     ensures read { Gives (λ x. x) result rows.new ((rule.names).code rows.old) }
     ensures notes { Adds result notes.old.items ((rule.names).notes rows.old) notes.new.items }
+    ensures words { Says result (said.names_of rows.old) }
 {
     let first = reserved_name(alloc, notes, rows, Expected::ReservedItem)?;
     let mut names = Items::new(alloc);
@@ -160,7 +174,7 @@ fn names(
     Ok(names)
 }
 
-#[tactic(auto, unfolding(crate::specs::inner::Ranges::reserved_kind))]
+#[tactic(auto, unfolding(crate::specs::inner::Ranges::reserved_kind, crate::specs::inner::Words::reserved_kind))]
 fn reserved_kind(
     alloc: Global,
     notes: &mut Vec<Note>,
@@ -168,6 +182,7 @@ fn reserved_kind(
 ) -> Result<ReservedKind, Refused>
     ensures read { Gives (λ x. x) result rows.new ((rule.reserved_kind).code rows.old) }
     ensures notes { Adds result notes.old.items ((rule.reserved_kind).notes rows.old) notes.new.items }
+    ensures words { Says result (said.reserved_kind rows.old) }
 {
     if sees_any(rows, &[INTEGER, MINUS]) {
         let ranges = ranges(alloc, rows)?;
@@ -177,7 +192,10 @@ fn reserved_kind(
     Ok(ReservedKind::Names(names))
 }
 
-fn behind_reserved(kind: &ReservedKind) -> Expected {
+#[tactic(auto, unfolding(crate::specs::inner::Words::behind_reserved))]
+fn behind_reserved(kind: &ReservedKind) -> Expected
+    ensures { result ≡ said.behind_reserved kind.now }
+{
     match kind {
         ReservedKind::Ranges(ranges) => behind_ranges(
             ranges.as_slice(),
@@ -189,7 +207,7 @@ fn behind_reserved(kind: &ReservedKind) -> Expected {
 }
 
 /// reserved = "reserved" (range ("," range)* | string+ ("," string+)*) ";"
-#[tactic(auto, unfolding(crate::specs::inner::Ranges::reserved))]
+#[tactic(auto, unfolding(crate::specs::inner::Ranges::reserved, crate::specs::inner::Words::reserved))]
 pub fn reserved(
     alloc: Global,
     notes: &mut Vec<Note>,
@@ -198,6 +216,7 @@ pub fn reserved(
 ) -> Result<Reserved, Refused>
     ensures read { Gives (λ x. x) result rows.new ((rule.reserved).code rows.old) }
     ensures notes { Adds result notes.old.items ((rule.reserved).notes rows.old) notes.new.items }
+    ensures words { Says result (said.reserved expected rows.old) }
 {
     let start = expect_word(rows, "reserved", expected)?;
     let kind = reserved_kind(alloc, notes, rows)?;
@@ -212,7 +231,10 @@ pub fn reserved(
 }
 
 // What may follow the ranges of an extensions statement: a list of options, if there is none yet.
-fn behind_extensions(ranges: &[ReservedRange], options: &Option<Boxed<OptionList>>) -> Expected {
+#[tactic(auto, unfolding(crate::specs::inner::Words::behind_extensions))]
+fn behind_extensions(ranges: &[ReservedRange], options: &Option<Boxed<OptionList>>) -> Expected
+    ensures { result ≡ said.behind_extensions ranges.now options.now }
+{
     match options {
         Some(_) => Expected::Semicolon,
         None => behind_ranges(
@@ -224,7 +246,7 @@ fn behind_extensions(ranges: &[ReservedRange], options: &Option<Boxed<OptionList
 }
 
 /// extensions = "extensions" range ("," range)* list? ";"
-#[tactic(auto, unfolding(crate::specs::inner::Ranges::extensions))]
+#[tactic(auto, unfolding(crate::specs::inner::Ranges::extensions, crate::specs::inner::Words::extensions))]
 pub fn extensions(
     alloc: Global,
     notes: &mut Vec<Note>,
@@ -233,6 +255,7 @@ pub fn extensions(
 ) -> Result<Extensions, Refused>
     ensures read { Gives (λ x. x) result rows.new ((rule.extensions).code rows.old) }
     ensures notes { Adds result notes.old.items ((rule.extensions).notes rows.old) notes.new.items }
+    ensures words { Says result (said.extensions expected rows.old) }
 {
     let start = expect_word(rows, "extensions", expected)?;
     let ranges = ranges(alloc, rows)?;

@@ -2,6 +2,8 @@
 
 ghost use Rattle.std.specs.Prelude.{◌≡◌, OnOk};
 ghost use Rattle.protox_rows.specs.inner.Outcome.{Gives};
+ghost use Rattle.protox_rows.specs.inner.Words.{Says};
+ghost use Rattle.protox_blocks.specs.inner.Words as said;
 ghost use Rattle.protox_rows.specs.inner.Notes.{Adds};
 ghost use Rattle.protox_blocks.specs.inner.Services as rule;
 
@@ -34,9 +36,10 @@ pub(crate) struct ServiceParts {
 }
 
 /// "stream"? typename
-#[tactic(auto, unfolding(crate::specs::inner::Services::rpc_type))]
+#[tactic(auto, unfolding(crate::specs::inner::Services::rpc_type, crate::specs::inner::Words::rpc_type))]
 fn rpc_type(alloc: Global, rows: &mut Unread<'_, '_>) -> Result<(Option<Span>, TypeName), Refused>
-    ensures { Gives (λ x. x) result rows.new ((rule.rpc_type).code rows.old) }
+    ensures read { Gives (λ x. x) result rows.new ((rule.rpc_type).code rows.old) }
+    ensures words { Says result (said.rpc_type rows.old) }
 {
     if sees_any(rows, &[STREAM]) {
         let stream = expect_word(rows, "stream", Expected::StreamOrType)?;
@@ -48,7 +51,7 @@ fn rpc_type(alloc: Global, rows: &mut Unread<'_, '_>) -> Result<(Option<Span>, T
 }
 
 /// ";" | option
-#[tactic(auto, unfolding(crate::specs::inner::Services::rpc_element))]
+#[tactic(auto, unfolding(crate::specs::inner::Services::rpc_element, crate::specs::inner::Words::rpc_element))]
 fn rpc_element(
     alloc: Global,
     notes: &mut Vec<Note>,
@@ -56,6 +59,7 @@ fn rpc_element(
 ) -> Result<Option<OptionStatement>, Refused>
     ensures read { Gives (λ x. x) result rows.new ((rule.rpc_element).code rows.old) }
     ensures notes { Adds result notes.old.items ((rule.rpc_element).notes rows.old) notes.new.items }
+    ensures words { Says result (said.rpc_element rows.old) }
 {
     if sees(rows, SEMICOLON) {
         expect_mark(rows, b';', Expected::Semicolon)?;
@@ -77,7 +81,7 @@ fn put_option(
     }
 }
 
-#[tactic(auto, unfolding(crate::specs::inner::Services::rpc_elements))]
+#[tactic(auto, unfolding(crate::specs::inner::Services::rpc_elements, crate::specs::inner::Words::rpc_elements))]
 fn rpc_elements(
     alloc: Global,
     notes: &mut Vec<Note>,
@@ -85,6 +89,7 @@ fn rpc_elements(
 ) -> Result<Items<OptionStatement>, Refused>
     ensures read { Gives (λ x. x) result rows.new ((rule.rpc_elements).code rows.old) }
     ensures notes { Adds result notes.old.items ((rule.rpc_elements).notes rows.old) notes.new.items }
+    ensures words { Says result (said.rpc_elements rows.old) }
 {
     let mut options = Items::new(alloc);
     'more: while sees_other(rows, RIGHT_BRACE) {
@@ -95,7 +100,7 @@ fn rpc_elements(
 }
 
 /// ";" | "{" (";" | option)* "}"
-#[tactic(auto, unfolding(crate::specs::inner::Services::rpc_end))]
+#[tactic(auto, unfolding(crate::specs::inner::Services::rpc_end, crate::specs::inner::Words::rpc_end))]
 fn rpc_end<'t, 'a>(
     alloc: Global,
     notes: &mut Vec<Note>,
@@ -103,6 +108,7 @@ fn rpc_end<'t, 'a>(
 ) -> Result<(Items<OptionStatement>, RowAt<'t, 'a>), Refused>
     ensures read { Gives (λ x. (x.0, x.1.at)) result rows.new ((rule.rpc_end).code rows.old) }
     ensures notes { Adds result notes.old.items ((rule.rpc_end).notes rows.old) notes.new.items }
+    ensures words { Says result (said.rpc_end rows.old) }
 {
     if sees(rows, SEMICOLON) {
         let end = expect_mark(rows, b';', Expected::Semicolon)?;
@@ -115,7 +121,7 @@ fn rpc_end<'t, 'a>(
 }
 
 /// "returns" "(" "stream"? typename ")" (";" | "{" (";" | option)* "}")
-#[tactic(auto, unfolding(crate::specs::inner::Services::output))]
+#[tactic(auto, unfolding(crate::specs::inner::Services::output, crate::specs::inner::Words::output))]
 fn output<'t, 'a>(
     alloc: Global,
     notes: &mut Vec<Note>,
@@ -129,6 +135,7 @@ fn output<'t, 'a>(
 >
     ensures read { Gives (λ (ty, (options, end)). (ty, (options, end.at))) result rows.new ((rule.output).code rows.old) }
     ensures notes { Adds result notes.old.items ((rule.output).notes rows.old) notes.new.items }
+    ensures words { Says result (said.output rows.old) }
 {
     expect_word(rows, "returns", Expected::Returns)?;
     expect_mark(rows, b'(', Expected::LeftParen)?;
@@ -140,10 +147,11 @@ fn output<'t, 'a>(
 
 /// rpc = "rpc" ident "(" "stream"? typename ")" "returns" "(" "stream"? typename ")"
 ///     (";" | "{" (";" | option)* "}")
-#[tactic(auto, unfolding(crate::specs::inner::Services::rpc))]
+#[tactic(auto, unfolding(crate::specs::inner::Services::rpc, crate::specs::inner::Words::rpc))]
 fn rpc(alloc: Global, notes: &mut Vec<Note>, rows: &mut Unread<'_, '_>) -> Result<Method, Refused>
     ensures read { Gives (λ x. x) result rows.new ((rule.rpc).code rows.old) }
     ensures notes { Adds result notes.old.items ((rule.rpc).notes rows.old) notes.new.items }
+    ensures words { Says result (said.rpc rows.old) }
 {
     let start = expect_word(rows, "rpc", Expected::ServiceBody)?;
     let name = ident(alloc, rows, Expected::Ident)?;
@@ -166,7 +174,7 @@ fn rpc(alloc: Global, notes: &mut Vec<Note>, rows: &mut Unread<'_, '_>) -> Resul
 }
 
 /// ";" | option | rpc
-#[tactic(auto, unfolding(crate::specs::inner::Services::service_element))]
+#[tactic(auto, unfolding(crate::specs::inner::Services::service_element, crate::specs::inner::Words::service_element))]
 fn service_element(
     alloc: Global,
     notes: &mut Vec<Note>,
@@ -174,6 +182,7 @@ fn service_element(
 ) -> Result<ServiceElement, Refused>
     ensures read { Gives (λ x. x) result rows.new ((rule.service_element).code rows.old) }
     ensures notes { Adds result notes.old.items ((rule.service_element).notes rows.old) notes.new.items }
+    ensures words { Says result (said.service_element rows.old) }
 {
     if sees(rows, SEMICOLON) {
         expect_mark(rows, b';', Expected::Semicolon)?;
@@ -197,7 +206,7 @@ fn put(parts: &mut ServiceParts, element: ServiceElement) -> Result<(), AllocErr
     }
 }
 
-#[tactic(auto, unfolding(crate::specs::inner::Services::service_elements))]
+#[tactic(auto, unfolding(crate::specs::inner::Services::service_elements, crate::specs::inner::Words::service_elements))]
 fn service_elements(
     alloc: Global,
     notes: &mut Vec<Note>,
@@ -205,6 +214,7 @@ fn service_elements(
 ) -> Result<ServiceParts, Refused>
     ensures read { Gives (λ x. x) result rows.new ((rule.service_elements).code rows.old) }
     ensures notes { Adds result notes.old.items ((rule.service_elements).notes rows.old) notes.new.items }
+    ensures words { Says result (said.service_elements rows.old) }
 {
     let mut parts = ServiceParts {
         options: Items::new(alloc),
@@ -218,7 +228,7 @@ fn service_elements(
 }
 
 /// service = "service" ident "{" (";" | option | rpc)* "}"
-#[tactic(auto, unfolding(crate::specs::inner::Services::service))]
+#[tactic(auto, unfolding(crate::specs::inner::Services::service, crate::specs::inner::Words::service))]
 pub fn service(
     alloc: Global,
     notes: &mut Vec<Note>,
@@ -227,6 +237,7 @@ pub fn service(
 ) -> Result<Service, Refused>
     ensures read { Gives (λ x. x) result rows.new ((rule.service).code rows.old) }
     ensures notes { Adds result notes.old.items ((rule.service).notes rows.old) notes.new.items }
+    ensures words { Says result (said.service expected rows.old) }
 {
     let start = expect_word(rows, "service", expected)?;
     let name = ident(alloc, rows, Expected::Ident)?;

@@ -16,7 +16,9 @@ use Rattle.protox_grammar.proofs.Shows.{shows-eats}
 use Rattle.protox_options.specs.inner.Options.{here}
 use Rattle.protox_ast.specs.declared.ast.Ident as ident_type
 use Rattle.protox_rows.specs.inner.Names.{ident}
+use Rattle.protox_rows.specs.declared.expected.Expected.{Expected}
 use Rattle.protox_bodies.specs.inner.Bodies as messages
+use Rattle.protox_bodies.specs.inner.Words as said
 
 pub element-eats : (n : ℕ) → Consumes (messages.element_at n)
 element-eats n = shows-eats (rules.element-laws here k.KeepsMbody (bodies.FitsMbody n) (bodies.unsealed n).read (bodies.unsealed n).steps (bodies.unsealed n).trace (depths.body-laws here n)) (messages.element n (messages.mbody_at n)).shows
@@ -40,6 +42,18 @@ one_level (suc n) h w xs =
 pub no_level : (n : ℕ) → n ≡ 0 → (w : Span) (xs : Rows Place) → (messages.mbody_at n).notes w xs ≡ sunk_notes w xs
 unfolding messages.mbody_at
 no_level n h w xs = rw h refl
+
+-- The words where no level is left, and where some are.
+pub no_words : (n : ℕ) → n ≡ 0 → (e : Expected) (xs : Rows Place) → said.mbody_at n e xs ≡ e
+unfolding said.mbody_at
+no_words n h e xs = rw h refl
+
+pub words_below : (n : ℕ) → (n ≡ 0 → ⊥) → (e : Expected) (xs : Rows Place) → said.mbody_at n e xs ≡ said.braces_at (n - 1) e xs
+unfolding said.mbody_at
+words_below zero h e xs = absurd (h refl)
+words_below (suc n) h e xs =
+    let same : n ≡ suc n - 1 = omega arith in
+    ap (λ m. said.braces_at m e xs) same
 
 -- ---- an identifier is one row
 

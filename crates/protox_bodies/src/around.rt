@@ -6,6 +6,8 @@ ghost use Rattle.protox_grammar.proofs.Opened.{sunk_notes};
 ghost use Rattle.protox_grammar.specs.Bodies.{deep_read};
 ghost use Rattle.protox_ast.specs.Places.{Place};
 ghost use Rattle.protox_rows.specs.inner.Outcome.{Fails, Gives};
+ghost use Rattle.protox_rows.specs.inner.Words.{Says, SaysOf};
+ghost use Rattle.protox_bodies.specs.inner.Words as said;
 ghost use Rattle.protox_rows.specs.inner.Notes.{Adds, AddsTo};
 ghost use Rattle.protox_bodies.specs.inner.Bodies as rule;
 ghost use Rattle.protox_bodies.specs.inner.Fields.{first_span};
@@ -35,7 +37,9 @@ pub(crate) fn first_span(rows: &Unread<'_, '_>) -> Span
 }
 
 /// What may follow a group's number: its body or a list of options.
-pub(crate) fn before_body(options: &Option<Boxed<OptionList>>) -> Expected {
+pub(crate) fn before_body(options: &Option<Boxed<OptionList>>) -> Expected
+    ensures { result ≡ said.before_body options.now }
+{
     match options {
         Some(_) => Expected::LeftBrace,
         None => Expected::BraceOrOptions,
@@ -43,7 +47,7 @@ pub(crate) fn before_body(options: &Option<Boxed<OptionList>>) -> Expected {
 }
 
 /// option | reserved | extensions
-#[tactic(auto, unfolding(crate::specs::inner::Bodies::bodiless_element))]
+#[tactic(auto, unfolding(crate::specs::inner::Bodies::bodiless_element, crate::specs::inner::Words::bodiless_element))]
 pub(crate) fn bodiless_element(
     alloc: Global,
     notes: &mut Vec<Note>,
@@ -51,6 +55,7 @@ pub(crate) fn bodiless_element(
 ) -> Result<Element, Refused>
     ensures read { Gives (λ x. x) result rows.new ((rule.bodiless_element).code rows.old) }
     ensures notes { Adds result notes.old.items ((rule.bodiless_element).notes rows.old) notes.new.items }
+    ensures words { Says result (said.bodiless_element rows.old) }
 {
     if sees(rows, OPTION) {
         let option = option(alloc, notes, rows, Expected::MessageBody)?;
@@ -74,6 +79,7 @@ pub(crate) fn refuse_deep_body(
 ) -> Refused
     ensures read { Fails result (deep_read {M = Place} rows.now) }
     ensures notes { AddsTo result notes.old.items (sunk_notes word.now rows.now) notes.new.items }
+    ensures words { SaysOf result expected }
 {
     match rows.split() {
         Some((row, rest)) if is_mark(row.token(), b'{') => {

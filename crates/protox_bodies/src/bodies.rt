@@ -2,6 +2,8 @@
 //! levels of bodies may be opened.
 
 ghost use Rattle.protox_rows.specs.inner.Outcome.{Gives};
+ghost use Rattle.protox_rows.specs.inner.Words.{Says};
+ghost use Rattle.protox_bodies.specs.inner.Words as said;
 ghost use Rattle.protox_rows.specs.inner.Notes.{Adds};
 ghost use Rattle.protox_bodies.specs.inner.Bodies as rule;
 
@@ -33,7 +35,7 @@ use std::alloc::Global;
 
 /// "=" int list? mbody
 #[cycle(bodies)]
-#[tactic(auto, unfolding(crate::specs::inner::Bodies::number_and_body))]
+#[tactic(auto, unfolding(crate::specs::inner::Bodies::number_and_body, crate::specs::inner::Words::number_and_body))]
 fn number_and_body<'t, 'a>(
     alloc: Global,
     notes: &mut Vec<Note>,
@@ -50,6 +52,7 @@ fn number_and_body<'t, 'a>(
 >
     ensures read { Gives (λ x. (x.0, (x.1, (x.2.0, (x.2.1.0.at, x.2.1.1.at))))) result rows.new (rule.number_and_body_at level rows.old) }
     ensures notes { Adds result notes.old.items (rule.number_and_body_notes level word.now rows.old) notes.new.items }
+    ensures words { Says result (said.number_and_body_at level rows.old) }
 {
     expect_mark(rows, b'=', Expected::Equals)?;
     let number = int(rows)?;
@@ -60,7 +63,7 @@ fn number_and_body<'t, 'a>(
 
 /// group = "group" ident "=" int list? mbody
 #[cycle(bodies)]
-#[tactic(auto, unfolding(crate::specs::inner::Bodies::group))]
+#[tactic(auto, unfolding(crate::specs::inner::Bodies::group, crate::specs::inner::Words::group))]
 fn group<'t, 'a>(
     alloc: Global,
     notes: &mut Vec<Note>,
@@ -69,6 +72,7 @@ fn group<'t, 'a>(
 ) -> Result<(FieldParts, (RowAt<'t, 'a>, RowAt<'t, 'a>)), Refused>
     ensures read { Gives (λ (kind, (first, last)). (kind, (first.at, last.at))) result rows.new (rule.group_at level rows.old) }
     ensures notes { Adds result notes.old.items (rule.group_notes level rows.old) notes.new.items }
+    ensures words { Says result (said.group_at level rows.old) }
 {
     let start = expect_word(rows, "group", Expected::Type)?;
     let ty_span = start.span();
@@ -86,7 +90,7 @@ fn group<'t, 'a>(
 
 /// map | group | normal
 #[cycle(bodies)]
-#[tactic(auto, unfolding(crate::specs::inner::Bodies::field_kind))]
+#[tactic(auto, unfolding(crate::specs::inner::Bodies::field_kind, crate::specs::inner::Words::field_kind))]
 fn field_kind<'t, 'a>(
     alloc: Global,
     notes: &mut Vec<Note>,
@@ -96,6 +100,7 @@ fn field_kind<'t, 'a>(
 ) -> Result<(FieldParts, (RowAt<'t, 'a>, RowAt<'t, 'a>)), Refused>
     ensures read { Gives (λ (kind, (first, last)). (kind, (first.at, last.at))) result rows.new (rule.field_kind_at level rows.old) }
     ensures notes { Adds result notes.old.items (rule.field_kind_notes level rows.old) notes.new.items }
+    ensures words { Says result (said.field_kind_at level expected rows.old) }
 {
     if !sees_any(rows, &[MAP, GROUP]) {
         return normal(alloc, notes, rows, expected);
@@ -108,7 +113,7 @@ fn field_kind<'t, 'a>(
 
 // A label, if there is one, and then a field.
 #[cycle(bodies)]
-#[tactic(auto, unfolding(crate::specs::inner::Bodies::labelled_kind))]
+#[tactic(auto, unfolding(crate::specs::inner::Bodies::labelled_kind, crate::specs::inner::Words::labelled_kind))]
 fn labelled_kind<'t, 'a>(
     alloc: Global,
     notes: &mut Vec<Note>,
@@ -124,6 +129,7 @@ fn labelled_kind<'t, 'a>(
 >
     ensures read { Gives (λ (label, (kind, (first, last))). (label, (kind, (first.at, last.at)))) result rows.new (rule.labelled_kind_at level rows.old) }
     ensures notes { Adds result notes.old.items (rule.labelled_kind_notes level rows.old) notes.new.items }
+    ensures words { Says result (said.labelled_kind_at level expected rows.old) }
 {
     if sees_any(rows, &[OPTIONAL, REQUIRED, REPEATED]) {
         let label = label(rows)?;
@@ -146,6 +152,7 @@ fn field(
 ) -> Result<Field, Refused>
     ensures read { Gives (λ x. x) result rows.new (rule.field_at level rows.old) }
     ensures notes { Adds result notes.old.items (rule.field_notes level rows.old) notes.new.items }
+    ensures words { Says result (said.labelled_kind_at level expected rows.old) }
 {
     let begun = rows.again();
     let start = first_span(&begun);
@@ -171,7 +178,7 @@ fn field(
 
 /// ";" | option | field
 #[cycle(bodies)]
-#[tactic(auto, unfolding(crate::specs::inner::Bodies::oneof_element))]
+#[tactic(auto, unfolding(crate::specs::inner::Bodies::oneof_element, crate::specs::inner::Words::oneof_element))]
 fn oneof_element(
     alloc: Global,
     notes: &mut Vec<Note>,
@@ -180,6 +187,7 @@ fn oneof_element(
 ) -> Result<OneofElement, Refused>
     ensures read { Gives (λ x. x) result rows.new (rule.oneof_element_at level rows.old) }
     ensures notes { Adds result notes.old.items (rule.oneof_element_notes level rows.old) notes.new.items }
+    ensures words { Says result (said.oneof_element_at level rows.old) }
 {
     if sees(rows, SEMICOLON) {
         expect_mark(rows, b';', Expected::Semicolon)?;
@@ -194,7 +202,7 @@ fn oneof_element(
 }
 
 #[cycle(bodies)]
-#[tactic(auto, unfolding(crate::specs::inner::Bodies::oneof_elements))]
+#[tactic(auto, unfolding(crate::specs::inner::Bodies::oneof_elements, crate::specs::inner::Words::oneof_elements))]
 fn oneof_elements(
     alloc: Global,
     notes: &mut Vec<Note>,
@@ -203,6 +211,7 @@ fn oneof_elements(
 ) -> Result<OneofElementsByKind, Refused>
     ensures read { Gives (λ x. x) result rows.new (rule.oneof_elements_at level rows.old) }
     ensures notes { Adds result notes.old.items (rule.oneof_elements_notes level rows.old) notes.new.items }
+    ensures words { Says result (said.oneof_elements_at level rows.old) }
 {
     let mut inside = OneofElementsByKind {
         options: Items::new(alloc),
@@ -217,7 +226,7 @@ fn oneof_elements(
 
 /// oneof = "oneof" ident "{" (";" | option | field)* "}"
 #[cycle(bodies)]
-#[tactic(auto, unfolding(crate::specs::inner::Bodies::oneof))]
+#[tactic(auto, unfolding(crate::specs::inner::Bodies::oneof, crate::specs::inner::Words::oneof))]
 fn oneof(
     alloc: Global,
     notes: &mut Vec<Note>,
@@ -226,6 +235,7 @@ fn oneof(
 ) -> Result<Oneof, Refused>
     ensures read { Gives (λ x. x) result rows.new (rule.oneof_at level rows.old) }
     ensures notes { Adds result notes.old.items (rule.oneof_notes level rows.old) notes.new.items }
+    ensures words { Says result (said.oneof_at level rows.old) }
 {
     let start = expect_word(rows, "oneof", Expected::MessageBody)?;
     let name = ident(alloc, rows, Expected::Ident)?;
@@ -246,7 +256,7 @@ fn oneof(
 
 /// ";" | field
 #[cycle(bodies)]
-#[tactic(auto, unfolding(crate::specs::inner::Bodies::extend_element))]
+#[tactic(auto, unfolding(crate::specs::inner::Bodies::extend_element, crate::specs::inner::Words::extend_element))]
 fn extend_element(
     alloc: Global,
     notes: &mut Vec<Note>,
@@ -255,6 +265,7 @@ fn extend_element(
 ) -> Result<Option<Field>, Refused>
     ensures read { Gives (λ x. x) result rows.new (rule.extend_element_at level rows.old) }
     ensures notes { Adds result notes.old.items (rule.extend_element_notes level rows.old) notes.new.items }
+    ensures words { Says result (said.extend_element_at level rows.old) }
 {
     if sees(rows, SEMICOLON) {
         expect_mark(rows, b';', Expected::Semicolon)?;
@@ -265,7 +276,7 @@ fn extend_element(
 }
 
 #[cycle(bodies)]
-#[tactic(auto, unfolding(crate::specs::inner::Bodies::extend_elements))]
+#[tactic(auto, unfolding(crate::specs::inner::Bodies::extend_elements, crate::specs::inner::Words::extend_elements))]
 fn extend_elements(
     alloc: Global,
     notes: &mut Vec<Note>,
@@ -274,6 +285,7 @@ fn extend_elements(
 ) -> Result<Items<Field>, Refused>
     ensures read { Gives (λ x. x) result rows.new (rule.extend_elements_at level rows.old) }
     ensures notes { Adds result notes.old.items (rule.extend_elements_notes level rows.old) notes.new.items }
+    ensures words { Says result (said.extend_elements_at level rows.old) }
 {
     let mut fields = Items::new(alloc);
     'extend: while sees_other(rows, RIGHT_BRACE) {
@@ -285,7 +297,7 @@ fn extend_elements(
 
 /// extend = "extend" typename "{" (";" | field)* "}"
 #[cycle(bodies)]
-#[tactic(auto, unfolding(crate::specs::inner::Bodies::extend))]
+#[tactic(auto, unfolding(crate::specs::inner::Bodies::extend, crate::specs::inner::Words::extend))]
 pub fn extend(
     alloc: Global,
     notes: &mut Vec<Note>,
@@ -294,6 +306,7 @@ pub fn extend(
 ) -> Result<Extend, Refused>
     ensures read { Gives (λ x. x) result rows.new (rule.extend_at level rows.old) }
     ensures notes { Adds result notes.old.items (rule.extend_notes level rows.old) notes.new.items }
+    ensures words { Says result (said.extend_at level rows.old) }
 {
     let start = expect_word(rows, "extend", Expected::Statement)?;
     let (extendee, _) = typename(alloc, rows, Expected::TypeName)?;
@@ -312,7 +325,7 @@ pub fn extend(
 
 /// message = "message" ident mbody
 #[cycle(bodies)]
-#[tactic(auto, unfolding(crate::specs::inner::Bodies::message))]
+#[tactic(auto, unfolding(crate::specs::inner::Bodies::message, crate::specs::inner::Words::message))]
 pub fn message(
     alloc: Global,
     notes: &mut Vec<Note>,
@@ -321,6 +334,7 @@ pub fn message(
 ) -> Result<Message, Refused>
     ensures read { Gives (λ x. x) result rows.new (rule.message_at level rows.old) }
     ensures notes { Adds result notes.old.items (rule.message_notes level rows.old) notes.new.items }
+    ensures words { Says result (said.message_at level rows.old) }
 {
     let start = expect_word(rows, "message", Expected::Statement)?;
     let word = start.span();
@@ -338,7 +352,7 @@ pub fn message(
 
 /// oneof | enum | message | extend | option | reserved | extensions
 #[cycle(bodies)]
-#[tactic(auto, unfolding(crate::specs::inner::Bodies::keyword_element))]
+#[tactic(auto, unfolding(crate::specs::inner::Bodies::keyword_element, crate::specs::inner::Words::keyword_element))]
 fn keyword_element(
     alloc: Global,
     notes: &mut Vec<Note>,
@@ -347,6 +361,7 @@ fn keyword_element(
 ) -> Result<Element, Refused>
     ensures read { Gives (λ x. x) result rows.new (rule.keyword_element_at level rows.old) }
     ensures notes { Adds result notes.old.items (rule.keyword_element_notes level rows.old) notes.new.items }
+    ensures words { Says result (said.keyword_element_at level rows.old) }
 {
     if sees(rows, ONEOF) {
         let oneof = oneof(alloc, notes, rows, level)?;
@@ -369,7 +384,7 @@ fn keyword_element(
 
 /// ";" | field | oneof | enum | message | extend | option | reserved | extensions
 #[cycle(bodies)]
-#[tactic(auto, unfolding(crate::specs::inner::Bodies::element))]
+#[tactic(auto, unfolding(crate::specs::inner::Bodies::element, crate::specs::inner::Words::element))]
 fn element(
     alloc: Global,
     notes: &mut Vec<Note>,
@@ -378,6 +393,7 @@ fn element(
 ) -> Result<Element, Refused>
     ensures read { Gives (λ x. x) result rows.new (rule.element_at level rows.old) }
     ensures notes { Adds result notes.old.items (rule.element_notes level rows.old) notes.new.items }
+    ensures words { Says result (said.element_at level rows.old) }
 {
     if sees(rows, SEMICOLON) {
         expect_mark(rows, b';', Expected::Semicolon)?;
@@ -394,7 +410,7 @@ fn element(
 }
 
 #[cycle(bodies)]
-#[tactic(auto, unfolding(crate::specs::inner::Bodies::elements))]
+#[tactic(auto, unfolding(crate::specs::inner::Bodies::elements, crate::specs::inner::Words::elements))]
 fn elements(
     alloc: Global,
     notes: &mut Vec<Note>,
@@ -403,6 +419,7 @@ fn elements(
 ) -> Result<ElementsByKind, Refused>
     ensures read { Gives (λ x. x) result rows.new (rule.elements_at level rows.old) }
     ensures notes { Adds result notes.old.items (rule.elements_notes level rows.old) notes.new.items }
+    ensures words { Says result (said.elements_at level rows.old) }
 {
     let mut inside = ElementsByKind {
         items: Items::new(alloc),
@@ -420,7 +437,7 @@ fn elements(
 /// mbody =
 ///     "{" (";" | field | oneof | enum | message | extend | option | reserved | extensions)* "}"
 #[cycle(bodies)]
-#[tactic(auto, unfolding(crate::specs::inner::Bodies::mbody))]
+#[tactic(auto, unfolding(crate::specs::inner::Bodies::mbody, crate::specs::inner::Words::braces))]
 fn braces<'t, 'a>(
     alloc: Global,
     notes: &mut Vec<Note>,
@@ -430,6 +447,7 @@ fn braces<'t, 'a>(
 ) -> Result<(MessageBody, (RowAt<'t, 'a>, RowAt<'t, 'a>)), Refused>
     ensures read { Gives (λ (kind, (first, last)). (kind, (first.at, last.at))) result rows.new (rule.braces_at level rows.old) }
     ensures notes { Adds result notes.old.items (rule.braces_notes level rows.old) notes.new.items }
+    ensures words { Says result (said.braces_at level expected rows.old) }
 {
     let open = expect_mark(rows, b'{', expected)?;
     let inside = elements(alloc, notes, rows, level)?;
@@ -451,7 +469,7 @@ fn braces<'t, 'a>(
 
 /// A body after its word. `level` says how many more levels may be opened.
 #[cycle(bodies)]
-#[tactic(auto, unfolding(crate::specs::inner::Bodies::mbody_at))]
+#[tactic(auto, unfolding(crate::specs::inner::Bodies::mbody_at, crate::specs::inner::Words::mbody_at))]
 fn mbody<'t, 'a>(
     alloc: Global,
     notes: &mut Vec<Note>,
@@ -462,6 +480,7 @@ fn mbody<'t, 'a>(
 ) -> Result<(MessageBody, (RowAt<'t, 'a>, RowAt<'t, 'a>)), Refused>
     ensures read { Gives (λ (kind, (first, last)). (kind, (first.at, last.at))) result rows.new ((rule.mbody_at level).code rows.old) }
     ensures notes { Adds result notes.old.items ((rule.mbody_at level).notes word.now rows.old) notes.new.items }
+    ensures words { Says result (said.mbody_at level expected rows.old) }
 {
     if level == 0 {
         return Err(refuse_deep_body(notes, rows, word, expected));

@@ -3,6 +3,9 @@
 ghost use Rattle.std.specs.Prelude.{◌≡◌, ◌++◌, OnOk, suc, length};
 ghost use Rattle.protox_grammar.specs.Told.{group_notes};
 ghost use Rattle.protox_rows.specs.inner.Outcome.{Gives};
+ghost use Rattle.protox_rows.specs.inner.Words.{Says};
+ghost use Rattle.protox_bodies.specs.inner.Words as said;
+ghost use Rattle.protox_rows.specs.declared.expected.Expected.TheVariants as expect;
 ghost use Rattle.protox_rows.specs.inner.Notes.{Adds};
 ghost use Rattle.protox_bodies.specs.inner.Fields as rule;
 
@@ -20,7 +23,9 @@ use protox_rows::rows::{RowAt, Unread, span_between};
 use std::alloc::{AllocError, Global};
 
 // What may follow a named type: a dot goes on with it.
-fn after_type(ty: &Ty, named: Expected, scalar: Expected) -> Expected {
+fn after_type(ty: &Ty, named: Expected, scalar: Expected) -> Expected
+    ensures { result ≡ said.after_type ty.now named scalar }
+{
     match ty {
         Ty::Named(_) => named,
         _ => scalar,
@@ -28,7 +33,7 @@ fn after_type(ty: &Ty, named: Expected, scalar: Expected) -> Expected {
 }
 
 /// ident "=" int list? ";"
-#[tactic(auto, unfolding(crate::specs::inner::Fields::name_and_number))]
+#[tactic(auto, unfolding(crate::specs::inner::Fields::name_and_number, crate::specs::inner::Words::name_and_number))]
 fn name_and_number<'t, 'a>(
     alloc: Global,
     notes: &mut Vec<Note>,
@@ -37,6 +42,7 @@ fn name_and_number<'t, 'a>(
 ) -> Result<(Ident, Int, Option<Boxed<OptionList>>, RowAt<'t, 'a>), Refused>
     ensures read { Gives (λ x. (x.0, (x.1, (x.2, x.3.at)))) result rows.new ((rule.name_and_number).code rows.old) }
     ensures notes { Adds result notes.old.items ((rule.name_and_number).notes rows.old) notes.new.items }
+    ensures words { Says result (said.name_and_number expected rows.old) }
 {
     let name = ident(alloc, rows, expected)?;
     expect_mark(rows, b'=', Expected::Equals)?;
@@ -47,7 +53,7 @@ fn name_and_number<'t, 'a>(
 }
 
 /// normal = type ident "=" int list? ";"
-#[tactic(auto, unfolding(crate::specs::inner::Fields::normal))]
+#[tactic(auto, unfolding(crate::specs::inner::Fields::normal, crate::specs::inner::Words::normal))]
 pub(crate) fn normal<'t, 'a>(
     alloc: Global,
     notes: &mut Vec<Note>,
@@ -56,6 +62,7 @@ pub(crate) fn normal<'t, 'a>(
 ) -> Result<(FieldParts, (RowAt<'t, 'a>, RowAt<'t, 'a>)), Refused>
     ensures read { Gives (λ (kind, (first, last)). (kind, (first.at, last.at))) result rows.new ((rule.normal).code rows.old) }
     ensures notes { Adds result notes.old.items ((rule.normal).notes rows.old) notes.new.items }
+    ensures words { Says result (said.normal expected rows.old) }
 {
     let (ty, ty_span) = field_type(alloc, rows, expected)?;
     let behind = after_type(&ty, Expected::DotOrIdent, Expected::Ident);
@@ -71,7 +78,7 @@ pub(crate) fn normal<'t, 'a>(
 }
 
 /// map = "map" "<" type "," type ">" ident "=" int list? ";"
-#[tactic(auto, unfolding(crate::specs::inner::Fields::map_field))]
+#[tactic(auto, unfolding(crate::specs::inner::Fields::map_field, crate::specs::inner::Words::map_field))]
 pub(crate) fn map_field<'t, 'a>(
     alloc: Global,
     notes: &mut Vec<Note>,
@@ -79,6 +86,7 @@ pub(crate) fn map_field<'t, 'a>(
 ) -> Result<(FieldParts, (RowAt<'t, 'a>, RowAt<'t, 'a>)), Refused>
     ensures read { Gives (λ (kind, (first, last)). (kind, (first.at, last.at))) result rows.new ((rule.map_field).code rows.old) }
     ensures notes { Adds result notes.old.items ((rule.map_field).notes rows.old) notes.new.items }
+    ensures words { Says result (said.map_field rows.old) }
 {
     let start = expect_word(rows, "map", Expected::Type)?;
     expect_mark(rows, b'<', Expected::LeftAngleBracket)?;
@@ -141,6 +149,7 @@ pub(crate) fn group_name(
 ) -> Result<Ident, Refused>
     ensures read { Gives (λ x. x) result rows.new ((rule.group_name).code rows.old) }
     ensures notes { Adds result notes.old.items ((rule.group_name).notes rows.old) notes.new.items }
+    ensures words { Says result expect.Ident }
 {
     let left = rows.len();
     let name = ident(alloc, rows, Expected::Ident)?;

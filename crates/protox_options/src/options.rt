@@ -2,6 +2,8 @@
 
 ghost use Rattle.std.specs.Prelude.{◌≡◌};
 ghost use Rattle.protox_rows.specs.inner.Outcome.{Gives};
+ghost use Rattle.protox_rows.specs.inner.Words.{Says};
+ghost use Rattle.protox_options.specs.inner.Words as said;
 ghost use Rattle.protox_rows.specs.inner.Notes.{Adds};
 ghost use Rattle.protox_options.specs.inner.Options as rule;
 
@@ -18,9 +20,10 @@ use protox_rows::rows::{Unread, comments_between, span_between};
 use std::alloc::Global;
 
 /// part = ident | "(" typename ")"
-#[tactic(auto, unfolding(crate::specs::inner::Options::part))]
+#[tactic(auto, unfolding(crate::specs::inner::Options::part, crate::specs::inner::Words::part))]
 fn part(alloc: Global, rows: &mut Unread<'_, '_>) -> Result<OptionNamePart, Refused>
-    ensures { Gives (λ x. x) result rows.new ((rule.part).code rows.old) }
+    ensures read { Gives (λ x. x) result rows.new ((rule.part).code rows.old) }
+    ensures words { Says result (said.part rows.old) }
 {
     if sees_below(rows, INTEGER) {
         let name = ident(alloc, rows, Expected::OptionName)?;
@@ -32,18 +35,20 @@ fn part(alloc: Global, rows: &mut Unread<'_, '_>) -> Result<OptionNamePart, Refu
     Ok(OptionNamePart::Extension(name, span_between(&open, &close)))
 }
 
-#[tactic(auto, unfolding(crate::specs::inner::Options::more_part))]
+#[tactic(auto, unfolding(crate::specs::inner::Options::more_part, crate::specs::inner::Words::more_part))]
 fn more_part(alloc: Global, rows: &mut Unread<'_, '_>) -> Result<OptionNamePart, Refused>
-    ensures { Gives (λ x. x) result rows.new ((rule.more_part).code rows.old) }
+    ensures read { Gives (λ x. x) result rows.new ((rule.more_part).code rows.old) }
+    ensures words { Says result (said.more_part rows.old) }
 {
     expect_mark(rows, b'.', Expected::EqualsOrDot)?;
     part(alloc, rows)
 }
 
 /// part ("." part)*
-#[tactic(auto, unfolding(crate::specs::inner::Options::name))]
+#[tactic(auto, unfolding(crate::specs::inner::Options::name, crate::specs::inner::Words::name))]
 fn name(alloc: Global, rows: &mut Unread<'_, '_>) -> Result<Items<OptionNamePart>, Refused>
-    ensures { Gives (λ x. x) result rows.new ((rule.name).code rows.old) }
+    ensures read { Gives (λ x. x) result rows.new ((rule.name).code rows.old) }
+    ensures words { Says result (said.name rows.old) }
 {
     let first = part(alloc, rows)?;
     let mut parts = Items::new(alloc);
@@ -56,7 +61,7 @@ fn name(alloc: Global, rows: &mut Unread<'_, '_>) -> Result<Items<OptionNamePart
 }
 
 /// body = part ("." part)* "=" value
-#[tactic(auto, unfolding(crate::specs::inner::Options::body, crate::specs::inner::Options::name))]
+#[tactic(auto, unfolding(crate::specs::inner::Options::body, crate::specs::inner::Options::name, crate::specs::inner::Words::body))]
 fn body(
     alloc: Global,
     notes: &mut Vec<Note>,
@@ -64,6 +69,7 @@ fn body(
 ) -> Result<OptionBody, Refused>
     ensures read { Gives (λ x. x) result rows.new ((rule.body).code rows.old) }
     ensures notes { Adds result notes.old.items ((rule.body).notes rows.old) notes.new.items }
+    ensures words { Says result (said.body rows.old) }
 {
     let name = name(alloc, rows)?;
     expect_mark(rows, b'=', Expected::EqualsOrDot)?;
@@ -71,7 +77,7 @@ fn body(
     Ok(OptionBody { name, value })
 }
 
-#[tactic(auto, unfolding(crate::specs::inner::Options::more_body))]
+#[tactic(auto, unfolding(crate::specs::inner::Options::more_body, crate::specs::inner::Words::more_body))]
 fn more_body(
     alloc: Global,
     notes: &mut Vec<Note>,
@@ -79,13 +85,14 @@ fn more_body(
 ) -> Result<OptionBody, Refused>
     ensures read { Gives (λ x. x) result rows.new ((rule.more_body).code rows.old) }
     ensures notes { Adds result notes.old.items ((rule.more_body).notes rows.old) notes.new.items }
+    ensures words { Says result (said.more_body rows.old) }
 {
     expect_mark(rows, b',', Expected::CommaOrRightBracket)?;
     body(alloc, notes, rows)
 }
 
 /// body ("," body)*
-#[tactic(auto, unfolding(crate::specs::inner::Options::bodies))]
+#[tactic(auto, unfolding(crate::specs::inner::Options::bodies, crate::specs::inner::Words::bodies))]
 fn bodies(
     alloc: Global,
     notes: &mut Vec<Note>,
@@ -93,6 +100,7 @@ fn bodies(
 ) -> Result<Items<OptionBody>, Refused>
     ensures read { Gives (λ x. x) result rows.new ((rule.bodies).code rows.old) }
     ensures notes { Adds result notes.old.items ((rule.bodies).notes rows.old) notes.new.items }
+    ensures words { Says result (said.bodies rows.old) }
 {
     let first = body(alloc, notes, rows)?;
     let mut bodies = Items::new(alloc);
@@ -105,7 +113,7 @@ fn bodies(
 }
 
 /// list = "[" body ("," body)* "]"
-#[tactic(auto, unfolding(crate::specs::inner::Options::list, crate::specs::inner::Options::bodies))]
+#[tactic(auto, unfolding(crate::specs::inner::Options::list, crate::specs::inner::Options::bodies, crate::specs::inner::Words::list))]
 fn list(
     alloc: Global,
     notes: &mut Vec<Note>,
@@ -113,6 +121,7 @@ fn list(
 ) -> Result<OptionList, Refused>
     ensures read { Gives (λ x. x) result rows.new ((rule.list).code rows.old) }
     ensures notes { Adds result notes.old.items ((rule.list).notes rows.old) notes.new.items }
+    ensures words { Says result (said.list rows.old) }
 {
     let open = expect_mark(rows, b'[', Expected::LeftBracket)?;
     let options = bodies(alloc, notes, rows)?;
@@ -130,6 +139,7 @@ pub fn list_if_any(
 ) -> Result<Option<Boxed<OptionList>>, Refused>
     ensures read { Gives (λ x. x) result rows.new ((rule.list_if_any).code rows.old) }
     ensures notes { Adds result notes.old.items ((rule.list_if_any).notes rows.old) notes.new.items }
+    ensures words { Says result (said.list rows.old) }
 {
     if sees(rows, LEFT_BRACKET) {
         let options = list(alloc, notes, rows)?;
@@ -139,7 +149,7 @@ pub fn list_if_any(
 }
 
 /// option = "option" body ";"
-#[tactic(auto, unfolding(crate::specs::inner::Options::option))]
+#[tactic(auto, unfolding(crate::specs::inner::Options::option, crate::specs::inner::Words::option))]
 pub fn option(
     alloc: Global,
     notes: &mut Vec<Note>,
@@ -148,6 +158,7 @@ pub fn option(
 ) -> Result<OptionStatement, Refused>
     ensures read { Gives (λ x. x) result rows.new ((rule.option).code rows.old) }
     ensures notes { Adds result notes.old.items ((rule.option).notes rows.old) notes.new.items }
+    ensures words { Says result (said.option expected rows.old) }
 {
     let start = expect_word(rows, "option", expected)?;
     let body = body(alloc, notes, rows)?;
@@ -162,7 +173,9 @@ pub fn option(
 }
 
 /// What is expected after a list of options, or where such a list may stand.
-pub fn after_list(options: &Option<Boxed<OptionList>>) -> Expected {
+pub fn after_list(options: &Option<Boxed<OptionList>>) -> Expected
+    ensures { result ≡ said.after_list options.now }
+{
     match options {
         Some(_) => Expected::Semicolon,
         None => Expected::SemicolonOrOptions,

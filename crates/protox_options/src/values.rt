@@ -10,6 +10,9 @@ ghost use Rattle.protox_lexeme.specs.Printed.{printed};
 ghost use Rattle.protox_lexeme.specs.Shapes.{Mark};
 ghost use Rattle.protox_lexeme.specs.Tokens.{shape_of};
 ghost use Rattle.protox_rows.specs.inner.Outcome.{Gives};
+ghost use Rattle.protox_rows.specs.inner.Words.{Says};
+ghost use Rattle.protox_options.specs.inner.Words as said;
+ghost use Rattle.protox_rows.specs.declared.expected.Expected.TheVariants as expect;
 ghost use Rattle.protox_rows.specs.inner.Notes.{Adds};
 ghost use Rattle.protox_options.specs.inner.Options as rule;
 
@@ -36,13 +39,14 @@ pub(crate) enum Unsigned {
 }
 
 /// constant = ident | integer | float
-#[tactic(auto, unfolding(crate::specs::inner::Options::constant))]
+#[tactic(auto, unfolding(crate::specs::inner::Options::constant, crate::specs::inner::Words::constant))]
 fn constant(
     alloc: Global,
     rows: &mut Unread<'_, '_>,
     expected: Expected,
 ) -> Result<Unsigned, Refused>
-    ensures { Gives (λ x. x) result rows.new ((rule.constant).code rows.old) }
+    ensures read { Gives (λ x. x) result rows.new ((rule.constant).code rows.old) }
+    ensures words { Says result (said.constant expected rows.old) }
 {
     if sees_below(rows, INTEGER) {
         let name = ident(alloc, rows, expected)?;
@@ -128,7 +132,9 @@ fn signed(
 }
 
 // What is expected of a constant. After a sign only a number is named.
-fn after_sign(minus: &Option<Span>) -> Expected {
+fn after_sign(minus: &Option<Span>) -> Expected
+    ensures { result ≡ said.after_sign minus.now }
+{
     match minus {
         Some(_) => Expected::Numeric,
         None => Expected::Constant,
@@ -175,7 +181,8 @@ fn print_on(
 /// The text up to the brace that closes the aggregate: its tokens, with a space between each two.
 #[tactic(auto, unfolding(crate::specs::inner::Options::inside), using(crate::proofs::Aggregates::goes, crate::proofs::Aggregates::closes, crate::proofs::Aggregates::barred, crate::proofs::Aggregates::ended))]
 fn inside(alloc: Global, rows: &mut Unread<'_, '_>) -> Result<Text, Refused>
-    ensures { Gives (λ x. x) result rows.new (rule.inside rows.old) }
+    ensures read { Gives (λ x. x) result rows.new (rule.inside rows.old) }
+    ensures words { Says result expect.RightBrace }
 {
     // At most as many braces are open as there are rows, so their number fits.
     let _most = rows.len();
@@ -212,6 +219,7 @@ fn brace<'t, 'a>(
 ) -> Result<RowAt<'t, 'a>, Refused>
     ensures read { Gives (λ x. x.at) result rows.new (fixed (Mark mark) rows.old) }
     ensures notes { Adds result notes.old.items (checked (λ m rest. brace_notes opens rest) (fixed (Mark mark) rows.old)) notes.new.items }
+    ensures words { Says result (said.brace opens) }
 {
     match rows.split() {
         Some((row, rest)) if is_mark(row.token(), mark) => {
@@ -227,7 +235,9 @@ fn brace<'t, 'a>(
 }
 
 // What is expected in place of a brace. Where an aggregate may begin, any constant may stand.
-fn brace_expected(opens: bool) -> Expected {
+fn brace_expected(opens: bool) -> Expected
+    ensures { result ≡ said.brace opens }
+{
     if opens {
         Expected::Constant
     } else {
@@ -244,6 +254,7 @@ fn closed<'t, 'a>(
 ) -> Result<(Text, RowAt<'t, 'a>), Refused>
     ensures read { Gives (λ x. (x.0, x.1.at)) result rows.new ((rule.noted_closed).code rows.old) }
     ensures notes { Adds result notes.old.items ((rule.noted_closed).notes rows.old) notes.new.items }
+    ensures words { Says result expect.RightBrace }
 {
     let text = inside(alloc, rows)?;
     let close = brace(notes, rows, b'}', false)?;
@@ -251,7 +262,7 @@ fn closed<'t, 'a>(
 }
 
 /// "{" tokens whose braces match "}"
-#[tactic(auto, unfolding(crate::specs::inner::Options::aggregate, crate::specs::inner::Options::opened))]
+#[tactic(auto, unfolding(crate::specs::inner::Options::aggregate, crate::specs::inner::Options::opened, crate::specs::inner::Words::aggregate))]
 fn aggregate(
     alloc: Global,
     notes: &mut Vec<Note>,
@@ -259,6 +270,7 @@ fn aggregate(
 ) -> Result<(Text, Span), Refused>
     ensures read { Gives (λ x. (x.0, x.1)) result rows.new ((rule.aggregate).code rows.old) }
     ensures notes { Adds result notes.old.items ((rule.aggregate).notes rows.old) notes.new.items }
+    ensures words { Says result (said.aggregate rows.old) }
 {
     let open = brace(notes, rows, b'{', true)?;
     let (text, close) = closed(alloc, notes, rows)?;
@@ -278,7 +290,7 @@ fn sees_constant(rows: &Unread<'_, '_>) -> bool
 }
 
 /// value = "-"? constant | string+ | "{" tokens whose braces match "}"
-#[tactic(auto, unfolding(crate::specs::inner::Options::value))]
+#[tactic(auto, unfolding(crate::specs::inner::Options::value, crate::specs::inner::Words::value))]
 pub(crate) fn value(
     alloc: Global,
     notes: &mut Vec<Note>,
@@ -286,6 +298,7 @@ pub(crate) fn value(
 ) -> Result<OptionValue, Refused>
     ensures read { Gives (λ x. x) result rows.new ((rule.value).code rows.old) }
     ensures notes { Adds result notes.old.items ((rule.value).notes rows.old) notes.new.items }
+    ensures words { Says result (said.value rows.old) }
 {
     if sees_constant(rows) {
         let minus = minus_if_any(rows)?;

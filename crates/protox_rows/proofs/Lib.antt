@@ -1,3 +1,4 @@
 pub mod Turns
 pub mod PlacedRows
 pub mod Same
+pub mod Exact

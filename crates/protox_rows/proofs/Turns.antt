@@ -1,10 +1,11 @@
 -- One turn of a loop that reads while the next row passes a test.
-use Rattle.std.proofs.Common.{◌≡◌, ◌<◌, Bool, true, false, eqb, [], ◌∷◌, ◌++◌, length, Result, Ok, refl, sym, ap, ◌∙◌, append-nil, append_assoc, arith}
+use Rattle.std.proofs.Common.{◌≡◌, ◌<◌, ℕ, zero, suc, Bool, true, false, cond, eqb, [], ◌∷◌, ◌++◌, length, Result, Ok, Err, refl, sym, ap, ◌∙◌, append-nil, append_assoc, arith}
 use Rattle.std.proofs.lemmas.Bool.{eqb-true}
 use Rattle.protox_ast.specs.Places.{Place}
 use Rattle.protox_lexeme.specs.Shapes.{Shape, Rows}
 use Rattle.protox_grammar.specs.Reader.{Reader, Refusal, head_in, star, gathered, ◌>>=◌, Consumes}
 use Rattle.protox_grammar.proofs.Loops.{goes_on, stops, is_done}
+use Rattle.protox_rows.specs.declared.expected.Expected.{Expected}
 use Rattle.protox_rows.specs.declared.refused.Refused.{Refused}
 use Rattle.protox_rows.specs.declared.refused.Refused.TheVariants.{OutOfMemory, At, TooDeep}
 use Rattle.protox_grammar.specs.Class.{Set, in_set}
@@ -14,6 +15,7 @@ use Rattle.protox_grammar.proofs.Telling.{star_notes, notes-turn, notes-done}
 use Rattle.protox_rows.specs.inner.Notes.{AddsTo}
 use Rattle.protox_rows.specs.inner.Outcome.{Fails}
 use Rattle.protox_rows.specs.inner.Reads.{anything}
+use Rattle.protox_rows.specs.inner.Words.{Words, SaysOf, behind, words_at, times}
 
 module _ {A B : Type 0} (add : B → A → B) (p : Shape → Bool) (a : Reader Place A) (eats : Consumes a) (total : Result (B × Rows Place) Refusal) where
   pub more : (b : B) (xs after : Rows Place) (x : A) → head_in p xs ≡ true → a xs ≡ Ok (x, after) → gathered add b (star p a xs) ≡ total → gathered add (add b x) (star p a after) ≡ total
@@ -73,3 +75,32 @@ module _ {A : Type 0} (P : Set) (a : Reader Place A) (f : Rows Place → told.No
 
   pub no-notes : (old before all : told.Notes) (xs : Rows Place) → head_in (in_set P) xs ≡ false → before ++ all_notes xs ≡ old ++ all → before ≡ old ++ all
   no-notes old before all xs test so_far = sym (append-nil before) ∙ ap (λ v. before ++ v) (sym (notes-done (in_set P) a f eats xs test)) ∙ so_far
+
+-- ---- what is expected in a turn
+
+module _ {A : Type 0} (p : Shape → Bool) (a : Reader Place A) (first : Words) (eats : Consumes a) where
+  behind-same : (e : Expected) (f g : A → Words) (r : Result (A × Rows Place) Refusal) → ((x : A × Rows Place) → r ≡ Ok x → f x.0 x.1 ≡ g x.0 x.1) → behind e f r ≡ behind e g r
+  behind-same e f g (Ok x) h = h x refl
+  behind-same e f g (Err d) h = refl
+
+  words-enough : (n m : ℕ) (xs : Rows Place) → length xs < n → length xs < m → words_at p a first n xs ≡ words_at p a first m xs
+  unfolding words_at
+  words-enough zero m xs h k = absurd (omega arith)
+  words-enough (suc n) zero xs h k = absurd (omega arith)
+  words-enough (suc n) (suc m) xs h k =
+      ap (λ v. cond (head_in p xs) v (first xs)) (behind-same (first xs) (λ x. words_at p a first n) (λ x. words_at p a first m) (a xs) (λ x e. words-enough n m x.1 (omega (arith, eats xs x e)) (omega (arith, eats xs x e))))
+
+  pub words-turn : (xs : Rows Place) → head_in p xs ≡ true → times p a first xs ≡ behind (first xs) (λ x. times p a first) (a xs)
+  unfolding times words_at
+  words-turn xs h =
+      ap (λ b. cond b (behind (first xs) (λ x. words_at p a first (length xs)) (a xs)) (first xs)) h
+      ∙ behind-same (first xs) (λ x. words_at p a first (length xs)) (λ x. times p a first) (a xs) (λ x e. words-enough (length xs) (suc (length x.1)) x.1 (eats xs x e) (omega arith))
+
+  -- what is still to be expected, behind a turn
+  pub more-words : (total : Expected) (xs ys : Rows Place) (x : A) → head_in p xs ≡ true → a xs ≡ Ok (x, ys) → times p a first xs ≡ total → times p a first ys ≡ total
+  more-words total xs ys x test read so_far = ap (behind (first xs) (λ x. times p a first)) (sym read) ∙ sym (words-turn xs test) ∙ so_far
+
+  pub last-words : (e : Refused) (total : Expected) (xs : Rows Place) → head_in p xs ≡ true → Fails e (a xs) → SaysOf e (first xs) → times p a first xs ≡ total → SaysOf e total
+  last-words OutOfMemory total xs test fails says so_far = tt
+  last-words (At left expected) total xs test fails says so_far = says ∙ ap (behind (first xs) (λ x. times p a first)) (sym fails) ∙ sym (words-turn xs test) ∙ so_far
+  last-words (TooDeep left) total xs test fails says so_far = tt

@@ -3,3 +3,4 @@ pub mod Strings
 pub mod Reads
 pub mod Outcome
 pub mod Notes
+pub mod Words

@@ -7,6 +7,7 @@ ghost use Rattle.protox_lexeme.specs.Shapes.{Ident, Mark};
 ghost use Rattle.protox_lex.specs.TableView.{shape_of_lent};
 ghost use Rattle.protox_lexeme.specs.Tokens.{shape_of};
 ghost use Rattle.protox_rows.specs.inner.Outcome.{Gives};
+ghost use Rattle.protox_rows.specs.inner.Words.{Says};
 
 use crate::expected::Expected;
 use crate::refused::Refused;
@@ -89,7 +90,8 @@ pub fn expect_word<'t, 'a>(
     word: &str,
     expected: Expected,
 ) -> Result<RowAt<'t, 'a>, Refused>
-    ensures { Gives (λ x. x.at) result rows.new (fixed (Ident word.now) rows.old) }
+    ensures read { Gives (λ x. x.at) result rows.new (fixed (Ident word.now) rows.old) }
+    ensures words { Says result expected }
 {
     match rows.split() {
         Some((first, rest)) if is_word(first.token(), word) => {
@@ -107,7 +109,8 @@ pub fn expect_mark<'t, 'a>(
     mark: u8,
     expected: Expected,
 ) -> Result<RowAt<'t, 'a>, Refused>
-    ensures { Gives (λ x. x.at) result rows.new (fixed (Mark mark) rows.old) }
+    ensures read { Gives (λ x. x.at) result rows.new (fixed (Mark mark) rows.old) }
+    ensures words { Says result expected }
 {
     match rows.split() {
         Some((first, rest)) if is_mark(first.token(), mark) => {

@@ -12,6 +12,9 @@ ghost use Rattle.protox_grammar.specs.Token as token;
 ghost use Rattle.protox_lexeme.specs.Shapes.{Mark};
 ghost use Rattle.protox_rows.specs.inner.Outcome.{Gives};
 ghost use Rattle.protox_rows.specs.inner.Names as rule;
+ghost use Rattle.protox_rows.specs.inner.Words.{Says};
+ghost use Rattle.protox_rows.specs.inner.Words as said;
+ghost use Rattle.protox_rows.specs.declared.expected.Expected.TheVariants as expect;
 
 use crate::class::{DOT, MINUS, OPTIONAL, REQUIRED, sees, sees_scalar};
 use crate::expected::Expected;
@@ -27,7 +30,8 @@ use std::alloc::Global;
 /// ident
 #[tactic(auto, unfolding(protox_grammar::specs::Reader::leaf, crate::specs::inner::Names::ident))]
 pub fn ident(alloc: Global, rows: &mut Unread<'_, '_>, expected: Expected) -> Result<Ident, Refused>
-    ensures { Gives (λ x. x) result rows.new ((rule.ident).code rows.old) }
+    ensures read { Gives (λ x. x) result rows.new ((rule.ident).code rows.old) }
+    ensures words { Says result expected }
 {
     if let Some((first, rest)) = rows.split() {
         if let Ok(Token::Ident(text)) = first.token() {
@@ -40,16 +44,17 @@ pub fn ident(alloc: Global, rows: &mut Unread<'_, '_>, expected: Expected) -> Re
     Err(refused(rows, expected))
 }
 
-#[tactic(auto, unfolding(crate::specs::inner::Names::more_part))]
+#[tactic(auto, unfolding(crate::specs::inner::Names::more_part, crate::specs::inner::Words::more_part))]
 fn more_part(alloc: Global, rows: &mut Unread<'_, '_>) -> Result<Ident, Refused>
-    ensures { Gives (λ x. x) result rows.new ((rule.more_part).code rows.old) }
+    ensures read { Gives (λ x. x) result rows.new ((rule.more_part).code rows.old) }
+    ensures words { Says result (said.more_part rows.old) }
 {
     expect_mark(rows, b'.', Expected::Dot)?;
     ident(alloc, rows, Expected::Ident)
 }
 
 /// fullident = ident ("." ident)*
-#[tactic(auto, unfolding(crate::specs::inner::Names::fullident))]
+#[tactic(auto, unfolding(crate::specs::inner::Names::fullident, crate::specs::inner::Words::fullident))]
 pub fn fullident(
     alloc: Global,
     rows: &mut Unread<'_, '_>,
@@ -57,6 +62,7 @@ pub fn fullident(
 ) -> Result<Items<Ident>, Refused>
     ensures read { Gives (λ x. x) result rows.new ((rule.fullident).code rows.old) }
     ensures some { IfOk result (λ x. 0 < length x) }
+    ensures words { Says result (said.fullident expected rows.old) }
 {
     let first = ident(alloc, rows, expected)?;
     let room = if sees(rows, DOT) { 4 } else { 1 };
@@ -97,7 +103,8 @@ fn name_span(dot: &Option<Span>, parts: &[Ident]) -> Span
 }
 
 fn dot_if_any(rows: &mut Unread<'_, '_>) -> Result<Option<Span>, Refused>
-    ensures { Gives (λ x. x) result rows.new (mapped span_if_any (optional (in_set (only token.dot)) (fixed (Mark dot))) rows.old) }
+    ensures read { Gives (λ x. x) result rows.new (mapped span_if_any (optional (in_set (only token.dot)) (fixed (Mark dot))) rows.old) }
+    ensures words { Says result expect.Dot }
 {
     if sees(rows, DOT) {
         let dot = expect_mark(rows, b'.', Expected::Dot)?;
@@ -107,7 +114,9 @@ fn dot_if_any(rows: &mut Unread<'_, '_>) -> Result<Option<Span>, Refused>
 }
 
 // What is expected first in a name. After a dot it can only be an identifier.
-fn first_part(dot: &Option<Span>, expected: Expected) -> Expected {
+fn first_part(dot: &Option<Span>, expected: Expected) -> Expected
+    ensures { result ≡ said.first_part dot.now expected }
+{
     match dot {
         Some(_) => Expected::Ident,
         None => expected,
@@ -115,13 +124,14 @@ fn first_part(dot: &Option<Span>, expected: Expected) -> Expected {
 }
 
 /// typename = "."? fullident
-#[tactic(auto, unfolding(crate::specs::inner::Names::typename))]
+#[tactic(auto, unfolding(crate::specs::inner::Names::typename, crate::specs::inner::Words::typename))]
 pub fn typename(
     alloc: Global,
     rows: &mut Unread<'_, '_>,
     expected: Expected,
 ) -> Result<(TypeName, Span), Refused>
-    ensures { Gives (λ x. (x.0, x.1)) result rows.new ((rule.typename).code rows.old) }
+    ensures read { Gives (λ x. (x.0, x.1)) result rows.new ((rule.typename).code rows.old) }
+    ensures words { Says result (said.typename expected rows.old) }
 {
     let leading_dot = dot_if_any(rows)?;
     let parts = fullident(alloc, rows, first_part(&leading_dot, expected))?;
@@ -133,7 +143,8 @@ pub fn typename(
 /// integer
 #[tactic(auto, unfolding(protox_grammar::specs::Reader::leaf, crate::specs::inner::Names::integer))]
 pub fn integer(rows: &mut Unread<'_, '_>) -> Result<(u64, Span), Refused>
-    ensures { Gives (λ x. (x.0, x.1)) result rows.new ((rule.integer).code rows.old) }
+    ensures read { Gives (λ x. (x.0, x.1)) result rows.new ((rule.integer).code rows.old) }
+    ensures words { Says result expect.Int }
 {
     if let Some((first, rest)) = rows.split() {
         if let Ok(Token::IntLiteral(value)) = first.token() {
@@ -151,7 +162,8 @@ pub fn float(
     rows: &mut Unread<'_, '_>,
     expected: Expected,
 ) -> Result<(Text, Span), Refused>
-    ensures { Gives (λ x. (x.0, x.1)) result rows.new ((rule.float).code rows.old) }
+    ensures read { Gives (λ x. (x.0, x.1)) result rows.new ((rule.float).code rows.old) }
+    ensures words { Says result expected }
 {
     if let Some((first, rest)) = rows.split() {
         if let Ok(Token::FloatLiteral(text)) = first.token() {
@@ -166,7 +178,8 @@ pub fn float(
 
 /// "-"?
 pub fn minus_if_any(rows: &mut Unread<'_, '_>) -> Result<Option<Span>, Refused>
-    ensures { Gives (λ x. x) result rows.new (mapped span_if_any (optional (in_set (only token.minus)) (fixed (Mark minus))) rows.old) }
+    ensures read { Gives (λ x. x) result rows.new (mapped span_if_any (optional (in_set (only token.minus)) (fixed (Mark minus))) rows.old) }
+    ensures words { Says result expect.Minus }
 {
     if sees(rows, MINUS) {
         let minus = expect_mark(rows, b'-', Expected::Minus)?;
@@ -176,9 +189,10 @@ pub fn minus_if_any(rows: &mut Unread<'_, '_>) -> Result<Option<Span>, Refused>
 }
 
 /// int = "-"? integer
-#[tactic(auto, unfolding(crate::specs::inner::Names::int))]
+#[tactic(auto, unfolding(crate::specs::inner::Names::int, crate::specs::inner::Words::int))]
 pub fn int(rows: &mut Unread<'_, '_>) -> Result<Int, Refused>
-    ensures { Gives (λ x. x) result rows.new ((rule.int).code rows.old) }
+    ensures read { Gives (λ x. x) result rows.new ((rule.int).code rows.old) }
+    ensures words { Says result (said.int rows.old) }
 {
     let minus = minus_if_any(rows)?;
     let (value, number) = integer(rows)?;
@@ -219,7 +233,8 @@ fn scalar_type(word: &str) -> Option<Ty>
 
 #[tactic(auto, unfolding(protox_grammar::specs::Reader::leaf, crate::specs::inner::Names::scalar))]
 fn scalar(rows: &mut Unread<'_, '_>) -> Result<(Ty, Span), Refused>
-    ensures { Gives (λ x. (x.0, x.1)) result rows.new ((rule.scalar).code rows.old) }
+    ensures read { Gives (λ x. (x.0, x.1)) result rows.new ((rule.scalar).code rows.old) }
+    ensures words { Says result expect.Type }
 {
     if let Some((first, rest)) = rows.split() {
         if let Ok(Token::Ident(word)) = first.token() {
@@ -233,13 +248,14 @@ fn scalar(rows: &mut Unread<'_, '_>) -> Result<(Ty, Span), Refused>
 }
 
 /// type = one of the 15 scalar words | typename
-#[tactic(auto, unfolding(crate::specs::inner::Names::field_type))]
+#[tactic(auto, unfolding(crate::specs::inner::Names::field_type, crate::specs::inner::Words::field_type))]
 pub fn field_type(
     alloc: Global,
     rows: &mut Unread<'_, '_>,
     expected: Expected,
 ) -> Result<(Ty, Span), Refused>
-    ensures { Gives (λ x. (x.0, x.1)) result rows.new ((rule.field_type).code rows.old) }
+    ensures read { Gives (λ x. (x.0, x.1)) result rows.new ((rule.field_type).code rows.old) }
+    ensures words { Says result (said.field_type expected rows.old) }
 {
     if sees_scalar(rows) {
         return scalar(rows);
@@ -251,7 +267,8 @@ pub fn field_type(
 /// label = "optional" | "required" | "repeated"
 #[tactic(auto, unfolding(crate::specs::inner::Names::label))]
 pub fn label(rows: &mut Unread<'_, '_>) -> Result<(FieldLabel, Span), Refused>
-    ensures { Gives (λ x. x) result rows.new ((rule.label).code rows.old) }
+    ensures read { Gives (λ x. x) result rows.new ((rule.label).code rows.old) }
+    ensures words { Says result expect.MessageBody }
 {
     if sees(rows, OPTIONAL) {
         let word = expect_word(rows, "optional", Expected::MessageBody)?;

@@ -4,6 +4,8 @@ ghost use Rattle.std.specs.Prelude.{◌≡◌, IfOk};
 ghost use Rattle.protox_ast.specs.Ast.{text_of};
 ghost use Rattle.protox_rows.specs.inner.Outcome.{Gives};
 ghost use Rattle.protox_rows.specs.inner.Strings as rule;
+ghost use Rattle.protox_rows.specs.inner.Words.{Says};
+ghost use Rattle.protox_rows.specs.inner.Words as said;
 
 use crate::class::{STRING, sees};
 use crate::expected::Expected;
@@ -18,7 +20,8 @@ use std::alloc::{AllocError, Global};
 
 #[tactic(auto, unfolding(protox_grammar::specs::Reader::leaf, crate::specs::inner::Strings::string))]
 fn string<'t>(rows: &mut Unread<'t, '_>, expected: Expected) -> Result<(&'t [u8], Span), Refused>
-    ensures { Gives (λ x. (x.0.now, x.1)) result rows.new ((rule.string).code rows.old) }
+    ensures read { Gives (λ x. (x.0.now, x.1)) result rows.new ((rule.string).code rows.old) }
+    ensures words { Says result expected }
 {
     if let Some((first, rest)) = rows.split() {
         if let Ok(Token::StringLiteral(value)) = first.token() {
@@ -30,13 +33,14 @@ fn string<'t>(rows: &mut Unread<'t, '_>, expected: Expected) -> Result<(&'t [u8]
 }
 
 /// string+. Gives the joined values, and the span from the first string to the last.
-#[tactic(auto, unfolding(crate::specs::inner::Strings::strings))]
+#[tactic(auto, unfolding(crate::specs::inner::Strings::strings, crate::specs::inner::Words::strings))]
 pub fn strings(
     alloc: Global,
     rows: &mut Unread<'_, '_>,
     expected: Expected,
 ) -> Result<(Vec<u8>, Span), Refused>
-    ensures { Gives (λ x. (x.0.items, x.1)) result rows.new ((rule.strings).code rows.old) }
+    ensures read { Gives (λ x. (x.0.items, x.1)) result rows.new ((rule.strings).code rows.old) }
+    ensures words { Says result (said.strings expected rows.old) }
 {
     let (first, first_span) = string(rows, expected)?;
     let mut value = Vec::from_slice(alloc, first)?;

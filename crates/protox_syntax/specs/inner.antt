@@ -1,4 +1,5 @@
 pub mod Statements
+pub mod Words
 pub mod Whole
 pub mod Merge
 pub mod Recovery

@@ -5,6 +5,10 @@ ghost use Rattle.protox_lexeme.specs.Table.{Table};
 ghost use Rattle.protox_ast.specs.Ast.{syntax_of, text_of};
 ghost use Rattle.protox_grammar.specs.Told.{import_notes};
 ghost use Rattle.protox_rows.specs.inner.Outcome.{Gives};
+ghost use Rattle.protox_rows.specs.inner.Words.{Says};
+ghost use Rattle.protox_syntax.specs.inner.Words as said;
+ghost use Rattle.protox_rows.specs.declared.expected.Expected.TheVariants as expect;
+ghost use Rattle.protox_rows.specs.inner.Words as row_said;
 ghost use Rattle.protox_rows.specs.inner.Notes.{Adds};
 ghost use Rattle.protox_syntax.specs.inner.Leading.{Ends, IsRefusedAt, Leads};
 ghost use Rattle.protox_syntax.specs.inner.Recovery.{FirstLies};
@@ -57,6 +61,7 @@ fn syntax_value(
 ) -> Result<Syntax, Refused>
     ensures read { Gives (λ x. x) result rows.new ((rule.syntax_value).code rows.old) }
     ensures notes { Adds result notes.old.items ((rule.syntax_value).notes rows.old) notes.new.items }
+    ensures words { Says result (row_said.strings expect.String rows.old) }
 {
     let (value, span) = strings(alloc, rows, Expected::String)?;
     check_syntax(alloc, notes, rows, &value, &span)?;
@@ -64,7 +69,7 @@ fn syntax_value(
 }
 
 /// syntax = "syntax" "=" string+ ";"
-#[tactic(auto, unfolding(crate::specs::inner::Statements::syntax))]
+#[tactic(auto, unfolding(crate::specs::inner::Statements::syntax, crate::specs::inner::Words::syntax))]
 fn syntax(
     alloc: Global,
     notes: &mut Vec<Note>,
@@ -72,6 +77,7 @@ fn syntax(
 ) -> Result<(Syntax, (Span, Comments)), Refused>
     ensures read { Gives (λ x. x) result rows.new ((rule.syntax).code rows.old) }
     ensures notes { Adds result notes.old.items ((rule.syntax).notes rows.old) notes.new.items }
+    ensures words { Says result (said.syntax rows.old) }
 {
     let start = expect_word(rows, "syntax", Expected::Syntax)?;
     expect_mark(rows, b'=', Expected::Equals)?;
@@ -91,6 +97,7 @@ pub(crate) fn syntax_if_any(
 ) -> Result<Option<(Syntax, (Span, Comments))>, Refused>
     ensures read { Gives (λ x. x) result rows.new ((rule.syntax_if_any).code rows.old) }
     ensures notes { Adds result notes.old.items ((rule.syntax_if_any).notes rows.old) notes.new.items }
+    ensures words { Says result (said.syntax rows.old) }
 {
     if sees(rows, SYNTAX) {
         let syntax = syntax(alloc, notes, rows)?;
@@ -102,7 +109,8 @@ pub(crate) fn syntax_if_any(
 /// "weak" | "public"
 #[tactic(auto, unfolding(crate::specs::inner::Statements::import_kind))]
 fn import_kind(rows: &mut Unread<'_, '_>) -> Result<(ImportKind, Span), Refused>
-    ensures { Gives (λ x. x) result rows.new ((rule.import_kind).code rows.old) }
+    ensures read { Gives (λ x. x) result rows.new ((rule.import_kind).code rows.old) }
+    ensures words { Says result expect.WeakOrPublic }
 {
     if sees(rows, WEAK) {
         let word = expect_word(rows, "weak", Expected::WeakOrPublic)?;
@@ -114,7 +122,8 @@ fn import_kind(rows: &mut Unread<'_, '_>) -> Result<(ImportKind, Span), Refused>
 
 #[tactic(auto, unfolding(crate::specs::inner::Statements::import_kind_if_any))]
 fn import_kind_if_any(rows: &mut Unread<'_, '_>) -> Result<Option<(ImportKind, Span)>, Refused>
-    ensures { Gives (λ x. x) result rows.new ((rule.import_kind_if_any).code rows.old) }
+    ensures read { Gives (λ x. x) result rows.new ((rule.import_kind_if_any).code rows.old) }
+    ensures words { Says result expect.WeakOrPublic }
 {
     if sees_any(rows, &[WEAK, PUBLIC]) {
         let kind = import_kind(rows)?;
@@ -124,7 +133,9 @@ fn import_kind_if_any(rows: &mut Unread<'_, '_>) -> Result<Option<(ImportKind, S
 }
 
 // What may follow: only a string once `weak` or `public` is read.
-fn after_import(kind: &Option<(ImportKind, Span)>) -> Expected {
+fn after_import(kind: &Option<(ImportKind, Span)>) -> Expected
+    ensures { result ≡ said.after_import kind.now }
+{
     match kind {
         Some(_) => Expected::StringLiteral,
         None => Expected::ImportString,
@@ -158,6 +169,7 @@ fn path(
 ) -> Result<(Text, Span), Refused>
     ensures read { Gives (λ x. x) result rows.new ((rule.path).code rows.old) }
     ensures notes { Adds result notes.old.items ((rule.path).notes rows.old) notes.new.items }
+    ensures words { Says result (row_said.strings expected rows.old) }
 {
     let (bytes, span) = strings(alloc, rows, expected)?;
     let text = checked_path(alloc, notes, rows, &bytes, &span)?;
@@ -165,7 +177,7 @@ fn path(
 }
 
 /// import = "import" ("weak" | "public")? string+ ";"
-#[tactic(auto, unfolding(crate::specs::inner::Statements::import_))]
+#[tactic(auto, unfolding(crate::specs::inner::Statements::import_, crate::specs::inner::Words::import_))]
 fn import_(
     alloc: Global,
     notes: &mut Vec<Note>,
@@ -173,6 +185,7 @@ fn import_(
 ) -> Result<Import, Refused>
     ensures read { Gives (λ x. x) result rows.new ((rule.import_).code rows.old) }
     ensures notes { Adds result notes.old.items ((rule.import_).notes rows.old) notes.new.items }
+    ensures words { Says result (said.import_ rows.old) }
 {
     let start = expect_word(rows, "import", Expected::Import)?;
     let kind = import_kind_if_any(rows)?;
@@ -190,9 +203,10 @@ fn import_(
 }
 
 /// package = "package" fullident ";"
-#[tactic(auto, unfolding(crate::specs::inner::Statements::package_))]
+#[tactic(auto, unfolding(crate::specs::inner::Statements::package_, crate::specs::inner::Words::package_))]
 fn package_(alloc: Global, rows: &mut Unread<'_, '_>) -> Result<Package, Refused>
-    ensures { Gives (λ x. x) result rows.new ((rule.package_).code rows.old) }
+    ensures read { Gives (λ x. x) result rows.new ((rule.package_).code rows.old) }
+    ensures words { Says result (said.package_ rows.old) }
 {
     let start = expect_word(rows, "package", Expected::Statement)?;
     let parts = fullident(alloc, rows, Expected::Ident)?;
@@ -217,6 +231,7 @@ fn package_statement(
 ) -> Result<Statement, Refused>
     ensures read { Gives (λ x. x) result rows.new ((rule.package_statement).code rows.old) }
     ensures notes { Adds result notes.old.items ((rule.package_statement).notes first.now rows.old) notes.new.items }
+    ensures words { Says result (said.package_ rows.old) }
 {
     let package = package_(alloc, rows)?;
     check_package(notes, rows, first, &package.span)?;
@@ -224,7 +239,7 @@ fn package_statement(
 }
 
 /// extend | message | enum | service
-#[tactic(auto, unfolding(crate::specs::inner::Statements::item_))]
+#[tactic(auto, unfolding(crate::specs::inner::Statements::item_, crate::specs::inner::Words::item_))]
 fn item_(
     alloc: Global,
     notes: &mut Vec<Note>,
@@ -232,6 +247,7 @@ fn item_(
 ) -> Result<Statement, Refused>
     ensures read { Gives (λ x. x) result rows.new ((rule.item_).code rows.old) }
     ensures notes { Adds result notes.old.items ((rule.item_).notes rows.old) notes.new.items }
+    ensures words { Says result (said.item_ rows.old) }
 {
     if sees(rows, EXTEND) {
         let extend = extend(alloc, notes, rows, LEVELS)?;
@@ -250,7 +266,7 @@ fn item_(
 }
 
 // option | extend | message | enum | service
-#[tactic(auto, unfolding(crate::specs::inner::Statements::declared))]
+#[tactic(auto, unfolding(crate::specs::inner::Statements::declared, crate::specs::inner::Words::declared))]
 fn declared(
     alloc: Global,
     notes: &mut Vec<Note>,
@@ -258,6 +274,7 @@ fn declared(
 ) -> Result<Statement, Refused>
     ensures read { Gives (λ x. x) result rows.new ((rule.declared).code rows.old) }
     ensures notes { Adds result notes.old.items ((rule.declared).notes rows.old) notes.new.items }
+    ensures words { Says result (said.declared rows.old) }
 {
     if sees(rows, OPTION) {
         let option = option(alloc, notes, rows, Expected::Statement)?;
@@ -267,7 +284,7 @@ fn declared(
 }
 
 /// statement = ";" | import | package | option | extend | message | enum | service
-#[tactic(auto, unfolding(crate::specs::inner::Statements::statement))]
+#[tactic(auto, unfolding(crate::specs::inner::Statements::statement, crate::specs::inner::Words::statement))]
 pub(crate) fn statement(
     alloc: Global,
     notes: &mut Vec<Note>,
@@ -276,6 +293,7 @@ pub(crate) fn statement(
 ) -> Result<Statement, Refused>
     ensures read { Gives (λ x. x) result rows.new ((rule.statement).code rows.old) }
     ensures notes { Adds result notes.old.items ((rule.statement).notes first.now rows.old) notes.new.items }
+    ensures words { Says result (said.statement rows.old) }
 {
     if sees(rows, SEMICOLON) {
         expect_mark(rows, b';', Expected::Semicolon)?;

@@ -5,6 +5,8 @@ use Rattle.protox_rows.proofs.Turns as turns
 use Rattle.protox_blocks.specs.inner.Enums as rule
 use Rattle.protox_blocks.proofs.Turns.{enum_element-eats}
 use Rattle.protox_blocks.proofs.enums.enum_elements.Goals as goal
+use Rattle.protox_rows.specs.inner.Words as said
+use Rattle.protox_blocks.specs.inner.Words as words
 
 pub returns-in_err-element-clause-read : goal.returns-in_err-element-clause-read
 returns-in_err-element-clause-read c =
@@ -16,6 +18,11 @@ returns-in_err-element-clause-notes c =
     let p = err_from_is_err_and c.from_residual.result c.from_residual.ensures.1 in
     rw (p.1, p.2) (turns.last-notes (but 48) (rule.enum_element).code (rule.enum_element).notes enum_element-eats c.in_err-element.field-0.0 c.args.notes.now.items c.more.notes.items c.enum_element.new.notes.items ((rule.enum_elements).notes c.args.rows.now) c.more.rows (sym c.sees_other.ensures ∙ c.more-test.true) c.in_err-element.ensures.read c.in_err-element.ensures.notes c.more.invariant.notes)
 
+pub returns-in_err-element-clause-words : goal.returns-in_err-element-clause-words
+returns-in_err-element-clause-words c =
+    let p = err_from_is_err_and c.from_residual.result c.from_residual.ensures.1 in
+    rw (p.1, p.2) (turns.last-words (in_set (but 48)) (rule.enum_element).code words.enum_element enum_element-eats c.in_err-element.field-0.0 (words.enum_elements c.args.rows.now) c.more.rows (sym c.sees_other.ensures ∙ c.more-test.true) c.in_err-element.ensures.read c.in_err-element.ensures.words c.more.invariant.words)
+
 pub more-smaller : goal.more-smaller
 more-smaller c = turns.shorter (rule.enum_element).code enum_element-eats c.more.rows c.enum_element.new.rows _ c.in_ok-element.ensures.read
 
@@ -23,6 +30,7 @@ pub more-preserved : goal.more-preserved
 more-preserved c = record {
   read = rw c.in_ok-put.ensures (turns.more rule.add (in_set (but 48)) (rule.enum_element).code enum_element-eats ((rule.enum_elements).code c.args.rows.now) _ _ _ _ (sym c.sees_other.ensures ∙ c.more-test.true) c.in_ok-element.ensures.read c.more.invariant.read);
   notes = turns.more-notes (but 48) (rule.enum_element).code (rule.enum_element).notes enum_element-eats c.args.notes.now.items c.more.notes.items c.enum_element.new.notes.items ((rule.enum_elements).notes c.args.rows.now) c.more.rows c.enum_element.new.rows _ (sym c.sees_other.ensures ∙ c.more-test.true) c.in_ok-element.ensures.read c.in_ok-element.ensures.notes c.more.invariant.notes;
+  words = turns.more-words (in_set (but 48)) (rule.enum_element).code words.enum_element enum_element-eats (words.enum_elements c.args.rows.now) _ _ _ (sym c.sees_other.ensures ∙ c.more-test.true) c.in_ok-element.ensures.read c.more.invariant.words;
 }
 
 pub returns-clause-read : goal.returns-clause-read

@@ -6,11 +6,14 @@ use Rattle.protox_grammar.proofs.Telling.{star_notes}
 use Rattle.protox_rows.specs.inner.Reads.{push}
 use Rattle.protox_blocks.specs.inner.Ranges as rule
 use Rattle.protox_blocks.proofs.ranges.names.Given as goal
+use Rattle.protox_rows.specs.inner.Words as said
+use Rattle.protox_blocks.specs.inner.Words as words
 
 abbrev pub invariant-more : goal.invariant-more
 invariant-more l = record {
   read : gathered push l.names (star (in_set (only token.comma)) (rule.more_name).code l.rows) ≡ (rule.names).code l.fn.rows;
   notes : l.notes.items ++ star_notes (in_set (only token.comma)) (rule.more_name).code (rule.more_name).notes l.rows ≡ l.fn.notes.items ++ (rule.names).notes l.fn.rows;
+  words : said.times (in_set (only token.comma)) (rule.more_name).code words.more_name l.rows ≡ words.names_of l.fn.rows;
 }
 
 abbrev pub decreases-more : goal.decreases-more

@@ -5,9 +5,14 @@ use Rattle.protox_grammar.specs.Token as token
 use Rattle.protox_rows.specs.inner.Reads.{push}
 use Rattle.protox_blocks.specs.inner.Ranges as rule
 use Rattle.protox_blocks.proofs.ranges.ranges.Given as goal
+use Rattle.protox_rows.specs.inner.Words as said
+use Rattle.protox_blocks.specs.inner.Words as words
 
 abbrev pub invariant-more : goal.invariant-more
-invariant-more l = gathered push l.ranges (star (in_set (only token.comma)) (rule.more_range).code l.rows) ≡ (rule.ranges).code l.fn.rows
+invariant-more l = record {
+  read : gathered push l.ranges (star (in_set (only token.comma)) (rule.more_range).code l.rows) ≡ (rule.ranges).code l.fn.rows;
+  words : said.times (in_set (only token.comma)) (rule.more_range).code words.more_range l.rows ≡ words.ranges l.fn.rows;
+}
 
 abbrev pub decreases-more : goal.decreases-more
 decreases-more l = length l.rows

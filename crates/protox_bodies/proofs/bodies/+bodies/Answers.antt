@@ -3,8 +3,10 @@ use Rattle.std.proofs.lemmas.Result.{err_from_is_err_and}
 use Rattle.protox_grammar.specs.Class.{but, in_set}
 use Rattle.protox_rows.proofs.Turns as turns
 use Rattle.protox_rows.specs.inner.Notes.{Adds, AddsTo}
+use Rattle.protox_rows.specs.inner.Words.{Says, SaysOf}
 use Rattle.protox_bodies.specs.inner.Bodies as rule
-use Rattle.protox_bodies.proofs.Turns.{element-eats, oneof_element-eats, extend_element-eats, one_level, no_level}
+use Rattle.protox_bodies.specs.inner.Words as said
+use Rattle.protox_bodies.proofs.Turns.{element-eats, oneof_element-eats, extend_element-eats, one_level, no_level, no_words, words_below}
 use Rattle.protox_bodies.proofs.bodies.+bodies.Goals as goal
 
 pub elements-returns-in_err-element-clause-read : goal.elements-returns-in_err-element-clause-read
@@ -17,6 +19,11 @@ elements-returns-in_err-element-clause-notes t c =
     let p = err_from_is_err_and c.from_residual.result c.from_residual.ensures.1 in
     rw (p.1, p.2) (turns.last-notes (but 48) (rule.element_at c.args.level) (rule.element_notes c.args.level) (element-eats c.args.level) c.in_err-element.field-0.0 c.args.notes.now.items c.more.notes.items c.element.new.notes.items (rule.elements_notes c.args.level c.args.rows.now) c.more.rows (sym c.sees_other.ensures ∙ c.more-test.true) c.in_err-element.ensures.read c.in_err-element.ensures.notes c.more.invariant.notes)
 
+pub elements-returns-in_err-element-clause-words : goal.elements-returns-in_err-element-clause-words
+elements-returns-in_err-element-clause-words t c =
+    let p = err_from_is_err_and c.from_residual.result c.from_residual.ensures.1 in
+    rw (p.1, p.2) (turns.last-words (in_set (but 48)) (rule.element_at c.args.level) (said.element_at c.args.level) (element-eats c.args.level) c.in_err-element.field-0.0 (said.elements_at c.args.level c.args.rows.now) c.more.rows (sym c.sees_other.ensures ∙ c.more-test.true) c.in_err-element.ensures.read c.in_err-element.ensures.words c.more.invariant.words)
+
 pub elements-more-smaller : goal.elements-more-smaller
 elements-more-smaller t c = turns.shorter (rule.element_at c.args.level) (element-eats c.args.level) c.more.rows c.element.new.rows _ c.in_ok-element.ensures.read
 
@@ -24,6 +31,7 @@ pub elements-more-preserved : goal.elements-more-preserved
 elements-more-preserved t c = record {
   read = rw c.in_ok-add_element.ensures (turns.more rule.add_element (in_set (but 48)) (rule.element_at c.args.level) (element-eats c.args.level) (rule.elements_at c.args.level c.args.rows.now) _ _ _ _ (sym c.sees_other.ensures ∙ c.more-test.true) c.in_ok-element.ensures.read c.more.invariant.read);
   notes = turns.more-notes (but 48) (rule.element_at c.args.level) (rule.element_notes c.args.level) (element-eats c.args.level) c.args.notes.now.items c.more.notes.items c.element.new.notes.items (rule.elements_notes c.args.level c.args.rows.now) c.more.rows c.element.new.rows _ (sym c.sees_other.ensures ∙ c.more-test.true) c.in_ok-element.ensures.read c.in_ok-element.ensures.notes c.more.invariant.notes;
+  words = turns.more-words (in_set (but 48)) (rule.element_at c.args.level) (said.element_at c.args.level) (element-eats c.args.level) (said.elements_at c.args.level c.args.rows.now) _ _ _ (sym c.sees_other.ensures ∙ c.more-test.true) c.in_ok-element.ensures.read c.more.invariant.words;
 }
 
 pub elements-returns-clause-read : goal.elements-returns-clause-read
@@ -42,6 +50,11 @@ oneof_elements-returns-in_err-element-clause-notes t c =
     let p = err_from_is_err_and c.from_residual.result c.from_residual.ensures.1 in
     rw (p.1, p.2) (turns.last-notes (but 48) (rule.oneof_element_at c.args.level) (rule.oneof_element_notes c.args.level) (oneof_element-eats c.args.level) c.in_err-element.field-0.0 c.args.notes.now.items c.oneof.notes.items c.oneof_element.new.notes.items (rule.oneof_elements_notes c.args.level c.args.rows.now) c.oneof.rows (sym c.sees_other.ensures ∙ c.oneof-test.true) c.in_err-element.ensures.read c.in_err-element.ensures.notes c.oneof.invariant.notes)
 
+pub oneof_elements-returns-in_err-element-clause-words : goal.oneof_elements-returns-in_err-element-clause-words
+oneof_elements-returns-in_err-element-clause-words t c =
+    let p = err_from_is_err_and c.from_residual.result c.from_residual.ensures.1 in
+    rw (p.1, p.2) (turns.last-words (in_set (but 48)) (rule.oneof_element_at c.args.level) (said.oneof_element_at c.args.level) (oneof_element-eats c.args.level) c.in_err-element.field-0.0 (said.oneof_elements_at c.args.level c.args.rows.now) c.oneof.rows (sym c.sees_other.ensures ∙ c.oneof-test.true) c.in_err-element.ensures.read c.in_err-element.ensures.words c.oneof.invariant.words)
+
 pub oneof_elements-oneof-smaller : goal.oneof_elements-oneof-smaller
 oneof_elements-oneof-smaller t c = turns.shorter (rule.oneof_element_at c.args.level) (oneof_element-eats c.args.level) c.oneof.rows c.oneof_element.new.rows _ c.in_ok-element.ensures.read
 
@@ -49,6 +62,7 @@ pub oneof_elements-oneof-preserved : goal.oneof_elements-oneof-preserved
 oneof_elements-oneof-preserved t c = record {
   read = rw c.in_ok-add_oneof_element.ensures (turns.more rule.add_oneof_element (in_set (but 48)) (rule.oneof_element_at c.args.level) (oneof_element-eats c.args.level) (rule.oneof_elements_at c.args.level c.args.rows.now) _ _ _ _ (sym c.sees_other.ensures ∙ c.oneof-test.true) c.in_ok-element.ensures.read c.oneof.invariant.read);
   notes = turns.more-notes (but 48) (rule.oneof_element_at c.args.level) (rule.oneof_element_notes c.args.level) (oneof_element-eats c.args.level) c.args.notes.now.items c.oneof.notes.items c.oneof_element.new.notes.items (rule.oneof_elements_notes c.args.level c.args.rows.now) c.oneof.rows c.oneof_element.new.rows _ (sym c.sees_other.ensures ∙ c.oneof-test.true) c.in_ok-element.ensures.read c.in_ok-element.ensures.notes c.oneof.invariant.notes;
+  words = turns.more-words (in_set (but 48)) (rule.oneof_element_at c.args.level) (said.oneof_element_at c.args.level) (oneof_element-eats c.args.level) (said.oneof_elements_at c.args.level c.args.rows.now) _ _ _ (sym c.sees_other.ensures ∙ c.oneof-test.true) c.in_ok-element.ensures.read c.oneof.invariant.words;
 }
 
 pub oneof_elements-returns-clause-read : goal.oneof_elements-returns-clause-read
@@ -67,6 +81,11 @@ extend_elements-returns-in_err-element-clause-notes t c =
     let p = err_from_is_err_and c.from_residual.result c.from_residual.ensures.1 in
     rw (p.1, p.2) (turns.last-notes (but 48) (rule.extend_element_at c.args.level) (rule.extend_element_notes c.args.level) (extend_element-eats c.args.level) c.in_err-element.field-0.0 c.args.notes.now.items c.extend.notes.items c.extend_element.new.notes.items (rule.extend_elements_notes c.args.level c.args.rows.now) c.extend.rows (sym c.sees_other.ensures ∙ c.extend-test.true) c.in_err-element.ensures.read c.in_err-element.ensures.notes c.extend.invariant.notes)
 
+pub extend_elements-returns-in_err-element-clause-words : goal.extend_elements-returns-in_err-element-clause-words
+extend_elements-returns-in_err-element-clause-words t c =
+    let p = err_from_is_err_and c.from_residual.result c.from_residual.ensures.1 in
+    rw (p.1, p.2) (turns.last-words (in_set (but 48)) (rule.extend_element_at c.args.level) (said.extend_element_at c.args.level) (extend_element-eats c.args.level) c.in_err-element.field-0.0 (said.extend_elements_at c.args.level c.args.rows.now) c.extend.rows (sym c.sees_other.ensures ∙ c.extend-test.true) c.in_err-element.ensures.read c.in_err-element.ensures.words c.extend.invariant.words)
+
 pub extend_elements-extend-smaller : goal.extend_elements-extend-smaller
 extend_elements-extend-smaller t c = turns.shorter (rule.extend_element_at c.args.level) (extend_element-eats c.args.level) c.extend.rows c.extend_element.new.rows _ c.in_ok-element.ensures.read
 
@@ -74,6 +93,7 @@ pub extend_elements-extend-preserved : goal.extend_elements-extend-preserved
 extend_elements-extend-preserved t c = record {
   read = rw c.in_ok-add_extend_element.ensures (turns.more rule.add_extend_element (in_set (but 48)) (rule.extend_element_at c.args.level) (extend_element-eats c.args.level) (rule.extend_elements_at c.args.level c.args.rows.now) _ _ _ _ (sym c.sees_other.ensures ∙ c.extend-test.true) c.in_ok-element.ensures.read c.extend.invariant.read);
   notes = turns.more-notes (but 48) (rule.extend_element_at c.args.level) (rule.extend_element_notes c.args.level) (extend_element-eats c.args.level) c.args.notes.now.items c.extend.notes.items c.extend_element.new.notes.items (rule.extend_elements_notes c.args.level c.args.rows.now) c.extend.rows c.extend_element.new.rows _ (sym c.sees_other.ensures ∙ c.extend-test.true) c.in_ok-element.ensures.read c.in_ok-element.ensures.notes c.extend.invariant.notes;
+  words = turns.more-words (in_set (but 48)) (rule.extend_element_at c.args.level) (said.extend_element_at c.args.level) (extend_element-eats c.args.level) (said.extend_elements_at c.args.level c.args.rows.now) _ _ _ (sym c.sees_other.ensures ∙ c.extend-test.true) c.in_ok-element.ensures.read c.extend.invariant.words;
 }
 
 pub extend_elements-returns-clause-read : goal.extend_elements-returns-clause-read
@@ -89,3 +109,11 @@ mbody-returns-then-level-eq0-clause-notes t c =
 pub mbody-returns-clause-notes : goal.mbody-returns-clause-notes
 mbody-returns-clause-notes t c =
     subst (λ v. Adds c.braces.result c.args.notes.now.items v c.braces.new.notes.items) (sym (one_level c.args.level c.if-level-eq0.false c.args.word.now c.args.rows.now)) c.braces.ensures.notes
+
+pub mbody-returns-then-level-eq0-clause-words : goal.mbody-returns-then-level-eq0-clause-words
+mbody-returns-then-level-eq0-clause-words t c =
+    subst (SaysOf c.refuse_deep_body.result) (sym (no_words c.args.level c.if-level-eq0.true c.args.expected c.args.rows.now)) c.refuse_deep_body.ensures.words
+
+pub mbody-returns-clause-words : goal.mbody-returns-clause-words
+mbody-returns-clause-words t c =
+    subst (Says c.braces.result) (sym (words_below c.args.level c.if-level-eq0.false c.args.expected c.args.rows.now)) c.braces.ensures.words

@@ -2,7 +2,9 @@ use Rattle.std.proofs.Common.{◌≡◌, ◌+◌, ◌*◌, ◌++◌, length}
 use Rattle.protox_grammar.specs.Class.{but, in_set}
 use Rattle.protox_grammar.specs.Reader.{star, gathered}
 use Rattle.protox_grammar.proofs.Telling.{star_notes}
+use Rattle.protox_rows.specs.inner.Words.{times}
 use Rattle.protox_bodies.specs.inner.Bodies as rule
+use Rattle.protox_bodies.specs.inner.Words as said
 use Rattle.protox_bodies.proofs.bodies.+bodies.Given as goal
 
 abbrev pub decreases-mbody : goal.decreases-mbody
@@ -60,6 +62,7 @@ abbrev pub invariant-elements-more : goal.invariant-elements-more
 invariant-elements-more l = record {
   read : gathered rule.add_element l.inside (star (in_set (but 48)) (rule.element_at l.level) l.rows) ≡ rule.elements_at l.level l.fn.rows;
   notes : l.notes.items ++ star_notes (in_set (but 48)) (rule.element_at l.level) (rule.element_notes l.level) l.rows ≡ l.fn.notes.items ++ rule.elements_notes l.level l.fn.rows;
+  words : times (in_set (but 48)) (rule.element_at l.level) (said.element_at l.level) l.rows ≡ said.elements_at l.level l.fn.rows;
 }
 
 abbrev pub decreases-elements-more : goal.decreases-elements-more
@@ -69,6 +72,7 @@ abbrev pub invariant-oneof_elements-oneof : goal.invariant-oneof_elements-oneof
 invariant-oneof_elements-oneof l = record {
   read : gathered rule.add_oneof_element l.inside (star (in_set (but 48)) (rule.oneof_element_at l.level) l.rows) ≡ rule.oneof_elements_at l.level l.fn.rows;
   notes : l.notes.items ++ star_notes (in_set (but 48)) (rule.oneof_element_at l.level) (rule.oneof_element_notes l.level) l.rows ≡ l.fn.notes.items ++ rule.oneof_elements_notes l.level l.fn.rows;
+  words : times (in_set (but 48)) (rule.oneof_element_at l.level) (said.oneof_element_at l.level) l.rows ≡ said.oneof_elements_at l.level l.fn.rows;
 }
 
 abbrev pub decreases-oneof_elements-oneof : goal.decreases-oneof_elements-oneof
@@ -78,6 +82,7 @@ abbrev pub invariant-extend_elements-extend : goal.invariant-extend_elements-ext
 invariant-extend_elements-extend l = record {
   read : gathered rule.add_extend_element l.fields (star (in_set (but 48)) (rule.extend_element_at l.level) l.rows) ≡ rule.extend_elements_at l.level l.fn.rows;
   notes : l.notes.items ++ star_notes (in_set (but 48)) (rule.extend_element_at l.level) (rule.extend_element_notes l.level) l.rows ≡ l.fn.notes.items ++ rule.extend_elements_notes l.level l.fn.rows;
+  words : times (in_set (but 48)) (rule.extend_element_at l.level) (said.extend_element_at l.level) l.rows ≡ said.extend_elements_at l.level l.fn.rows;
 }
 
 abbrev pub decreases-extend_elements-extend : goal.decreases-extend_elements-extend

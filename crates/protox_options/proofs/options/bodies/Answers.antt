@@ -7,6 +7,8 @@ use Rattle.protox_rows.proofs.Turns as turns
 use Rattle.protox_options.specs.inner.Options.{more_body, bodies}
 use Rattle.protox_options.proofs.Turns.{more_body-eats}
 use Rattle.protox_options.proofs.options.bodies.Goals as goal
+use Rattle.protox_rows.specs.inner.Words as said
+use Rattle.protox_options.specs.inner.Words as words
 
 pub returns-in_err-body-clause-read : goal.returns-in_err-body-clause-read
 returns-in_err-body-clause-read c =
@@ -18,6 +20,11 @@ returns-in_err-body-clause-notes c =
     let p = err_from_is_err_and c.from_residual-in_err-body.result c.from_residual-in_err-body.ensures.1 in
     rw (p.1, p.2) (turns.last-notes (only token.comma) (more_body).code (more_body).notes more_body-eats c.in_err-body.field-0.0 c.args.notes.now.items c.more.notes.items c.more_body.new.notes.items ((bodies).notes c.args.rows.now) c.more.rows (sym c.sees.ensures ∙ c.more-test.true) c.in_err-body.ensures.read c.in_err-body.ensures.notes c.more.invariant.notes)
 
+pub returns-in_err-body-clause-words : goal.returns-in_err-body-clause-words
+returns-in_err-body-clause-words c =
+    let p = err_from_is_err_and c.from_residual-in_err-body.result c.from_residual-in_err-body.ensures.1 in
+    rw (p.1, p.2) (turns.last-words (in_set (only token.comma)) (more_body).code words.more_body more_body-eats c.in_err-body.field-0.0 (words.bodies c.args.rows.now) c.more.rows (sym c.sees.ensures ∙ c.more-test.true) c.in_err-body.ensures.read c.in_err-body.ensures.words c.more.invariant.words)
+
 pub more-smaller : goal.more-smaller
 more-smaller c = turns.shorter (more_body).code more_body-eats c.more.rows c.more_body.new.rows _ c.in_ok-body.ensures.read
 
@@ -25,6 +32,7 @@ pub more-preserved : goal.more-preserved
 more-preserved c = record {
   read = rw c.in_ok-push-2.ensures.ok (turns.more push (in_set (only token.comma)) (more_body).code more_body-eats ((bodies).code c.args.rows.now) _ _ _ _ (sym c.sees.ensures ∙ c.more-test.true) c.in_ok-body.ensures.read c.more.invariant.read);
   notes = turns.more-notes (only token.comma) (more_body).code (more_body).notes more_body-eats c.args.notes.now.items c.more.notes.items c.more_body.new.notes.items ((bodies).notes c.args.rows.now) c.more.rows c.more_body.new.rows _ (sym c.sees.ensures ∙ c.more-test.true) c.in_ok-body.ensures.read c.in_ok-body.ensures.notes c.more.invariant.notes;
+  words = turns.more-words (in_set (only token.comma)) (more_body).code words.more_body more_body-eats (words.bodies c.args.rows.now) _ _ _ (sym c.sees.ensures ∙ c.more-test.true) c.in_ok-body.ensures.read c.more.invariant.words;
 }
 
 pub returns-clause-read : goal.returns-clause-read

@@ -6,11 +6,14 @@ use Rattle.protox_grammar.proofs.Telling.{star_notes}
 use Rattle.protox_rows.specs.inner.Reads.{push}
 use Rattle.protox_options.specs.inner.Options.{more_body, bodies}
 use Rattle.protox_options.proofs.options.bodies.Given as goal
+use Rattle.protox_rows.specs.inner.Words as said
+use Rattle.protox_options.specs.inner.Words as words
 
 abbrev pub invariant-more : goal.invariant-more
 invariant-more l = record {
   read : gathered push l.bodies (star (in_set (only token.comma)) (more_body).code l.rows) ≡ (bodies).code l.fn.rows;
   notes : l.notes.items ++ star_notes (in_set (only token.comma)) (more_body).code (more_body).notes l.rows ≡ l.fn.notes.items ++ (bodies).notes l.fn.rows;
+  words : said.times (in_set (only token.comma)) (more_body).code words.more_body l.rows ≡ words.bodies l.fn.rows;
 }
 
 abbrev pub decreases-more : goal.decreases-more

@@ -2,3 +2,5 @@ pub mod Turns
 pub mod PlacedRows
 pub mod Same
 pub mod Exact
+pub mod ExactForms
+pub mod ExactLists

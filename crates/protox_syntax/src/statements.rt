@@ -344,7 +344,7 @@ fn keep_first_package(file: &mut Statements, found: Package)
 }
 
 /// statement* , up to the end or to a statement that is refused. Keeps where the last one begins.
-#[tactic(auto, unfolding(crate::specs::inner::Statements::statements_at))]
+#[tactic(auto, unfolding(crate::specs::inner::Statements::statements_at, crate::specs::inner::Words::statements))]
 pub(crate) fn statements(
     alloc: Global,
     notes: &mut Vec<Note>,
@@ -355,6 +355,7 @@ pub(crate) fn statements(
     ensures notes { Adds result notes.old.items (rule.notes_behind None rows.old) notes.new.items }
     ensures first { IfErr result (λ refused. FirstLies rows.old start.new.first) }
     ensures leads { (t : Table) → Leads t notes.old.items None rows.old → MatchResult result (λ found. Ends t notes.new.items) (IsRefusedAt t notes.new.items start.new) }
+    ensures words { Says result (said.statements rows.old) }
 {
     let mut file = Statements {
         first: None,

@@ -4,13 +4,13 @@ use Rattle.protox_fault.specs.Faults.{Span}
 use Rattle.protox_lexeme.specs.Shapes.{Ident, Mark}
 use Rattle.protox_ast.specs.Spelling as s
 use Rattle.protox_ast.specs.declared.ast.ImportKind.{ImportKind}
-use Rattle.protox_grammar.specs.Class.{only}
+use Rattle.protox_grammar.specs.Class.{all, in_set, only}
 use Rattle.protox_grammar.specs.Reader.{fixed}
 use Rattle.protox_grammar.specs.Token as token
 use Rattle.protox_rows.specs.declared.expected.Expected.{Expected}
 use Rattle.protox_rows.specs.declared.expected.Expected.TheVariants as expected
 use Rattle.protox_rows.specs.inner.Names as names
-use Rattle.protox_rows.specs.inner.Words.{Words, always, and_then, choose}
+use Rattle.protox_rows.specs.inner.Words.{Words, always, and_then, choose, times}
 use Rattle.protox_rows.specs.inner.Words as rows
 use Rattle.protox_options.specs.inner.Words as options
 use Rattle.protox_blocks.specs.inner.Words as blocks

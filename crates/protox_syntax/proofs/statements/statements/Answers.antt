@@ -3,6 +3,7 @@ use Rattle.std.proofs.lemmas.Result.{err_from_is_err_and}
 use Rattle.protox_grammar.specs.Class.{all, in_set}
 use Rattle.protox_rows.proofs.Turns as turns
 use Rattle.protox_syntax.specs.inner.Statements as rule
+use Rattle.protox_syntax.specs.inner.Words as said
 use Rattle.protox_syntax.specs.inner.Leading.{Leads}
 use Rattle.protox_syntax.specs.inner.Recovery.{FirstLies}
 use Rattle.protox_syntax.proofs.Leading.{leads-more, leads-over, refused-at}
@@ -21,6 +22,11 @@ returns-in_err-statement-clause-notes c =
     let q = rule.first_place c.more.file in
     rw (p.1, p.2) (last-notes q c.args.notes.now.items c.more.notes.items c.statement.new.notes.items (rule.notes_behind None c.args.rows.now) c.more.rows c.in_err-statement.field-0.0 (turns.some_left c.more.rows (sym c.is_empty.ensures ∙ c.more-test.true)) c.in_err-statement.ensures.read (rw (sym c.first_place-start.ensures) c.in_err-statement.ensures.notes) c.more.invariant.notes)
 
+pub returns-in_err-statement-clause-words : goal.returns-in_err-statement-clause-words
+returns-in_err-statement-clause-words c =
+    let p = err_from_is_err_and c.from_residual.result c.from_residual.ensures.1 in
+    rw (p.1, p.2) (turns.last-words (in_set all) (rule.statement).code said.statement statement-eats c.in_err-statement.field-0.0 (said.statements c.args.rows.now) c.more.rows (turns.some_left c.more.rows (sym c.is_empty.ensures ∙ c.more-test.true)) c.in_err-statement.ensures.read c.in_err-statement.ensures.words c.more.invariant.words)
+
 pub more-smaller : goal.more-smaller
 more-smaller c = turns.shorter (rule.statement).code statement-eats c.more.rows c.statement.new.rows _ c.in_ok-statement.ensures.read
 
@@ -34,6 +40,7 @@ more-preserved c = record {
       rw c.in_ok-add_statement.ensures
       (subst (λ u. Leads t c.statement.new.notes.items u c.statement.new.rows) (sym (first-added c.more.file c.in_ok-statement.statement))
       (leads-more t c.more.notes.items (rule.first_place c.more.file) c.more.rows c.statement.new.rows c.in_ok-statement.statement c.statement.new.notes.items (c.more.invariant.leads t v) c.in_ok-statement.ensures.read (rw (sym c.first_place-start.ensures) c.in_ok-statement.ensures.notes)));
+  words = turns.more-words (in_set all) (rule.statement).code said.statement statement-eats (said.statements c.args.rows.now) _ _ _ (turns.some_left c.more.rows (sym c.is_empty.ensures ∙ c.more-test.true)) c.in_ok-statement.ensures.read c.more.invariant.words;
 }
 
 pub returns-clause-read : goal.returns-clause-read

@@ -287,7 +287,7 @@ module _ {A B : Type 0} {a : Reader Place A} {b : Reader Place B} {wa : Words} {
 
 -- ---- under another name
 
-abbrev under : {A B : Type 0} → (A → B) → A × Rows Place → Result (B × Rows Place) Refusal
+abbrev pub under : {A B : Type 0} → (A → B) → A × Rows Place → Result (B × Rows Place) Refusal
 under f x = Ok (f x.0, x.1)
 
 module _ {A B : Type 0} {a : Reader Place A} {w : Words} {e : Expected} {first : Set} {more : A → Set} (next : B → Set) (f : A → B) (same : (x : A) → more x ≡ next (f x)) (h : Exact a w e first more) where

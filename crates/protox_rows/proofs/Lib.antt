@@ -4,3 +4,4 @@ pub mod Same
 pub mod Exact
 pub mod ExactForms
 pub mod ExactLists
+pub mod ExactSequences

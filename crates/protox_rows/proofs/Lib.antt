@@ -5,3 +5,4 @@ pub mod Exact
 pub mod ExactForms
 pub mod ExactLists
 pub mod ExactSequences
+pub mod ExactBefore

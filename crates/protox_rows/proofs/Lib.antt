@@ -6,3 +6,4 @@ pub mod ExactForms
 pub mod ExactLists
 pub mod ExactSequences
 pub mod ExactBefore
+pub mod ExactWide

@@ -104,3 +104,7 @@ module _ {A : Type 0} (p : Shape → Bool) (a : Reader Place A) (first : Words) 
   last-words OutOfMemory total xs test fails says so_far = tt
   last-words (At left expected) total xs test fails says so_far = says ∙ ap (behind (first xs) (λ x. times p a first)) (sym fails) ∙ sym (words-turn xs test) ∙ so_far
   last-words (TooDeep left) total xs test fails says so_far = tt
+
+  pub words-done : (xs : Rows Place) → head_in p xs ≡ false → times p a first xs ≡ first xs
+  unfolding times words_at
+  words-done xs h = ap (λ b. cond b (behind (first xs) (λ x. words_at p a first (length xs)) (a xs)) (first xs)) h

@@ -7,3 +7,4 @@ pub mod ExactLists
 pub mod ExactSequences
 pub mod ExactBefore
 pub mod ExactWide
+pub mod ExactNames

@@ -1,17 +1,19 @@
 -- Single rows, names, numbers, types and runs of strings are exact.
-use Rattle.std.proofs.Common.{◌≡◌, ◌+◌, ◌≤◌, ◌<◌, ℕ, zero, suc, Bool, true, false, cond, ◌||◌, List, [], ◌∷◌, ◌++◌, map, length, Option, Some, None, is_some, Result, Ok, Err, refl, sym, ap, subst, ◌∙◌, arith}
+use Rattle.std.proofs.Common.{◌≡◌, eqb, ◌+◌, ◌≤◌, ◌<◌, ℕ, zero, suc, Bool, true, false, cond, ◌||◌, List, [], ◌∷◌, ◌++◌, map, length, Option, Some, None, is_some, Result, Ok, Err, refl, sym, ap, subst, ◌∙◌, arith}
 use Rattle.std.proofs.lemmas.Bool.{ne_eqb, lt-ltb, le-ltb}
-use Rattle.std.specs.Prelude.{nat_lt}
+use Rattle.std.specs.Prelude.{codes, nat_lt}
 use Rattle.protox_fault.specs.Faults.{Span}
+use Rattle.protox_ast.specs.Ast as ast
 use Rattle.protox_ast.specs.Ast.{span_if_any}
+use Rattle.protox_ast.specs.Tree as t
 use Rattle.protox_ast.specs.Places.{Place}
 use Rattle.protox_ast.specs.Spelling as s
 use Rattle.protox_ast.specs.declared.ast.Ty as type_of
 use Rattle.protox_ast.specs.declared.ast.Ty.TheVariants as ty
 use Rattle.protox_lexeme.specs.Shapes.{Shape, Ident, Int, Float, Str, Mark, LineComment, BlockComment, Newline, Invalid, Row, Rows}
-use Rattle.protox_grammar.specs.Class.{Set, byte_place, class, in_set, keywords, marks, none, only, place, union, within, words}
+use Rattle.protox_grammar.specs.Class.{Set, among, byte_place, class, in_set, keywords, marks, none, only, place, union, within, words}
 use Rattle.protox_grammar.specs.Reader as reader
-use Rattle.protox_grammar.specs.Reader.{Reader, Refusal, Unexpected, fixed, is_token, leaf, seen, see_word, see_integer, see_float, see_text, star}
+use Rattle.protox_grammar.specs.Reader.{Reader, Refusal, Unexpected, ◌>>=◌, fixed, is_token, leaf, seen, see_word, see_integer, see_float, see_text, star}
 use Rattle.protox_grammar.specs.Rules as r
 use Rattle.protox_grammar.specs.Token as token
 use Rattle.protox_grammar.proofs.Sets.{place-le}
@@ -128,3 +130,77 @@ more_part-exact = mapped-exact (λ x. none) _ (λ x. refl) (seq-exact (dot-exact
 pub fullident-exact : (e : Expected) → Exact (names.fullident).code (said.fullident e) e words (λ x. only token.dot)
 unfolding names.fullident said.fullident
 fullident-exact e = mapped-exact (λ x. only token.dot) _ (list-more (only token.dot)) (list-exact (ident-exact e) more_part-exact)
+
+-- The words of a part under another name.
+pub renamed-words : {A B : Type 0} (f : A → B) (a : Reader Place A) (w : Words) (k : B → Words) (xs : Rows Place) → and_then a w (λ x. k (f x)) xs ≡ and_then (reader.mapped f a) w k xs
+renamed-words {A} {B} f a w k xs = by (a xs)
+  where
+    by : (r : Result (A × Rows Place) Refusal) → said.behind (w xs) (λ x. k (f x)) r ≡ said.behind (w xs) k (r >>= λ x. Ok (f x.0, x.1))
+    by (Ok x) = refl
+    by (Err d) = refl
+
+pub typename-exact : (e : Expected) → Exact (names.typename).code (said.typename e) e (union (only token.dot) words) (λ x. only token.dot)
+unfolding names.typename said.typename
+typename-exact e = mapped-exact (λ x. only token.dot) _ (λ x. refl)
+    (reworded _ (λ xs. renamed-words span_if_any (reader.optional (in_set (only token.dot)) (fixed (Mark s.dot))) (always expected.Dot) (λ dot. said.fullident (said.first_part dot e)) xs)
+    (option-exact (dot-exact expected.Dot) (λ o. fullident-exact (said.first_part (span_if_any o) e)) (λ x. refl) (λ x. refl)))
+
+pub int-exact : Exact (names.int).code said.int expected.Int (union (only token.minus) (only token.an_integer)) (λ x. none)
+unfolding names.int said.int
+int-exact = mapped-exact (λ x. none) _ (λ x. refl)
+    (reworded _ (λ xs. renamed-words span_if_any (reader.optional (in_set (only token.minus)) (fixed (Mark s.minus))) (always expected.Minus) (λ minus. always expected.Int) xs)
+    (option-exact (minus-exact expected.Minus) (λ o. integer-exact expected.Int) (λ x. refl) (λ x. refl)))
+
+-- The tokens with which a type would go on: a dot behind a name.
+abbrev pub type_more : type_of.Ty × Span → Set
+type_more (ty.Named name, span) = only token.dot
+type_more (_, span) = none
+
+scalar-more : (x : t.Scalar) (p : Span) → none ≡ type_more (ast.scalar x, p)
+scalar-more t.double p = refl
+scalar-more t.float_type p = refl
+scalar-more t.int32 p = refl
+scalar-more t.int64 p = refl
+scalar-more t.uint32 p = refl
+scalar-more t.uint64 p = refl
+scalar-more t.sint32 p = refl
+scalar-more t.sint64 p = refl
+scalar-more t.fixed32 p = refl
+scalar-more t.fixed64 p = refl
+scalar-more t.sfixed32 p = refl
+scalar-more t.sfixed64 p = refl
+scalar-more t.bool p = refl
+scalar-more t.string p = refl
+scalar-more t.bytes p = refl
+
+pub field_type-exact : (e : Expected) → Exact (names.field_type).code (said.field_type e) e (union r.scalar_set (union (only token.dot) words)) type_more
+unfolding names.field_type names.scalar said.field_type
+field_type-exact e = choice-exact
+    (mapped-exact type_more names.scalar_and_span (λ x. scalar-more x.0 x.1.span) (leaf-exact r.see_scalar r.scalar_set scalar-class expected.Type))
+    (mapped-exact type_more _ (λ x. refl) (typename-exact e)) (λ x. refl)
+
+pub strings-exact : (e : Expected) → Exact (runs.strings).code (said.strings e) e (only token.a_string) (λ x. only token.a_string)
+unfolding runs.strings said.strings
+strings-exact e = mapped-exact (λ x. only token.a_string) _ (list-more (only token.a_string)) (list-exact (string-exact e) (string-exact expected.StringLiteral))
+
+-- ---- labels
+
+always-chosen : (P : Set) (e : Expected) (xs : Rows Place) → said.choose P (always e) (always e) xs ≡ e
+always-chosen P e xs = by (reader.head_in (in_set P) xs)
+  where
+    by : (b : Bool) → cond b e e ≡ e
+    by true = refl
+    by false = refl
+
+pub or-none : (a : Bool) → a ≡ a || false
+or-none true = refl
+or-none false = refl
+
+pub label-exact : Exact (names.label).code (always expected.MessageBody) expected.MessageBody (among (token.optional ∷ token.required ∷ token.repeated ∷ [])) (λ x. none)
+unfolding names.label
+label-exact = begun_with (among (token.optional ∷ token.required ∷ token.repeated ∷ [])) (λ k. ap (λ v. eqb k token.optional || (eqb k token.required || v)) (or-none (eqb k token.repeated)))
+    (reworded (always expected.MessageBody) (λ xs. always-chosen (only token.optional) expected.MessageBody xs)
+    (choice-exact (mapped-exact (λ x. none) _ (λ x. refl) (word-exact (codes "optional") token.optional refl (omega arith) expected.MessageBody))
+    (reworded (always expected.MessageBody) (λ xs. always-chosen (only token.required) expected.MessageBody xs)
+    (choice-exact (mapped-exact (λ x. none) _ (λ x. refl) (word-exact (codes "required") token.required refl (omega arith) expected.MessageBody))
+    (mapped-exact (λ x. none) _ (λ x. refl) (word-exact (codes "repeated") token.repeated refl (omega arith) expected.MessageBody)) (λ x. refl))) (λ x. refl)))

@@ -1,2 +1,4 @@
 pub mod Turns
+pub mod ExactAggregates
+pub mod ExactOptions
 pub mod Aggregates

@@ -1,5 +1,5 @@
 -- Options, lists of them and their values are read exactly.
-use Rattle.std.proofs.Common.{◌≡◌, eqb, ◌≤◌, ◌<◌, ℕ, zero, suc, Bool, true, false, cond, ◌||◌, List, [], ◌∷◌, ◌++◌, map, length, Option, Some, None, Result, Ok, Err, refl, sym, ap, subst, ◌∙◌, arith, inl, inr, ◌⊎◌}
+use Rattle.std.proofs.Common.{◌≡◌, append-nil, append_assoc, eqb, ◌≤◌, ◌<◌, ℕ, zero, suc, Bool, true, false, cond, ◌||◌, List, [], ◌∷◌, ◌++◌, map, length, Option, Some, None, Result, Ok, Err, refl, sym, ap, subst, ◌∙◌, arith, inl, inr, ◌⊎◌}
 use Rattle.std.specs.Prelude.{codes}
 use Rattle.protox_fault.specs.Faults.{Span}
 use Rattle.protox_ast.specs.Ast as ast
@@ -121,3 +121,71 @@ pub value-exact : Exact (rule.value).code said.value expected.Constant (union co
 unfolding rule.value said.value
 value-exact = choice-exact (mapped-exact value_more _ (λ x. signed-more (span_if_any x.0) x.1) signed-exact)
     (choice-exact (mapped-exact value_more _ (λ x. refl) (strings-exact expected.Constant)) (mapped-exact value_more _ (λ x. refl) aggregate-exact) (λ x. refl)) (λ x. refl)
+
+-- ---- bodies and lists
+
+abbrev pub body_more : OptionBody → Set
+body_more x = value_more x.value
+
+-- A value goes on with nothing, or with a string.
+value-cases : (x : value_type.OptionValue) → (value_more x ≡ none) ⊎ (value_more x ≡ only token.a_string)
+value-cases (option_value.String x) = inr refl
+value-cases (option_value.Ident negative x span) = inl refl
+value-cases (option_value.Int x) = inl refl
+value-cases (option_value.Float x) = inl refl
+value-cases (option_value.Aggregate x span) = inl refl
+
+-- So a test that holds of both holds of each value.
+by-value : (T : Set → Type 0) → T none → T (only token.a_string) → (x : value_type.OptionValue) → T (value_more x)
+by-value T a b x = elim (value-cases x) [
+  | inl e ↦ subst T (sym e) a
+  | inr e ↦ subst T (sym e) b
+]
+
+by-last : (T : Set → Type 0) → T none → T (only token.a_string) → (l : List OptionBody) → T (last_more body_more l)
+by-last T a b [] = a
+by-last T a b (x ∷ []) = by-value T a b x.value
+by-last T a b (x ∷ y ∷ ys) = by-last T a b (y ∷ ys)
+
+pub body-exact : Exact (rule.body).code said.body expected.OptionName (union words (only token.open_paren)) body_more
+unfolding rule.body said.body rule.name
+body-exact = mapped-exact body_more _ (λ x. refl)
+    (seq-exact name-exact (λ x. seq-exact (mark-exact s.equals token.equals refl (omega arith) expected.EqualsOrDot) (λ m. value-exact) (λ m. refl) (λ m. refl)) (λ x. refl) (λ x. refl))
+
+pub more_body-exact : Exact (rule.more_body).code said.more_body expected.CommaOrRightBracket (only token.comma) body_more
+unfolding rule.more_body said.more_body
+more_body-exact = mapped-exact body_more _ (λ x. refl) (seq-exact (mark-exact s.comma token.comma refl (omega arith) expected.CommaOrRightBracket) (λ m. body-exact) (λ m. refl) (λ m. refl))
+
+-- The tokens with which a list of bodies would go on.
+abbrev pub bodies_more : List OptionBody → Set
+bodies_more l = union (last_more body_more l) (only token.comma)
+
+bodies-more : (x : OptionBody × List OptionBody) → list_more body_more body_more (only token.comma) x ≡ bodies_more (folded push (x.0 ∷ []) x.1)
+bodies-more (x, l) = listed x l ∙ ap bodies_more (sym (pushed-all (x ∷ []) l))
+  where
+    listed : (x : OptionBody) (l : List OptionBody) → list_more body_more body_more (only token.comma) (x, l) ≡ bodies_more (x ∷ l)
+    listed x [] = refl
+    listed x (y ∷ ys) = refl
+    pushed-all : (bs xs : List OptionBody) → folded push bs xs ≡ bs ++ xs
+    pushed-all bs [] = sym (append-nil bs)
+    pushed-all bs (x ∷ xs) = pushed-all (bs ++ x ∷ []) xs ∙ append_assoc bs (x ∷ []) xs
+
+pub bodies-exact : Exact (rule.bodies).code said.bodies expected.OptionName (union words (only token.open_paren)) bodies_more
+unfolding rule.bodies said.bodies
+bodies-exact = mapped-exact bodies_more _ bodies-more (list-exact body-exact more_body-exact)
+
+pub list-exact-of : Exact (rule.list).code said.list expected.LeftBracket (only token.open_bracket) (λ x. none)
+unfolding rule.list rule.bodies said.list
+list-exact-of = mapped-exact (λ x. none) _ (λ x. refl)
+    (seq-exact (mark-exact s.open_bracket token.open_bracket refl (omega arith) expected.LeftBracket)
+    (λ m. seq-exact bodies-exact (λ l. mark-exact s.close_bracket token.close_bracket refl (omega arith) expected.CommaOrRightBracket)
+    (λ l. by-last (λ S. within (named expected.CommaOrRightBracket) (union (union S (only token.comma)) (only token.close_bracket)) ≡ true) refl refl l)
+    (λ l. by-last (λ S. within (union (union S (only token.comma)) (only token.close_bracket)) (allowed expected.CommaOrRightBracket) ≡ true) refl refl l)) (λ m. refl) (λ m. refl))
+
+pub option-exact-of : (e : Expected) → Exact (rule.option).code (said.option e) e (only token.option) (λ x. none)
+unfolding rule.option said.option
+option-exact-of e = mapped-exact (λ x. none) _ (λ x. refl)
+    (seq-exact (word-exact (codes "option") token.option refl (omega arith) e)
+    (λ m. seq-exact body-exact (λ x. mark-exact s.semicolon token.semicolon refl (omega arith) expected.Semicolon)
+    (λ x. by-value (λ S. within (named expected.Semicolon) (union S (only token.semicolon)) ≡ true) refl refl x.value)
+    (λ x. by-value (λ S. within (union S (only token.semicolon)) (allowed expected.Semicolon) ≡ true) refl refl x.value)) (λ m. refl) (λ m. refl))

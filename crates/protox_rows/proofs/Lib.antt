@@ -7,4 +7,5 @@ pub mod ExactLists
 pub mod ExactSequences
 pub mod ExactBefore
 pub mod ExactWide
+pub mod ExactTails
 pub mod ExactNames

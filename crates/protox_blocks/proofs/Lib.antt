@@ -1,2 +1,3 @@
 pub mod Turns
 pub mod ExactRanges
+pub mod ExactEnums

@@ -249,3 +249,69 @@ module _ {A B : Type 0} {a : Reader Place A} {b : Reader Place B} {wa wb : Words
     rest = list-rest;
     bound = list-bound;
   }
+
+-- ---- a value that depends on the first row
+
+-- A value that is made of the first row, too.
+module _ {A B : Type 0} {a : Reader Place A} {w : Words} {e : Expected} {first : Set} {more : A → Set} (next : B → Set) (f : Rows Place → A → B) (only_first : (y : Row Place) (ys zs : Rows Place) (x : A) → f (y ∷ ys) x ≡ f (y ∷ zs) x)
+    (same : (xs : Rows Place) (x : A) → more x ≡ next (f xs x)) (h : Exact a w e first more) where
+  abbrev from : Rows Place → A × Rows Place → Result (B × Rows Place) Refusal
+  from xs x = Ok (f xs x.0, x.1)
+
+  abbrev reads : Reader Place B
+  reads xs = a xs >>= from xs
+
+  took_from : (n : ℕ) (xs : Rows Place) (read : Result (A × Rows Place) Refusal) → Took n read → Took n (read >>= from xs)
+  took_from n xs (Ok x) t = t
+  took_from n xs (Err (Unexpected m)) t = t
+  took_from n xs (Err (Deep m)) t = tt
+
+  refused_first : (n : ℕ) (xs : Rows Place) (read : Result (A × Rows Place) Refusal) → (read >>= from xs) ≡ Err (Unexpected n) → read ≡ Err (Unexpected n)
+  refused_first n xs (Ok x) q = absurd (ok-err _ _ q)
+  refused_first n xs (Err d) q = again d (Unexpected n) q
+    where
+      failed : {X : Type 0} → Refusal → Result X Refusal
+      failed e = Err e
+      again : (c d : Refusal) → failed {X = B × Rows Place} c ≡ failed d → failed {X = A × Rows Place} c ≡ failed d
+      again c d q = cc
+
+  read_first : (xs : Rows Place) (read : Result (A × Rows Place) Refusal) (x : B × Rows Place) → (read >>= from xs) ≡ Ok x → (v : A) × (read ≡ Ok (v, x.1)) × (x.0 ≡ f xs v)
+  read_first xs (Ok v) x q = let s = ok_is (f xs v.0, v.1) x q in (v.0, ap (λ (u : B × Rows Place). Ok (v.0, u.1)) s, ap (λ (u : B × Rows Place). u.0) (sym s))
+  read_first xs (Err d) x q = absurd (err-ok _ _ q)
+
+  none-read : (t : Rows Place) (x : B) → reads t ≡ Ok (x, t) → ⊥
+  none-read t x q = let v = read_first t (a t) (x, t) q in let s = h.rest t (v.0, t) v.1 in omega (arith, ap length s.2, length-append s.1 t)
+
+  ends-from : (ys t : Rows Place) (x : B) → reads (ys ++ t) ≡ Ok (x, t) → (r : Row Place) (zs : Rows Place) → next x (class r.shape) ≡ false → reads (ys ++ (r ∷ zs)) ≡ Ok (x, r ∷ zs)
+  ends-from [] t x q r zs m = absurd (none-read t x q)
+  ends-from (y ∷ ys) t x q r zs m =
+      let v = read_first (y ∷ (ys ++ t)) (a (y ∷ (ys ++ t))) (x, t) q in
+      ap (λ u. u >>= from (y ∷ (ys ++ (r ∷ zs)))) (h.ends (y ∷ ys) t v.0 v.1 r zs (ap (λ (s : Set). s (class r.shape)) (same (y ∷ (ys ++ t)) v.0 ∙ ap next (sym v.2)) ∙ m))
+      ∙ ap (λ u. Ok (u, r ∷ zs)) (only_first y (ys ++ (r ∷ zs)) (ys ++ t) v.0 ∙ sym v.2)
+
+  goes_on-from : (ys t : Rows Place) (x : B) → reads (ys ++ t) ≡ Ok (x, t) → (r : Row Place) (zs : Rows Place) → next x (class r.shape) ≡ true → Took (length zs) (reads (ys ++ (r ∷ zs)))
+  goes_on-from ys t x q r zs m =
+      let v = read_first (ys ++ t) (a (ys ++ t)) (x, t) q in
+      took_from (length zs) (ys ++ (r ∷ zs)) (a (ys ++ (r ∷ zs))) (h.goes_on ys t v.0 v.1 r zs (ap (λ (s : Set). s (class r.shape)) (same (ys ++ t) v.0 ∙ ap next (sym v.2)) ∙ m))
+
+  stays-from : (ys : Rows Place) (v : Row Place) (vs t u : Rows Place) (x : B) → reads (ys ++ (v ∷ (vs ++ t))) ≡ Ok (x, v ∷ (vs ++ t)) → reads (ys ++ (v ∷ (vs ++ u))) ≡ Ok (x, v ∷ (vs ++ u))
+  stays-from [] v vs t u x q = absurd (none-read (v ∷ (vs ++ t)) x q)
+  stays-from (y ∷ ys) v vs t u x q =
+      let k = read_first (y ∷ (ys ++ (v ∷ (vs ++ t)))) (a (y ∷ (ys ++ (v ∷ (vs ++ t))))) (x, v ∷ (vs ++ t)) q in
+      ap (λ w. w >>= from (y ∷ (ys ++ (v ∷ (vs ++ u))))) (h.stays (y ∷ ys) v vs t u k.0 k.1) ∙ ap (λ w. Ok (w, v ∷ (vs ++ u))) (only_first y (ys ++ (v ∷ (vs ++ u))) (ys ++ (v ∷ (vs ++ t))) k.0 ∙ sym k.2)
+
+  pub from-exact : Exact (λ xs. a xs >>= λ x. Ok (f xs x.0, x.1)) w e first next
+  from-exact = record {
+    begins = λ r zs k. took_from (length zs) (r ∷ zs) (a (r ∷ zs)) (h.begins r zs k);
+    barred = λ r zs k. ap (λ v. v >>= from (r ∷ zs)) (h.barred r zs k);
+    empty = ap (λ v. v >>= from []) h.empty;
+    says = λ t q. h.says t (refused_first (length t) t (a t) q);
+    inside = λ y ys t q r zs.
+        let k = h.inside y ys t (refused_first (length t) (y ∷ (ys ++ t)) (a (y ∷ (ys ++ t))) q) r zs in
+        record { taken = λ n. took_from (length zs) (y ∷ (ys ++ (r ∷ zs))) (a (y ∷ (ys ++ (r ∷ zs)))) (k.taken n); refused = λ n. ap (λ v. v >>= from (y ∷ (ys ++ (r ∷ zs)))) (k.refused n) };
+    ends = ends-from;
+    goes_on = goes_on-from;
+    stays = stays-from;
+    rest = λ xs x q. let v = read_first xs (a xs) x q in h.rest xs (v.0, x.1) v.1;
+    bound = λ xs n q. h.bound xs n (refused_first n xs (a xs) q);
+  }

@@ -1,3 +1,4 @@
 pub mod Turns
 pub mod ExactRanges
 pub mod ExactEnums
+pub mod ExactServices

@@ -28,7 +28,7 @@ module _ {B : Type 0} {b : Reader Place B} {wb : Words} {e : Expected} {fb : Set
   broad = star (in_set P) b
 
   -- A further element would be read here, but none begins so.
-  abbrev cut : List B × Rows Place → Result (List B × Rows Place) Refusal
+  abbrev pub cut : List B × Rows Place → Result (List B × Rows Place) Refusal
   cut x = cond (head_in (in_set P) x.1) (reader.refuse x.1) (Ok x)
 
   abbrev cons : B → List B × Rows Place → Result (List B × Rows Place) Refusal

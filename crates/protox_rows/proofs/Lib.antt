@@ -9,3 +9,4 @@ pub mod ExactBefore
 pub mod ExactWide
 pub mod ExactTails
 pub mod ExactNames
+pub mod ExactToEnd

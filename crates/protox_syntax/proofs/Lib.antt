@@ -29,4 +29,5 @@ pub mod NodesTold
 pub mod NodesNoted
 pub mod SyntaxStops
 pub mod NoCheckLost
+pub mod ExactFile
 pub mod samples

@@ -1,9 +1,65 @@
--- Which tokens the words of a fault name, and which they leave out.
-use Rattle.std.specs.Prelude.{List, [], ◌∷◌}
+-- The words that a fault writes after `expected`, which tokens they name, and which they leave out.
+use Rattle.std.specs.Prelude.{codes, ℕ, List, [], ◌∷◌}
 use Rattle.protox_grammar.specs.Class.{Set, all, among, none, only, union, words}
 use Rattle.protox_grammar.specs.Token as token
 use Rattle.protox_rows.specs.declared.expected.Expected.{Expected}
 use Rattle.protox_rows.specs.declared.expected.Expected.TheVariants as expected
+
+-- The words.
+abbrev pub words_of : Expected → List ℕ
+words_of expected.Syntax = codes "'syntax'"
+words_of expected.Import = codes "'import'"
+words_of expected.Message = codes "'message'"
+words_of expected.Returns = codes "'returns'"
+words_of expected.To = codes "'to'"
+words_of expected.Dot = codes "'.'"
+words_of expected.Minus = codes "'-'"
+words_of expected.Equals = codes "'='"
+words_of expected.Semicolon = codes "';'"
+words_of expected.Comma = codes "','"
+words_of expected.LeftParen = codes "'('"
+words_of expected.RightParen = codes "')'"
+words_of expected.LeftBrace = codes "'{'"
+words_of expected.RightBrace = codes "'}'"
+words_of expected.LeftBracket = codes "'['"
+words_of expected.LeftAngleBracket = codes "'<'"
+words_of expected.RightAngleBracket = codes "'>'"
+words_of expected.Statement = codes "'enum', 'extend', 'import', 'message', 'option', 'service', 'package' or ';'"
+words_of expected.Ident = codes "an identifier"
+words_of expected.Int = codes "an integer"
+words_of expected.Type = codes "a field type"
+words_of expected.TypeName = codes "a type name"
+words_of expected.String = codes "a string"
+words_of expected.StringLiteral = codes "a string literal"
+words_of expected.ImportString = codes "a string literal, 'public' or 'weak'"
+words_of expected.WeakOrPublic = codes "'public' or 'weak'"
+words_of expected.MessageBody = codes "a message field, oneof, reserved range, enum, message, option or '}'"
+words_of expected.OneofBody = codes "a message field, option or '}'"
+words_of expected.ExtendBody = codes "a message field, '}' or ';'"
+words_of expected.EnumBody = codes "an identifier, '}', 'reserved' or 'option'"
+words_of expected.ServiceBody = codes "'rpc', '}', 'option' or ';'"
+words_of expected.RpcBody = codes "'option', '}' or ';'"
+words_of expected.SemicolonOrOptions = codes "';' or '['"
+words_of expected.BraceOrOptions = codes "'{' or '['"
+words_of expected.StreamOrType = codes "'stream' or a type name"
+words_of expected.SemicolonOrBrace = codes "';' or '{'"
+words_of expected.ReservedItem = codes "a positive integer or string"
+words_of expected.CommaOrSemicolon = codes "',' or ';'"
+words_of expected.AfterReservedStart = codes "'to', ',' or ';'"
+words_of expected.AfterExtensionStart = codes "'to', ',', ';' or '['"
+words_of expected.IntOrMax = codes "an integer or 'max'"
+words_of expected.AfterExtensionEnd = codes "',', ';' or '['"
+words_of expected.CommaOrRightBracket = codes "',' or ']'"
+words_of expected.OptionName = codes "an identifier or '('"
+words_of expected.EqualsOrDot = codes "'=' or '.'"
+words_of expected.Constant = codes "a constant"
+words_of expected.Numeric = codes "a numeric literal"
+words_of expected.DotOrIdent = codes "'.' or an identifier"
+words_of expected.DotOrSemicolon = codes "'.' or ';'"
+words_of expected.DotOrLeftBrace = codes "'.' or '{'"
+words_of expected.DotOrRightParen = codes "'.' or ')'"
+words_of expected.DotOrComma = codes "'.' or ','"
+words_of expected.DotOrRightAngleBracket = codes "'.' or '>'"
 
 -- Any word and the dot: what a type's name may begin with.
 abbrev pub type_names : Set

@@ -2,6 +2,7 @@
 
 ghost use Rattle.std.specs.Prelude.{◌≡◌, false};
 ghost use Rattle.protox_ast.specs.Truth.{is_terminator};
+ghost use Rattle.protox_rows.specs.Expected.{words_of};
 
 /// What may stand at a place. `text` gives the words for it.
 #[derive(Clone, Copy, PartialEq, Debug)]
@@ -65,7 +66,8 @@ impl Expected {
     /// The words that a fault writes after `expected`. They are never `string terminator` or
     /// `comment terminator`.
     pub fn text(self) -> &'static str
-        ensures { is_terminator result.now ≡ false }
+        ensures plain { is_terminator result.now ≡ false }
+        ensures words { result.now ≡ words_of self }
     {
         match self {
             Expected::Syntax => "'syntax'",

@@ -275,7 +275,7 @@ module _ (source : List ℕ) where
       subst (StandIn lexemes) (sym w)
       (fine-stand 0 (place p.next) (p.errors ++ option_to_list (refusal text (row_at rows left)))
       (fine-joined 0 (place p.next) (place p.next) p.errors _ (merged-fine (total_of t) left (all_notes (placed t)) all-notable) (refusal-fine (place p.next) (length rows - left) text (row_at rows left) refl)))
-  merged-stand errors (refused_statement e at_refusal later h g notable w) =
+  merged-stand errors (refused_statement e at_refusal later h says g notable w) =
       subst (StandIn lexemes) (sym w)
       (merged_faults-stand (total_of t) 0 (all_notes (placed t) ++ (at_refusal ++ later)) (notable-both rows (all_notes (placed t)) (at_refusal ++ later) all-notable (notable-both rows at_refusal later (at_refusal-notable t e at_refusal g) notable)))
   merged-stand errors (all_read x e w) = subst (StandIn lexemes) (sym w) (merged_faults-stand (total_of t) 0 (all_notes (placed t)) all-notable)

@@ -241,7 +241,7 @@ module _ (lexemes : List Lexeme) where
       let ended : IsEnded (shapes (rows_of lexemes)) = subst IsEnded same-shapes (fronts.ended here levels (rows lexemes) (not-read (Unexpected 0) y.read)) in
       let before : AreClearBelow (in_mode lexemes) (suc n) = λ j l. y.before j (omega (arith, l)) in
       let clean = clean-all lexemes on (clear-to (suc n) (suc n) (omega arith) before) (told (suc n) (omega (arith, last))) in
-      inr (y.plain, record { ended = ended; clean = clean; none_before = none-before (suc n) before (λ j l. y.fine j) })
+      inr (y.is_said.0, record { ended = ended; clean = clean; none_before = none-before (suc n) before (λ j l. y.fine j) })
 
   -- ---- of a list
 

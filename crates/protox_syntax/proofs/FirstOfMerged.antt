@@ -13,7 +13,6 @@ use Rattle.protox_lexeme.specs.Shapes.{Row, Rows}
 use Rattle.protox_lexeme.specs.Table.{faults_of, rows_of, table_of}
 use Rattle.protox_ast.proofs.Standing.{as-many}
 use Rattle.protox_ast.specs.Places.{Place}
-use Rattle.protox_ast.specs.Truth.{is_terminator}
 use Rattle.protox_grammar.specs.TagLaws.{placed_steps_by, placed_tokens}
 use Rattle.protox_grammar.specs.Noted.{trace}
 use Rattle.protox_grammar.specs.Reader.{Unexpected}
@@ -31,12 +30,15 @@ use Rattle.protox_grammar.proofs.StepLists.{until-front}
 use Rattle.protox_grammar.proofs.Takes.{bind_ok, ok_is}
 use Rattle.protox_grammar.proofs.Telling.{told-append}
 use Rattle.protox_options.specs.inner.Options.{here}
+use Rattle.protox_rows.specs.Expected.{words_of}
 use Rattle.protox_rows.specs.inner.Outcome.{Fails}
+use Rattle.protox_rows.specs.inner.Words.{SaysOf}
 use Rattle.protox_rows.specs.declared.refused.Refused.{Refused}
 use Rattle.protox_rows.specs.declared.refused.Refused.TheVariants.{OutOfMemory, At, TooDeep}
 use Rattle.protox_syntax.specs.inner.ParsedTable.{AreMergedFaults, unknown_syntax, unexpected_row, refused_statement, all_read, rows_left_at_first_note}
 use Rattle.protox_syntax.specs.inner.Recovery as r
-use Rattle.protox_syntax.specs.inner.Recovery.{AreRefusalNotes}
+use Rattle.protox_syntax.specs.inner.Recovery.{AreRefusalNotes, IsSaid}
+use Rattle.protox_syntax.specs.inner.Words as said
 use Rattle.protox_syntax.specs.inner.Statements.{levels, notes_behind, syntax_if_any}
 use Rattle.protox_syntax.specs.inner.Merge.{refusal, row_at, merged_faults}
 use Rattle.protox_syntax.specs.inner.Whole.{Whole, all_notes, file_seen, whole}
@@ -97,6 +99,7 @@ pub record IsOfToken (lexemes : List Lexeme) (errors : Faults) : Type 0 where
   pub row : Row Span
   pub there : slice_get (rows_of lexemes) (taken lexemes) ≡ Some row
   pub text : List ℕ
+  pub is_said : IsSaid (said.whole (rows lexemes)) text
   pub begins : HasFirst (UnexpectedToken row.at text (printed row.shape)) errors
   pub before : AreClearBelow (in_mode lexemes) (suc (taken lexemes))
   pub fine : (j : ℕ) → IsFineTo lexemes j
@@ -105,7 +108,7 @@ pub record IsOfToken (lexemes : List Lexeme) (errors : Faults) : Type 0 where
 pub record IsOfEnd (lexemes : List Lexeme) (errors : Faults) : Type 0 where
   pub read : whole (rows lexemes) ≡ Err (Unexpected 0)
   pub text : List ℕ
-  pub plain : is_terminator text ≡ false
+  pub is_said : IsSaid (said.whole (rows lexemes)) text
   pub begins : HasFirst (UnexpectedEof text) errors
   pub before : AreClearBelow (in_mode lexemes) (total lexemes)
   pub fine : (j : ℕ) → IsFineTo lexemes j
@@ -234,14 +237,14 @@ module _ (lexemes : List Lexeme) where
     ]
 
     -- the row behind those that are taken, which doesn't fit
-    refused-first : (left : ℕ) (text : List ℕ) (errors more : Faults) → is_terminator text ≡ false → whole (rows lexemes) ≡ Err (Unexpected left) → AreClearBelow (in_mode lexemes) (suc (taken lexemes))
+    refused-first : (left : ℕ) (text : List ℕ) (errors more : Faults) → IsSaid (said.whole (rows lexemes)) text → whole (rows lexemes) ≡ Err (Unexpected left) → AreClearBelow (in_mode lexemes) (suc (taken lexemes))
         → (o : Option (Row Span)) → row_at (rows_of lexemes) left ≡ o → errors ≡ option_to_list (refusal text o) ++ more → FirstOfList lexemes errors
     refused-first left text errors more plain e clear None there w =
         let none : left ≡ 0 = omega (arith, none-there (rows_of lexemes) (length (rows_of lexemes) - left) there, stops-at left e, many) in
         of_end (record {
           read = e ∙ ap (λ n. Err (Unexpected n)) none;
           text = text;
-          plain = plain;
+          is_said = plain;
           begins = (more, w);
           before = clear-fewer (in_mode lexemes) (total lexemes) (suc (taken lexemes)) (omega (arith, none, stops-at left e, many)) clear;
           fine = fine-to;
@@ -253,9 +256,9 @@ module _ (lexemes : List Lexeme) where
 
         by : (b : Bool) → is_invalid x.shape ≡ b → errors ≡ option_to_list (cond b None (Some (UnexpectedToken x.at text (printed x.shape)))) ++ more → FirstOfList lexemes errors
         by true v w = absurd (row-valid (is_open_behind lexemes (taken lexemes)) lexemes (taken lexemes) x at (clear (taken lexemes) (omega arith)) (is-invalid x.shape v))
-        by false v w = of_token (record { left = left; read = e; row = x; there = at; text = text; begins = (more, w); before = clear; fine = fine-to })
+        by false v w = of_token (record { left = left; read = e; row = x; there = at; text = text; is_said = plain; begins = (more, w); before = clear; fine = fine-to })
 
-    unexpected_row-first : (left : ℕ) (text : List ℕ) (errors more : Faults) → is_terminator text ≡ false → whole (rows lexemes) ≡ Err (Unexpected left)
+    unexpected_row-first : (left : ℕ) (text : List ℕ) (errors more : Faults) → IsSaid (said.whole (rows lexemes)) text → whole (rows lexemes) ≡ Err (Unexpected left)
         → errors ≡ (found notes left ++ option_to_list (refusal text (row_at (rows_of lexemes) left))) ++ more → FirstOfList lexemes errors
     unexpected_row-first left text errors more plain e w =
         let own : Faults = option_to_list (refusal text (row_at (rows_of lexemes) left)) in
@@ -264,17 +267,17 @@ module _ (lexemes : List Lexeme) where
           | inr y ↦ of_row y
         ]
 
-    refused_statement-first : (e : Refused) (at_refusal later : Notes) (errors : Faults) → Fails e (whole (rows lexemes)) → AreRefusalNotes (rows_of lexemes) e at_refusal → errors ≡ found (notes ++ (at_refusal ++ later)) 0 → FirstOfList lexemes errors
-    refused_statement-first OutOfMemory at_refusal later errors fails h w = absurd h
-    refused_statement-first (At left expected) at_refusal later errors fails h w =
+    refused_statement-first : (e : Refused) (at_refusal later : Notes) (errors : Faults) → Fails e (whole (rows lexemes)) → SaysOf e (said.whole (rows lexemes)) → AreRefusalNotes (rows_of lexemes) e at_refusal → errors ≡ found (notes ++ (at_refusal ++ later)) 0 → FirstOfList lexemes errors
+    refused_statement-first OutOfMemory at_refusal later errors fails says h w = absurd h
+    refused_statement-first (At left expected) at_refusal later errors fails says h w =
         let front = behind-up-to left (refusal h.0 (row_at (rows_of lexemes) left)) later in
-        unexpected_row-first left h.0 errors front.0 h.1 fails (w ∙ ap (λ u. found (notes ++ (u ++ later)) 0) h.2 ∙ front.1)
-    refused_statement-first (TooDeep left) at_refusal later errors fails h w = absurd (deep-noted (rows lexemes) left fails fine)
+        unexpected_row-first left h.0 errors front.0 (h.1.0, h.1.1 ∙ ap words_of says) fails (w ∙ ap (λ u. found (notes ++ (u ++ later)) 0) h.2 ∙ front.1)
+    refused_statement-first (TooDeep left) at_refusal later errors fails says h w = absurd (deep-noted (rows lexemes) left fails fine)
 
     fine-first : (errors : Faults) → (errors ≡ [] → ⊥) → AreMergedFaults (table_of lexemes) errors → FirstOfList lexemes errors
     fine-first errors some (unknown_syntax node w) = absurd (node (faults-none (syntax_if_any.notes (rows lexemes)) (syntax-faults (rows lexemes)) (front-faultless (rows lexemes) fine)))
     fine-first errors some (unexpected_row left text plain e w) = unexpected_row-first left text errors [] plain e (w ∙ sym (append-nil (found notes left ++ option_to_list (refusal text (row_at (rows_of lexemes) left)))))
-    fine-first errors some (refused_statement e at_refusal later fails h notable w) = refused_statement-first e at_refusal later errors fails h w
+    fine-first errors some (refused_statement e at_refusal later fails says h notable w) = refused_statement-first e at_refusal later errors fails says h w
     fine-first errors some (all_read x e w) = all_read-first x errors some e w
 
   -- ---- a fault is noted
@@ -348,7 +351,7 @@ module _ (lexemes : List Lexeme) where
     noted-first : (errors : Faults) → AreMergedFaults (table_of lexemes) errors → FirstOfList lexemes errors
     noted-first errors (unknown_syntax some w) = unknown_syntax-first-at errors some w
     noted-first errors (unexpected_row left text plain e w) = node-first v.more left errors (option_to_list (refusal text (row_at (rows_of lexemes) left))) (w ∙ ap (λ u. found u left ++ option_to_list (refusal text (row_at (rows_of lexemes) left))) parts)
-    noted-first errors (refused_statement e at_refusal later fails h notable w) =
+    noted-first errors (refused_statement e at_refusal later fails says h notable w) =
         let all : notes ++ (at_refusal ++ later) ≡ front_notes ++ note_at v.left (Fault v.fault) ∷ (v.more ++ (at_refusal ++ later)) = ap (λ u. u ++ (at_refusal ++ later)) parts ∙ append_assoc front_notes (note_at v.left (Fault v.fault) ∷ v.more) (at_refusal ++ later) in
         node-first (v.more ++ (at_refusal ++ later)) 0 errors [] (w ∙ ap (λ u. found u 0) all ∙ sym (append-nil (found (front_notes ++ note_at v.left (Fault v.fault) ∷ (v.more ++ (at_refusal ++ later))) 0)))
     noted-first errors (all_read x e w) = node-first v.more 0 errors [] (w ∙ ap (λ u. found u 0) parts ∙ sym (append-nil (found (front_notes ++ note_at v.left (Fault v.fault) ∷ v.more) 0)))

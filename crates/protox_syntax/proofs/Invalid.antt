@@ -19,6 +19,11 @@ use Rattle.protox_syntax.specs.inner.ParsedTable.{IsTableOf, total_of}
 use Rattle.protox_syntax.specs.inner.Statements.{add_statement, declared, item_, next_first, no_statements, notes_behind, statement, statements_at, syntax_if_any}
 use Rattle.protox_syntax.specs.inner.Merge.{merged_faults}
 use Rattle.protox_syntax.specs.inner.Whole.{all_notes, whole}
+use Rattle.protox_ast.specs.Truth.{is_terminator}
+use Rattle.protox_rows.specs.Expected.{words_of}
+use Rattle.protox_rows.specs.declared.expected.Expected.{Expected}
+use Rattle.protox_rows.specs.declared.expected.Expected.TheVariants as expected
+use Rattle.protox_syntax.specs.inner.Words as said
 use Rattle.protox_syntax.proofs.ParsedTable.{AreTableFaults, unexpected_row-parsed, is-invalid}
 use Rattle.protox_syntax.proofs.Turns.{statement-eats}
 
@@ -66,14 +71,71 @@ invalid-first (r ∷ rs) h = subst (λ s. IsRefusedFirst (record { shape = s; at
 
 -- ---- what is answered then
 
-first-none : (rows : Rows Span) (gaps : List (List Shape)) → head_in is_invalid (placed_from true rows gaps) ≡ true → refusal [] (slice_get rows 0) ≡ None
-first-none [] gaps h = absurd cc
-first-none (r ∷ rs) gaps h = ap (λ b. cond b None (Some (fault.UnexpectedToken r.at [] (printed r.shape)))) h
+first-none : (text : List ℕ) (rows : Rows Span) (gaps : List (List Shape)) → head_in is_invalid (placed_from true rows gaps) ≡ true → refusal text (slice_get rows 0) ≡ None
+first-none text [] gaps h = absurd cc
+first-none text (r ∷ rs) gaps h = ap (λ b. cond b None (Some (fault.UnexpectedToken r.at text (printed r.shape)))) h
+
+-- No words name the end of a string or a comment.
+pub words-plain : (e : Expected) → is_terminator (words_of e) ≡ false
+words-plain expected.Syntax = refl
+words-plain expected.Import = refl
+words-plain expected.Message = refl
+words-plain expected.Returns = refl
+words-plain expected.To = refl
+words-plain expected.Dot = refl
+words-plain expected.Minus = refl
+words-plain expected.Equals = refl
+words-plain expected.Semicolon = refl
+words-plain expected.Comma = refl
+words-plain expected.LeftParen = refl
+words-plain expected.RightParen = refl
+words-plain expected.LeftBrace = refl
+words-plain expected.RightBrace = refl
+words-plain expected.LeftBracket = refl
+words-plain expected.LeftAngleBracket = refl
+words-plain expected.RightAngleBracket = refl
+words-plain expected.Statement = refl
+words-plain expected.Ident = refl
+words-plain expected.Int = refl
+words-plain expected.Type = refl
+words-plain expected.TypeName = refl
+words-plain expected.String = refl
+words-plain expected.StringLiteral = refl
+words-plain expected.ImportString = refl
+words-plain expected.WeakOrPublic = refl
+words-plain expected.MessageBody = refl
+words-plain expected.OneofBody = refl
+words-plain expected.ExtendBody = refl
+words-plain expected.EnumBody = refl
+words-plain expected.ServiceBody = refl
+words-plain expected.RpcBody = refl
+words-plain expected.SemicolonOrOptions = refl
+words-plain expected.BraceOrOptions = refl
+words-plain expected.StreamOrType = refl
+words-plain expected.SemicolonOrBrace = refl
+words-plain expected.ReservedItem = refl
+words-plain expected.CommaOrSemicolon = refl
+words-plain expected.AfterReservedStart = refl
+words-plain expected.AfterExtensionStart = refl
+words-plain expected.IntOrMax = refl
+words-plain expected.AfterExtensionEnd = refl
+words-plain expected.CommaOrRightBracket = refl
+words-plain expected.OptionName = refl
+words-plain expected.EqualsOrDot = refl
+words-plain expected.Constant = refl
+words-plain expected.Numeric = refl
+words-plain expected.DotOrIdent = refl
+words-plain expected.DotOrSemicolon = refl
+words-plain expected.DotOrLeftBrace = refl
+words-plain expected.DotOrRightParen = refl
+words-plain expected.DotOrComma = refl
+words-plain expected.DotOrRightAngleBracket = refl
 
 pub invalid-parsed : (t : Table) (size : ℕ) → IsTableOf size t → (total left : ℕ) (errors : List ParseErrorKind) → total ≡ total_of t → left ≡ length t.rows → head_in is_invalid (placed t) ≡ true → errors ≡ merged_faults t.faults total [] left → AreTableFaults t size errors
 invalid-parsed t size tab total left errors is left-is h e =
     let first = invalid-first (placed t) h in
     let counted : length (placed t) ≡ left = omega (arith, as-many true t.rows t.gaps, left-is) in
     let start : 0 ≡ length t.rows - left = omega (arith, left-is) in
-    let none : refusal [] (row_at t.rows left) ≡ None = ap (λ n. refusal [] (slice_get t.rows n)) (sym start) ∙ first-none t.rows t.gaps h in
-    unexpected_row-parsed t size tab [] total left [] errors errors is refl (first.0 ∙ ap (λ n. Err (Unexpected n)) counted) (sym first.1) e (sym (append-nil errors) ∙ ap (λ o. errors ++ option_to_list o) (sym none))
+    let text = words_of (said.whole (placed t)) in
+    let none : refusal text (row_at t.rows left) ≡ None = ap (λ n. refusal text (slice_get t.rows n)) (sym start) ∙ first-none text t.rows t.gaps h in
+    unexpected_row-parsed t size tab [] total left text errors errors is (words-plain (said.whole (placed t)), refl) (first.0 ∙ ap (λ n. Err (Unexpected n)) counted) (sym first.1) e (sym (append-nil errors) ∙ ap (λ o. errors ++ option_to_list o) (sym none))

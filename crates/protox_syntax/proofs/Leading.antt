@@ -162,7 +162,7 @@ module _ (t : Table) (notes : Notes) (q : Option Span) (r : Row Place) (rs : Row
         first_is = v.first_is;
         last = next-last t (At left expected) most;
         alike = subst (λ (u : Progress). Alike u (refused t left found_then)) (sym (ap (λ n. found_with_notes t n beginning) notes-are ∙ found_with_notes-append t (notes ++ statement.notes q xs) (refusal_notes left h.0 t.rows) beginning))
-            (alike-refused t left h.0 (found_with_notes t (notes ++ statement.notes q xs) beginning) found_then h.1 alike-then);
+            (alike-refused t left h.0 (found_with_notes t (notes ++ statement.notes q xs) beginning) found_then h.1.0 alike-then);
         rest = ap (λ ys. rest_of t v.statement_first ys (refused t left found_then)) rows ∙ rest-then (Err (Unexpected left)) (statement-err xs (Unexpected left) fails);
       }
   leads-refused (TooDeep left) at_refusal new most is fails h added =

@@ -82,7 +82,7 @@ module _ (lexemes : List Lexeme) (f : tree.File Place) (spelled : Spells (placed
   merged-alone : (errors : List ParseErrorKind) → AreMergedFaults (table_of lexemes) errors → AreFaultsOf lexemes errors
   merged-alone errors (unknown_syntax some w) = absurd (some (modes.faults-none (syntax_if_any.notes rows) (syntax-faults rows) (front-faultless rows fine)))
   merged-alone errors (unexpected_row left text plain e w) = absurd (none-read rows (Unexpected left) e f is-read)
-  merged-alone errors (refused_statement e at_refusal later h g notable w) = absurd (refused-not e at_refusal h g)
+  merged-alone errors (refused_statement e at_refusal later h says g notable w) = absurd (refused-not e at_refusal h g)
   merged-alone errors (all_read x e w) = subst (AreFaultsOf lexemes) (sym w) are-faults
 
 -- from the answer for a source's table

@@ -143,7 +143,7 @@ module _ (lexemes : List Lexeme) (errors : List ParseErrorKind) where
   merged-has wrong h g (unknown_syntax some w) = subst (Holds (λ u. u ≡ wrong)) (sym w) (merged_faults-has entries total wrong (syntax_if_any.notes (placed_tokens lexemes)) _ (g some))
   merged-has wrong h g (unexpected_row left text plain e w) =
       subst (Holds (λ u. u ≡ wrong)) (sym w) (holds-left (λ u. u ≡ wrong) (merged_faults entries total notes left) (option_to_list (refusal text (row_at (rows_of lexemes) left))) (merged_faults-has entries total wrong notes left h))
-  merged-has wrong h g (refused_statement e at_refusal later fails is notable w) = subst (Holds (λ u. u ≡ wrong)) (sym w) (merged_faults-has entries total wrong (notes ++ (at_refusal ++ later)) 0 (holds-left (IsOfFault wrong) notes (at_refusal ++ later) h))
+  merged-has wrong h g (refused_statement e at_refusal later fails says is notable w) = subst (Holds (λ u. u ≡ wrong)) (sym w) (merged_faults-has entries total wrong (notes ++ (at_refusal ++ later)) 0 (holds-left (IsOfFault wrong) notes (at_refusal ++ later) h))
   merged-has wrong h g (all_read x e w) = subst (Holds (λ u. u ≡ wrong)) (sym w) (merged_faults-has entries total wrong notes 0 h)
 
   pub none-lost : AreMergedFaults (table_of lexemes) errors → NoneIsLost lexemes errors

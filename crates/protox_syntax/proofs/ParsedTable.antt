@@ -22,11 +22,13 @@ use Rattle.protox_grammar.proofs.FineNotes.{IsFaultless, faultless-first}
 use Rattle.protox_grammar.proofs.Telling.{AllLie, both-lie}
 use Rattle.protox_rows.specs.inner.Notes.{AddsTo}
 use Rattle.protox_rows.specs.inner.Outcome.{Fails}
+use Rattle.protox_rows.specs.inner.Words.{SaysOf}
 use Rattle.protox_rows.specs.declared.refused.Refused.{Refused}
 use Rattle.protox_rows.specs.declared.refused.Refused.TheVariants.{OutOfMemory, At, TooDeep}
 use Rattle.protox_syntax.specs.inner.Statements.{syntax_if_any, notes_behind}
 use Rattle.protox_syntax.specs.inner.Whole.{Whole, whole, all_notes}
-use Rattle.protox_syntax.specs.inner.Recovery.{FirstLies, AreRefusalNotes, Recovers, fault_note, plain_note}
+use Rattle.protox_syntax.specs.inner.Recovery.{FirstLies, AreRefusalNotes, IsSaid, Recovers, fault_note, plain_note}
+use Rattle.protox_syntax.specs.inner.Words as said
 use Rattle.protox_syntax.specs.inner.Merge.{merged_faults, refusal, row_at}
 use Rattle.protox_syntax.specs.inner.ParsedTable.{IsTableOf, IsWhole, AreMergedFaults, unknown_syntax, unexpected_row, refused_statement, all_read, all_faults, rows_left_at_first_note, total_of}
 use Rattle.protox_syntax.proofs.Entries.{append-empty, all-each, each-at, invalid-faulty}
@@ -154,7 +156,7 @@ module _ (t : Table) (size : ℕ) (tab : IsTableOf size t) where
   some-up-to left expected read = some-fault expected left (total_of t) (row_at t.rows left) (all_notes (placed t)) refl (subst (λ n. left ≤ n) many (left-within (placed t) left read)) refl
 
   -- a row doesn't fit, and nothing behind it is read
-  pub unexpected_row-parsed : (notes : Notes) (total left : ℕ) (expected : List ℕ) (merged errors : List ParseErrorKind) → Total total → is_terminator expected ≡ false → whole (placed t) ≡ Err (Unexpected left) → notes ≡ all_notes (placed t)
+  pub unexpected_row-parsed : (notes : Notes) (total left : ℕ) (expected : List ℕ) (merged errors : List ParseErrorKind) → Total total → IsSaid (said.whole (placed t)) expected → whole (placed t) ≡ Err (Unexpected left) → notes ≡ all_notes (placed t)
       → merged ≡ merged_faults t.faults total notes left → errors ≡ merged ++ option_to_list (refusal expected (row_at t.rows left)) → AreTableFaults t size errors
   unexpected_row-parsed notes total left expected merged errors is text read noted w e =
       let all : errors ≡ up_to left expected = e ∙ ap (λ v. v ++ option_to_list (refusal expected (row_at t.rows left))) (w ∙ (λ i. merged_faults t.faults (is i) (noted i) left)) in (
@@ -212,9 +214,9 @@ module _ (t : Table) (size : ℕ) (tab : IsTableOf size t) where
   is-noted (TooDeep left) old some h = h
 
   -- a statement is refused, and reading goes on
-  pub refused_statement-parsed : (e : Refused) (first : Option Span) (old notes : Notes) (total : ℕ) (errors : List ParseErrorKind) → Total total → Fails e (whole (placed t)) → AddsTo e [] (all_notes (placed t)) old → FirstLies (placed t) first
+  pub refused_statement-parsed : (e : Refused) (first : Option Span) (old notes : Notes) (total : ℕ) (errors : List ParseErrorKind) → Total total → Fails e (whole (placed t)) → SaysOf e (said.whole (placed t)) → AddsTo e [] (all_notes (placed t)) old → FirstLies (placed t) first
       → Recovers t e first old notes → errors ≡ merged_faults t.faults total notes 0 → AreTableFaults t size errors
-  refused_statement-parsed e first old notes total errors is read noted lies r merged =
+  refused_statement-parsed e first old notes total errors is read says noted lies r merged =
       let some = at_refusal-some e r.0 r.3 in
       let begins : old ≡ all_notes (placed t) = is-noted e old some noted in
       let all : errors ≡ merged_faults t.faults (total_of t) (all_notes (placed t) ++ (r.0 ++ r.1)) 0 = merged ∙ (λ i. merged_faults t.faults (is i) ((r.2 ∙ ap (λ v. v ++ (r.0 ++ r.1)) begins) i) 0) in
@@ -222,7 +224,7 @@ module _ (t : Table) (size : ℕ) (tab : IsTableOf size t) where
         (λ n. some-refused_statement e r.0 r.1 read r.3 (sym all ∙ n)),
         subst (λ (xs : List ParseErrorKind). Each (LiesIn size) xs) (sym all) (merged-lie 0 (all_notes (placed t) ++ (r.0 ++ r.1)) (total_of t) (both-lie size (all_notes (placed t)) (r.0 ++ r.1) noted-lie (both-lie size r.0 r.1 (at_refusal-lies e r.0 r.3) later))),
         not-read e some read,
-        refused_statement e r.0 r.1 read r.3 r.4.0 all,
+        refused_statement e r.0 r.1 read says r.3 r.4.0 all,
       )
 
   -- all rows are read, and there are faults

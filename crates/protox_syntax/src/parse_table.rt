@@ -11,6 +11,8 @@ ghost use Rattle.protox_syntax.specs.inner.Leading.{Ends, IsRefusedAt};
 ghost use Rattle.protox_syntax.specs.inner.Recovery.{FirstLies};
 ghost use Rattle.protox_syntax.specs.inner.Statements as rule;
 ghost use Rattle.protox_syntax.specs.inner.Whole.{whole, all_notes};
+ghost use Rattle.protox_rows.specs.inner.Words.{SaysOf};
+ghost use Rattle.protox_syntax.specs.inner.Words as said;
 
 use crate::fault_list::{add_refusal, merged_faults};
 use crate::recovery::recover;
@@ -137,6 +139,7 @@ fn faults_of_refused_syntax(
     requires valid { head_in is_invalid (placed table.now) ≡ false }
     requires read { (rule.syntax_if_any).code (placed table.now) ≡ Err (Unexpected left) }
     requires notes { (rule.syntax_if_any).notes (placed table.now) ≡ [] }
+    requires said { expected ≡ said.whole (placed table.now) }
     ensures { ParsesTable table.now size result }
 {
     let total = table.rows() + 1;
@@ -156,6 +159,7 @@ fn faults_of_refused_statement(
 ) -> Result<File, SyntaxFailure>
     requires table { IsTableOf size table.now }
     requires read { Fails refused (whole (placed table.now)) }
+    requires said { SaysOf refused (said.whole (placed table.now)) }
     requires noted { AddsTo refused [] (all_notes (placed table.now)) noted.items }
     requires first { FirstLies (placed table.now) start.first }
     requires leads { IsRefusedAt table.now noted.items start refused }
@@ -210,7 +214,7 @@ fn file_or_faults(
     Err(SyntaxFailure::Faults(errors))
 }
 
-#[tactic(auto, unfolding(crate::specs::inner::Whole::whole, crate::specs::inner::Whole::all_notes))]
+#[tactic(auto, unfolding(crate::specs::inner::Whole::whole, crate::specs::inner::Whole::all_notes, crate::specs::inner::Words::whole))]
 fn after_syntax(
     alloc: Global,
     table: &TokenTable<'_>,
@@ -237,7 +241,7 @@ fn after_syntax(
 }
 
 /// The file that the rows spell, or all its faults.
-#[tactic(auto, unfolding(crate::specs::inner::Whole::whole, crate::specs::inner::Whole::all_notes))]
+#[tactic(auto, unfolding(crate::specs::inner::Whole::whole, crate::specs::inner::Whole::all_notes, crate::specs::inner::Words::whole))]
 pub(crate) fn parse_table(
     alloc: Global,
     table: &TokenTable<'_>,

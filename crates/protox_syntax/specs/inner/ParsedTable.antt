@@ -18,16 +18,17 @@ use Rattle.protox_ast.specs.declared.ast.Comments.{Comments}
 use Rattle.protox_ast.specs.declared.ast.Syntax.{Syntax}
 use Rattle.protox_ast.specs.declared.ast.Syntax.TheVariants.{Proto2}
 use Rattle.protox_ast.specs.declared.ast.File.{File}
-use Rattle.protox_ast.specs.Truth.{is_terminator}
 use Rattle.protox_grammar.specs.Reader.{Unexpected}
 use Rattle.protox_grammar.specs.Reads.{read}
 use Rattle.protox_grammar.specs.Told.{Notes}
 use Rattle.protox_rows.specs.inner.Outcome.{Fails}
+use Rattle.protox_rows.specs.inner.Words.{SaysOf}
 use Rattle.protox_rows.specs.declared.refused.Refused.{Refused}
 use Rattle.protox_syntax.specs.AllFaults.{faults_of_table, unworded}
-use Rattle.protox_syntax.specs.inner.Recovery.{AreNotable, AreRefusalNotes}
+use Rattle.protox_syntax.specs.inner.Recovery.{AreNotable, AreRefusalNotes, IsSaid}
 use Rattle.protox_syntax.specs.inner.Statements.{levels, syntax_if_any}
 use Rattle.protox_syntax.specs.inner.Whole.{Whole, whole, all_notes}
+use Rattle.protox_syntax.specs.inner.Words as said
 use Rattle.protox_syntax.specs.inner.Merge.{refusal, row_at, merged_faults}
 
 -- This is the table of some UTF-8 source of `size` bytes, which fits the length limit.
@@ -82,10 +83,10 @@ pub data AreMergedFaults (t : Table) (errors : List ParseErrorKind) : Type 0 whe
   -- A check of the syntax statement failed: nothing is read behind it.
   unknown_syntax : (syntax_if_any.notes (placed t) ≡ [] → ⊥) → errors ≡ merged_faults t.faults (total_of t) (syntax_if_any.notes (placed t)) (rows_left_at_first_note (syntax_if_any.notes (placed t))) → AreMergedFaults t errors
   -- A row doesn't fit, and nothing is read behind it.
-  unexpected_row : (left : ℕ) (text : List ℕ) → is_terminator text ≡ false → whole (placed t) ≡ Err (Unexpected left)
+  unexpected_row : (left : ℕ) (text : List ℕ) → IsSaid (said.whole (placed t)) text → whole (placed t) ≡ Err (Unexpected left)
       → errors ≡ merged_faults t.faults (total_of t) (all_notes (placed t)) left ++ option_to_list (refusal text (row_at t.rows left)) → AreMergedFaults t errors
   -- A statement is refused, and reading goes on behind it.
-  refused_statement : (refused : Refused) (at_refusal later : Notes) → Fails refused (whole (placed t)) → AreRefusalNotes t.rows refused at_refusal → AreNotable t.rows later
+  refused_statement : (refused : Refused) (at_refusal later : Notes) → Fails refused (whole (placed t)) → SaysOf refused (said.whole (placed t)) → AreRefusalNotes t.rows refused at_refusal → AreNotable t.rows later
       → errors ≡ merged_faults t.faults (total_of t) (all_notes (placed t) ++ (at_refusal ++ later)) 0 → AreMergedFaults t errors
   -- All rows are read.
   all_read : (x : Whole) → whole (placed t) ≡ Ok (x, []) → errors ≡ merged_faults t.faults (total_of t) (all_notes (placed t)) 0 → AreMergedFaults t errors

@@ -17,6 +17,8 @@ use Rattle.protox_grammar.specs.declared.note.Note as note_type
 use Rattle.protox_grammar.specs.declared.note.Noted.{Noted}
 use Rattle.protox_grammar.specs.declared.note.Noted.TheVariants.{Fault, TextFormat}
 use Rattle.protox_grammar.proofs.Telling.{AllLie}
+use Rattle.protox_rows.specs.Expected.{words_of}
+use Rattle.protox_rows.specs.declared.expected.Expected.{Expected}
 use Rattle.protox_rows.specs.declared.refused.Refused.{Refused}
 use Rattle.protox_rows.specs.declared.refused.Refused.TheVariants.{OutOfMemory, At, TooDeep}
 pub use Rattle.protox_syntax.specs.AllFaults.{behind_block, from_statement, statement_words}
@@ -57,11 +59,15 @@ plain_note left = record { left = left; noted = TextFormat false } ∷ []
 abbrev pub refusal_notes : ℕ → List ℕ → Rows Span → Notes
 refusal_notes left expected rows = fault_note left (refusal expected (row_at rows left)) ++ plain_note left
 
+-- These are the words. They don't name the end of a string or a comment.
+abbrev pub IsSaid : Expected → List ℕ → Type 0
+IsSaid expected text = (is_terminator text ≡ false) × (text ≡ words_of expected)
+
 -- The first notes of a refused statement. They say what stands in the place of what is expected. A
 -- body that is too deep has been noted already.
 abbrev pub AreRefusalNotes : Rows Span → Refused → Notes → Type 0
 AreRefusalNotes rows OutOfMemory notes = ⊥
-AreRefusalNotes rows (At left expected) notes = (text : List ℕ) × (is_terminator text ≡ false) × (notes ≡ refusal_notes left text rows)
+AreRefusalNotes rows (At left expected) notes = (text : List ℕ) × IsSaid expected text × (notes ≡ refusal_notes left text rows)
 AreRefusalNotes rows (TooDeep left) notes = notes ≡ plain_note (left - 1)
 
 -- Faults that may be noted: an unexpected token that is one of the rows, or a fault that isn't

@@ -9,5 +9,5 @@ overflow_add-total c = omega (arith, c.rows-total.ensures, total-fits c.args.tab
 pub returns : goal.returns
 returns c =
     let total = ap (λ n. n + 1) c.rows-total.ensures in
-    let j = refused_statement-parsed c.args.table.now c.args.size c.requires.table c.args.refused c.args.start.first c.args.noted.items c.recover.new.notes.items _ c.in_ok-errors.errors.items total c.requires.read c.requires.noted c.requires.first c.in_ok-recover.ensures.notes c.in_ok-errors.ensures in
+    let j = refused_statement-parsed c.args.table.now c.args.size c.requires.table c.args.refused c.args.start.first c.args.noted.items c.recover.new.notes.items _ c.in_ok-errors.errors.items total c.requires.read c.requires.said c.requires.noted c.requires.first c.in_ok-recover.ensures.notes c.in_ok-errors.ensures in
     (j.0, j.1, j.2, j.3, all_read-all c.args.table.now c.recover.new.notes.items _ c.in_ok-errors.errors.items total (c.in_ok-recover.ensures.leads c.requires.leads) c.in_ok-errors.ensures)

@@ -165,9 +165,17 @@ module _ {A B : Type 0} (view : A → B) (e : Expected) where
       of-end q = cc
   bound (r ∷ zs) n q = omega (arith, refused-first r zs n q)
 
+  all : (xs : Rows Place) → Took (length xs) (sunk xs)
+  all [] = subst (Took 0) (sym ended) (omega arith)
+  all (r ∷ zs) = by (only token.open_brace (class r.shape)) refl
+    where
+      by : (c : Bool) → only token.open_brace (class r.shape) ≡ c → Took (length (r ∷ zs)) (sunk (r ∷ zs))
+      by true p = subst (Took (length (r ∷ zs))) (sym (deep-at r zs true p)) (omega arith, omega arith)
+      by false p = subst (Took (length (r ∷ zs))) (sym (deep-at r zs false p)) (omega arith)
+
   sunk-exact : Exact sunk (always e) e (only token.open_brace) (λ x. none)
   sunk-exact = record {
-    begins = λ r zs k. subst (Took (length zs)) (sym (deep-at r zs true k)) tt;
+    begins = λ r zs k. subst (Took (length zs)) (sym (deep-at r zs true k)) (omega arith, omega arith);
     barred = λ r zs k. deep-at r zs false k;
     empty = ended;
     says = λ t q. refl;
@@ -177,6 +185,7 @@ module _ {A B : Type 0} (view : A → B) (e : Expected) where
     stays = λ ys v vs t u x q. absurd (never-read (ys ++ (v ∷ (vs ++ t))) (x, v ∷ (vs ++ t)) q);
     rest = λ xs x q. absurd (never-read xs x q);
     bound = bound;
+    all = all;
   }
 
 -- A body of at most n levels is read exactly.

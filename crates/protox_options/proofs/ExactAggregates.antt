@@ -70,12 +70,12 @@ ended d = refl
 took-cons : (n : ℕ) (row : Row Place) (v : Result ((Rows Place × Place) × Rows Place) Refusal) → Took n v → Took n (v >>= cons row)
 took-cons n row (Ok x) t = t
 took-cons n row (Err (Unexpected m)) t = t
-took-cons n row (Err (Deep m)) t = tt
+took-cons n row (Err (Deep m)) t = t
 
 took-more : (n m : ℕ) (v : Result ((Rows Place × Place) × Rows Place) Refusal) → n ≤ m → Took n v → Took m v
 took-more n m (Ok x) l h = omega (arith, l, h)
 took-more n m (Err (Unexpected k)) l h = omega (arith, l, h)
-took-more n m (Err (Deep k)) l h = tt
+took-more n m (Err (Deep k)) l h = (h.0, omega (arith, l, h.1))
 
 took : (d : ℕ) (xs : Rows Place) → Took (length xs) (closed_at d xs)
 took d [] = subst (Took 0) (sym (ended d)) (omega arith)
@@ -193,6 +193,7 @@ closed_at-exact d = record {
   stays = λ ys v vs t u x q. again ys d (v ∷ (vs ++ t)) (v ∷ (vs ++ u)) x q;
   rest = rest d;
   bound = bound d;
+  all = took d;
 }
   where
     never : (n : ℕ) → allowed expected.RightBrace n ≡ false → ⊥

@@ -19,7 +19,7 @@ use Rattle.protox_rows.specs.inner.Words.{Words, always, and_then, behind}
 abbrev pub Took : {X : Type 0} → ℕ → Result (X × Rows Place) Refusal → Type 0
 Took n (Ok x) = length x.1 ≤ n
 Took n (Err (Unexpected m)) = m ≤ n
-Took n (Err (Deep m)) = Unit {0}
+Took n (Err (Deep m)) = (1 ≤ m) × (m ≤ suc n)
 
 -- The words are exact of a row with n rows behind it: if they name it, it is taken; if they don't
 -- allow it, it is refused.
@@ -40,6 +40,7 @@ pub record Exact {A : Type 0} (a : Reader Place A) (w : Words) (e : Expected) (f
   pub stays : (ys : Rows Place) (v : Row Place) (vs t u : Rows Place) (x : A) → a (ys ++ (v ∷ (vs ++ t))) ≡ Ok (x, v ∷ (vs ++ t)) → a (ys ++ (v ∷ (vs ++ u))) ≡ Ok (x, v ∷ (vs ++ u))
   pub rest : (xs : Rows Place) (x : A × Rows Place) → a xs ≡ Ok x → (y : Row Place) × (ys : Rows Place) × (xs ≡ y ∷ (ys ++ x.1))
   pub bound : (xs : Rows Place) (n : ℕ) → a xs ≡ Err (Unexpected n) → n ≤ length xs
+  pub all : (xs : Rows Place) → Took (length xs) (a xs)
 
 -- ---- rows in two parts
 
@@ -77,13 +78,13 @@ unexpected_is n m q = cc
 pub took_more : {X : Type 0} (n m : ℕ) (read : Result (X × Rows Place) Refusal) → n ≤ m → Took n read → Took m read
 took_more n m (Ok x) l h = omega (arith, l, h)
 took_more n m (Err (Unexpected k)) l h = omega (arith, l, h)
-took_more n m (Err (Deep k)) l h = tt
+took_more n m (Err (Deep k)) l h = (h.0, omega (arith, l, h.1))
 
 module _ {A : Type 0} {a : Reader Place A} {w : Words} {e : Expected} {first : Set} {more : A → Set} (h : Exact a w e first more) where
   took_of : (xs : Rows Place) (read : Result (A × Rows Place) Refusal) → a xs ≡ read → Took (length xs) read
   took_of xs (Ok x) q = let p = h.rest xs x q in omega (arith, ap length p.2, length-append p.1 x.1)
   took_of xs (Err (Unexpected n)) q = h.bound xs n q
-  took_of xs (Err (Deep n)) q = tt
+  took_of xs (Err (Deep n)) q = subst (Took (length xs)) q (h.all xs)
 
   -- What is read is taken from the rows.
   pub took : (xs : Rows Place) → Took (length xs) (a xs)
@@ -103,12 +104,12 @@ module _ {A B : Type 0} {a : Reader Place A} {b : Reader Place B} {wa : Words} {
   took_behind : (n : ℕ) (x : A × Rows Place) (read : Result (B × Rows Place) Refusal) → Took n read → Took {X = A × B} n (read >>= λ y. Ok ((x.0, y.0), y.1))
   took_behind n x (Ok y) t = t
   took_behind n x (Err (Unexpected m)) t = t
-  took_behind n x (Err (Deep m)) t = tt
+  took_behind n x (Err (Deep m)) t = t
 
   took_then : (n : ℕ) (read : Result (A × Rows Place) Refusal) → Took n read → Took n (read >>= after)
   took_then n (Ok x) t = took_behind n x (b x.1) (took_more (length x.1) n (b x.1) t (took (hb x.0) x.1))
   took_then n (Err (Unexpected m)) t = t
-  took_then n (Err (Deep m)) t = tt
+  took_then n (Err (Deep m)) t = t
 
   seq-begins : (r : Row Place) (zs : Rows Place) → fa (class r.shape) ≡ true → Took (length zs) (reader.seq a b (r ∷ zs))
   seq-begins r zs f = took_then (length zs) (a (r ∷ zs)) (ha.begins r zs f)
@@ -283,6 +284,7 @@ module _ {A B : Type 0} {a : Reader Place A} {b : Reader Place B} {wa : Words} {
     stays = seq-stays;
     rest = seq-rest;
     bound = seq-bound;
+    all = λ xs. took_then (length xs) (a xs) (ha.all xs);
   }
 
 -- ---- under another name
@@ -294,7 +296,7 @@ module _ {A B : Type 0} {a : Reader Place A} {w : Words} {e : Expected} {first :
   took_renamed : (n : ℕ) (read : Result (A × Rows Place) Refusal) → Took n read → Took n (read >>= under f)
   took_renamed n (Ok x) t = t
   took_renamed n (Err (Unexpected m)) t = t
-  took_renamed n (Err (Deep m)) t = tt
+  took_renamed n (Err (Deep m)) t = t
 
   refused_before : (n : ℕ) (read : Result (A × Rows Place) Refusal) → (read >>= under f) ≡ Err (Unexpected n) → read ≡ Err (Unexpected n)
   refused_before n (Ok x) q = absurd (ok-err _ _ q)
@@ -327,6 +329,7 @@ module _ {A B : Type 0} {a : Reader Place A} {w : Words} {e : Expected} {first :
         ap (λ u. u >>= under f) (h.stays ys y vs t u v.0 v.1) ∙ ap (λ s. Ok (s, y ∷ (vs ++ u))) (sym v.2);
     rest = λ xs x q. let v = read_before (a xs) x q in h.rest xs (v.0, x.1) v.1;
     bound = λ xs n q. h.bound xs n (refused_before n (a xs) q);
+    all = λ xs. took_renamed (length xs) (a xs) (h.all xs);
   }
 
 -- ---- single rows
@@ -385,6 +388,14 @@ module _ {A : Type 0} (a : Reader Place A) (e : Expected) (first : Set) (empty :
   bound_one [] n q = let s = unexpected_is 0 n (sym empty ∙ q) in omega (arith, s)
   bound_one (r ∷ rs) n q = omega (arith, refused_at r rs n q)
 
+  all_row : (r : Row Place) (zs : Rows Place) (b : Bool) → taken_of r b → Took (length (r ∷ zs)) (a (r ∷ zs))
+  all_row r zs true k = subst (Took (length (r ∷ zs))) (sym (k.1 zs)) (omega arith)
+  all_row r zs false k = subst (Took (length (r ∷ zs))) (sym (k zs)) (omega arith)
+
+  all_one : (xs : Rows Place) → Took (length xs) (a xs)
+  all_one [] = subst (Took 0) (sym empty) (omega arith)
+  all_one (r ∷ zs) = all_row r zs (first (class r.shape)) (row_is r (first (class r.shape)) refl)
+
   pub row-exact : Exact a (always e) e first (λ x. none)
   row-exact = record {
     begins = λ r zs k. let v = takes r zs k in subst (Took (length zs)) (sym (v.1 zs)) (omega arith);
@@ -397,6 +408,7 @@ module _ {A : Type 0} (a : Reader Place A) (e : Expected) (first : Set) (empty :
     stays = λ ys v vs t u x q. stay ys (v ∷ (vs ++ t)) (v ∷ (vs ++ u)) x q;
     rest = rest_one;
     bound = bound_one;
+    all = all_one;
   }
     where
       stay : (ys t u : Rows Place) (x : A) → a (ys ++ t) ≡ Ok (x, t) → a (ys ++ u) ≡ Ok (x, u)

@@ -45,12 +45,12 @@ module _ {B C : Type 0} {b : Reader Place B} {c : Reader Place C} {wb wc : Words
   took_behind : (n : ℕ) (x : List B) (read : Result (C × Rows Place) Refusal) → Took n read → Took {X = List B × C} n (read >>= λ y. Ok ((x, y.0), y.1))
   took_behind n x (Ok y) t = t
   took_behind n x (Err (Unexpected m)) t = t
-  took_behind n x (Err (Deep m)) t = tt
+  took_behind n x (Err (Deep m)) t = t
 
   took_then : (n : ℕ) (read : Result (List B × Rows Place) Refusal) → Took n read → Took n (read >>= after)
   took_then n (Ok x) t = took_behind n x.0 (c x.1) (took_more (length x.1) n (c x.1) t (took hc x.1))
   took_then n (Err (Unexpected m)) t = t
-  took_then n (Err (Deep m)) t = tt
+  took_then n (Err (Deep m)) t = t
 
   none_first : (t : Rows Place) → all t ≡ Ok ([], t) → (r : Row Place) (zs : Rows Place) → fb (class r.shape) ≡ false → all (r ∷ zs) ≡ Ok ([], r ∷ zs)
   none_first t q r zs p = ends-all hb [] t [] q r zs p refl
@@ -196,4 +196,5 @@ module _ {B C : Type 0} {b : Reader Place B} {c : Reader Place C} {wb wc : Words
     stays = stays;
     rest = rest;
     bound = bound-closed;
+    all = λ xs. took_then (length xs) (all xs) (took-all hb xs);
   }

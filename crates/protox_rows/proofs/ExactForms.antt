@@ -101,6 +101,7 @@ module _ {A : Type 0} {a b : Reader Place A} {wa wb : Words} {ea eb : Expected} 
     stays = λ ys v vs t u x q. stays-of ys v vs t u x q;
     rest = λ xs x q. rest-of xs x q;
     bound = λ xs n q. bound-of xs n q;
+    all = λ xs. all-of xs;
   }
     where
       ends-of : (ys t : Rows Place) (x : A) → either (ys ++ t) ≡ Ok (x, t) → (r : Row Place) (zs : Rows Place) → mb x (class r.shape) ≡ false → either (ys ++ (r ∷ zs)) ≡ Ok (x, r ∷ zs)
@@ -115,6 +116,12 @@ module _ {A : Type 0} {a b : Reader Place A} {wa wb : Words} {ea eb : Expected} 
       rest-of : (xs : Rows Place) (x : A × Rows Place) → either xs ≡ Ok x → (y : Row Place) × (ys : Rows Place) × (xs ≡ y ∷ (ys ++ x.1))
       rest-of [] x q = hb.rest [] x q
       rest-of (r ∷ zs) x q = rest-by r zs x (P (class r.shape)) refl q
+      all-by : (r : Row Place) (zs : Rows Place) (c : Bool) → P (class r.shape) ≡ c → Took (length (r ∷ zs)) (either (r ∷ zs))
+      all-by r zs true p = subst (Took (length (r ∷ zs))) (sym (at r zs true p).0) (ha.all (r ∷ zs))
+      all-by r zs false p = subst (Took (length (r ∷ zs))) (sym (at r zs false p).0) (hb.all (r ∷ zs))
+      all-of : (xs : Rows Place) → Took (length xs) (either xs)
+      all-of [] = hb.all []
+      all-of (r ∷ zs) = all-by r zs (P (class r.shape)) refl
       bound-of : (xs : Rows Place) (n : ℕ) → either xs ≡ Err (Unexpected n) → n ≤ length xs
       bound-of [] n q = hb.bound [] n q
       bound-of (r ∷ zs) n q = bound-by r zs n (P (class r.shape)) refl q

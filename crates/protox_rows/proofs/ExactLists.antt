@@ -105,23 +105,33 @@ module _ {B : Type 0} {b : Reader Place B} {wb : Words} {eb : Expected} {P : Set
   begun [] q = ok-err _ _ (sym none_left ∙ q)
   begun (r ∷ zs) q = omega (arith, bound_turn r zs (λ ys l. bound ys) (length (r ∷ zs)) (P (class r.shape)) refl q)
 
-  took_of : (xs : Rows Place) (read : Result (List B × Rows Place) Refusal) → all xs ≡ read → Took (length xs) read
-  took_of xs (Ok x) q = fewer xs x q
-  took_of xs (Err (Unexpected n)) q = bound xs n q
-  took_of xs (Err (Deep n)) q = tt
-
-  pub took-all : (xs : Rows Place) → Took (length xs) (all xs)
-  took-all xs = took_of xs (all xs) refl
-
   took_cons : (n : ℕ) (y : B) (read : Result (List B × Rows Place) Refusal) → Took n read → Took {X = List B} n (read >>= λ x. Ok (y ∷ x.0, x.1))
   took_cons n y (Ok x) t = t
   took_cons n y (Err (Unexpected m)) t = t
-  took_cons n y (Err (Deep m)) t = tt
+  took_cons n y (Err (Deep m)) t = t
+
+  -- What a list takes, if one of fewer rows does so.
+  took_first : (n : ℕ) (read : Result (B × Rows Place) Refusal) → Took n read → ((x : B × Rows Place) → read ≡ Ok x → Took (length x.1) (all x.1)) → Took n (read >>= turn)
+  took_first n (Ok x) t h = took_cons n x.0 (all x.1) (took_more (length x.1) n (all x.1) t (h x refl))
+  took_first n (Err (Unexpected m)) t h = t
+  took_first n (Err (Deep m)) t h = t
+
+  took_row : (r : Row Place) (zs : Rows Place) (c : Bool) → P (class r.shape) ≡ c → ((x : B × Rows Place) → b (r ∷ zs) ≡ Ok x → Took (length x.1) (all x.1)) → Took (length (r ∷ zs)) (all (r ∷ zs))
+  took_row r zs true p h = subst (Took (length (r ∷ zs))) (sym (goes r zs p)) (took_first (length (r ∷ zs)) (b (r ∷ zs)) (hb.all (r ∷ zs)) h)
+  took_row r zs false p h = subst (Took (length (r ∷ zs))) (sym (stops r zs p)) (omega arith)
+
+  took_by : (n : ℕ) (xs : Rows Place) → length xs ≤ n → Took (length xs) (all xs)
+  took_by n [] k = subst (Took 0) (sym none_left) (omega arith)
+  took_by zero (r ∷ zs) k = absurd (omega (arith, k))
+  took_by (suc n) (r ∷ zs) k = took_row r zs (P (class r.shape)) refl (λ x q. let s = hb.rest (r ∷ zs) x q in took_by n x.1 (omega (arith, k, ap length s.2, length-append s.1 x.1)))
+
+  pub took-all : (xs : Rows Place) → Took (length xs) (all xs)
+  took-all xs = took_by (length xs) xs (omega arith)
 
   took_turn : (n : ℕ) (read : Result (B × Rows Place) Refusal) → Took n read → Took n (read >>= turn)
   took_turn n (Ok x) t = took_cons n x.0 (all x.1) (took_more (length x.1) n (all x.1) t (took-all x.1))
   took_turn n (Err (Unexpected m)) t = t
-  took_turn n (Err (Deep m)) t = tt
+  took_turn n (Err (Deep m)) t = t
 
   -- ---- the words where it is refused
 

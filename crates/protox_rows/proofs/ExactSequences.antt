@@ -103,12 +103,12 @@ module _ {A B : Type 0} {a : Reader Place A} {b : Reader Place B} {wa wb : Words
   took_behind : (n : ℕ) (x : A) (read : Result (List B × Rows Place) Refusal) → Took n read → Took {X = A × List B} n (read >>= λ y. Ok ((x, y.0), y.1))
   took_behind n x (Ok y) t = t
   took_behind n x (Err (Unexpected m)) t = t
-  took_behind n x (Err (Deep m)) t = tt
+  took_behind n x (Err (Deep m)) t = t
 
   took_then : (n : ℕ) (read : Result (A × Rows Place) Refusal) → Took n read → Took n (read >>= after)
   took_then n (Ok x) t = took_behind n x.0 (all x.1) (took_more (length x.1) n (all x.1) t (took-all hb x.1))
   took_then n (Err (Unexpected m)) t = t
-  took_then n (Err (Deep m)) t = tt
+  took_then n (Err (Deep m)) t = t
 
   list-says : (t : Rows Place) → list t ≡ Err (Unexpected (length t)) → words t ≡ ea
   list-says t h = elim (bind_err (a t) after (Unexpected (length t)) h) [
@@ -248,6 +248,7 @@ module _ {A B : Type 0} {a : Reader Place A} {b : Reader Place B} {wa wb : Words
     stays = list-stays;
     rest = list-rest;
     bound = list-bound;
+    all = λ xs. took_then (length xs) (a xs) (ha.all xs);
   }
 
 -- ---- a value that depends on the first row
@@ -264,7 +265,7 @@ module _ {A B : Type 0} {a : Reader Place A} {w : Words} {e : Expected} {first :
   took_from : (n : ℕ) (xs : Rows Place) (read : Result (A × Rows Place) Refusal) → Took n read → Took n (read >>= from xs)
   took_from n xs (Ok x) t = t
   took_from n xs (Err (Unexpected m)) t = t
-  took_from n xs (Err (Deep m)) t = tt
+  took_from n xs (Err (Deep m)) t = t
 
   refused_first : (n : ℕ) (xs : Rows Place) (read : Result (A × Rows Place) Refusal) → (read >>= from xs) ≡ Err (Unexpected n) → read ≡ Err (Unexpected n)
   refused_first n xs (Ok x) q = absurd (ok-err _ _ q)
@@ -314,4 +315,5 @@ module _ {A B : Type 0} {a : Reader Place A} {w : Words} {e : Expected} {first :
     stays = stays-from;
     rest = λ xs x q. let v = read_first xs (a xs) x q in h.rest xs (v.0, x.1) v.1;
     bound = λ xs n q. h.bound xs n (refused_first n xs (a xs) q);
+    all = λ xs. took_from (length xs) xs (a xs) (h.all xs);
   }

@@ -41,7 +41,7 @@ module _ {A B : Type 0} {a : Reader Place A} {b : Reader Place B} {wa wb : Words
   took_some : (n : ℕ) (read : Result (B × Rows Place) Refusal) → Took n read → Took n (read >>= under Some)
   took_some n (Ok x) t = t
   took_some n (Err (Unexpected m)) t = t
-  took_some n (Err (Deep m)) t = tt
+  took_some n (Err (Deep m)) t = t
 
   took_by : (r : Row Place) (zs : Rows Place) (c : Bool) → P (class r.shape) ≡ c → Took (length (r ∷ zs)) (tail (r ∷ zs))
   took_by r zs true p = subst (Took (length (r ∷ zs))) (sym (there r zs p)) (took_some (length (r ∷ zs)) (b (r ∷ zs)) (took hb (r ∷ zs)))
@@ -57,12 +57,12 @@ module _ {A B : Type 0} {a : Reader Place A} {b : Reader Place B} {wa wb : Words
   took_behind : (n : ℕ) (x : A) (read : Result (Option B × Rows Place) Refusal) → Took n read → Took {X = A × Option B} n (read >>= λ y. Ok ((x, y.0), y.1))
   took_behind n x (Ok y) t = t
   took_behind n x (Err (Unexpected m)) t = t
-  took_behind n x (Err (Deep m)) t = tt
+  took_behind n x (Err (Deep m)) t = t
 
   took_then : (n : ℕ) (read : Result (A × Rows Place) Refusal) → Took n read → Took n (read >>= after)
   took_then n (Ok x) t = took_behind n x.0 (tail x.1) (took_more (length x.1) n (tail x.1) t (took-tail x.1))
   took_then n (Err (Unexpected m)) t = t
-  took_then n (Err (Deep m)) t = tt
+  took_then n (Err (Deep m)) t = t
 
   bound-tail : (xs : Rows Place) (n : ℕ) → tail xs ≡ Err (Unexpected n) → n ≤ length xs
   bound-tail xs n q = subst (Took (length xs)) q (took-tail xs)
@@ -287,4 +287,5 @@ module _ {A B : Type 0} {a : Reader Place A} {b : Reader Place B} {wa wb : Words
         again ys (v ∷ (vs ++ t)) (v ∷ (vs ++ u)) x k ∙ ap (λ w. w >>= after) (stays_one (k.u ∷ k.us) k.part v vs t u x.0 k.one) ∙ ap (λ w. w >>= λ y. Ok ((x.0, y.0), y.1)) (stays_two k.part v vs t u x.1 k.two);
     rest = whole-rest;
     bound = whole-bound;
+    all = λ xs. took_then (length xs) (a xs) (ha.all xs);
   }

@@ -36,7 +36,7 @@ module _ {B : Type 0} {b : Reader Place B} {wb : Words} {e : Expected} {fb : Set
   took_cut n (Ok (l, [])) t = t
   took_cut n (Ok (l, r ∷ zs)) t = t
   took_cut n (Err (Unexpected m)) t = t
-  took_cut n (Err (Deep m)) t = tt
+  took_cut n (Err (Deep m)) t = t
 
   pub took-elements : (xs : Rows Place) → Took (length xs) (elements xs)
   took-elements xs = subst (Took (length xs)) (sym (is xs)) (took_cut (length xs) (narrow xs) (took-all hb xs))
@@ -139,7 +139,7 @@ module _ {A B C : Type 0} {a : Reader Place A} {b : Reader Place B} {wa wb : Wor
   took_with : (n : ℕ) (o : Option A) (read : Result (List B × Rows Place) Refusal) → Took n read → Took n (read >>= with o)
   took_with n o (Ok y) t = t
   took_with n o (Err (Unexpected m)) t = t
-  took_with n o (Err (Deep m)) t = tt
+  took_with n o (Err (Deep m)) t = t
 
   refused_with : (n : ℕ) (o : Option A) (read : Result (List B × Rows Place) Refusal) → (read >>= with o) ≡ Err (Unexpected n) → read ≡ Err (Unexpected n)
   refused_with n o (Ok y) q = absurd (ok-err _ _ q)
@@ -178,7 +178,7 @@ module _ {A B C : Type 0} {a : Reader Place A} {b : Reader Place B} {wa wb : Wor
   took_then : (n : ℕ) (read : Result (A × Rows Place) Refusal) → Took n read → Took n (read >>= then_others)
   took_then n (Ok x) t = took_with n (Some x.0) (others x.1) (took_more (length x.1) n (others x.1) t (took-elements hb wide low high x.1))
   took_then n (Err (Unexpected m)) t = t
-  took_then n (Err (Deep m)) t = tt
+  took_then n (Err (Deep m)) t = t
 
   with-fits : (w : Expected) (r : Row Place) (n : ℕ) (o : Option A) (read : Result (List B × Rows Place) Refusal) → Fits w r n read → Fits w r n (read >>= with o)
   with-fits w r n o read f = record { taken = λ h. took_with n o read (f.taken h); refused = λ h. ap (λ v. v >>= with o) (f.refused h) }

@@ -59,7 +59,7 @@ kept-plain (g ∷ fs) f rest e = by (is_of_mode g) refl e (kept-plain fs f rest)
     by true v q more = more q
     by false v q more = let same : g ≡ f = cc in subst (λ u. is_of_mode u ≡ false) same v
 
-is-terminator : (text : List ℕ) → (text ≡ codes "string terminator") ⊎ (text ≡ codes "comment terminator") → is_terminator text ≡ true
+pub is-terminator : (text : List ℕ) → (text ≡ codes "string terminator") ⊎ (text ≡ codes "comment terminator") → is_terminator text ≡ true
 is-terminator text (inl e) = ap is_terminator e
 is-terminator text (inr e) = ap is_terminator e
 
@@ -143,6 +143,16 @@ module _ (lexemes : List Lexeme) where
   row-first (fault.UnexpectedEof text) t out x h = inl (is-terminator text h, t)
   row-first _ t out x h = absurd h
 
+  -- The fault is one of its row's kinds.
+  pub row-kind : Each IsOrdered lexemes → Each AreOfKinds lexemes → (errors : Faults) (y : IsOfRow lexemes errors) → (x : Lexeme) × IsRowKind x y.first.fault
+  row-kind ordered kinds errors y =
+      let k = y.first.row in
+      let x = first-lexeme lexemes on k y.first.fault y.first.here.0 y.first.here.1 (clear-to k k (omega arith) y.first.before) (told (suc k) (omega (arith, y.first.within, y.within))) in
+      let o = each-here IsOrdered x.before x.here x.behind (subst (Each IsOrdered) x.parts ordered) in
+      let s = each-here AreOfKinds x.before x.here x.behind (subst (Each AreOfKinds) x.parts kinds) in
+      let own = o (on k) y.first.fault x.first.0 x.first.1 in
+      (x.here, (subst (λ fs. Each (IsRowKind x.here) fs) own.1 s).0)
+
   of-row : Each IsOrdered lexemes → Each AreOfKinds lexemes → (errors : Faults) (y : IsOfRow lexemes errors) → IsFirstFault lexemes y.first.fault
   of-row ordered kinds errors y =
       let k = y.first.row in
@@ -179,7 +189,7 @@ module _ (lexemes : List Lexeme) where
   node-first (ATooDeep keyword open_at) wrong h = by-kind wrong _ h (λ o. o)
 
   module _ (errors : Faults) (y : IsOfNode lexemes errors) where
-    its-node : Holds (IsWrongBefore lexemes y.checked.end y.fault) (checked_nodes y.checked.is_wrong.0)
+    pub its-node : Holds (IsWrongBefore lexemes y.checked.end y.fault) (checked_nodes y.checked.is_wrong.0)
     its-node = any-holds (IsWrongBefore lexemes y.checked.end y.fault) (checked_nodes y.checked.is_wrong.0) y.checked.is_wrong.2
 
     -- all is clean through the last token of the node
@@ -202,14 +212,18 @@ module _ (lexemes : List Lexeme) where
 
   -- ---- of tokens
 
-  same-shapes : shapes (rows lexemes) ≡ shapes (rows_of lexemes)
+  pub same-shapes : shapes (rows lexemes) ≡ shapes (rows_of lexemes)
   same-shapes = placed-shapes true (rows_of lexemes) (table_of lexemes).gaps
 
-  not-read : (e : Refusal) → whole (rows lexemes) ≡ Err e → read levels (rows lexemes) ≡ Err e
+  pub not-read : (e : Refusal) → whole (rows lexemes) ≡ Err e → read levels (rows lexemes) ≡ Err e
   unfolding read
   not-read e h = ap (λ w. w >>= λ x. Ok x.0) (err-read (rows lexemes) e h)
 
-  of-token : (errors : Faults) (y : IsOfToken lexemes errors) → IsFirstFault lexemes (fault.UnexpectedToken y.row.at y.text (printed y.row.shape))
+  -- there is a row, so it isn't the end
+  pub not-at-end : (errors : Faults) (y : IsOfToken lexemes errors) → y.left ≡ 0 → ⊥
+  not-at-end errors y e = omega (arith, e, stops-at lexemes y.left y.read, many, (row-there (rows_of lexemes) (taken lexemes) y.row y.there).0)
+
+  pub of-token : (errors : Faults) (y : IsOfToken lexemes errors) → IsFirstFault lexemes (fault.UnexpectedToken y.row.at y.text (printed y.row.shape))
   of-token errors y =
       let there = row-there (rows_of lexemes) (taken lexemes) y.row y.there in
       let clear = clear-to (suc (taken lexemes)) (suc (taken lexemes)) (omega arith) y.before in
@@ -228,11 +242,15 @@ module _ (lexemes : List Lexeme) where
       }
     where
       at : (left : ℕ) → y.left ≡ left → IsUnexpected (shapes (rows_of lexemes)) (taken lexemes)
-      at zero e = absurd (omega (arith, e, stops-at lexemes y.left y.read, many, (row-there (rows_of lexemes) (taken lexemes) y.row y.there).0))
+      at zero e = absurd (not-at-end errors y e)
       at (suc left) e =
           let u = fronts.unexpected here levels left (rows lexemes) (not-read (Unexpected y.left) y.read ∙ ap (λ n. Err (Unexpected n)) e) in
           let same : u.0 ≡ taken lexemes = omega (arith, u.1, e, stops-at lexemes y.left y.read) in
           subst (λ n. IsUnexpected (shapes (rows_of lexemes)) n) same (subst (λ ss. IsUnexpected ss u.0) same-shapes u.2)
+
+  pub token-number : (errors : Faults) (y : IsOfToken lexemes errors) → (of-token errors y).number ≡ taken lexemes
+  unfolding of-token
+  token-number errors y = refl
 
   of-end : (errors : Faults) (y : IsOfEnd lexemes errors) → IsFirstFault lexemes (fault.UnexpectedEof y.text)
   of-end errors y =
@@ -245,7 +263,7 @@ module _ (lexemes : List Lexeme) where
 
   -- ---- of a list
 
-  same-first : (errors : Faults) (f g : ParseErrorKind) → HasFirst g errors → first_of errors ≡ Some f → f ≡ g
+  pub same-first : (errors : Faults) (f g : ParseErrorKind) → HasFirst g errors → first_of errors ≡ Some f → f ≡ g
   same-first errors f g h e = let first : Some f ≡ Some g = sym e ∙ ap first_of h.1 in cc
 
   -- The list begins with the first fault.

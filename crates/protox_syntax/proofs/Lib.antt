@@ -30,4 +30,5 @@ pub mod NodesNoted
 pub mod SyntaxStops
 pub mod NoCheckLost
 pub mod ExactFile
+pub mod TrueWords
 pub mod samples

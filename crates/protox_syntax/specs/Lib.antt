@@ -1,5 +1,6 @@
 pub mod AllFaults
 pub mod ExpectedTokens
+pub mod ExpectedWords
 pub mod Aggregates
 pub mod LexicalFaults
 pub mod FirstFaults

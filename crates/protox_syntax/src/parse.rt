@@ -7,6 +7,7 @@ ghost use Rattle.protox_ast.specs.Tree as tree;
 ghost use Rattle.protox_ast.specs.Places.{Place};
 ghost use Rattle.protox_grammar.specs.Grammar.{OneTree};
 ghost use Rattle.protox_syntax.specs.Aggregates.{AggregatesLexBack};
+ghost use Rattle.protox_syntax.specs.ExpectedWords.{ExpectsTruly};
 ghost use Rattle.protox_syntax.specs.FirstFaults.{BeginsWithFirst};
 ghost use Rattle.protox_syntax.specs.FoundFaults.{AreAllFound};
 ghost use Rattle.protox_syntax.specs.LexicalFaults.{AreLexicalAlone};
@@ -40,6 +41,9 @@ pub fn parse_file(alloc: Global, source: &str) -> Result<File, SyntaxFailure>
     // Each fault of a lexeme and each unexpected token stands in the source. No fault of a lexeme
     // is listed twice.
     ensures stands { IfErr result (AreStanding source.now) }
+    // The words of the first fault are true: some file goes on with each token that they name, and
+    // none with a token that they don't allow.
+    ensures words { IfErr result (ExpectsTruly source.now) }
     // If only lexemes are at fault, and no character is invalid, exactly their faults are reported.
     ensures lexical { IfErr result (AreLexicalAlone source.now) }
     // These are all faults of the source, in their order. Only the words of what was expected may

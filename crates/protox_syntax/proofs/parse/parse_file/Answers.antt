@@ -6,6 +6,7 @@ use Rattle.protox_syntax.proofs.Accepts.{parsed-found, parsed-only}
 use Rattle.protox_syntax.proofs.Aggregates.{aggregates-lex-back}
 use Rattle.protox_syntax.proofs.FaultsStand.{parsed-stands-result}
 use Rattle.protox_syntax.proofs.ParsedTableFirst.{parsed-first, parsed-found-all}
+use Rattle.protox_syntax.proofs.TrueWords.{parsed-words}
 use Rattle.protox_syntax.proofs.LexicalAlone.{parsed-result}
 use Rattle.protox_syntax.proofs.NoCheckLost.{parsed-none-lost}
 use Rattle.protox_syntax.proofs.parse.parse_file.Goals as goal
@@ -29,6 +30,11 @@ pub returns-clause-first : goal.returns-clause-first
 returns-clause-first c =
     let parsed = subst (λ t. ParsesTable t (length c.args.source.now) c.parse_table.result) c.in_ok-table.ensures c.parse_table.ensures in
     parsed-first c.args.source.now c.parse_table.result parsed
+
+pub returns-clause-words : goal.returns-clause-words
+returns-clause-words c =
+    let parsed = subst (λ t. ParsesTable t (length c.args.source.now) c.parse_table.result) c.in_ok-table.ensures c.parse_table.ensures in
+    parsed-words c.args.source.now c.parse_table.result parsed
 
 pub returns-clause-stands : goal.returns-clause-stands
 returns-clause-stands c =

@@ -20,13 +20,14 @@ use Rattle.protox_generate.specs.File.{AreListedAll}
 use Rattle.protox_descriptor.specs.declared.descriptor.FileDescriptorProto.{FileDescriptorProto}
 use Rattle.protox_checks.proofs.PlainFaults.{all-plain, plain-stand}
 use Rattle.protox_parse.specs.Failures.{AreWrongOf, IsOutOfMemory, IsRefusalOf}
-use Rattle.protox_parse.specs.FaultLists.{AreAllFound, AreLexicalAlone, AreListedOf, AreStanding, HasFaultsOf, NoCheckIsLost}
+use Rattle.protox_parse.specs.FaultLists.{AreAllFound, AreLexicalAlone, AreListedOf, AreStanding, ExpectsTruly, HasFaultsOf, NoCheckIsLost}
 use Rattle.protox_parse.specs.Files.{IsFile}
 use Rattle.protox_parse.specs.FirstFault.{BeginsWithFirst, IsFirstOfSource}
 use Rattle.protox_parse.specs.Refusal.{Refusal}
 use Rattle.protox_parse.specs.declared.failure.ParseFailure.{ParseFailure}
 use Rattle.protox_parse.specs.declared.failure.ParseFailure.TheVariants.{Refused, OutOfMemory}
 use Rattle.protox_syntax.specs.AllFaults.{AreAllFaults}
+use Rattle.protox_syntax.specs.ExpectedWords as words
 use Rattle.protox_syntax.specs.FirstFaults as syntax
 use Rattle.protox_syntax.specs.FoundFaults as found
 use Rattle.protox_syntax.specs.LostChecks as lost
@@ -79,6 +80,11 @@ module _ (source : List ℕ) where
   read-lost failure.OutOfMemory (Refused x) same h = absurd same
   read-lost (failure.Faults v) (Refused x) same h = λ fits none. subst (NoneIsLost (cut 0 source)) (sym same) h
 
+  pub read-words : (e : SyntaxFailure) (r : ParseFailure) → HasFaultsOf e r → words.ExpectsTruly source e → ExpectsTruly source r
+  read-words e OutOfMemory same h = tt
+  read-words failure.OutOfMemory (Refused x) same h = absurd same
+  read-words (failure.Faults v) (Refused x) same h = λ fits none. subst (λ errors. IfSome (first_of errors) (words.HasTrueWords (cut 0 source))) (sym same) h
+
   -- ---- those of the generator
 
   first-wrong : (file : File) (errors : List ParseErrorKind) → Each (Wrong file) errors → IfSome (first_of errors) (Wrong file)
@@ -114,6 +120,11 @@ module _ (source : List ℕ) where
   made-lost file is (Err OutOfMemory) = tt
   made-lost file is (Err (Refused e)) = λ fits none. absurd (none is.0 is.1)
 
+  pub made-words : (file : File) → IsFileOf source file → (r : Result FileDescriptorProto ParseFailure) → IfErr r (ExpectsTruly source)
+  made-words file is (Ok d) = tt
+  made-words file is (Err OutOfMemory) = tt
+  made-words file is (Err (Refused e)) = λ fits none. absurd (none is.0 is.1)
+
   -- ---- that the source is too large
 
   module _ (name : List ℕ) (large : Fits source → ⊥) where
@@ -137,6 +148,10 @@ module _ (source : List ℕ) where
     pub large-all : (r : ParseFailure) → AreAllFound source r
     large-all OutOfMemory = tt
     large-all (Refused e) = λ fits none. absurd (large fits)
+
+    pub large-words : (r : ParseFailure) → ExpectsTruly source r
+    large-words OutOfMemory = tt
+    large-words (Refused e) = λ fits none. absurd (large fits)
 
     pub large-lost : (r : ParseFailure) → NoCheckIsLost source r
     large-lost OutOfMemory = tt

@@ -1,10 +1,11 @@
 -- The promises about all faults of a refusal.
-use Rattle.std.specs.Prelude.{◌≡◌, ◌≤◌, ℕ, List}
+use Rattle.std.specs.Prelude.{◌≡◌, ◌≤◌, ℕ, List, IfSome}
 use Rattle.protox_fault.specs.declared.error.SyntaxFailure.{SyntaxFailure}
 use Rattle.protox_fault.specs.declared.error.SyntaxFailure.TheVariants as failure
 use Rattle.protox_lexeme.specs.Lexemes.{cut}
 use Rattle.protox_lexeme.specs.Table.{table_of}
 use Rattle.protox_ast.specs.Accepted.{Fits, IsAccepted}
+use Rattle.protox_ast.specs.Basics.{first_of}
 use Rattle.protox_ast.specs.Checks.{NothingWrong}
 use Rattle.protox_ast.specs.FaultList.{AreFaultsOf, StandIn}
 use Rattle.protox_ast.specs.Fronts.{AreClean}
@@ -18,6 +19,7 @@ use Rattle.protox_checks.specs.Faults.{HasEachWrong}
 use Rattle.protox_parse.specs.declared.failure.ParseFailure.{ParseFailure}
 use Rattle.protox_parse.specs.declared.failure.ParseFailure.TheVariants.{Refused, OutOfMemory}
 use Rattle.protox_syntax.specs.AllFaults.{AreAllFaults}
+use Rattle.protox_syntax.specs.ExpectedWords.{HasTrueWords}
 use Rattle.protox_syntax.specs.LexicalFaults.{AreTokens}
 use Rattle.protox_syntax.specs.LostChecks.{NoneIsLost}
 
@@ -54,6 +56,12 @@ AreAllFound source (Refused e) = Fits source → ((f : t.File Place) → IsAccep
 abbrev pub NoCheckIsLost : List ℕ → ParseFailure → Type 0
 NoCheckIsLost source OutOfMemory = Unit {0}
 NoCheckIsLost source (Refused e) = Fits source → ((f : t.File Place) → IsAccepted source f → ⊥) → NoneIsLost (cut 0 source) e.errors
+
+-- If the source is within the length limit and the parser accepts no tree of it, the words of the
+-- first fault are true, if it has some; or memory ran out.
+abbrev pub ExpectsTruly : List ℕ → ParseFailure → Type 0
+ExpectsTruly source OutOfMemory = Unit {0}
+ExpectsTruly source (Refused e) = Fits source → ((f : t.File Place) → IsAccepted source f → ⊥) → IfSome (first_of e.errors) (HasTrueWords (cut 0 source))
 
 -- The list has each fault of the syntax tree; or memory ran out.
 abbrev pub HasAllOf : File → ParseFailure → Type 0

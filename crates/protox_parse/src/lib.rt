@@ -14,7 +14,7 @@ ghost use Rattle.protox_generate.specs.NamePaths.{HasPlaces};
 ghost use Rattle.protox_generate.specs.Names.{HasNames};
 ghost use Rattle.protox_ast.specs.Places.{Place};
 ghost use Rattle.protox_parse.specs.Failures.{AreWrongOf, IsOutOfMemory, IsRefusalOf};
-ghost use Rattle.protox_parse.specs.FaultLists.{AreAllFound, AreLexicalAlone, AreListedOf, AreStanding, NoCheckIsLost};
+ghost use Rattle.protox_parse.specs.FaultLists.{AreAllFound, AreLexicalAlone, AreListedOf, AreStanding, ExpectsTruly, NoCheckIsLost};
 ghost use Rattle.protox_parse.specs.Files.{IsFile, IsTranslation};
 ghost use Rattle.protox_parse.specs.FirstFault.{BeginsWithFirst};
 
@@ -114,6 +114,9 @@ pub fn parse(alloc: Global, name: &str, source: &str) -> Result<FileDescriptorPr
     // Then, if a file goes on from the tokens read, each wrong node of it is listed, but for the
     // named exceptions.
     ensures no_check_lost { IfErr result (NoCheckIsLost source.now) }
+    // Then the words of the first fault are true: some file goes on with each token that they name,
+    // and none with a token that they don't allow.
+    ensures words { IfErr result (ExpectsTruly source.now) }
 {
     if !source_fits(source.len()) {
         return Err(too_large(alloc, name));

@@ -46,6 +46,12 @@ returns-in-Ok-clause-no_check_lost c = truths.made-lost c.args.source.now c.in-O
 pub returns-in-Err-clause-no_check_lost : goal.returns-in-Err-clause-no_check_lost
 returns-in-Err-clause-no_check_lost c = truths.read-lost c.args.source.now c.in-Err.failure c.refused.result c.refused.ensures.same c.in-Err.ensures.no_check_lost
 
+pub returns-in-Ok-clause-words : goal.returns-in-Ok-clause-words
+returns-in-Ok-clause-words c = truths.made-words c.args.source.now c.in-Ok.file c.in-Ok.ensures.found c.translated.result
+
+pub returns-in-Err-clause-words : goal.returns-in-Err-clause-words
+returns-in-Err-clause-words c = truths.read-words c.args.source.now c.in-Err.failure c.refused.result c.refused.ensures.same c.in-Err.ensures.words
+
 pub returns-in-Ok-clause-checked : goal.returns-in-Ok-clause-checked
 returns-in-Ok-clause-checked c f accepted = subst (λ v. IfErr c.translated.result (AreListedOf v)) (c.in-Ok.ensures.only f accepted) c.translated.ensures.checked
 

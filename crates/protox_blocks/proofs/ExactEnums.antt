@@ -1,11 +1,10 @@
 -- Enums are read exactly.
-use Rattle.std.proofs.Common.{◌≡◌, ◌≤◌, ◌<◌, ℕ, zero, suc, Bool, true, false, ◌||◌, List, [], ◌∷◌, ◌++◌, length, Option, Some, None, Result, Ok, Err, refl, sym, ap, ◌∙◌, arith}
+use Rattle.std.proofs.Common.{◌≡◌, true, ◌||◌, [], ◌∷◌, refl, ap, arith}
 use Rattle.std.specs.Prelude.{codes}
 use Rattle.protox_ast.specs.Places.{Place}
 use Rattle.protox_ast.specs.Spelling as s
-use Rattle.protox_lexeme.specs.Shapes.{Ident, Mark, Row, Rows}
-use Rattle.protox_grammar.specs.Class.{Set, among, but, class, in_set, none, only, union, within, words}
-use Rattle.protox_grammar.specs.Reader as reader
+use Rattle.protox_lexeme.specs.Shapes.{Mark}
+use Rattle.protox_grammar.specs.Class.{Set, among, but, in_set, none, only, union, within, words}
 use Rattle.protox_grammar.specs.Reader.{Reader, folded, fixed, mapped, seq, star}
 use Rattle.protox_grammar.specs.Token as token
 use Rattle.protox_rows.specs.Expected.{named, allowed}
@@ -23,7 +22,6 @@ use Rattle.protox_options.specs.inner.Options as options_rule
 use Rattle.protox_options.specs.inner.Words as options
 use Rattle.protox_options.proofs.ExactOptions.{list-exact-of, option-exact-of}
 use Rattle.protox_blocks.specs.inner.Enums as rule
-use Rattle.protox_blocks.specs.inner.Ranges.{reserved}
 use Rattle.protox_blocks.specs.inner.Words as said
 use Rattle.protox_blocks.proofs.ExactRanges.{reserved-exact}
 

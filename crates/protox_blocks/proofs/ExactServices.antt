@@ -1,10 +1,10 @@
 -- Services and their methods are read exactly.
-use Rattle.std.proofs.Common.{◌≡◌, ◌≤◌, ◌<◌, ℕ, zero, suc, Bool, true, false, ◌||◌, List, [], ◌∷◌, ◌++◌, length, Option, Some, None, Result, Ok, Err, refl, sym, ap, ◌∙◌, arith}
+use Rattle.std.proofs.Common.{[], ◌∷◌, refl, arith}
 use Rattle.std.specs.Prelude.{codes}
 use Rattle.protox_ast.specs.Places.{Place}
 use Rattle.protox_ast.specs.Spelling as s
-use Rattle.protox_lexeme.specs.Shapes.{Ident, Mark, Row, Rows}
-use Rattle.protox_grammar.specs.Class.{Set, among, but, class, in_set, none, only, union, within, words}
+use Rattle.protox_lexeme.specs.Shapes.{Mark}
+use Rattle.protox_grammar.specs.Class.{Set, among, none, only, union, words}
 use Rattle.protox_grammar.specs.Reader.{fixed}
 use Rattle.protox_grammar.specs.Token as token
 use Rattle.protox_rows.specs.inner.Words.{always}
@@ -17,7 +17,7 @@ use Rattle.protox_rows.proofs.ExactSequences.{begun_with}
 use Rattle.protox_options.proofs.ExactOptions.{option-exact-of}
 use Rattle.protox_blocks.specs.inner.Services as rule
 use Rattle.protox_blocks.specs.inner.Words as said
-use Rattle.protox_blocks.proofs.ExactEnums.{close_brace-exact, elements-exact, open_brace-exact, semicolon-exact}
+use Rattle.protox_blocks.proofs.ExactEnums.{elements-exact, open_brace-exact, semicolon-exact}
 
 -- The word `stream`.
 abbrev pub streams : Set

@@ -2,7 +2,6 @@
 use Rattle.std.proofs.Common.{refl}
 use Rattle.protox_ast.specs.Spelling as s
 use Rattle.protox_grammar.specs.Reader.{Consumes}
-use Rattle.protox_grammar.specs.Rules as r
 use Rattle.protox_grammar.proofs.Enums as enums
 use Rattle.protox_grammar.proofs.Forms.{mark-laws, seq-laws}
 use Rattle.protox_grammar.proofs.Ranges as ranges

@@ -92,11 +92,7 @@ fn ranges(alloc: Global, rows: &mut Unread<'_, '_>) -> Result<Items<ReservedRang
 
 // What may follow ranges: it depends on whether the last one has an end.
 #[tactic(auto, unfolding(crate::specs::inner::Words::behind_ranges))]
-fn behind_ranges(
-    ranges: &[ReservedRange],
-    behind_start: Expected,
-    behind_end: Expected,
-) -> Expected
+fn behind_ranges(ranges: &[ReservedRange], behind_start: Expected, behind_end: Expected) -> Expected
     ensures { result ≡ said.behind_ranges ranges.now behind_start behind_end }
 {
     match ranges.last() {

@@ -1,21 +1,20 @@
 -- Bodies of messages and groups are read exactly, level by level.
-use Rattle.std.proofs.Common.{◌≡◌, ◌≤◌, ◌<◌, ℕ, zero, suc, Bool, true, false, cond, ◌||◌, List, [], ◌∷◌, ◌++◌, length, Option, Some, None, Result, Ok, Err, refl, sym, ap, subst, ◌∙◌, arith}
+use Rattle.std.proofs.Common.{◌≡◌, ◌≤◌, ℕ, zero, suc, Bool, true, false, cond, ◌||◌, [], ◌∷◌, ◌++◌, length, Result, Ok, Err, refl, sym, ap, subst, ◌∙◌, arith}
 use Rattle.std.proofs.lemmas.List.{length-append}
 use Rattle.std.specs.Prelude.{codes}
 use Rattle.protox_ast.specs.Places.{Place}
 use Rattle.protox_ast.specs.Spelling as s
-use Rattle.protox_lexeme.specs.Shapes.{Shape, Ident, Mark, Row, Rows}
+use Rattle.protox_lexeme.specs.Shapes.{Shape, Mark, Row, Rows}
 use Rattle.protox_grammar.specs.Bodies.{deep_read}
-use Rattle.protox_grammar.specs.Class.{Set, among, but, class, in_set, none, only, union, within, words}
+use Rattle.protox_grammar.specs.Class.{Set, among, class, none, only, union}
 use Rattle.protox_grammar.specs.Reader as reader
 use Rattle.protox_grammar.specs.Reader.{Reader, Refusal, Unexpected, Deep, fixed, is_token, seq, too_deep}
 use Rattle.protox_grammar.specs.Token as token
 use Rattle.protox_grammar.proofs.Reading.{err-ok}
 use Rattle.protox_grammar.proofs.Tests.{mark-class}
-use Rattle.protox_rows.specs.Expected.{named, allowed}
 use Rattle.protox_rows.specs.declared.expected.Expected.{Expected}
 use Rattle.protox_rows.specs.declared.expected.Expected.TheVariants as expected
-use Rattle.protox_rows.specs.inner.Words.{Words, always, and_then}
+use Rattle.protox_rows.specs.inner.Words.{always}
 use Rattle.protox_rows.proofs.Exact.{Exact, Took, mapped-exact, seq-exact}
 use Rattle.protox_rows.proofs.ExactForms.{choice-exact}
 use Rattle.protox_rows.proofs.ExactNames.{ident-exact, int-exact, label-exact, mark-exact, or-none, typename-exact, word-exact}

@@ -1,14 +1,11 @@
 -- The kinds of fields that have no body are read exactly, and elements without one.
-use Rattle.std.proofs.Common.{◌≡◌, ◌≤◌, ◌<◌, ℕ, zero, suc, Bool, true, false, ◌||◌, List, [], ◌∷◌, ◌++◌, length, Option, Some, None, Result, Ok, Err, refl, sym, ap, ◌∙◌, arith}
+use Rattle.std.proofs.Common.{◌≡◌, true, refl, arith}
 use Rattle.std.specs.Prelude.{codes}
 use Rattle.protox_fault.specs.Faults.{Span}
-use Rattle.protox_ast.specs.Places.{Place}
 use Rattle.protox_ast.specs.Spelling as s
 use Rattle.protox_ast.specs.declared.ast.Ty as type_of
 use Rattle.protox_ast.specs.declared.ast.Ty.TheVariants as ty
-use Rattle.protox_lexeme.specs.Shapes.{Ident, Mark}
 use Rattle.protox_grammar.specs.Class.{Set, none, only, union, within, words}
-use Rattle.protox_grammar.specs.Reader.{fixed, seq}
 use Rattle.protox_grammar.specs.Rules as r
 use Rattle.protox_grammar.specs.Token as token
 use Rattle.protox_rows.specs.Expected.{named, allowed}

@@ -1,5 +1,5 @@
 -- The text of an aggregate, token by token.
-use Rattle.std.proofs.Common.{◌≡◌, ◌++◌, ℕ, zero, suc, ◌-◌, Bool, true, false, cond, eqb, List, [], ◌∷◌, length, Option, Some, None, Result, Ok, Err, refl, sym, ap, subst, append-nil, append_assoc}
+use Rattle.std.proofs.Common.{◌≡◌, ◌++◌, ℕ, suc, ◌-◌, Bool, true, false, cond, eqb, List, [], ◌∷◌, length, Option, Some, None, Result, Ok, Err, refl, sym, ap, subst, append-nil, append_assoc}
 use Rattle.protox_lexeme.specs.Shapes.{Shape, Row, Rows, Ident, Int, Float, Str, Mark, LineComment, BlockComment, Newline, Invalid}
 use Rattle.protox_ast.specs.Ast as ast
 use Rattle.protox_ast.specs.KeywordWalk as k

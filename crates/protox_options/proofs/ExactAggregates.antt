@@ -1,13 +1,12 @@
 -- What stands between the braces of an aggregate is read exactly: each token, up to its `}`.
-use Rattle.std.proofs.Common.{◌≡◌, ◌+◌, ◌-◌, ◌≤◌, ◌<◌, ℕ, zero, suc, Bool, true, false, cond, eqb, not, ◌||◌, List, [], ◌∷◌, ◌++◌, length, Result, Ok, Err, refl, sym, ap, subst, ◌∙◌, append_assoc, arith, inl, inr, ◌⊎◌}
+use Rattle.std.proofs.Common.{◌≡◌, ◌+◌, ◌-◌, ◌≤◌, ℕ, suc, Bool, true, false, eqb, not, ◌||◌, [], ◌∷◌, ◌++◌, length, Result, Ok, Err, refl, sym, ap, subst, ◌∙◌, arith}
 use Rattle.std.proofs.lemmas.Bool.{eqb-true, ne_eqb}
 use Rattle.std.proofs.lemmas.List.{length-append}
-use Rattle.protox_ast.specs.Ast as ast
 use Rattle.protox_ast.specs.KeywordWalk as k
 use Rattle.protox_ast.specs.Places.{Place}
 use Rattle.protox_ast.specs.Spelling as s
-use Rattle.protox_lexeme.specs.Shapes.{Shape, Ident, Int, Float, Str, Mark, LineComment, BlockComment, Newline, Invalid, Row, Rows}
-use Rattle.protox_grammar.specs.Class.{Set, all, byte_place, class, in_set, keywords, marks, none, only, place, union}
+use Rattle.protox_lexeme.specs.Shapes.{Shape, Ident, Mark, Row, Rows}
+use Rattle.protox_grammar.specs.Class.{Set, byte_place, class, keywords, marks, none, only, place}
 use Rattle.protox_grammar.specs.Reader as reader
 use Rattle.protox_grammar.specs.Reader.{Reader, Refusal, Unexpected, Deep, ◌>>=◌, fixed, mapped, seq}
 use Rattle.protox_grammar.specs.Rules as r
@@ -15,11 +14,10 @@ use Rattle.protox_grammar.specs.Token as token
 use Rattle.protox_grammar.proofs.Reading.{ok-err, err-ok}
 use Rattle.protox_grammar.proofs.Sets.{place-le, byte_place-le}
 use Rattle.protox_grammar.proofs.Takes.{ok_is}
-use Rattle.protox_rows.specs.Expected.{named, allowed}
-use Rattle.protox_rows.specs.declared.expected.Expected.{Expected}
+use Rattle.protox_rows.specs.Expected.{allowed}
 use Rattle.protox_rows.specs.declared.expected.Expected.TheVariants as expected
-use Rattle.protox_rows.specs.inner.Words.{Words, always}
-use Rattle.protox_rows.proofs.Exact.{Exact, Fits, Took, under}
+use Rattle.protox_rows.specs.inner.Words.{always}
+use Rattle.protox_rows.proofs.Exact.{Exact, Took}
 
 -- The rows of an aggregate with its `}`, where this many braces are open.
 abbrev pub closed_at : ℕ → Reader Place (Rows Place × Place)

@@ -1,5 +1,5 @@
 -- Options, lists of them and their values are read exactly.
-use Rattle.std.proofs.Common.{◌≡◌, append-nil, append_assoc, eqb, ◌≤◌, ◌<◌, ℕ, zero, suc, Bool, true, false, cond, ◌||◌, List, [], ◌∷◌, ◌++◌, map, length, Option, Some, None, Result, Ok, Err, refl, sym, ap, subst, ◌∙◌, arith, inl, inr, ◌⊎◌}
+use Rattle.std.proofs.Common.{◌≡◌, append-nil, append_assoc, ℕ, Bool, true, false, ◌||◌, List, [], ◌∷◌, ◌++◌, Option, Some, None, Result, Ok, Err, refl, sym, ap, subst, ◌∙◌, arith, inl, inr, ◌⊎◌}
 use Rattle.std.specs.Prelude.{codes}
 use Rattle.protox_fault.specs.Faults.{Span}
 use Rattle.protox_ast.specs.Ast as ast
@@ -7,22 +7,19 @@ use Rattle.protox_ast.specs.Ast.{span_if_any}
 use Rattle.protox_ast.specs.Places.{Place}
 use Rattle.protox_ast.specs.Spelling as s
 use Rattle.protox_ast.specs.declared.ast.OptionBody.{OptionBody}
-use Rattle.protox_ast.specs.declared.ast.OptionList.{OptionList}
-use Rattle.protox_ast.specs.declared.ast.OptionNamePart.{OptionNamePart}
 use Rattle.protox_ast.specs.declared.ast.OptionValue as value_type
 use Rattle.protox_ast.specs.declared.ast.OptionValue.TheVariants as option_value
-use Rattle.protox_lexeme.specs.Shapes.{Ident, Mark, Row, Rows}
-use Rattle.protox_grammar.specs.Class.{Set, among, class, in_set, none, only, union, within, words}
+use Rattle.protox_lexeme.specs.Shapes.{Mark, Rows}
+use Rattle.protox_grammar.specs.Class.{Set, among, in_set, none, only, union, within, words}
 use Rattle.protox_grammar.specs.Reader as reader
 use Rattle.protox_grammar.specs.Reader.{Reader, Refusal, ◌>>=◌, folded, fixed, mapped, seq}
 use Rattle.protox_grammar.specs.Rules as r
 use Rattle.protox_grammar.specs.Token as token
-use Rattle.protox_grammar.proofs.Shown.{push, pushed}
-use Rattle.protox_rows.specs.Expected.{named, allowed, type_names}
+use Rattle.protox_grammar.proofs.Shown.{push}
+use Rattle.protox_rows.specs.Expected.{named, allowed}
 use Rattle.protox_rows.specs.declared.expected.Expected.{Expected}
 use Rattle.protox_rows.specs.declared.expected.Expected.TheVariants as expected
-use Rattle.protox_rows.specs.inner.Words as rows
-use Rattle.protox_rows.specs.inner.Words.{Words, always, and_then}
+use Rattle.protox_rows.specs.inner.Words.{always, and_then}
 use Rattle.protox_rows.proofs.Exact.{Exact, mapped-exact, seq-exact, under}
 use Rattle.protox_rows.proofs.ExactForms.{choice-exact}
 use Rattle.protox_rows.proofs.ExactLists.{last_more}
@@ -32,7 +29,7 @@ use Rattle.protox_options.specs.inner.Options as rule
 use Rattle.protox_options.specs.inner.Words as said
 use Rattle.protox_options.specs.declared.values.Unsigned as unsigned_type
 use Rattle.protox_options.specs.declared.values.Unsigned.TheVariants as unsigned
-use Rattle.protox_options.proofs.ExactAggregates.{closed_at, closed_at-exact, tokens}
+use Rattle.protox_options.proofs.ExactAggregates.{closed_at-exact, tokens}
 
 -- ---- names
 
@@ -166,6 +163,7 @@ bodies-more (x, l) = listed x l ∙ ap bodies_more (sym (pushed-all (x ∷ []) l
     listed : (x : OptionBody) (l : List OptionBody) → list_more body_more body_more (only token.comma) (x, l) ≡ bodies_more (x ∷ l)
     listed x [] = refl
     listed x (y ∷ ys) = refl
+
     pushed-all : (bs xs : List OptionBody) → folded push bs xs ≡ bs ++ xs
     pushed-all bs [] = sym (append-nil bs)
     pushed-all bs (x ∷ xs) = pushed-all (bs ++ x ∷ []) xs ∙ append_assoc bs (x ∷ []) xs

@@ -1,18 +1,15 @@
 -- What is said of the faults of a failure is said of the refusal for it; and of the generator's faults, and that the source is too large.
 use Rattle.std.proofs.Common.{inl, inr, ℕ, List, [], ◌∷◌, Option, Some, None, Result, Ok, Err, IfErr, refl, sym, subst}
-use Rattle.std.specs.Prelude.{IfSome, length}
+use Rattle.std.specs.Prelude.{IfSome}
 use Rattle.protox_fault.specs.declared.error.ParseErrorKind.{ParseErrorKind}
 use Rattle.protox_fault.specs.declared.error.ParseErrorKind.TheVariants.{FileTooLarge}
 use Rattle.protox_fault.specs.declared.error.SyntaxFailure.{SyntaxFailure}
 use Rattle.protox_fault.specs.declared.error.SyntaxFailure.TheVariants as failure
 use Rattle.protox_lexeme.specs.Lexemes.{cut}
-use Rattle.protox_ast.specs.Accepted.{Fits, IsAccepted, IsFileOf}
-use Rattle.protox_ast.specs.Ast as ast
+use Rattle.protox_ast.specs.Accepted.{Fits, IsFileOf}
 use Rattle.protox_ast.specs.Basics.{Each, first_of}
 use Rattle.protox_ast.specs.FaultList.{AreFaultsOf, StandIn}
 use Rattle.protox_ast.specs.FirstFault.{IsFirstFault}
-use Rattle.protox_ast.specs.Places.{Place}
-use Rattle.protox_ast.specs.Tree as t
 use Rattle.protox_ast.specs.declared.ast.File.{File}
 use Rattle.protox_checks.specs.Checks.{AreListed}
 use Rattle.protox_checks.specs.Faults.{Wrong}

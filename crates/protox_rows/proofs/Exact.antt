@@ -1,9 +1,9 @@
 -- What a reader takes where it stops, compared with the words that are said there. A reader is
 -- exact if the words name only tokens that it takes there, and it refuses all that they don't allow.
-use Rattle.std.proofs.Common.{◌≡◌, ◌+◌, ◌≤◌, ◌<◌, ℕ, zero, suc, Bool, true, false, ◌||◌, List, [], ◌∷◌, ◌++◌, length, Result, Ok, Err, refl, sym, ap, subst, ◌∙◌, append-nil, append_assoc, arith, inl, inr, ◌⊎◌}
+use Rattle.std.proofs.Common.{◌≡◌, ◌+◌, ◌≤◌, ◌<◌, ℕ, suc, Bool, true, false, ◌||◌, [], ◌∷◌, ◌++◌, length, Result, Ok, Err, refl, sym, ap, subst, ◌∙◌, append_assoc, arith, inl, inr}
 use Rattle.std.proofs.lemmas.List.{length-append}
 use Rattle.protox_ast.specs.Places.{Place}
-use Rattle.protox_lexeme.specs.Shapes.{Shape, Row, Rows}
+use Rattle.protox_lexeme.specs.Shapes.{Row, Rows}
 use Rattle.protox_grammar.specs.Class.{Set, class, none, union, within}
 use Rattle.protox_grammar.specs.Reader as reader
 use Rattle.protox_grammar.specs.Reader.{Reader, Refusal, Unexpected, Deep, ◌>>=◌}
@@ -11,7 +11,7 @@ use Rattle.protox_grammar.proofs.Laws.{head-same}
 use Rattle.protox_grammar.proofs.Reading.{bind_err, cut-same, ok-err, err-ok}
 use Rattle.protox_grammar.proofs.Sets.{within-at, or_false}
 use Rattle.protox_grammar.proofs.Takes.{bind_ok, ok_is}
-use Rattle.protox_rows.specs.Expected.{named, unnamed, allowed}
+use Rattle.protox_rows.specs.Expected.{named, allowed}
 use Rattle.protox_rows.specs.declared.expected.Expected.{Expected}
 use Rattle.protox_rows.specs.inner.Words.{Words, always, and_then, behind}
 
@@ -146,6 +146,7 @@ module _ {A B : Type 0} {a : Reader Place A} {b : Reader Place B} {wa : Words} {
       not_at : {p q : Bool} → (p ≡ true → q ≡ true) → q ≡ false → p ≡ false
       not_at {p = true} i h = let s = sym h ∙ i refl in absurd cc
       not_at {p = false} i h = refl
+
       start-taken : (m f : Bool) → ma x (class r.shape) ≡ m → fb (class r.shape) ≡ f → m || f ≡ true → Took (length zs) (reader.seq a b (ys ++ (r ∷ zs)))
       start-taken true f i j o = took_then (length zs) (a (ys ++ (r ∷ zs))) (ha.goes_on ys t x p r zs i)
       start-taken false true i j o = subst (λ v. Took (length zs) (v >>= after)) (sym (ha.ends ys t x p r zs i)) (took_behind (length zs) (x, r ∷ zs) (b (r ∷ zs)) ((hb x).begins r zs j))

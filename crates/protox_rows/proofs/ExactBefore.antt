@@ -1,22 +1,20 @@
 -- Elements up to the token that closes them: exact if the elements are.
-use Rattle.std.proofs.Common.{◌≡◌, ◌+◌, ◌≤◌, ◌<◌, ℕ, zero, suc, Bool, true, false, cond, not, ◌&&◌, ◌||◌, List, [], ◌∷◌, ◌++◌, length, Result, Ok, Err, refl, sym, ap, subst, ◌∙◌, append_assoc, arith, inl, inr, ◌⊎◌}
+use Rattle.std.proofs.Common.{◌≡◌, ◌≤◌, ℕ, suc, Bool, true, false, ◌||◌, List, [], ◌∷◌, ◌++◌, length, Result, Ok, Err, refl, sym, ap, subst, ◌∙◌, append_assoc, arith, inl, inr}
 use Rattle.std.proofs.lemmas.List.{length-append}
 use Rattle.protox_ast.specs.Places.{Place}
-use Rattle.protox_lexeme.specs.Shapes.{Shape, Row, Rows}
-use Rattle.protox_grammar.specs.Class.{Set, apart, class, in_set, none, union, within}
+use Rattle.protox_lexeme.specs.Shapes.{Row, Rows}
+use Rattle.protox_grammar.specs.Class.{Set, class, in_set, none, union, within}
 use Rattle.protox_grammar.specs.Reader as reader
 use Rattle.protox_grammar.specs.Reader.{Consumes, Reader, Refusal, Unexpected, Deep, ◌>>=◌, head_in, star}
 use Rattle.protox_grammar.proofs.Loops.{star-turn}
-use Rattle.protox_grammar.proofs.Reading.{bind_err, cut-same, ok-err, err-ok}
-use Rattle.protox_grammar.proofs.Sets.{apart-at, within-at, or_false}
+use Rattle.protox_grammar.proofs.Reading.{bind_err, cut-same, ok-err}
+use Rattle.protox_grammar.proofs.Sets.{within-at, or_false}
 use Rattle.protox_grammar.proofs.Takes.{bind_ok, ok_is}
 use Rattle.protox_rows.specs.Expected.{named, allowed}
 use Rattle.protox_rows.specs.declared.expected.Expected.{Expected}
 use Rattle.protox_rows.specs.inner.Words.{Words, and_then, behind, times}
-use Rattle.protox_rows.proofs.Exact.{Exact, Fits, Parted, Took, parted, took, took_more}
+use Rattle.protox_rows.proofs.Exact.{Exact, Fits, Took, parted, took, took_more}
 use Rattle.protox_rows.proofs.ExactLists.{begun, bound, eats, ends-all, goes_on-all, inside-all, last_more, stays-all, taken, took-all}
-use Rattle.protox_rows.proofs.ExactSequences.{reread, reworded}
-use Rattle.protox_rows.proofs.Turns.{words-turn}
 
 no_rows : (xs : Rows Place) → length xs ≡ 0 → xs ≡ []
 no_rows [] l = refl
@@ -91,6 +89,7 @@ module _ {B C : Type 0} {b : Reader Place B} {c : Reader Place C} {wb wc : Words
       not_at : {p q : Bool} → (p ≡ true → q ≡ true) → q ≡ false → p ≡ false
       not_at {p = true} i h = let s = sym h ∙ i refl in absurd cc
       not_at {p = false} i h = refl
+
       close-taken : (m f : Bool) → fb (class r.shape) ≡ m → fc (class r.shape) ≡ f → m || f ≡ true → Took (length zs) (closed (ys ++ (r ∷ zs)))
       close-taken true f i j o = took_then (length zs) (all (ys ++ (r ∷ zs))) (goes_on-all hb ys t l q r zs (ap (λ v. v || fb (class r.shape)) (none-last l (class r.shape)) ∙ i))
       close-taken false true i j o = subst (λ v. Took (length zs) (v >>= after)) (sym (ends-all hb ys t l q r zs i (none-last l (class r.shape)))) (took_behind (length zs) l (c (r ∷ zs)) (hc.begins r zs j))

@@ -1,15 +1,13 @@
 -- Choices, what may be absent, lists, and what stands between braces: exact if their parts are.
-use Rattle.std.proofs.Common.{◌≡◌, ◌+◌, ◌≤◌, ◌<◌, ℕ, zero, suc, Bool, true, false, cond, not, ◌&&◌, ◌||◌, List, [], ◌∷◌, ◌++◌, length, Option, Some, None, Result, Ok, Err, refl, sym, ap, subst, ◌∙◌, append-nil, append_assoc, arith, inl, inr, ◌⊎◌}
+use Rattle.std.proofs.Common.{◌≡◌, ◌≤◌, ℕ, suc, Bool, true, false, cond, ◌||◌, [], ◌∷◌, ◌++◌, length, Ok, Err, refl, sym, ap, subst, ◌∙◌, arith}
 use Rattle.std.proofs.lemmas.List.{length-append}
 use Rattle.protox_ast.specs.Places.{Place}
-use Rattle.protox_lexeme.specs.Shapes.{Shape, Row, Rows}
-use Rattle.protox_grammar.specs.Class.{Set, class, in_set, none, union, within}
+use Rattle.protox_lexeme.specs.Shapes.{Row, Rows}
+use Rattle.protox_grammar.specs.Class.{Set, class, in_set, union}
 use Rattle.protox_grammar.specs.Reader as reader
 use Rattle.protox_grammar.specs.Reader.{Reader, Refusal, Unexpected, Deep, ◌>>=◌, head_in}
-use Rattle.protox_grammar.proofs.Sets.{within-at}
-use Rattle.protox_rows.specs.Expected.{named, allowed}
 use Rattle.protox_rows.specs.declared.expected.Expected.{Expected}
-use Rattle.protox_rows.specs.inner.Words.{Words, always, and_then, behind, choose}
+use Rattle.protox_rows.specs.inner.Words.{Words, choose}
 use Rattle.protox_rows.proofs.Exact.{Exact, Fits, Took}
 
 -- ---- choices
@@ -107,21 +105,27 @@ module _ {A : Type 0} {a b : Reader Place A} {wa wb : Words} {ea eb : Expected} 
       ends-of : (ys t : Rows Place) (x : A) → either (ys ++ t) ≡ Ok (x, t) → (r : Row Place) (zs : Rows Place) → mb x (class r.shape) ≡ false → either (ys ++ (r ∷ zs)) ≡ Ok (x, r ∷ zs)
       ends-of [] t x q r zs m = absurd (none-read t x q)
       ends-of (y ∷ ys) t x q r zs m = ends-by y ys t x (P (class y.shape)) refl q r zs m
+
       goes_on-of : (ys t : Rows Place) (x : A) → either (ys ++ t) ≡ Ok (x, t) → (r : Row Place) (zs : Rows Place) → mb x (class r.shape) ≡ true → Took (length zs) (either (ys ++ (r ∷ zs)))
       goes_on-of [] t x q r zs m = absurd (none-read t x q)
       goes_on-of (y ∷ ys) t x q r zs m = goes_on-by y ys t x (P (class y.shape)) refl q r zs m
+
       stays-of : (ys : Rows Place) (v : Row Place) (vs t u : Rows Place) (x : A) → either (ys ++ (v ∷ (vs ++ t))) ≡ Ok (x, v ∷ (vs ++ t)) → either (ys ++ (v ∷ (vs ++ u))) ≡ Ok (x, v ∷ (vs ++ u))
       stays-of [] v vs t u x q = absurd (none-read (v ∷ (vs ++ t)) x q)
       stays-of (y ∷ ys) v vs t u x q = stays-by y ys v vs t u x (P (class y.shape)) refl q
+
       rest-of : (xs : Rows Place) (x : A × Rows Place) → either xs ≡ Ok x → (y : Row Place) × (ys : Rows Place) × (xs ≡ y ∷ (ys ++ x.1))
       rest-of [] x q = hb.rest [] x q
       rest-of (r ∷ zs) x q = rest-by r zs x (P (class r.shape)) refl q
+
       all-by : (r : Row Place) (zs : Rows Place) (c : Bool) → P (class r.shape) ≡ c → Took (length (r ∷ zs)) (either (r ∷ zs))
       all-by r zs true p = subst (Took (length (r ∷ zs))) (sym (at r zs true p).0) (ha.all (r ∷ zs))
       all-by r zs false p = subst (Took (length (r ∷ zs))) (sym (at r zs false p).0) (hb.all (r ∷ zs))
+
       all-of : (xs : Rows Place) → Took (length xs) (either xs)
       all-of [] = hb.all []
       all-of (r ∷ zs) = all-by r zs (P (class r.shape)) refl
+
       bound-of : (xs : Rows Place) (n : ℕ) → either xs ≡ Err (Unexpected n) → n ≤ length xs
       bound-of [] n q = hb.bound [] n q
       bound-of (r ∷ zs) n q = bound-by r zs n (P (class r.shape)) refl q

@@ -1,18 +1,16 @@
 -- Reading again and again is exact if one turn is.
-use Rattle.std.proofs.Common.{◌≡◌, ◌+◌, ◌≤◌, ◌<◌, ℕ, zero, suc, Bool, true, false, cond, ◌||◌, List, [], ◌∷◌, ◌++◌, length, Option, Some, None, Result, Ok, Err, refl, sym, ap, subst, ◌∙◌, append_assoc, arith, inl, inr, ◌⊎◌}
+use Rattle.std.proofs.Common.{◌≡◌, ◌≤◌, ℕ, zero, suc, Bool, true, false, cond, ◌||◌, List, [], ◌∷◌, ◌++◌, length, Result, Ok, Err, refl, sym, ap, subst, ◌∙◌, append_assoc, arith, inl, inr}
 use Rattle.std.proofs.lemmas.List.{length-append}
 use Rattle.protox_ast.specs.Places.{Place}
-use Rattle.protox_lexeme.specs.Shapes.{Shape, Row, Rows}
-use Rattle.protox_grammar.specs.Class.{Set, class, in_set, none, union}
-use Rattle.protox_grammar.specs.Reader as reader
-use Rattle.protox_grammar.specs.Reader.{Consumes, Reader, Refusal, Unexpected, Deep, ◌>>=◌, head_in, star}
+use Rattle.protox_lexeme.specs.Shapes.{Row, Rows}
+use Rattle.protox_grammar.specs.Class.{Set, class, in_set, none}
+use Rattle.protox_grammar.specs.Reader.{Consumes, Reader, Refusal, Unexpected, Deep, ◌>>=◌, star}
 use Rattle.protox_grammar.proofs.Loops.{star-turn}
-use Rattle.protox_grammar.proofs.Reading.{bind_err, ok-err, err-ok}
+use Rattle.protox_grammar.proofs.Reading.{bind_err, ok-err}
 use Rattle.protox_grammar.proofs.Takes.{bind_ok, ok_is}
-use Rattle.protox_rows.specs.Expected.{named, allowed}
 use Rattle.protox_rows.specs.declared.expected.Expected.{Expected}
 use Rattle.protox_rows.specs.inner.Words.{Words, behind, times}
-use Rattle.protox_rows.proofs.Exact.{Exact, Fits, Parted, Took, parted, took, took_more}
+use Rattle.protox_rows.proofs.Exact.{Exact, Fits, Took, parted, took_more}
 use Rattle.protox_rows.proofs.Turns.{words-turn}
 
 -- The tokens with which the last of a list would go on.

@@ -1,7 +1,7 @@
 -- Single rows, names, numbers, types and runs of strings are exact.
-use Rattle.std.proofs.Common.{◌≡◌, eqb, ◌+◌, ◌≤◌, ◌<◌, ℕ, zero, suc, Bool, true, false, cond, ◌||◌, List, [], ◌∷◌, ◌++◌, map, length, Option, Some, None, is_some, Result, Ok, Err, refl, sym, ap, subst, ◌∙◌, arith}
+use Rattle.std.proofs.Common.{◌≡◌, eqb, ◌+◌, ◌<◌, ℕ, Bool, true, false, cond, ◌||◌, List, [], ◌∷◌, Option, Some, None, is_some, Result, Ok, Err, refl, sym, ap, ◌∙◌, arith}
 use Rattle.std.proofs.lemmas.Bool.{ne_eqb, lt-ltb, le-ltb}
-use Rattle.std.specs.Prelude.{codes, nat_lt}
+use Rattle.std.specs.Prelude.{codes}
 use Rattle.protox_fault.specs.Faults.{Span}
 use Rattle.protox_ast.specs.Ast as ast
 use Rattle.protox_ast.specs.Ast.{span_if_any}
@@ -10,25 +10,24 @@ use Rattle.protox_ast.specs.Places.{Place}
 use Rattle.protox_ast.specs.Spelling as s
 use Rattle.protox_ast.specs.declared.ast.Ty as type_of
 use Rattle.protox_ast.specs.declared.ast.Ty.TheVariants as ty
-use Rattle.protox_lexeme.specs.Shapes.{Shape, Ident, Int, Float, Str, Mark, LineComment, BlockComment, Newline, Invalid, Row, Rows}
-use Rattle.protox_grammar.specs.Class.{Set, among, byte_place, class, in_set, keywords, marks, none, only, place, union, within, words}
+use Rattle.protox_lexeme.specs.Shapes.{Shape, Ident, Mark, Rows}
+use Rattle.protox_grammar.specs.Class.{Set, among, byte_place, class, in_set, keywords, marks, none, only, place, union, words}
 use Rattle.protox_grammar.specs.Reader as reader
 use Rattle.protox_grammar.specs.Reader.{Reader, Refusal, Unexpected, ◌>>=◌, fixed, is_token, leaf, seen, see_word, see_integer, see_float, see_text, star}
 use Rattle.protox_grammar.specs.Rules as r
 use Rattle.protox_grammar.specs.Token as token
 use Rattle.protox_grammar.proofs.Sets.{place-le}
 use Rattle.protox_grammar.proofs.Tests.{mark-class, scalar-class, word-class}
-use Rattle.protox_rows.specs.Expected.{named, allowed, type_names}
 use Rattle.protox_rows.specs.declared.expected.Expected.{Expected}
 use Rattle.protox_rows.specs.declared.expected.Expected.TheVariants as expected
 use Rattle.protox_rows.specs.inner.Names as names
 use Rattle.protox_rows.specs.inner.Strings as runs
 use Rattle.protox_rows.specs.inner.Words as said
 use Rattle.protox_rows.specs.inner.Words.{Words, always, and_then, times}
-use Rattle.protox_rows.proofs.Exact.{Exact, Took, mapped-exact, row-exact, seq-exact}
+use Rattle.protox_rows.proofs.Exact.{Exact, mapped-exact, row-exact, seq-exact}
 use Rattle.protox_rows.proofs.ExactForms.{choice-exact}
 use Rattle.protox_rows.proofs.ExactLists.{last_more}
-use Rattle.protox_rows.proofs.ExactSequences.{begun_with, front-exact, list-exact, list_more, option-exact, reread, reworded}
+use Rattle.protox_rows.proofs.ExactSequences.{begun_with, list-exact, list_more, option-exact, reworded}
 
 -- ---- single rows
 

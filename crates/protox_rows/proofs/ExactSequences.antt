@@ -1,20 +1,19 @@
 -- Lists, what may be absent, and what stands between braces: exact if their parts are.
-use Rattle.std.proofs.Common.{◌≡◌, ◌+◌, ◌≤◌, ◌<◌, ℕ, zero, suc, Bool, true, false, cond, ◌||◌, List, [], ◌∷◌, ◌++◌, length, Option, Some, None, Result, Ok, Err, refl, sym, ap, subst, ◌∙◌, append_assoc, arith, inl, inr, ◌⊎◌}
+use Rattle.std.proofs.Common.{◌≡◌, ◌≤◌, ℕ, Bool, true, false, cond, ◌||◌, List, [], ◌∷◌, ◌++◌, length, Option, Some, None, Result, Ok, Err, refl, sym, ap, subst, ◌∙◌, append_assoc, arith, inl, inr}
 use Rattle.std.proofs.lemmas.List.{length-append}
 use Rattle.protox_ast.specs.Places.{Place}
-use Rattle.protox_lexeme.specs.Shapes.{Shape, Row, Rows}
-use Rattle.protox_grammar.specs.Class.{Set, class, in_set, none, union, within}
+use Rattle.protox_lexeme.specs.Shapes.{Row, Rows}
+use Rattle.protox_grammar.specs.Class.{Set, class, in_set, union, within}
 use Rattle.protox_grammar.specs.Reader as reader
 use Rattle.protox_grammar.specs.Reader.{Reader, Refusal, Unexpected, Deep, ◌>>=◌, head_in, star}
-use Rattle.protox_grammar.proofs.Reading.{bind_err, cut-same, ok-err, err-ok}
-use Rattle.protox_grammar.proofs.Sets.{within-at, or_false}
+use Rattle.protox_grammar.proofs.Reading.{bind_err, ok-err, err-ok}
+use Rattle.protox_grammar.proofs.Sets.{or_false}
 use Rattle.protox_grammar.proofs.Takes.{bind_ok, ok_is}
 use Rattle.protox_rows.specs.Expected.{named, allowed}
 use Rattle.protox_rows.specs.declared.expected.Expected.{Expected}
-use Rattle.protox_rows.specs.inner.Words.{Words, and_then, behind, choose, times}
-use Rattle.protox_rows.proofs.Exact.{Exact, Fits, Parted, Took, mapped-exact, parted, seq-exact, took, took_more, under}
+use Rattle.protox_rows.specs.inner.Words.{Words, and_then, behind, times}
+use Rattle.protox_rows.proofs.Exact.{Exact, Fits, Took, mapped-exact, parted, seq-exact, took_more, under}
 use Rattle.protox_rows.proofs.ExactForms.{choice-exact}
-use Rattle.protox_rows.proofs.ExactLists as lists
 use Rattle.protox_rows.proofs.ExactLists.{last_more, begun, bound, ends-all, goes_on-all, inside-all, stays-all, taken, took-all}
 
 -- ---- the same reader, and the same words, in other terms
@@ -37,9 +36,11 @@ front-exact {A} {B} {C} f a c w k e first more h =
     inner : (x : A) (r : Result (C × Rows Place) Refusal) → ((r >>= λ y. Ok ((x, y.0), y.1)) >>= under {B = B × C} (λ (x : A × C). (f x.0, x.1))) ≡ (r >>= λ y. Ok ((f x, y.0), y.1))
     inner x (Ok y) = refl
     inner x (Err d) = refl
+
     same : (r : Result (A × Rows Place) Refusal) → ((r >>= λ x. c x.1 >>= λ y. Ok ((x.0, y.0), y.1)) >>= under {B = B × C} (λ (x : A × C). (f x.0, x.1))) ≡ ((r >>= under f) >>= λ x. c x.1 >>= λ y. Ok ((x.0, y.0), y.1))
     same (Ok x) = inner x.0 (c x.1)
     same (Err d) = refl
+
     said : (xs : Rows Place) (r : Result (A × Rows Place) Refusal) → behind (w xs) (λ x. k (f x)) r ≡ behind (w xs) k (r >>= under f)
     said xs (Ok x) = refl
     said xs (Err d) = refl
@@ -64,13 +65,16 @@ module _ {A C : Type 0} {a : Reader Place A} {c : Reader Place C} {wa : Words} {
       inner : (x : A) (r : Result (C × Rows Place) Refusal) → ((r >>= λ y. Ok ((x, y.0), y.1)) >>= under given) ≡ (r >>= λ y. Ok ((Some x, y.0), y.1))
       inner x (Ok y) = refl
       inner x (Err d) = refl
+
       one : (r : Result (A × Rows Place) Refusal) → ((r >>= λ x. c x.1 >>= λ y. Ok ((x.0, y.0), y.1)) >>= under given) ≡ ((r >>= under Some) >>= λ x. c x.1 >>= λ y. Ok ((x.0, y.0), y.1))
       one (Ok x) = inner x.0 (c x.1)
       one (Err d) = refl
+
       same : (xs : Rows Place) (b : Bool) (r : Result (A × Rows Place) Refusal)
           → cond b ((r >>= λ x. c x.1 >>= λ y. Ok ((x.0, y.0), y.1)) >>= under given) (c xs >>= under absent) ≡ (cond b (r >>= under Some) (Ok (None, xs)) >>= λ x. c x.1 >>= λ y. Ok ((x.0, y.0), y.1))
       same xs true r = one r
       same xs false r = refl
+
       said : (xs : Rows Place) (b : Bool) (r : Result (A × Rows Place) Refusal) → cond b (behind (wa xs) (λ x. wc (Some x)) r) (wc None xs) ≡ behind (wa xs) wc (cond b (r >>= under Some) (Ok (None, xs)))
       said xs true (Ok x) = refl
       said xs true (Err d) = refl
@@ -273,6 +277,7 @@ module _ {A B : Type 0} {a : Reader Place A} {w : Words} {e : Expected} {first :
     where
       failed : {X : Type 0} → Refusal → Result X Refusal
       failed e = Err e
+
       again : (c d : Refusal) → failed {X = B × Rows Place} c ≡ failed d → failed {X = A × Rows Place} c ≡ failed d
       again c d q = cc
 

@@ -1,17 +1,16 @@
 -- A part behind which another may stand: exact if both are.
-use Rattle.std.proofs.Common.{◌≡◌, ◌+◌, ◌≤◌, ◌<◌, ℕ, zero, suc, Bool, true, false, cond, ◌||◌, List, [], ◌∷◌, ◌++◌, length, Option, Some, None, Result, Ok, Err, refl, sym, ap, subst, ◌∙◌, append_assoc, arith, inl, inr, ◌⊎◌}
+use Rattle.std.proofs.Common.{◌≡◌, ◌≤◌, ℕ, Bool, true, false, cond, ◌||◌, [], ◌∷◌, ◌++◌, length, Option, Some, None, Result, Ok, Err, refl, sym, ap, subst, ◌∙◌, append_assoc, arith, inl, inr}
 use Rattle.std.proofs.lemmas.List.{length-append}
 use Rattle.protox_ast.specs.Places.{Place}
-use Rattle.protox_lexeme.specs.Shapes.{Shape, Row, Rows}
-use Rattle.protox_grammar.specs.Class.{Set, class, in_set, none, union}
+use Rattle.protox_lexeme.specs.Shapes.{Row, Rows}
+use Rattle.protox_grammar.specs.Class.{Set, class, in_set, union}
 use Rattle.protox_grammar.specs.Reader as reader
 use Rattle.protox_grammar.specs.Reader.{Reader, Refusal, Unexpected, Deep, ◌>>=◌, head_in}
 use Rattle.protox_grammar.proofs.Reading.{bind_err, cut-same, ok-err, err-ok}
-use Rattle.protox_grammar.proofs.Sets.{or_false}
 use Rattle.protox_grammar.proofs.Takes.{bind_ok, ok_is}
 use Rattle.protox_rows.specs.declared.expected.Expected.{Expected}
 use Rattle.protox_rows.specs.inner.Words.{Words, and_then, behind}
-use Rattle.protox_rows.proofs.Exact.{Exact, Fits, Parted, Took, parted, took, took_more, under}
+use Rattle.protox_rows.proofs.Exact.{Exact, Fits, Took, parted, took, took_more, under}
 
 -- The tokens with which both would go on: those of the second part; or without it, those of the
 -- first and those that begin the second.
@@ -82,6 +81,7 @@ module _ {A B : Type 0} {a : Reader Place A} {b : Reader Place B} {wa wb : Words
     where
       failed : {X : Type 0} → Refusal → Result X Refusal
       failed e = Err e
+
       again : (c d : Refusal) → (Err c >>= under {A = B} Some) ≡ Err d → failed {X = B × Rows Place} c ≡ failed d
       again c d q = cc
 
@@ -221,6 +221,7 @@ module _ {A B : Type 0} {a : Reader Place A} {b : Reader Place B} {wa wb : Words
       alone first false true f i j o = let no : true ≡ false = ap (λ b. b || P (class r.shape)) (sym i) ∙ o in absurd cc
       alone first false false true i j o = let no : true ≡ false = sym j ∙ ap (λ b. b || P (class r.shape)) (sym i) ∙ o in absurd cc
       alone first false false false i j o = ap (λ w. w >>= after) (ha.ends us t x first r zs i) ∙ ap (λ w. w >>= λ y. Ok ((x, y.0), y.1)) (absent r zs j)
+
       both : (y : B) (v : Row Place) (vs : Rows Place) → P (class v.shape) ≡ true → a (us ++ (v ∷ (vs ++ t))) ≡ Ok (x, v ∷ (vs ++ t)) → b (v ∷ (vs ++ t)) ≡ Ok (y, t) → (c : Bool) → mb y (class r.shape) ≡ c
           → cond c (Took (length zs) (a (us ++ (v ∷ (vs ++ (r ∷ zs)))) >>= after)) ((a (us ++ (v ∷ (vs ++ (r ∷ zs)))) >>= after) ≡ Ok ((x, Some y), r ∷ zs))
       both y v vs p one k true m =

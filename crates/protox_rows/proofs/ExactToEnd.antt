@@ -1,22 +1,20 @@
 -- Elements up to the end of the rows, with one part before them that may be absent: the words are
 -- exact wherever reading stops.
-use Rattle.std.proofs.Common.{◌≡◌, ◌+◌, ◌≤◌, ◌<◌, ℕ, zero, suc, Bool, true, false, cond, ◌||◌, List, [], ◌∷◌, ◌++◌, length, Option, Some, None, Result, Ok, Err, refl, sym, ap, subst, ◌∙◌, append_assoc, arith, inl, inr, ◌⊎◌}
-use Rattle.std.proofs.lemmas.List.{length-append}
+use Rattle.std.proofs.Common.{◌≡◌, ◌≤◌, ℕ, suc, Bool, true, false, cond, ◌||◌, List, [], ◌∷◌, ◌++◌, length, Option, Some, None, Result, Ok, Err, refl, sym, ap, subst, ◌∙◌, append_assoc, arith, inl, inr}
 use Rattle.protox_ast.specs.Places.{Place}
 use Rattle.protox_lexeme.specs.Shapes.{Shape, Row, Rows}
 use Rattle.protox_grammar.specs.Class.{Set, all, class, in_set, none, within}
 use Rattle.protox_grammar.specs.Reader as reader
 use Rattle.protox_grammar.specs.Reader.{Reader, Refusal, Unexpected, Deep, ◌>>=◌, head_in, mapped, star}
 use Rattle.protox_grammar.proofs.Loops.{star-turn}
-use Rattle.protox_grammar.proofs.Reading.{bind_err, cut-same, ok-err, err-ok}
+use Rattle.protox_grammar.proofs.Reading.{bind_err, cut-same, ok-err}
 use Rattle.protox_grammar.proofs.Sets.{within-at}
-use Rattle.protox_grammar.proofs.Takes.{bind_ok, ok_is}
 use Rattle.protox_rows.specs.Expected.{named, allowed}
 use Rattle.protox_rows.specs.declared.expected.Expected.{Expected}
 use Rattle.protox_rows.specs.inner.Words.{Words, and_then, behind, times}
-use Rattle.protox_rows.proofs.Exact.{Exact, Fits, Parted, Took, parted, took, took_more, under}
+use Rattle.protox_rows.proofs.Exact.{Exact, Fits, Took, parted, took_more, under}
 use Rattle.protox_rows.proofs.ExactBefore.{none-last}
-use Rattle.protox_rows.proofs.ExactLists.{bound, eats, ends-all, goes_on-all, inside-all, last_more, taken, took-all}
+use Rattle.protox_rows.proofs.ExactLists.{eats, ends-all, goes_on-all, inside-all, taken, took-all}
 use Rattle.protox_rows.proofs.ExactWide.{at_end-words, cut, is-cut, same-words, stopped}
 
 module _ {B : Type 0} {b : Reader Place B} {wb : Words} {e : Expected} {fb : Set} (hb : Exact b wb e fb (λ y. none)) (wide : within fb all ≡ true) (low : within (named e) fb ≡ true) (high : within fb (allowed e) ≡ true) where
@@ -56,6 +54,7 @@ module _ {B : Type 0} {b : Reader Place B} {wb : Words} {e : Expected} {fb : Set
     where
       failed : ℕ → Result (List B × Rows Place) Refusal
       failed n = Err (Unexpected n)
+
       same : (n m : ℕ) → failed n ≡ failed m → n ≡ m
       same n m k = cc
 
@@ -147,6 +146,7 @@ module _ {A B C : Type 0} {a : Reader Place A} {b : Reader Place B} {wa wb : Wor
     where
       failed : {X : Type 0} → Refusal → Result X Refusal
       failed d = Err d
+
       again : (c d : Refusal) → failed {X = (Option A × C) × Rows Place} c ≡ failed d → failed {X = List B × Rows Place} c ≡ failed d
       again c d q = cc
 

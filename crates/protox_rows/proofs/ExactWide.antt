@@ -1,22 +1,21 @@
 -- Elements up to a token: a reader that tries each other token as an element refuses those with
 -- which none begins. So it is exact, too.
-use Rattle.std.proofs.Common.{◌≡◌, ◌+◌, ◌≤◌, ◌<◌, ℕ, zero, suc, Bool, true, false, cond, ◌||◌, List, [], ◌∷◌, ◌++◌, length, Result, Ok, Err, refl, sym, ap, subst, ◌∙◌, append_assoc, arith, inl, inr, ◌⊎◌}
+use Rattle.std.proofs.Common.{◌≡◌, ◌≤◌, ℕ, zero, suc, Bool, true, false, cond, ◌||◌, List, [], ◌∷◌, ◌++◌, length, Result, Ok, Err, refl, sym, ap, subst, ◌∙◌, arith}
 use Rattle.std.proofs.lemmas.List.{length-append}
 use Rattle.protox_ast.specs.Places.{Place}
-use Rattle.protox_lexeme.specs.Shapes.{Shape, Row, Rows}
+use Rattle.protox_lexeme.specs.Shapes.{Row, Rows}
 use Rattle.protox_grammar.specs.Class.{Set, apart, class, in_set, none, union, within}
 use Rattle.protox_grammar.specs.Reader as reader
 use Rattle.protox_grammar.specs.Reader.{Consumes, Reader, Refusal, Unexpected, Deep, ◌>>=◌, head_in, star}
 use Rattle.protox_grammar.proofs.Loops.{star-turn}
-use Rattle.protox_grammar.proofs.Reading.{bind_err, ok-err, err-ok}
 use Rattle.protox_grammar.proofs.Sets.{apart-at, within-at}
 use Rattle.protox_grammar.proofs.Takes.{bind_ok, ok_is}
 use Rattle.protox_rows.specs.Expected.{named, allowed}
 use Rattle.protox_rows.specs.declared.expected.Expected.{Expected}
 use Rattle.protox_rows.specs.inner.Words.{Words, and_then, behind, times}
-use Rattle.protox_rows.proofs.Exact.{Exact, Fits, Took}
-use Rattle.protox_rows.proofs.ExactBefore.{closed-exact, none-last}
-use Rattle.protox_rows.proofs.ExactLists.{begun, bound, eats, ends-all, goes_on-all, inside-all, last_more, stays-all, taken, took-all}
+use Rattle.protox_rows.proofs.Exact.{Exact, Took}
+use Rattle.protox_rows.proofs.ExactBefore.{closed-exact}
+use Rattle.protox_rows.proofs.ExactLists.{eats, goes_on-all, last_more, taken}
 use Rattle.protox_rows.proofs.ExactSequences.{reread, reworded}
 use Rattle.protox_rows.proofs.Turns.{words-turn, words-done}
 
@@ -173,8 +172,10 @@ module _ {B C : Type 0} {b : Reader Place B} {c : Reader Place C} {wb wc : Words
           hc.says (r ∷ zs) (hc.barred r zs (apart-at P fc closes r.shape p)) ∙ sym (hb.says (r ∷ zs) (hb.barred r zs (stopped hb P wide xs l r zs q)))
           ∙ sym (at_end-words hb P wide xs (l, r ∷ zs) q) ∙ sym (same-words hb P wide xs)
       said-cut xs l ys false q p = refl
+
       said-by : (xs : Rows Place) (r : Result (List B × Rows Place) Refusal) → star (in_set fb) b xs ≡ r → behind (times (in_set fb) b wb xs) (λ l. wc) r ≡ behind (times (in_set P) b wb xs) (λ l. wc) (r >>= cut hb P wide)
       said-by xs (Ok x) q = said-cut xs x.0 x.1 (head_in (in_set P) x.1) q refl
       said-by xs (Err d) q = sym (same-words hb P wide xs)
+
       said : (xs : Rows Place) → and_then (star (in_set fb) b) (times (in_set fb) b wb) (λ l. wc) xs ≡ and_then (star (in_set P) b) (times (in_set P) b wb) (λ l. wc) xs
       said xs = said-by xs (star (in_set fb) b xs) refl ∙ ap (behind (times (in_set P) b wb xs) (λ l. wc)) (sym (is-cut hb P wide xs))

@@ -1,21 +1,15 @@
 -- Each part of a name, and each string, takes a row.
-use Rattle.std.proofs.Common.{◌≡◌, ℕ, List, [], None, refl, lit<}
-use Rattle.protox_lexeme.specs.Shapes.{Shape, Ident, Mark}
+use Rattle.std.proofs.Common.{[], None, refl}
 use Rattle.protox_ast.specs.Spelling as s
-use Rattle.protox_ast.specs.Ast as ast
 use Rattle.protox_ast.specs.Places.{Place}
-use Rattle.protox_grammar.specs.Class.{only, class}
-use Rattle.protox_grammar.specs.Reader.{Consumes, fixed}
-use Rattle.protox_grammar.specs.Rules as r
-use Rattle.protox_grammar.proofs.Shows.{Shows, as_is, shows-eats}
-use Rattle.protox_grammar.proofs.Tests.{mark-class}
+use Rattle.protox_grammar.specs.Reader.{Consumes}
+use Rattle.protox_grammar.proofs.Shows.{shows-eats}
 use Rattle.protox_grammar.proofs.Forms.{mark-laws, seq-laws}
 use Rattle.protox_grammar.proofs.Parts as parts
 use Rattle.protox_rows.specs.inner.Names as names
 pub use Rattle.protox_rows.specs.inner.Names.{name_and_span}
 use Rattle.protox_rows.specs.inner.Strings as runs
 pub use Rattle.protox_rows.specs.inner.Strings.{joined}
-use Rattle.protox_rows.specs.inner.Reads as reads
 
 -- some place
 abbrev pub here : Place

@@ -1,11 +1,11 @@
 -- The statements of a file are read exactly: the words name what is taken where reading stops.
-use Rattle.std.proofs.Common.{◌≡◌, eqb, ◌≤◌, ◌<◌, ℕ, zero, suc, Bool, true, false, cond, ◌||◌, List, [], ◌∷◌, ◌++◌, length, Option, Some, None, Result, Ok, Err, refl, sym, ap, subst, ◌∙◌, arith}
+use Rattle.std.proofs.Common.{◌≡◌, Bool, true, false, cond, ◌||◌, [], ◌∷◌, ◌++◌, length, Err, refl, ap, arith}
 use Rattle.std.proofs.lemmas.Bool.{eqb-true}
 use Rattle.std.specs.Prelude.{codes}
 use Rattle.protox_ast.specs.Places.{Place}
 use Rattle.protox_ast.specs.Spelling as s
-use Rattle.protox_lexeme.specs.Shapes.{Shape, Ident, Mark, Row, Rows}
-use Rattle.protox_grammar.specs.Class.{Set, all, among, class, in_set, none, only, union, within, words}
+use Rattle.protox_lexeme.specs.Shapes.{Shape, Mark, Row, Rows}
+use Rattle.protox_grammar.specs.Class.{Set, among, class, in_set, none, only, union}
 use Rattle.protox_grammar.specs.Reader as reader
 use Rattle.protox_grammar.specs.Reader.{Reader, Refusal, Unexpected, folded, fixed, seq}
 use Rattle.protox_grammar.specs.Token as token

@@ -4,11 +4,11 @@ use Rattle.std.specs.Prelude.{slice_get, filter}
 use Rattle.protox_fault.specs.Faults.{Span, faults_in, is_of_mode, span_from}
 use Rattle.protox_fault.specs.declared.error.ParseErrorKind.{ParseErrorKind}
 use Rattle.protox_fault.specs.declared.error.ParseErrorKind.TheVariants as fault
-use Rattle.protox_lexeme.proofs.FaultModes.{IsOwnKind, IsRowKind}
+use Rattle.protox_lexeme.proofs.FaultModes.{IsRowKind}
 use Rattle.protox_lexeme.specs.Lexemes.{Lexeme}
 use Rattle.protox_lexeme.specs.Printed.{printed}
 use Rattle.protox_lexeme.specs.Shapes.{Shape, Ident, Int, Float, Str, Mark, LineComment, BlockComment, Newline, Invalid, Row, Rows}
-use Rattle.protox_lexeme.specs.Table.{invalid_faults, is_gap, row_faults, rows_of, table_of}
+use Rattle.protox_lexeme.specs.Table.{is_gap, row_faults, rows_of, table_of}
 use Rattle.protox_ast.proofs.Standing.{as-many, bare-placed}
 use Rattle.protox_ast.specs.Basics.{Each, first_of}
 use Rattle.protox_ast.specs.CheckedNodes.{CheckedNode, ASyntax, AnImport, AReservedName, AGroupName, APackageAgain, ATooDeep, checked_nodes}

@@ -1,5 +1,5 @@
 -- The first fault of a source is true of it.
-use Rattle.std.proofs.Common.{◌≡◌, inl, inr, ◌⊎◌, ℕ, suc, List, [], ◌∷◌, ◌++◌, Any, Some, None, refl, sym, ap, subst}
+use Rattle.std.proofs.Common.{◌≡◌, inl, inr, ℕ, suc, List, [], ◌∷◌, ◌++◌, Some, sym, ap, subst}
 use Rattle.protox_fault.specs.Faults.{Span, span_from}
 use Rattle.protox_fault.specs.declared.error.ParseErrorKind.{ParseErrorKind}
 use Rattle.protox_fault.specs.declared.error.ParseErrorKind.TheVariants as fault

@@ -14,7 +14,6 @@ use Rattle.protox_ast.proofs.Standing.{Stand, bare, bare-placed, as-many, count-
 use Rattle.protox_ast.specs.Keywords.{Each}
 use Rattle.protox_ast.specs.Places.{Place, placed}
 use Rattle.protox_ast.specs.Tree as tree
-use Rattle.protox_ast.specs.Truth.{is_terminator}
 use Rattle.protox_grammar.specs.Reader.{Unexpected, Deep}
 use Rattle.protox_grammar.specs.Told.{Notes, is_invalid, then_notes}
 use Rattle.protox_grammar.specs.declared.note.Noted.TheVariants.{TextFormat}

@@ -1,8 +1,7 @@
 -- The words of the first fault are true.
-use Rattle.std.proofs.Common.{◌≡◌, ◌+◌, ◌≤◌, ◌<◌, inl, inr, ◌⊎◌, ℕ, zero, suc, Bool, true, false, IfErr, List, [], ◌∷◌, ◌++◌, length, take, Option, Some, None, Result, Ok, Err, refl, sym, ap, subst, ◌∙◌, append-nil, append_assoc, arith}
+use Rattle.std.proofs.Common.{◌≡◌, inl, inr, ℕ, zero, suc, true, false, IfErr, List, [], ◌∷◌, ◌++◌, length, take, Option, Some, None, Result, Ok, Err, refl, sym, ap, subst, ◌∙◌, append-nil, arith}
 use Rattle.std.proofs.lemmas.List.{length-append}
 use Rattle.std.specs.Prelude.{IfSome}
-use Rattle.protox_fault.specs.Faults.{Span}
 use Rattle.protox_fault.specs.declared.error.ParseErrorKind.{ParseErrorKind}
 use Rattle.protox_fault.specs.declared.error.ParseErrorKind.TheVariants as fault
 use Rattle.protox_fault.specs.declared.error.SyntaxFailure.{SyntaxFailure}
@@ -17,10 +16,9 @@ use Rattle.protox_ast.specs.Basics.{Each, first_of}
 use Rattle.protox_ast.specs.CheckedNodes.{CheckedNode, ASyntax, AnImport, AReservedName, AGroupName, APackageAgain, ATooDeep, checked_nodes}
 use Rattle.protox_ast.specs.Checks.{WrongCheckedNode}
 use Rattle.protox_ast.specs.Places.{Place}
-use Rattle.protox_ast.specs.Spells.{BeginsFile, IsUnexpected, shapes}
-use Rattle.protox_ast.specs.Truth.{IsWrongBefore, is_terminator, source_row, token_span}
+use Rattle.protox_ast.specs.Spells.{BeginsFile, shapes}
+use Rattle.protox_ast.specs.Truth.{IsWrongBefore, token_span}
 use Rattle.protox_ast.specs.declared.ast.File.{File}
-use Rattle.protox_grammar.specs.Class.{class}
 use Rattle.protox_grammar.specs.Reader.{Refusal, Unexpected, Deep, ◌>>=◌}
 use Rattle.protox_grammar.specs.Reads.{read}
 use Rattle.protox_grammar.proofs.Fronts as fronts
@@ -29,10 +27,8 @@ use Rattle.protox_grammar.proofs.Main as main
 use Rattle.protox_grammar.proofs.Numbers.{shapes-append, shapes-length}
 use Rattle.protox_grammar.proofs.StepLists.{take-front}
 use Rattle.protox_options.specs.inner.Options.{here}
-use Rattle.protox_rows.specs.Expected.{allowed, named, words_of}
-use Rattle.protox_rows.specs.declared.expected.Expected.{Expected}
 use Rattle.protox_rows.proofs.Exact.{Fits, Took}
-use Rattle.protox_syntax.specs.ExpectedWords.{AreTrueBehind, ExpectsTruly, GoesOnWith, HasTrueWords}
+use Rattle.protox_syntax.specs.ExpectedWords.{AreTrueBehind, ExpectsTruly, HasTrueWords}
 use Rattle.protox_syntax.specs.inner.ParsedTable.{AreMergedFaults, ParsesTable, RefusesTable}
 use Rattle.protox_syntax.specs.inner.Recovery.{IsSaid}
 use Rattle.protox_syntax.specs.inner.Statements.{levels}
@@ -41,7 +37,7 @@ use Rattle.protox_syntax.specs.inner.Words as said
 use Rattle.protox_syntax.proofs.ExactFile.{whole-fits}
 use Rattle.protox_syntax.proofs.FirstFaults as first
 use Rattle.protox_syntax.proofs.FirstFaults.{AreOfKinds, IsOrdered}
-use Rattle.protox_syntax.proofs.FirstOfMerged.{FirstOfList, IsOfRow, IsOfNode, IsOfToken, IsOfEnd, first-of-list, of_row, of_node, of_token, of_end, rows, stops-at, taken}
+use Rattle.protox_syntax.proofs.FirstOfMerged.{FirstOfList, IsOfToken, first-of-list, of_row, of_node, of_token, of_end, rows, stops-at, taken}
 use Rattle.protox_syntax.proofs.Reading.{err-read, whole-read}
 
 -- ---- with another token where reading stops

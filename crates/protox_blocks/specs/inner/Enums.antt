@@ -1,16 +1,12 @@
 -- How the code reads and notes enums.
-use Rattle.std.specs.Prelude.{◌≡◌, List, [], ◌∷◌, ◌++◌, map, option_map, ◌⊎◌, codes}
+use Rattle.std.specs.Prelude.{◌≡◌, List, [], ◌∷◌, ◌++◌, map, ◌⊎◌, codes}
 use Rattle.std.specs.List.{filter_map}
 use Rattle.std.proofs.Common.{refl, sym, ap, ◌∙◌, append-nil, append_assoc, inl, inr}
-use Rattle.protox_lexeme.specs.Shapes.{Rows}
 use Rattle.protox_ast.specs.Tree as tree
 use Rattle.protox_ast.specs.Spelling as s
 use Rattle.protox_ast.specs.Ast as ast
 use Rattle.protox_ast.specs.Places.{Place}
-use Rattle.protox_ast.specs.declared.ast.Ident.{Ident}
-use Rattle.protox_ast.specs.declared.ast.Int.{Int}
 use Rattle.protox_ast.specs.declared.ast.Option as option_type
-use Rattle.protox_ast.specs.declared.ast.OptionList.{OptionList}
 use Rattle.protox_ast.specs.declared.ast.Reserved as reserved_type
 use Rattle.protox_ast.specs.declared.ast.EnumValue.{EnumValue}
 use Rattle.protox_grammar.specs.Class.{only, but, among}

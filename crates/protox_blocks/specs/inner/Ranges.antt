@@ -17,7 +17,7 @@ use Rattle.protox_grammar.specs.Rules as r
 use Rattle.protox_grammar.specs.Told.{name_notes}
 use Rattle.protox_grammar.specs.Token as token
 use Rattle.protox_grammar.proofs.Shows.{two}
-use Rattle.protox_grammar.proofs.Shown.{Silent, Noting, both, seen, named, renamed, shown_by, choice, optional, the, sign, list_of, list_view}
+use Rattle.protox_grammar.proofs.Shown.{Silent, Noting, both, seen, named, renamed, shown_by, choice, optional, the, sign, list_of}
 use Rattle.protox_rows.specs.inner.Names.{int}
 use Rattle.protox_grammar.proofs.NotesLie.{name-lie}
 use Rattle.protox_rows.specs.inner.Strings.{checked_strings}

@@ -26,7 +26,7 @@ use Rattle.protox_ast.specs.declared.ast.Extend.{roll-Extend}
 use Rattle.protox_ast.specs.declared.ast.Oneof as oneof_type
 use Rattle.protox_ast.specs.declared.ast.Oneof.{roll-Oneof}
 use Rattle.protox_ast.specs.declared.ast.Option as oneof_lists
-use Rattle.protox_grammar.specs.Class.{only, among, but, in_set}
+use Rattle.protox_grammar.specs.Class.{only, among, but}
 use Rattle.protox_grammar.specs.Reader.{Reader, folded, fixed, leaf, see_word}
 use Rattle.protox_grammar.specs.Rule as rule
 use Rattle.protox_grammar.specs.Rules as r
@@ -49,7 +49,6 @@ use Rattle.protox_options.specs.inner.Options.{here, list_if_any, option}
 use Rattle.protox_blocks.specs.inner.Enums.{enum_}
 use Rattle.protox_blocks.specs.inner.Ranges.{reserved, extensions}
 use Rattle.protox_bodies.specs.inner.Fields.{Kind, kind_seen, normal, map_field, group_name, field_of, field-is, kind-begins, label-begins, labelled}
-use Rattle.protox_bodies.specs.declared.parts.FieldParts.{FieldParts}
 use Rattle.protox_bodies.specs.declared.parts.Element.{Element}
 use Rattle.protox_bodies.specs.declared.parts.Element.TheVariants as element_of
 use Rattle.protox_bodies.specs.declared.parts.ElementsByKind.{ElementsByKind}

@@ -1,5 +1,5 @@
 -- How the code reads and notes the kinds of fields, and what a field is made of.
-use Rattle.std.specs.Prelude.{◌≡◌, List, [], ◌∷◌, ◌++◌, Option, Some, None, option_map, ◌⊎◌, codes}
+use Rattle.std.specs.Prelude.{◌≡◌, [], ◌∷◌, ◌++◌, Option, Some, None, option_map, ◌⊎◌, codes}
 use Rattle.std.proofs.Common.{refl, append-nil, inl, inr}
 use Rattle.std.specs.Option.{unwrap_or}
 use Rattle.protox_fault.specs.Faults.{Span}

@@ -1,5 +1,5 @@
 -- The words that the code says where it stops reading bodies of messages and groups, level by level.
-use Rattle.std.specs.Prelude.{ℕ, zero, suc, List, [], ◌∷◌, Option, Some, None, codes}
+use Rattle.std.specs.Prelude.{ℕ, zero, suc, [], ◌∷◌, Option, Some, None, codes}
 use Rattle.protox_lexeme.specs.Shapes.{Ident, Mark}
 use Rattle.protox_ast.specs.Spelling as s
 use Rattle.protox_ast.specs.declared.ast.OptionList.{OptionList}

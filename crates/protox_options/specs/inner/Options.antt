@@ -1,5 +1,5 @@
 -- Options as the code reads them, and its notes where an aggregate begins and ends.
-use Rattle.std.specs.Prelude.{◌≡◌, ◌==◌, ◌-◌, ℕ, suc, Bool, true, false, if◌then◌else◌, List, [], ◌∷◌, map, Option, Some, None, option_map, codes}
+use Rattle.std.specs.Prelude.{◌≡◌, ◌==◌, ◌-◌, ℕ, suc, Bool, true, false, if◌then◌else◌, List, [], ◌∷◌, Option, Some, None, option_map, codes}
 use Rattle.std.proofs.Common.{refl}
 use Rattle.protox_fault.specs.Faults.{Span}
 use Rattle.protox_lexeme.specs.Shapes.{Shape, Mark, Rows}
@@ -12,18 +12,18 @@ use Rattle.protox_ast.specs.Places.{Place}
 use Rattle.protox_ast.specs.declared.ast.OptionNamePart.TheVariants as name_part
 use Rattle.protox_ast.specs.declared.ast.OptionValue.{OptionValue}
 use Rattle.protox_ast.specs.declared.ast.OptionValue.TheVariants as option_value
-use Rattle.protox_grammar.specs.Class.{only, words, union, among, in_set}
+use Rattle.protox_grammar.specs.Class.{only, words, union, among}
 use Rattle.protox_grammar.specs.Reader as reader
 use Rattle.protox_grammar.specs.Reader.{mapped, seq, fixed}
 use Rattle.protox_grammar.specs.Rule as rule
 use Rattle.protox_grammar.specs.Rules as r
-use Rattle.protox_grammar.specs.Steps.{AnOpenBrace, ACloseBrace, star_trace}
+use Rattle.protox_grammar.specs.Steps.{AnOpenBrace, ACloseBrace}
 use Rattle.protox_grammar.specs.Told.{brace_notes}
 use Rattle.protox_grammar.specs.Token as token
 use Rattle.protox_grammar.proofs.Closed.{closed-read}
 use Rattle.protox_grammar.proofs.Shows.{as_is, seq-shows, right-shows, two, three}
-use Rattle.protox_grammar.proofs.Telling.{noting, plain-tells, seq_trace}
-use Rattle.protox_grammar.proofs.Shown.{Silent, Noting, Shown, both, seen, named, renamed, choice, optional, the, sign, with_note, list_of, list_view, list_then}
+use Rattle.protox_grammar.proofs.Telling.{plain-tells}
+use Rattle.protox_grammar.proofs.Shown.{Silent, Noting, both, seen, named, renamed, choice, optional, the, sign, with_note, list_of, list_view, list_then}
 use Rattle.protox_rows.specs.inner.Names.{ident, typename, integer, float}
 use Rattle.protox_rows.specs.inner.Strings.{strings}
 use Rattle.protox_options.specs.declared.values.Unsigned as unsigned_type

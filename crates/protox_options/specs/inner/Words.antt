@@ -1,5 +1,5 @@
 -- The words that the code says where it stops reading options.
-use Rattle.std.specs.Prelude.{Bool, true, false, if◌then◌else◌, List, [], ◌∷◌, Option, Some, None, codes}
+use Rattle.std.specs.Prelude.{Bool, if◌then◌else◌, [], ◌∷◌, Option, Some, None, codes}
 use Rattle.protox_fault.specs.Faults.{Span}
 use Rattle.protox_lexeme.specs.Shapes.{Ident, Mark}
 use Rattle.protox_ast.specs.Ast.{span_if_any}

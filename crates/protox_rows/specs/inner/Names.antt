@@ -1,5 +1,5 @@
 -- Names, numbers, types and labels, as the code reads them.
-use Rattle.std.specs.Prelude.{◌≡◌, ℕ, List, [], ◌∷◌, map, Option, Some, None, option_map, is_some, codes}
+use Rattle.std.specs.Prelude.{◌≡◌, ℕ, List, [], ◌∷◌, Option, Some, None, option_map, is_some, codes}
 use Rattle.std.proofs.Common.{refl}
 use Rattle.protox_fault.specs.Faults.{Span}
 use Rattle.protox_ast.specs.Tree as tree

@@ -1,17 +1,10 @@
 -- What the steps of the code read, beside names and strings.
-use Rattle.std.specs.Prelude.{ℕ, List, [], ◌∷◌, Bool, true, None}
-use Rattle.protox_lexeme.specs.Shapes.{Shape, Ident, Mark, Rows}
-use Rattle.protox_grammar.specs.Reader.{Reader, is_token, fixed}
+use Rattle.std.specs.Prelude.{[], ◌∷◌, Bool, true, None}
+use Rattle.protox_lexeme.specs.Shapes.{Shape, Rows}
 pub use Rattle.protox_grammar.proofs.Shown.{push, mapped_from}
 use Rattle.protox_ast.specs.Ast.{comments}
 use Rattle.protox_ast.specs.Places.{Place}
 use Rattle.protox_ast.specs.declared.ast.Comments.{Comments}
-use Rattle.protox_ast.specs.declared.ast.Ident as ident_type
-use Rattle.protox_ast.specs.declared.ast.TypeName as type_name
-use Rattle.protox_ast.specs.declared.ast.Int as int_type
-use Rattle.protox_fault.specs.Faults.{Span}
-use Rattle.protox_rows.specs.inner.Names as names
-use Rattle.protox_rows.specs.inner.Strings as runs
 
 -- Every token passes.
 abbrev pub anything : Shape → Bool

@@ -1,5 +1,5 @@
 -- Runs of strings, as the code reads and checks them.
-use Rattle.std.specs.Prelude.{◌≡◌, ℕ, List, [], ◌∷◌, ◌++◌, map, Option}
+use Rattle.std.specs.Prelude.{◌≡◌, ℕ, List, [], ◌∷◌, ◌++◌, map}
 use Rattle.std.proofs.Common.{sym, ap, ◌∙◌, append-nil, append_assoc}
 use Rattle.protox_fault.specs.Faults.{Span, SpanLiesIn}
 use Rattle.protox_lexeme.specs.Shapes.{Rows}
@@ -10,8 +10,8 @@ use Rattle.protox_ast.specs.Places.{Place}
 use Rattle.protox_grammar.specs.Class.{only}
 use Rattle.protox_grammar.specs.Reader.{folded, see_text}
 use Rattle.protox_grammar.specs.Rules as r
-use Rattle.protox_grammar.specs.Steps.{ANode, Note}
-use Rattle.protox_grammar.specs.Told.{Notes, node_notes, told}
+use Rattle.protox_grammar.specs.Steps.{ANode}
+use Rattle.protox_grammar.specs.Told.{Notes, node_notes}
 use Rattle.protox_grammar.specs.Token as token
 use Rattle.protox_grammar.proofs.NotesLie.{run-lies}
 use Rattle.protox_grammar.proofs.Telling.{AllLie}

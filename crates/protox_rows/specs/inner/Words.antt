@@ -1,5 +1,5 @@
 -- The words that the code says where it stops reading: what it expected there.
-use Rattle.std.specs.Prelude.{◌≡◌, ℕ, zero, suc, List, [], ◌∷◌, length, Bool, if◌then◌else◌, Option, Some, None, Result, Ok, Err, codes}
+use Rattle.std.specs.Prelude.{◌≡◌, ℕ, zero, suc, length, Bool, if◌then◌else◌, Option, Some, None, Result, Ok, Err}
 use Rattle.protox_fault.specs.Faults.{Span}
 use Rattle.protox_lexeme.specs.Shapes.{Shape, Mark, Rows}
 use Rattle.protox_ast.specs.Ast.{span_if_any}

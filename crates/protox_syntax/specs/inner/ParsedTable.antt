@@ -1,5 +1,5 @@
 -- What reading a table of tokens gives.
-use Rattle.std.specs.Prelude.{◌≡◌, ℕ, ◌+◌, false, List, [], ◌∷◌, ◌++◌, length, map, Option, Some, None, option_map, option_to_list, Result, Ok, Err}
+use Rattle.std.specs.Prelude.{◌≡◌, ℕ, ◌+◌, List, [], ◌∷◌, ◌++◌, length, map, Option, Some, None, option_map, option_to_list, Result, Ok, Err}
 use Rattle.std.specs.Str.{IsUtf8}
 use Rattle.protox_fault.specs.Faults.{Span, LiesIn}
 use Rattle.protox_lexeme.specs.Shapes.{Row, Rows}

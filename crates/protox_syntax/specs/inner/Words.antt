@@ -1,5 +1,5 @@
 -- The words that the code says where it stops reading the statements of a file.
-use Rattle.std.specs.Prelude.{List, [], ◌∷◌, Option, Some, None, codes}
+use Rattle.std.specs.Prelude.{Option, Some, None, codes}
 use Rattle.protox_fault.specs.Faults.{Span}
 use Rattle.protox_lexeme.specs.Shapes.{Ident, Mark}
 use Rattle.protox_ast.specs.Spelling as s

@@ -5,7 +5,6 @@ use Rattle.protox_rows.proofs.Turns as turns
 use Rattle.protox_blocks.specs.inner.Enums as rule
 use Rattle.protox_blocks.proofs.Turns.{enum_element-eats}
 use Rattle.protox_blocks.proofs.enums.enum_elements.Goals as goal
-use Rattle.protox_rows.specs.inner.Words as said
 use Rattle.protox_blocks.specs.inner.Words as words
 
 pub returns-in_err-element-clause-read : goal.returns-in_err-element-clause-read

@@ -7,7 +7,6 @@ use Rattle.protox_rows.proofs.Turns as turns
 use Rattle.protox_blocks.specs.inner.Ranges as rule
 use Rattle.protox_blocks.proofs.Turns.{more_range-eats}
 use Rattle.protox_blocks.proofs.ranges.ranges.Goals as goal
-use Rattle.protox_rows.specs.inner.Words as said
 use Rattle.protox_blocks.specs.inner.Words as words
 
 pub returns-in_err-range-clause-read : goal.returns-in_err-range-clause-read

@@ -5,7 +5,6 @@ use Rattle.protox_rows.proofs.Turns as turns
 use Rattle.protox_blocks.specs.inner.Services as rule
 use Rattle.protox_blocks.proofs.Turns.{rpc_element-eats}
 use Rattle.protox_blocks.proofs.services.rpc_elements.Goals as goal
-use Rattle.protox_rows.specs.inner.Words as said
 use Rattle.protox_blocks.specs.inner.Words as words
 
 pub returns-in_err-element-clause-read : goal.returns-in_err-element-clause-read

@@ -7,7 +7,6 @@ use Rattle.protox_rows.proofs.Turns as turns
 use Rattle.protox_options.specs.inner.Options.{more_body, bodies}
 use Rattle.protox_options.proofs.Turns.{more_body-eats}
 use Rattle.protox_options.proofs.options.bodies.Goals as goal
-use Rattle.protox_rows.specs.inner.Words as said
 use Rattle.protox_options.specs.inner.Words as words
 
 pub returns-in_err-body-clause-read : goal.returns-in_err-body-clause-read

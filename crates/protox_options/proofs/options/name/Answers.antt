@@ -7,7 +7,6 @@ use Rattle.protox_rows.proofs.Turns as turns
 use Rattle.protox_options.specs.inner.Options.{more_part, name}
 use Rattle.protox_options.proofs.Turns.{more_part-eats}
 use Rattle.protox_options.proofs.options.name.Goals as goal
-use Rattle.protox_rows.specs.inner.Words as said
 use Rattle.protox_options.specs.inner.Words as words
 
 pub returns-in_err-part-clause-read : goal.returns-in_err-part-clause-read

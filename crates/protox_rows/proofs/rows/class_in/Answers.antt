@@ -1,5 +1,5 @@
 use Rattle.std.proofs.Common.{sym, ap, ◌∙◌}
-use Rattle.std.specs.Prelude.{slice_get, option_map}
+use Rattle.std.specs.Prelude.{slice_get}
 use Rattle.protox_lexeme.specs.TokenClass.{class}
 use Rattle.protox_rows.specs.Rows.{bare_row}
 use Rattle.protox_rows.proofs.PlacedRows.{none-there, none-mapped}

@@ -1,125 +1,160 @@
 -- The words that a fault writes after `expected`, which tokens they name, and which they leave out.
-use Rattle.std.specs.Prelude.{codes, ℕ, List, [], ◌∷◌}
-use Rattle.protox_grammar.specs.Class.{Set, all, among, none, only, union, words}
+use Rattle.std.specs.Prelude.{◌≡◌, codes, ℕ, List, [], ◌∷◌, ◌++◌}
+use Rattle.std.proofs.Common.{refl}
+use Rattle.protox_grammar.specs.Class.{Set, all, among, mark, none, only, union, word, words}
 use Rattle.protox_grammar.specs.Token as token
 use Rattle.protox_rows.specs.declared.expected.Expected.{Expected}
 use Rattle.protox_rows.specs.declared.expected.Expected.TheVariants as expected
 
--- The words.
-abbrev pub words_of : Expected → List ℕ
-words_of expected.Syntax = codes "'syntax'"
-words_of expected.Import = codes "'import'"
-words_of expected.Message = codes "'message'"
-words_of expected.Returns = codes "'returns'"
-words_of expected.To = codes "'to'"
-words_of expected.Dot = codes "'.'"
-words_of expected.Minus = codes "'-'"
-words_of expected.Equals = codes "'='"
-words_of expected.Semicolon = codes "';'"
-words_of expected.Comma = codes "','"
-words_of expected.LeftParen = codes "'('"
-words_of expected.RightParen = codes "')'"
-words_of expected.LeftBrace = codes "'{'"
-words_of expected.RightBrace = codes "'}'"
-words_of expected.LeftBracket = codes "'['"
-words_of expected.LeftAngleBracket = codes "'<'"
-words_of expected.RightAngleBracket = codes "'>'"
-words_of expected.Statement = codes "'enum', 'extend', 'import', 'message', 'option', 'service', 'package' or ';'"
-words_of expected.Ident = codes "an identifier"
-words_of expected.Int = codes "an integer"
-words_of expected.Type = codes "a field type"
-words_of expected.TypeName = codes "a type name"
-words_of expected.String = codes "a string"
-words_of expected.StringLiteral = codes "a string literal"
-words_of expected.ImportString = codes "a string literal, 'public' or 'weak'"
-words_of expected.WeakOrPublic = codes "'public' or 'weak'"
-words_of expected.MessageBody = codes "a message field, oneof, reserved range, enum, message, option or '}'"
-words_of expected.OneofBody = codes "a message field, option or '}'"
-words_of expected.ExtendBody = codes "a message field, '}' or ';'"
-words_of expected.EnumBody = codes "an identifier, '}', 'reserved' or 'option'"
-words_of expected.ServiceBody = codes "'rpc', '}', 'option' or ';'"
-words_of expected.RpcBody = codes "'option', '}' or ';'"
-words_of expected.SemicolonOrOptions = codes "';' or '['"
-words_of expected.BraceOrOptions = codes "'{' or '['"
-words_of expected.StreamOrType = codes "'stream' or a type name"
-words_of expected.SemicolonOrBrace = codes "';' or '{'"
-words_of expected.ReservedItem = codes "a positive integer or string"
-words_of expected.CommaOrSemicolon = codes "',' or ';'"
-words_of expected.AfterReservedStart = codes "'to', ',' or ';'"
-words_of expected.AfterExtensionStart = codes "'to', ',', ';' or '['"
-words_of expected.IntOrMax = codes "an integer or 'max'"
-words_of expected.AfterExtensionEnd = codes "',', ';' or '['"
-words_of expected.CommaOrRightBracket = codes "',' or ']'"
-words_of expected.OptionName = codes "an identifier or '('"
-words_of expected.EqualsOrDot = codes "'=' or '.'"
-words_of expected.Constant = codes "a constant"
-words_of expected.Numeric = codes "a numeric literal"
-words_of expected.DotOrIdent = codes "'.' or an identifier"
-words_of expected.DotOrSemicolon = codes "'.' or ';'"
-words_of expected.DotOrLeftBrace = codes "'.' or '{'"
-words_of expected.DotOrRightParen = codes "'.' or ')'"
-words_of expected.DotOrComma = codes "'.' or ','"
-words_of expected.DotOrRightAngleBracket = codes "'.' or '>'"
+-- ---- parts of the words
+
+-- One part of the words, such as `'='` or `an integer`: its text, and the tokens that it names.
+pub record Part : Type 0 where
+  pub text : List ℕ
+  pub tokens : Set
+
+-- A keyword in quotes names this keyword; `k` is its class.
+abbrev pub the_word : (w : List ℕ) (k : ℕ) → word w ≡ k → Part
+the_word w k same = record { text = 39 ∷ w ++ 39 ∷ []; tokens = only k }
+
+-- A mark in quotes names this mark.
+abbrev pub the_mark : (byte k : ℕ) → mark byte ≡ k → Part
+the_mark byte k same = record { text = 39 ∷ byte ∷ 39 ∷ []; tokens = only k }
+
+-- Words without quotes.
+abbrev pub as_words : List ℕ → Set → Part
+as_words text tokens = record { text = text; tokens = tokens }
 
 -- Any word and the dot: what a type's name may begin with.
 abbrev pub type_names : Set
 type_names = union words (only token.dot)
 
+abbrev pub an_identifier : Part
+an_identifier = as_words (codes "an identifier") words
+
+abbrev pub an_integer : Part
+an_integer = as_words (codes "an integer") (only token.an_integer)
+
+abbrev pub a_positive_integer : Part
+a_positive_integer = as_words (codes "a positive integer") (only token.an_integer)
+
+abbrev pub a_numeric_literal : Part
+a_numeric_literal = as_words (codes "a numeric literal") (among (token.an_integer ∷ token.a_float ∷ []))
+
+abbrev pub a_string : Part
+a_string = as_words (codes "a string") (only token.a_string)
+
+abbrev pub string : Part
+string = as_words (codes "string") (only token.a_string)
+
+abbrev pub a_string_literal : Part
+a_string_literal = as_words (codes "a string literal") (only token.a_string)
+
+abbrev pub a_field_type : Part
+a_field_type = as_words (codes "a field type") type_names
+
+abbrev pub a_type_name : Part
+a_type_name = as_words (codes "a type name") type_names
+
+abbrev pub a_constant : Part
+a_constant = as_words (codes "a constant") (union words (among (token.an_integer ∷ token.a_float ∷ token.a_string ∷ token.minus ∷ token.open_brace ∷ [])))
+
+abbrev pub a_message_field : Part
+a_message_field = as_words (codes "a message field") type_names
+
+abbrev pub oneof : Part
+oneof = as_words (codes "oneof") (only token.oneof)
+
+abbrev pub reserved_range : Part
+reserved_range = as_words (codes "reserved range") (only token.reserved)
+
+abbrev pub enum : Part
+enum = as_words (codes "enum") (only token.enum)
+
+abbrev pub message : Part
+message = as_words (codes "message") (only token.message)
+
+abbrev pub option : Part
+option = as_words (codes "option") (only token.option)
+
+-- ---- the words of each expectation
+
+-- Its parts.
+abbrev pub parts_of : Expected → List Part
+parts_of expected.Syntax = the_word (codes "syntax") token.syntax refl ∷ []
+parts_of expected.Import = the_word (codes "import") token.«import» refl ∷ []
+parts_of expected.Message = the_word (codes "message") token.message refl ∷ []
+parts_of expected.Returns = the_word (codes "returns") token.returns refl ∷ []
+parts_of expected.To = the_word (codes "to") token.to refl ∷ []
+parts_of expected.Dot = the_mark 46 token.dot refl ∷ []
+parts_of expected.Minus = the_mark 45 token.minus refl ∷ []
+parts_of expected.Equals = the_mark 61 token.equals refl ∷ []
+parts_of expected.Semicolon = the_mark 59 token.semicolon refl ∷ []
+parts_of expected.Comma = the_mark 44 token.comma refl ∷ []
+parts_of expected.LeftParen = the_mark 40 token.open_paren refl ∷ []
+parts_of expected.RightParen = the_mark 41 token.close_paren refl ∷ []
+parts_of expected.LeftBrace = the_mark 123 token.open_brace refl ∷ []
+parts_of expected.RightBrace = the_mark 125 token.close_brace refl ∷ []
+parts_of expected.LeftBracket = the_mark 91 token.open_bracket refl ∷ []
+parts_of expected.LeftAngleBracket = the_mark 60 token.open_angle refl ∷ []
+parts_of expected.RightAngleBracket = the_mark 62 token.close_angle refl ∷ []
+parts_of expected.Statement = (the_word (codes "enum") token.enum refl) ∷ (the_word (codes "extend") token.extend refl) ∷ (the_word (codes "import") token.«import» refl) ∷ (the_word (codes "message") token.message refl) ∷ (the_word (codes "option") token.option refl) ∷ (the_word (codes "service") token.service refl) ∷ (the_word (codes "package") token.«package» refl) ∷ (the_mark 59 token.semicolon refl) ∷ []
+parts_of expected.Ident = an_identifier ∷ []
+parts_of expected.Int = an_integer ∷ []
+parts_of expected.Type = a_field_type ∷ []
+parts_of expected.TypeName = a_type_name ∷ []
+parts_of expected.String = a_string ∷ []
+parts_of expected.StringLiteral = a_string_literal ∷ []
+parts_of expected.ImportString = a_string_literal ∷ (the_word (codes "public") token.«public» refl) ∷ (the_word (codes "weak") token.weak refl) ∷ []
+parts_of expected.WeakOrPublic = (the_word (codes "public") token.«public» refl) ∷ (the_word (codes "weak") token.weak refl) ∷ []
+parts_of expected.MessageBody = a_message_field ∷ oneof ∷ reserved_range ∷ enum ∷ message ∷ option ∷ (the_mark 125 token.close_brace refl) ∷ []
+parts_of expected.OneofBody = a_message_field ∷ option ∷ (the_mark 125 token.close_brace refl) ∷ []
+parts_of expected.ExtendBody = a_message_field ∷ (the_mark 125 token.close_brace refl) ∷ (the_mark 59 token.semicolon refl) ∷ []
+parts_of expected.EnumBody = an_identifier ∷ (the_mark 125 token.close_brace refl) ∷ (the_word (codes "reserved") token.reserved refl) ∷ (the_word (codes "option") token.option refl) ∷ []
+parts_of expected.ServiceBody = (the_word (codes "rpc") token.rpc refl) ∷ (the_mark 125 token.close_brace refl) ∷ (the_word (codes "option") token.option refl) ∷ (the_mark 59 token.semicolon refl) ∷ []
+parts_of expected.RpcBody = (the_word (codes "option") token.option refl) ∷ (the_mark 125 token.close_brace refl) ∷ (the_mark 59 token.semicolon refl) ∷ []
+parts_of expected.SemicolonOrOptions = (the_mark 59 token.semicolon refl) ∷ (the_mark 91 token.open_bracket refl) ∷ []
+parts_of expected.BraceOrOptions = (the_mark 123 token.open_brace refl) ∷ (the_mark 91 token.open_bracket refl) ∷ []
+parts_of expected.StreamOrType = (the_word (codes "stream") token.stream refl) ∷ a_type_name ∷ []
+parts_of expected.SemicolonOrBrace = (the_mark 59 token.semicolon refl) ∷ (the_mark 123 token.open_brace refl) ∷ []
+parts_of expected.ReservedItem = a_positive_integer ∷ string ∷ []
+parts_of expected.CommaOrSemicolon = (the_mark 44 token.comma refl) ∷ (the_mark 59 token.semicolon refl) ∷ []
+parts_of expected.AfterReservedStart = (the_word (codes "to") token.to refl) ∷ (the_mark 44 token.comma refl) ∷ (the_mark 59 token.semicolon refl) ∷ []
+parts_of expected.AfterExtensionStart = (the_word (codes "to") token.to refl) ∷ (the_mark 44 token.comma refl) ∷ (the_mark 59 token.semicolon refl) ∷ (the_mark 91 token.open_bracket refl) ∷ []
+parts_of expected.IntOrMax = an_integer ∷ (the_word (codes "max") token.max refl) ∷ []
+parts_of expected.AfterExtensionEnd = (the_mark 44 token.comma refl) ∷ (the_mark 59 token.semicolon refl) ∷ (the_mark 91 token.open_bracket refl) ∷ []
+parts_of expected.CommaOrRightBracket = (the_mark 44 token.comma refl) ∷ (the_mark 93 token.close_bracket refl) ∷ []
+parts_of expected.OptionName = an_identifier ∷ (the_mark 40 token.open_paren refl) ∷ []
+parts_of expected.EqualsOrDot = (the_mark 61 token.equals refl) ∷ (the_mark 46 token.dot refl) ∷ []
+parts_of expected.Constant = a_constant ∷ []
+parts_of expected.Numeric = a_numeric_literal ∷ []
+parts_of expected.DotOrIdent = (the_mark 46 token.dot refl) ∷ an_identifier ∷ []
+parts_of expected.DotOrSemicolon = (the_mark 46 token.dot refl) ∷ (the_mark 59 token.semicolon refl) ∷ []
+parts_of expected.DotOrLeftBrace = (the_mark 46 token.dot refl) ∷ (the_mark 123 token.open_brace refl) ∷ []
+parts_of expected.DotOrRightParen = (the_mark 46 token.dot refl) ∷ (the_mark 41 token.close_paren refl) ∷ []
+parts_of expected.DotOrComma = (the_mark 46 token.dot refl) ∷ (the_mark 44 token.comma refl) ∷ []
+parts_of expected.DotOrRightAngleBracket = (the_mark 46 token.dot refl) ∷ (the_mark 62 token.close_angle refl) ∷ []
+
+-- A list in English: commas between its parts, and `or` before the last.
+abbrev pub listed : List Part → List ℕ
+listed [] = []
+listed (p ∷ []) = p.text
+listed (p ∷ q ∷ []) = p.text ++ codes " or " ++ q.text
+listed (p ∷ q ∷ r ∷ ps) = p.text ++ codes ", " ++ listed (q ∷ r ∷ ps)
+
+-- The tokens that one of them names.
+abbrev pub named_by : List Part → Set
+named_by [] = none
+named_by (p ∷ []) = p.tokens
+named_by (p ∷ q ∷ ps) = union p.tokens (named_by (q ∷ ps))
+
+-- The words.
+abbrev pub words_of : Expected → List ℕ
+words_of e = listed (parts_of e)
+
 -- The tokens that the words name.
 abbrev pub named : Expected → Set
-named expected.Syntax = only token.syntax
-named expected.Import = only token.«import»
-named expected.Message = only token.message
-named expected.Returns = only token.returns
-named expected.To = only token.to
-named expected.Dot = only token.dot
-named expected.Minus = only token.minus
-named expected.Equals = only token.equals
-named expected.Semicolon = only token.semicolon
-named expected.Comma = only token.comma
-named expected.LeftParen = only token.open_paren
-named expected.RightParen = only token.close_paren
-named expected.LeftBrace = only token.open_brace
-named expected.RightBrace = only token.close_brace
-named expected.LeftBracket = only token.open_bracket
-named expected.LeftAngleBracket = only token.open_angle
-named expected.RightAngleBracket = only token.close_angle
-named expected.Statement = among (token.enum ∷ token.extend ∷ token.«import» ∷ token.message ∷ token.option ∷ token.service ∷ token.«package» ∷ token.semicolon ∷ [])
-named expected.Ident = words
-named expected.Int = only token.an_integer
-named expected.Type = type_names
-named expected.TypeName = type_names
-named expected.String = only token.a_string
-named expected.StringLiteral = only token.a_string
-named expected.ImportString = among (token.a_string ∷ token.«public» ∷ token.weak ∷ [])
-named expected.WeakOrPublic = among (token.«public» ∷ token.weak ∷ [])
-named expected.MessageBody = union type_names (only token.close_brace)
-named expected.OneofBody = union type_names (only token.close_brace)
-named expected.ExtendBody = union type_names (among (token.close_brace ∷ token.semicolon ∷ []))
-named expected.EnumBody = union words (only token.close_brace)
-named expected.ServiceBody = among (token.rpc ∷ token.option ∷ token.close_brace ∷ token.semicolon ∷ [])
-named expected.RpcBody = among (token.option ∷ token.close_brace ∷ token.semicolon ∷ [])
-named expected.SemicolonOrOptions = among (token.semicolon ∷ token.open_bracket ∷ [])
-named expected.BraceOrOptions = among (token.open_brace ∷ token.open_bracket ∷ [])
-named expected.StreamOrType = type_names
-named expected.SemicolonOrBrace = among (token.semicolon ∷ token.open_brace ∷ [])
-named expected.ReservedItem = among (token.an_integer ∷ token.a_string ∷ [])
-named expected.CommaOrSemicolon = among (token.comma ∷ token.semicolon ∷ [])
-named expected.AfterReservedStart = among (token.to ∷ token.comma ∷ token.semicolon ∷ [])
-named expected.AfterExtensionStart = among (token.to ∷ token.comma ∷ token.semicolon ∷ token.open_bracket ∷ [])
-named expected.IntOrMax = among (token.an_integer ∷ token.max ∷ [])
-named expected.AfterExtensionEnd = among (token.comma ∷ token.semicolon ∷ token.open_bracket ∷ [])
-named expected.CommaOrRightBracket = among (token.comma ∷ token.close_bracket ∷ [])
-named expected.OptionName = union words (only token.open_paren)
-named expected.EqualsOrDot = among (token.equals ∷ token.dot ∷ [])
-named expected.Constant = union words (among (token.an_integer ∷ token.a_float ∷ token.a_string ∷ token.minus ∷ token.open_brace ∷ []))
-named expected.Numeric = among (token.an_integer ∷ token.a_float ∷ [])
-named expected.DotOrIdent = type_names
-named expected.DotOrSemicolon = among (token.dot ∷ token.semicolon ∷ [])
-named expected.DotOrLeftBrace = among (token.dot ∷ token.open_brace ∷ [])
-named expected.DotOrRightParen = among (token.dot ∷ token.close_paren ∷ [])
-named expected.DotOrComma = among (token.dot ∷ token.comma ∷ [])
-named expected.DotOrRightAngleBracket = among (token.dot ∷ token.close_angle ∷ [])
+named e = named_by (parts_of e)
 
 -- The tokens that may stand there too, although the words don't name them: a minus before a number,
 -- a further string of a run, a word behind a sign (such as `inf`), `;` alone, `syntax` at the start

@@ -6,8 +6,8 @@ usage: gate.py [LOG [CRATE..]]      at the top of the repository; runs `rt ci`, 
 
 The gate starts one prover for each proof, each crate's tests and each edit, and a prover starts others of its own. Their
 processor time is read from /proc twice a second, so what is said of one process is short by half a
-second at most. The first edit of a crate proves the crate once more; that part is told apart as
-`again`, the least edit of the crate standing for an edit's own cost. A last line says what the gate
+second at most. Before its edits a crate is proved once more; that part is told apart as `again`, less
+the least edit of the crate, which stands for the look at the crate that ends its edits. A last line says what the gate
 takes on two cores: half of the sum, or the longest chain of crates where that is more.
 """
 import collections
@@ -156,7 +156,9 @@ def main():
     spent = (spent.ru_utime + spent.ru_stime) / 60
     print(f'{spent:.1f} minutes in all as the system counts them, with compiling and running')
     for crate, times in edits.items():
-        for name, seconds in zip(names_of_edits(crate), times):
+        names = names_of_edits(crate)
+        # several edits begin with a proof of the crate as it stands, and end with a look at it
+        for name, seconds in zip(names, times[1:] if len(times) > len(names) else times):
             print(f'{seconds:6.0f} s  {crate}/{name}')
     say_two_cores(table)
     return gate.returncode

@@ -1,19 +1,19 @@
 //! Why a source is refused, or why there is no descriptor.
 
 ghost use Rattle.std.specs.Prelude.{◌≡◌, ◌≢◌, ◌∷◌, [], ℕ, List, Some, option_and_then, length, min, Ok, Err, IfOk};
-ghost use Rattle.protox_ast.specs.Accepted as accepted;
 ghost use Rattle.protox_ast.specs.Accepted.{Fits, FaultsLieIn};
 ghost use Rattle.protox_ast.specs.Keywords.{Each};
 ghost use Rattle.protox_ast.specs.declared.ast.File.{File};
 ghost use Rattle.protox_checks.specs.Faults.{AreWrong, IsFaultless};
 ghost use Rattle.protox_fault.specs.Faults.{LiesIn, span_of};
+ghost use Rattle.protox_fault.specs.declared.error.SyntaxFailure.TheVariants.{Faults};
 ghost use Rattle.protox_places.specs.Faults.{first_place};
 ghost use Rattle.protox_places.specs.Lines.{line, column};
 ghost use Rattle.protox_parse.specs.FaultLists.{HasFaultsOf};
 ghost use Rattle.protox_parse.specs.Failures.{AreWrongOf, IsOutOfMemory, IsRefusalOf, first_of};
 
 use protox_descriptor::values::Text;
-use protox_lex::error::{ParseErrorKind, Span, SyntaxFailure};
+use protox_lex::error::{ParseErrorKind, Span};
 use protox_places::faults;
 use protox_shown::line::FaultLine;
 use std::alloc::{AllocError, Global};
@@ -192,26 +192,22 @@ pub(crate) fn too_large(alloc: Global, name: &str) -> ParseFailure
     }
 }
 
-/// The refusal of a source with the faults of a failure.
+/// The refusal of a source with these faults.
 pub(crate) fn refused(
     alloc: Global,
     name: &str,
     source: &str,
-    failure: SyntaxFailure,
+    faults: Vec<ParseErrorKind>,
 ) -> ParseFailure
-    requires { FaultsLieIn source.now failure }
+    requires { FaultsLieIn source.now (Faults faults) }
     ensures of_source { IsRefusalOf name.now source.now result }
-    ensures same { HasFaultsOf failure result }
-    ensures memory { accepted.IsOutOfMemory failure → IsOutOfMemory result }
-    // If nothing is wrong with the file, the failure can only be want of memory.
-    ensures none { (file : File) → AreWrong file failure → IsFaultless file → IsOutOfMemory result }
-    ensures wrong { (file : File) → AreWrong file failure → AreWrongOf file result }
+    ensures same { HasFaultsOf (Faults faults) result }
+    // If nothing is wrong with the file, there are no such faults.
+    ensures none { (file : File) → AreWrong file (Faults faults) → IsFaultless file → IsOutOfMemory result }
+    ensures wrong { (file : File) → AreWrong file (Faults faults) → AreWrongOf file result }
 {
-    match failure {
-        SyntaxFailure::Faults(errors) => match refusal(alloc, name, source, errors) {
-            Ok(error) => ParseFailure::Refused(error),
-            Err(_) => ParseFailure::OutOfMemory,
-        },
-        SyntaxFailure::OutOfMemory => ParseFailure::OutOfMemory,
+    match refusal(alloc, name, source, faults) {
+        Ok(error) => ParseFailure::Refused(error),
+        Err(_) => ParseFailure::OutOfMemory,
     }
 }

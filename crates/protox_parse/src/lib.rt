@@ -3,7 +3,7 @@
 #![tactic(auto)]
 
 ghost use Rattle.std.specs.Prelude.{◌≡◌, ◌≤◌, ◌↔◌, IsTrue, IfOk, IfErr, MatchResult, length};
-ghost use Rattle.protox_ast.specs.Accepted.{IsAccepted, IsFileOf};
+ghost use Rattle.protox_ast.specs.Accepted.{Fits, IsAccepted, IsFileOf};
 ghost use Rattle.protox_ast.specs.Ast as ast_of;
 ghost use Rattle.protox_ast.specs.Tree as tree;
 ghost use Rattle.protox_checks.specs.Faults.{IsFaultless};
@@ -29,6 +29,7 @@ pub use protox_descriptor::{case, descriptor, tag, values};
 pub use protox_generate::generate;
 use protox_generate::generate::generate_file;
 pub use protox_lex::error::ParseErrorKind;
+use protox_lex::error::SyntaxFailure;
 pub use protox_lex::{comments, error, lex};
 pub use protox_places::find::locate;
 pub use protox_places::{faults, find};
@@ -41,6 +42,26 @@ pub fn source_fits(len: usize) -> bool
     ensures { IsTrue result ↔ (len ≤ 2147483647) }
 {
     len <= 2147483647
+}
+
+// The syntax tree of the source; or the faults that the parser finds, or that memory ran out.
+fn read(alloc: Global, name: &str, source: &str) -> Result<ast::File, ParseFailure>
+    requires { Fits source.now }
+    ensures found { IfOk result (IsFileOf source.now) }
+    ensures only { (f : tree.File Place) → IsAccepted source.now f → MatchResult result (λ file. file ≡ ast_of.file (length source.now) f) IsOutOfMemory }
+    ensures refused { IfErr result (IsRefusalOf name.now source.now) }
+    ensures first { IfErr result (BeginsWithFirst source.now) }
+    ensures stands { IfErr result (AreStanding source.now) }
+    ensures lexical { IfErr result (AreLexicalAlone source.now) }
+    ensures all_found { IfErr result (AreAllFound source.now) }
+    ensures no_check_lost { IfErr result (NoCheckIsLost source.now) }
+    ensures words { IfErr result (ExpectsTruly source.now) }
+{
+    match parse_file(alloc, source) {
+        Ok(file) => Ok(file),
+        Err(SyntaxFailure::Faults(faults)) => Err(refused(alloc, name, source, faults)),
+        Err(SyntaxFailure::OutOfMemory) => Err(ParseFailure::OutOfMemory),
+    }
 }
 
 // The descriptor of this syntax tree; or the faults that the generator's checks find, or that
@@ -66,7 +87,8 @@ fn translated(
 {
     match generate_file(alloc, file, name, source) {
         Ok(descriptor) => Ok(descriptor),
-        Err(failure) => Err(refused(alloc, name, source, failure)),
+        Err(SyntaxFailure::Faults(found)) => Err(refused(alloc, name, source, found)),
+        Err(SyntaxFailure::OutOfMemory) => Err(ParseFailure::OutOfMemory),
     }
 }
 
@@ -121,8 +143,8 @@ pub fn parse(alloc: Global, name: &str, source: &str) -> Result<FileDescriptorPr
     if !source_fits(source.len()) {
         return Err(too_large(alloc, name));
     }
-    match parse_file(alloc, source) {
+    match read(alloc, name, source) {
         Ok(file) => translated(alloc, file, name, source),
-        Err(failure) => Err(refused(alloc, name, source, failure)),
+        Err(failure) => Err(failure),
     }
 }

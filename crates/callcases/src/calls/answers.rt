@@ -61,12 +61,11 @@ fn matched(alloc: Global, token: &Token<'_>) -> Result<String, AllocError> {
 }
 
 pub fn expected_tokens(alloc: Global) -> Result<String, AllocError> {
-    let mut out = format!(in alloc; "{}", ExpectedToken::Ident)?;
-    out.push_str(matched(alloc, &Token::Ident("stream"))?.as_str())?;
-    out.push_str(matched(alloc, &Token::Ident("streams"))?.as_str())?;
-    out.push_str(matched(alloc, &Token::IntLiteral(1))?.as_str())?;
-    out.push_str(matched(alloc, &Token::Semicolon)?.as_str())?;
-    Ok(out)
+    let word = matched(alloc, &Token::Ident("stream"))?;
+    let longer = matched(alloc, &Token::Ident("streams"))?;
+    let number = matched(alloc, &Token::IntLiteral(1))?;
+    let mark = matched(alloc, &Token::Semicolon)?;
+    format!(in alloc; "{}{word}{longer}{number}{mark}", ExpectedToken::Ident)
 }
 
 // Where the locations with each of four paths stand in the list.
@@ -110,12 +109,9 @@ fn found_in(
 ) -> Result<String, AllocError>
     requires { AreByPath info.now.location }
 {
-    let mut out = indices(alloc, info)?;
-    out.push_str("; ")?;
-    out.push_str(around(alloc, info)?.as_str())?;
-    out.push_str("; ")?;
-    out.push_str(two_names(alloc, file)?.as_str())?;
-    Ok(out)
+    let (indices, around) = (indices(alloc, info)?, around(alloc, info)?);
+    let names = two_names(alloc, file)?;
+    format!(in alloc; "{indices}; {around}; {names}")
 }
 
 pub fn finds(alloc: Global) -> Result<String, AllocError> {

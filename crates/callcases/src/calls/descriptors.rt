@@ -30,9 +30,14 @@ pub fn messages(alloc: Global) -> Result<String, AllocError> {
     format!(in alloc; "{message:?}")
 }
 
-pub fn equal_messages(alloc: Global) -> Result<String, AllocError> {
+// Whether a message equals itself, and whether it equals one with another reserved name.
+fn compared(alloc: Global) -> Result<(bool, bool), AllocError> {
     let (first, second) = (named(alloc, "A", "a")?, named(alloc, "A", "b")?);
-    let (same, other) = (first == first, first == second);
+    Ok((first == first, first == second))
+}
+
+pub fn equal_messages(alloc: Global) -> Result<String, AllocError> {
+    let (same, other) = compared(alloc)?;
     format!(in alloc; "{same} {other}")
 }
 

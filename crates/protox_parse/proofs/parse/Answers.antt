@@ -14,13 +14,10 @@ returns-in-Ok-clause-only c is =
     only c.args.name.now c.args.source.now c.in-Ok.file _ c.translated.result c.in-Ok.ensures.found (c.in-Ok.ensures.only is.0 is.1) is.2 c.translated.ensures.found c.translated.ensures.only
 
 pub returns-in-Err-clause-only : goal.returns-in-Err-clause-only
-returns-in-Err-clause-only c is = c.refused.ensures.memory (c.in-Err.ensures.only is.0 is.1)
+returns-in-Err-clause-only c is = c.in-Err.ensures.only is.0 is.1
 
 pub returns-in-Ok-clause-first : goal.returns-in-Ok-clause-first
 returns-in-Ok-clause-first c = truths.made-first c.args.source.now c.in-Ok.file c.in-Ok.ensures.found c.translated.result c.translated.ensures.wrong
-
-pub returns-in-Err-clause-first : goal.returns-in-Err-clause-first
-returns-in-Err-clause-first c = truths.read-first c.args.source.now c.in-Err.failure c.refused.result c.refused.ensures.same c.in-Err.ensures.first
 
 pub returns-in-Ok-clause-stands : goal.returns-in-Ok-clause-stands
 returns-in-Ok-clause-stands c = truths.made-stand c.args.source.now c.in-Ok.file c.translated.result c.translated.ensures.wrong
@@ -28,32 +25,17 @@ returns-in-Ok-clause-stands c = truths.made-stand c.args.source.now c.in-Ok.file
 pub returns-in-Ok-clause-lexical : goal.returns-in-Ok-clause-lexical
 returns-in-Ok-clause-lexical c = truths.made-lexical c.args.source.now c.in-Ok.file c.in-Ok.ensures.found c.translated.result
 
-pub returns-in-Err-clause-stands : goal.returns-in-Err-clause-stands
-returns-in-Err-clause-stands c = truths.read-stand c.args.source.now c.in-Err.failure c.refused.result c.refused.ensures.same c.in-Err.ensures.stands
-
-pub returns-in-Err-clause-lexical : goal.returns-in-Err-clause-lexical
-returns-in-Err-clause-lexical c = truths.read-lexical c.args.source.now c.in-Err.failure c.refused.result c.refused.ensures.same c.in-Err.ensures.lexical
-
 pub returns-in-Ok-clause-all_found : goal.returns-in-Ok-clause-all_found
 returns-in-Ok-clause-all_found c = truths.made-all c.args.source.now c.in-Ok.file c.in-Ok.ensures.found c.translated.result
-
-pub returns-in-Err-clause-all_found : goal.returns-in-Err-clause-all_found
-returns-in-Err-clause-all_found c = truths.read-all c.args.source.now c.in-Err.failure c.refused.result c.refused.ensures.same c.in-Err.ensures.all_found
 
 pub returns-in-Ok-clause-no_check_lost : goal.returns-in-Ok-clause-no_check_lost
 returns-in-Ok-clause-no_check_lost c = truths.made-lost c.args.source.now c.in-Ok.file c.in-Ok.ensures.found c.translated.result
 
-pub returns-in-Err-clause-no_check_lost : goal.returns-in-Err-clause-no_check_lost
-returns-in-Err-clause-no_check_lost c = truths.read-lost c.args.source.now c.in-Err.failure c.refused.result c.refused.ensures.same c.in-Err.ensures.no_check_lost
-
 pub returns-in-Ok-clause-words : goal.returns-in-Ok-clause-words
 returns-in-Ok-clause-words c = truths.made-words c.args.source.now c.in-Ok.file c.in-Ok.ensures.found c.translated.result
-
-pub returns-in-Err-clause-words : goal.returns-in-Err-clause-words
-returns-in-Err-clause-words c = truths.read-words c.args.source.now c.in-Err.failure c.refused.result c.refused.ensures.same c.in-Err.ensures.words
 
 pub returns-in-Ok-clause-checked : goal.returns-in-Ok-clause-checked
 returns-in-Ok-clause-checked c f accepted = subst (λ v. IfErr c.translated.result (AreListedOf v)) (c.in-Ok.ensures.only f accepted) c.translated.ensures.checked
 
 pub returns-in-Err-clause-checked : goal.returns-in-Err-clause-checked
-returns-in-Err-clause-checked c f accepted = truths.none-listed (ast_of.file (length c.args.source.now) f) _ (c.refused.ensures.memory (c.in-Err.ensures.only f accepted))
+returns-in-Err-clause-checked c f accepted = truths.none-listed (ast_of.file (length c.args.source.now) f) _ (c.in-Err.ensures.only f accepted)

@@ -72,10 +72,10 @@ module _ (source : List ℕ) where
   read-all failure.OutOfMemory (Refused x) same h = absurd same
   read-all (failure.Faults v) (Refused x) same h = λ fits none. subst (AreAllFaults source) (sym same) h
 
-  pub read-lost : (e : SyntaxFailure) (r : ParseFailure) → HasFaultsOf e r → lost.NoCheckIsLost source e → NoCheckIsLost source r
-  read-lost e OutOfMemory same h = tt
-  read-lost failure.OutOfMemory (Refused x) same h = absurd same
-  read-lost (failure.Faults v) (Refused x) same h = λ fits none. subst (NoneIsLost (cut 0 source)) (sym same) h
+  pub read_lost : (e : SyntaxFailure) (r : ParseFailure) → HasFaultsOf e r → lost.NoCheckIsLost source e → NoCheckIsLost source r
+  read_lost e OutOfMemory same h = tt
+  read_lost failure.OutOfMemory (Refused x) same h = absurd same
+  read_lost (failure.Faults v) (Refused x) same h = λ fits none. subst (NoneIsLost (cut 0 source)) (sym same) h
 
   pub read-words : (e : SyntaxFailure) (r : ParseFailure) → HasFaultsOf e r → words.ExpectsTruly source e → ExpectsTruly source r
   read-words e OutOfMemory same h = tt

@@ -7,6 +7,7 @@ mod enums;
 mod fields;
 pub mod lines;
 mod messages;
+mod numbers;
 mod options;
 mod services;
 mod source_info;

@@ -1,11 +1,10 @@
 //! Lines of the text format of Protocol Buffers: a field and its value, or a message in braces.
 
-ghost use Rattle.std.specs.Prelude.{◌≡◌, OnOk};
+ghost use Rattle.std.specs.Prelude.{◌≡◌, ◌≤◌, ◌<◌, ◌∷◌, [], true, length, take, flat_map, IfOk, OnOk};
 ghost use Rattle.std.specs.Io.KnownBytes.{Appends};
+ghost use Rattle.protox_descriptor.specs.Literal.{printed_byte};
 ghost use Rattle.protox_text.specs.TextLines.{indent, deeper, value_line, opened, closed, bytes_line};
 
-use protox_ast::ast;
-use protox_descriptor::values::Items;
 use std::alloc::Global;
 use std::io::{self, Write};
 
@@ -30,15 +29,30 @@ impl Level {
     }
 }
 
-/// Writes the indentation of a line.
+// Writes two blanks for each level.
 #[tactic(auto, using(crate::proofs::Written::blanks))]
+fn write_blanks<W: Write>(out: &mut W, depth: u32) -> io::Result<()>
+    ensures { OnOk result (Appends (W.contents out.old) (W.contents out.new) (indent depth)) }
+{
+    for _ in 0..depth {
+        out.write_all(b"  ")?;
+    }
+    Ok(())
+}
+
+/// Writes the indentation of a line.
+#[inline(always)]
 pub(crate) fn write_indent<W: Write>(out: &mut W, level: Level) -> io::Result<()>
     ensures { OnOk result (Appends (W.contents out.old) (W.contents out.new) (indent level.depth)) }
 {
-    for _ in 0..level.depth {
-        write!(out, "  ")?;
+    match level.depth {
+        0 => Ok(()),
+        1 => out.write_all(b"  "),
+        2 => out.write_all(b"    "),
+        3 => out.write_all(b"      "),
+        4 => out.write_all(b"        "),
+        depth => write_blanks(out, depth),
     }
-    Ok(())
 }
 
 /// Writes `name {`.
@@ -46,7 +60,8 @@ pub(crate) fn write_open<W: Write>(out: &mut W, level: Level, name: &str) -> io:
     ensures { OnOk result (Appends (W.contents out.old) (W.contents out.new) (opened level.depth name.now)) }
 {
     write_indent(out, level)?;
-    writeln!(out, "{name} {{")
+    out.write_all(name.as_bytes())?;
+    out.write_all(b" {\n")
 }
 
 /// Writes `}`.
@@ -54,7 +69,7 @@ pub(crate) fn write_close<W: Write>(out: &mut W, level: Level) -> io::Result<()>
     ensures { OnOk result (Appends (W.contents out.old) (W.contents out.new) (closed level.depth)) }
 {
     write_indent(out, level)?;
-    writeln!(out, "}}")
+    out.write_all(b"}\n")
 }
 
 /// Writes `name: value`.
@@ -67,18 +82,95 @@ pub(crate) fn write_value<W: Write>(
     ensures { OnOk result (Appends (W.contents out.old) (W.contents out.new) (value_line value.now level.depth name.now)) }
 {
     write_indent(out, level)?;
-    writeln!(out, "{name}: {value}")
+    out.write_all(name.as_bytes())?;
+    out.write_all(b": ")?;
+    out.write_all(value.as_bytes())?;
+    out.write_all(b"\n")
 }
 
-/// Writes `name: "bytes"`, escaped as the tree prints string literals. It fails if the writer fails,
-/// or if memory runs out.
+// Whether a byte stands for itself in a string literal.
+fn is_plain(byte: u8) -> bool
+    ensures { result ≡ true → printed_byte byte ≡ byte ∷ [] }
+{
+    match byte {
+        b'\'' | b'"' | b'\\' => false,
+        byte => (32..=126).contains(&byte),
+    }
+}
+
+// How many bytes at the front stand for themselves.
+#[tactic(auto, using(crate::proofs::Written::plain_more, crate::proofs::Written::plain_all))]
+fn plain_len(bytes: &[u8]) -> usize
+    ensures within { result ≤ length bytes.now }
+    ensures plain { flat_map printed_byte (take result bytes.now) ≡ take result bytes.now }
+{
+    for at in 0..bytes.len() {
+        if !is_plain(bytes[at]) {
+            return at;
+        }
+    }
+    bytes.len()
+}
+
+// Writes a byte as it stands in a string literal.
+fn write_byte<W: Write>(out: &mut W, byte: u8) -> io::Result<()>
+    ensures { OnOk result (Appends (W.contents out.old) (W.contents out.new) (printed_byte byte)) }
+{
+    match byte {
+        b'\t' => out.write_all(b"\\t"),
+        b'\r' => out.write_all(b"\\r"),
+        b'\n' => out.write_all(b"\\n"),
+        b'\\' => out.write_all(b"\\\\"),
+        b'\'' => out.write_all(b"\\'"),
+        b'"' => out.write_all(b"\\\""),
+        32..=126 => out.write_all(&[byte]),
+        _ => out.write_all(&[
+            b'\\',
+            b'0' + byte / 64,
+            b'0' + byte / 8 % 8,
+            b'0' + byte % 8,
+        ]),
+    }
+}
+
+// Writes the bytes at the front that stand for themselves, and the byte behind them. Answers how many
+// bytes these are.
+#[tactic(auto, using(crate::proofs::Written::run_alone, crate::proofs::Written::run_and_byte))]
+fn write_run<W: Write>(out: &mut W, bytes: &[u8]) -> io::Result<usize>
+    requires { 0 < length bytes.now }
+    ensures some { IfOk result (λ n. 0 < n) }
+    ensures within { IfOk result (λ n. n ≤ length bytes.now) }
+    ensures written { IfOk result (λ n. Appends (W.contents out.old) (W.contents out.new) (flat_map printed_byte (take n bytes.now))) }
+{
+    let len = plain_len(bytes);
+    out.write_all(&bytes[..len])?;
+    if len == bytes.len() {
+        return Ok(len);
+    }
+    write_byte(out, bytes[len])?;
+    Ok(len + 1)
+}
+
+// Writes bytes as they stand in a string literal, between its quotes. Runs of bytes that stand for
+// themselves are written at once.
+#[tactic(auto, using(crate::proofs::Written::literal))]
+fn write_literal<W: Write>(out: &mut W, bytes: &[u8]) -> io::Result<()>
+    ensures { OnOk result (Appends (W.contents out.old) (W.contents out.new) (flat_map printed_byte bytes.now)) }
+{
+    let mut at = 0;
+    'runs: while at < bytes.len() {
+        at += write_run(out, &bytes[at..])?;
+    }
+    Ok(())
+}
+
+/// Writes `name: "bytes"`, escaped as the tree prints string literals. It fails if the writer fails.
 pub fn write_bytes<W: Write>(out: &mut W, level: Level, name: &str, bytes: &[u8]) -> io::Result<()>
     ensures { OnOk result (Appends (W.contents out.old) (W.contents out.new) (bytes_line bytes.now level.depth name.now)) }
 {
-    let literal = ast::String {
-        value: Items::from_slice(level.alloc, bytes)?,
-        span: 0..0,
-    };
     write_indent(out, level)?;
-    writeln!(out, "{name}: \"{literal}\"")
+    out.write_all(name.as_bytes())?;
+    out.write_all(b": \"")?;
+    write_literal(out, bytes)?;
+    out.write_all(b"\"\n")
 }

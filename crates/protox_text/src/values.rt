@@ -1,7 +1,8 @@
 //! Texts, bytes, numbers and flags.
 
 use crate::each::InText;
-use crate::lines::{Level, write_bytes, write_indent, write_value};
+use crate::lines::{Level, write_bytes, write_value};
+use itoa::Buffer;
 use protox_descriptor::values::{Items, Text};
 use std::io::{self, Write};
 
@@ -41,8 +42,8 @@ impl InText for i32 {
     ghost text = { number_line };
 
     fn write_to<W: Write>(&self, out: &mut W, level: Level, name: &str) -> io::Result<()> {
-        write_indent(out, level)?;
-        writeln!(out, "{name}: {self}")
+        let mut digits = Buffer::new();
+        write_value(out, level, name, digits.format(*self))
     }
 }
 
@@ -52,8 +53,8 @@ impl InText for i64 {
     ghost text = { number_line };
 
     fn write_to<W: Write>(&self, out: &mut W, level: Level, name: &str) -> io::Result<()> {
-        write_indent(out, level)?;
-        writeln!(out, "{name}: {self}")
+        let mut digits = Buffer::new();
+        write_value(out, level, name, digits.format(*self))
     }
 }
 
@@ -63,7 +64,7 @@ impl InText for u64 {
     ghost text = { count_line };
 
     fn write_to<W: Write>(&self, out: &mut W, level: Level, name: &str) -> io::Result<()> {
-        write_indent(out, level)?;
-        writeln!(out, "{name}: {self}")
+        let mut digits = Buffer::new();
+        write_value(out, level, name, digits.format(*self))
     }
 }

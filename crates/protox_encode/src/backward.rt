@@ -27,7 +27,8 @@ impl Model for Backward {
 fn widened(alloc: Global, room: usize, bytes: &[u8]) -> Result<Vec<u8>, AllocError>
     ensures { IfOk result (λ whole. (length whole.items ≡ room + length bytes.now) × (drop room whole.items ≡ bytes.now)) }
 {
-    let mut whole = Vec::from_elem(alloc, 0u8, room)?;
+    let mut whole = Vec::with_capacity(alloc, room.saturating_add(bytes.len()))?;
+    whole.resize(room, 0u8)?;
     whole.extend_from_slice(bytes)?;
     Ok(whole)
 }
@@ -94,6 +95,7 @@ impl Backward {
     }
 
     /// Puts one byte in front. On `AllocError` the buffer is unchanged.
+    #[inline(always)]
     pub fn prepend_byte(&mut self, alloc: Global, byte: u8) -> Result<(), AllocError>
         ensures ok { OnOk result (self.new ≡ byte ∷ self.old) }
         ensures err { OnErr result (self.new ≡ self.old) }

@@ -24,16 +24,34 @@ pub trait Message {
         ensures { OnOk result (out.new ≡ message (parts self.now) ++ out.old) };
 }
 
-/// Puts a number in front, in groups of seven bits.
+// Puts a number in front, in as many groups of seven bits as it has.
+#[inline(never)]
 #[tactic(auto, using(crate::proofs::Varint::one_group, crate::proofs::Varint::more_groups))]
+fn prepend_groups(alloc: Global, out: &mut Backward, n: u64) -> Result<(), AllocError>
+    ensures { OnOk result (out.new ≡ varint n ++ out.old) }
+{
+    if n < 128 {
+        return out.prepend_byte(alloc, n as u8);
+    }
+    if n / 128 < 128 {
+        out.prepend_byte(alloc, (n / 128) as u8)?;
+        return out.prepend_byte(alloc, (128 + n % 128) as u8);
+    }
+    prepend_groups(alloc, out, n / 128)?;
+    out.prepend_byte(alloc, (128 + n % 128) as u8)
+}
+
+/// Puts a number in front, in groups of seven bits.
+// Most numbers have one group, so that this is the part that is inlined.
+#[inline(always)]
+#[tactic(auto, using(crate::proofs::Varint::one_group))]
 pub fn prepend_varint(alloc: Global, out: &mut Backward, n: u64) -> Result<(), AllocError>
     ensures { OnOk result (out.new ≡ varint n ++ out.old) }
 {
     if n < 128 {
         return out.prepend_byte(alloc, n as u8);
     }
-    prepend_varint(alloc, out, n / 128)?;
-    out.prepend_byte(alloc, (128 + n % 128) as u8)
+    prepend_groups(alloc, out, n)
 }
 
 fn prepend_header(

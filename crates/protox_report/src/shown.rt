@@ -1,6 +1,6 @@
 //! How a text is shown: on one line, without characters that a terminal obeys.
 
-ghost use Rattle.std.specs.Prelude.{◌≡◌, ◌<◌, ◌++◌, OnOk, IfOk, chars, replicate};
+ghost use Rattle.std.specs.Prelude.{◌≡◌, ◌<◌, ◌≤◌, ◌++◌, ℕ, true, length, OnOk, IfOk, chars, replicate};
 ghost use Rattle.std.specs.List.{flat_map};
 ghost use Rattle.std.specs.String.{string_bytes};
 ghost use Rattle.protox_report.specs.Shown.{shown, shown_character, in_place, own_columns, columns, under};
@@ -40,10 +40,36 @@ fn push_character(alloc: Global, out: &mut String, c: char) -> Result<(), AllocE
     out.push_str(text.as_str())
 }
 
+// Whether a byte is a printable character of ASCII.
+fn is_printable(byte: u8) -> bool
+    ensures least { result ≡ true → 32 ≤ byte }
+    ensures most { result ≡ true → byte ≤ 126 }
+{
+    32 <= byte && byte <= 126
+}
+
+// Whether a text is shown as itself, with a column for each byte: it has only printable ASCII, as
+// most have.
+#[tactic(auto, using(crate::proofs::Plain::printable_more))]
+fn is_plain(text: &str) -> bool
+    ensures shown { result ≡ true → shown text.now ≡ text.now }
+    ensures columns { result ≡ true → (mark : ℕ) → under mark text.now ≡ replicate (length text.now) mark }
+{
+    for byte in text.as_bytes() {
+        if !is_printable(*byte) {
+            return false;
+        }
+    }
+    true
+}
+
 /// Adds a text as it is shown, on one line and safe on a terminal.
 pub fn push_shown(alloc: Global, out: &mut String, text: &str) -> Result<(), AllocError>
     ensures { OnOk result (string_bytes out.new ≡ string_bytes out.old ++ shown text.now) }
 {
+    if is_plain(text) {
+        return out.push_str(text);
+    }
     for c in text.chars() {
         push_character(alloc, out, c)?;
     }
@@ -76,6 +102,9 @@ pub fn push_under(alloc: Global, out: &mut String, text: &str, mark: u8) -> Resu
     requires { mark < 128 }
     ensures { OnOk result (string_bytes out.new ≡ string_bytes out.old ++ under mark text.now) }
 {
+    if is_plain(text) {
+        return push_times(out, mark, text.len());
+    }
     for c in text.chars() {
         let count = columns_of(alloc, c)?;
         push_times(out, mark, count)?;

@@ -149,11 +149,16 @@ fn line_of(
     file: &FileDescriptorProto,
     location: &Location,
 ) -> Result<Option<Line>, AllocError> {
+    let path = location.path.as_slice();
+    // The path of a declaration has an index for each field number.
+    if path.len() % 2 == 1 && path.len() > 1 {
+        return Ok(None);
+    }
     let mut parts = Vec::new(alloc);
     if let Some(package) = &file.package {
         parts.push(package.as_str())?;
     }
-    let kind = match location.path.as_slice() {
+    let kind = match path {
         [] => None,
         [2] => Some("package"),
         path => lead(file, path, &mut parts)?,

@@ -84,7 +84,7 @@ turned : (p q : List ℤ) → is_lt (compared q p) ≡ is_lt (ordering_reverse (
 turned p q = ap is_lt (total.antisymm q p)
 
 -- a path doesn't come before itself
-not-itself : (p q : List ℤ) → p ≡ q → ComesBefore p q → ⊥
+pub not-itself : (p q : List ℤ) → p ≡ q → ComesBefore p q → ⊥
 not-itself p q e c =
     let tied : is_lt (compared p p) ≡ false = ap is_lt (tied_itself total p) in
     false≢true (sym tied ∙ subst (λ r. is_lt (compared p r) ≡ true) (sym e) c)
@@ -97,6 +97,15 @@ not-both p q c d =
 -- if neither comes before the other, they are the same
 neither : (p q : List ℤ) → (ComesBefore p q → ⊥) → (ComesBefore q p → ⊥) → p ≡ q
 neither p q a b = same-path p q (level (compared p q) a (λ g. b (turned p q ∙ g)))
+
+neither-way : (o : Ordering) → (is_lt o ≡ true → ⊥) → is_gt o ≡ false → o ≡ Equal
+neither-way Less a b = absurd (a refl)
+neither-way Equal a b = refl
+neither-way Greater a b = absurd (false≢true (sym b))
+
+-- a path that neither comes before another nor is greater is the same
+pub not-before-nor-behind : (p q : List ℤ) → (ComesBefore p q → ⊥) → is_gt (compared p q) ≡ false → p ≡ q
+not-before-nor-behind p q a b = same-path p q (neither-way (compared p q) a b)
 
 -- a path that is not greater than another doesn't come behind it
 pub not-behind : (p q : List ℤ) → is_le (compared p q) ≡ true → ComesBefore q p → ⊥
@@ -120,7 +129,7 @@ rising-from x (y ∷ ys) zero d h l = elim h.0 as (λ _. is_gt (compared x.path 
 rising-from x (y ∷ ys) (suc j) d h l = rising-from x ys j d h.1 (omega arith)
 
 -- of two indices, the path at the first isn't greater
-rising : (xs : List Location) (i j : ℕ) (d : Location)
+pub rising : (xs : List Location) (i j : ℕ) (d : Location)
     → AreByPath xs → i ≤ j → j < length xs
     → is_gt (compared (get_or xs i d).path (get_or xs j d).path) ≡ false
 rising [] i j d o h l = absurd (omega arith)

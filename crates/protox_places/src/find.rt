@@ -1,9 +1,9 @@
 //! The search for locations by path.
 
-ghost use Rattle.std.specs.Prelude.{◌≡◌, ◌<◌, ◌≤◌, None, length, slice_get};
+ghost use Rattle.std.specs.Prelude.{◌≡◌, ◌≤◌, if◌then◌else◌, Some, None, length, slice_get};
 ghost use Rattle.std.specs.List.{AllWithin};
 ghost use Rattle.std.specs.Option.{option_copied};
-ghost use Rattle.protox_places.specs.First.{first_at, leading_of, trailing_of, detached_of};
+ghost use Rattle.protox_places.specs.First.{first_at, is_at, leading_of, trailing_of, detached_of};
 ghost use Rattle.protox_places.specs.Order.{AreByPath, AreThoseAt, ComesBefore};
 
 pub use crate::at::declaration_at;
@@ -68,13 +68,15 @@ pub fn locate(info: &SourceCodeInfo, path: &[i32]) -> Range<usize>
     start..end
 }
 
-// The first of the locations from `start` to before `end`.
-fn front(info: &SourceCodeInfo, start: usize, end: usize) -> Option<&Location>
-    ensures some { start < end → option_copied result ≡ slice_get info.now.location start }
-    ensures none { (start < end → ⊥) → option_copied result ≡ None }
+// The location at an index, if it has this path.
+fn with_path<'a>(info: &'a SourceCodeInfo, at: usize, path: &[i32]) -> Option<&'a Location>
+    ensures some { (l : Location) → slice_get info.now.location at ≡ Some l
+        → option_copied result ≡ (if is_at path.now l then Some l else None) }
+    ensures none { slice_get info.now.location at ≡ None → option_copied result ≡ None }
 {
-    if start < end {
-        info.location.get(start)
+    let location = info.location.get(at)?;
+    if location.path.as_slice() == path {
+        Some(location)
     } else {
         None
     }
@@ -110,8 +112,8 @@ pub fn location<'a>(info: &'a SourceCodeInfo, path: &[i32]) -> Option<&'a Locati
     requires { AreByPath info.now.location }
     ensures { option_copied result ≡ first_at path.now info.now.location }
 {
-    let found = locate(info, path);
-    front(info, found.start, found.end)
+    let start = count_before(info.location.as_slice(), path);
+    with_path(info, start, path)
 }
 
 /// The comments of a location, with the names that `SourceCodeInfo.Location` uses.

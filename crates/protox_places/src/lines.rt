@@ -48,6 +48,7 @@ fn count_up_to(starts: &[usize], offset: usize) -> usize
 }
 
 // Whether exactly `count` of the numbers are at most `offset`.
+#[inline(always)]
 fn is_count(starts: &[usize], count: usize, offset: usize) -> bool
     requires { Rises 0 starts.now }
     ensures found { result ≡ true → Found starts.now offset count }
@@ -61,13 +62,14 @@ fn is_count(starts: &[usize], count: usize, offset: usize) -> bool
     begun && ended
 }
 
-// The same count, found at once if the offset lies in the line `near` or in one of the next two.
+// The same count, found at once if the offset lies in the line `near` or in one of the next seven, as
+// behind a comment.
 fn count_near(starts: &[usize], near: usize, offset: usize) -> usize
     requires { Rises 0 starts.now }
     ensures found { Found starts.now offset result }
     ensures small { result ≤ offset }
 {
-    for count in near..near.saturating_add(3) {
+    for count in near..near.saturating_add(8) {
         if is_count(starts, count, offset) {
             return count;
         }
@@ -76,6 +78,7 @@ fn count_near(starts: &[usize], near: usize, offset: usize) -> usize
 }
 
 // Line and column of an offset in this line.
+#[inline(always)]
 fn place(starts: &[usize], line: usize, offset: usize) -> (i32, i32)
     requires rises { Rises 0 starts.now }
     requires found { Found starts.now offset line }
@@ -89,6 +92,7 @@ fn place(starts: &[usize], line: usize, offset: usize) -> (i32, i32)
 }
 
 // The numbers of a span that starts in the line `first` and ends in the line `last`.
+#[inline(always)]
 fn numbers_in(starts: &[usize], first: usize, last: usize, span: Span) -> Numbers
     requires rises { Rises 0 starts.now }
     requires start { span.start ≤ 2147483647 }
@@ -146,13 +150,17 @@ impl LineResolver {
     }
 
     /// The same as `numbers`, faster if the span starts in the line `near` or in one of the next
-    /// two. Sets `near` to the line in which the span starts. Offsets as for `numbers`.
+    /// seven. Sets `near` to the line in which the span starts. Offsets as for `numbers`.
     pub fn numbers_near(&self, near: &mut usize, span: Span) -> Numbers
         requires start { span.start ≤ 2147483647 }
         requires end { span.end ≤ 2147483647 }
         ensures { result ≡ numbers_at self.now span }
     {
-        let first = count_near(&self.starts, *near, span.start);
+        let line = *near;
+        if is_count(&self.starts, line, span.start) && is_count(&self.starts, line, span.end) {
+            return numbers_in(&self.starts, line, line, span);
+        }
+        let first = count_near(&self.starts, line, span.start);
         let last = count_near(&self.starts, first, span.end);
         *near = first;
         numbers_in(&self.starts, first, last, span)

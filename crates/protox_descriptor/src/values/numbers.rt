@@ -38,6 +38,7 @@ impl Model for Numbers {
 }
 
 // Both lists, one after the other, and then zeros.
+#[inline(always)]
 fn filled(front: &[i32], back: &[i32]) -> [i32; 7]
     requires { length front.now + length back.now ≤ 7 }
     ensures { take (length front.now + length back.now) result ≡ front.now ++ back.now }
@@ -51,6 +52,7 @@ fn filled(front: &[i32], back: &[i32]) -> [i32; 7]
 }
 
 // Both lists, one after the other, in one value. It takes no memory.
+#[inline(always)]
 fn few(front: &[i32], back: &[i32]) -> Numbers
     requires { length front.now + length back.now ≤ 7 }
     ensures { result ≡ front.now ++ back.now }
@@ -87,6 +89,7 @@ impl Numbers {
     }
 
     /// A list of at most seven numbers. It takes no memory.
+    #[inline(always)]
     pub fn few(numbers: &[i32]) -> Numbers
         requires { length numbers.now ≤ 7 }
         ensures { result ≡ numbers.now }

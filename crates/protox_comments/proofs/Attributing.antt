@@ -7,10 +7,10 @@ use Rattle.std.proofs.lemmas.List.{at_drop_more}
 use Rattle.std.specs.List.{list_all}
 use Rattle.std.specs.Option.{option_or}
 use Rattle.std.specs.Prelude.{if◌then◌else◌}
-use Rattle.protox_comments.specs.inner.Attributing.{Newlines, begins_newline, behind, pending, outcome_of, outcome}
+use Rattle.protox_comments.specs.inner.Attributing.{Lines, Newlines, begins_newline, behind, pending, outcome_of, outcome}
 use Rattle.protox_comments.specs.CommentState.{CommentState, placed, flushed, with_block, with_line, empty}
 use Rattle.protox_comments.specs.declared.comments.Block.{Block}
-use Rattle.protox_lexeme.specs.Gaps.{Item, block, blank, begins_line, joined, items, nothing, may_lead, led_by, unless_leading, among, attribution, IsGap}
+use Rattle.protox_lexeme.specs.Gaps.{Attribution, Item, block, blank, begins_line, joined, items, nothing, may_lead, led_by, unless_leading, among, attribution, IsGap}
 use Rattle.protox_lexeme.specs.Table.{is_gap}
 use Rattle.protox_lexeme.specs.Tokens.{shape_of}
 use Rattle.protox_lexeme.specs.declared.token.Token.{Token}
@@ -183,3 +183,53 @@ pub newlines_alone : (gap : List Shape) → Newlines gap → (at_start : Bool) (
 newlines_alone gap h true next = blanks_alone gap h false next
 newlines_alone [] h false next = refl
 newlines_alone (x ∷ gap) h false next = rw h.0 (blanks_alone gap h.1 true next)
+
+-- ---- one side of a gap
+
+-- a run of line comments is one block
+one-block : (t : List ℕ) (gap : List Shape) → Lines gap → (u : List ℕ) × (items (LineComment t ∷ gap) ≡ block u ∷ [])
+one-block t [] h = (t, refl)
+one-block t (LineComment v ∷ gap) h =
+    let (u, same) = one-block v gap h in
+    (t ++ u, ap (joined t) same)
+one-block t (other ∷ gap) h = absurd h
+
+led-by-block : (u : List ℕ) (next : Option Shape) → may_lead next ≡ true → (among true (block u ∷ []) next).trailing ≡ None
+led-by-block u next h = rw h refl
+
+nothing-alone : (next : Option Shape) → (among true [] next).trailing ≡ None
+nothing-alone next = elim (cases_Bool (may_lead next)) [ inl e ↦ rw e refl | inr e ↦ rw e refl ]
+
+-- line comments that lead don't trail
+pub lines-lead : (gap : List Shape) (next : Option Shape) → Lines gap → may_lead next ≡ true → (among true (items gap) next).trailing ≡ None
+lines-lead [] next h lead = nothing-alone next
+lines-lead (LineComment t ∷ gap) next h lead =
+    let (u, same) = one-block t gap h in
+    ap (λ its. (among true its next).trailing) same ∙ led-by-block u next lead
+lines-lead (other ∷ gap) next h lead = absurd h
+
+-- a newline, and behind it nothing, another newline, or line comments that lead
+pub newline-alone : (next : Option Shape) → (attribution (Newline ∷ []) false next).trailing ≡ None
+newline-alone next = nothing-alone next
+
+pub two-newlines : (gap : List Shape) (next : Option Shape) → (attribution (Newline ∷ (Newline ∷ gap)) false next).trailing ≡ None
+two-newlines gap next = ap (λ (a : Attribution). a.trailing) (among_blank true (items gap) next)
+
+-- a line comment, and behind it only newlines
+pub line-alone : (t : List ℕ) (gap : List Shape) (next : Option Shape) → Newlines gap → attribution (LineComment t ∷ gap) false next ≡ record { trailing = Some t; detached = []; leading = None }
+line-alone t gap next h = ap (λ (a : Attribution). record a { trailing = Some t }) (blanks_alone gap h false next)
+
+none-behind : (gap : List Token) → length gap ≡ 1 → map shape_of (drop 1 gap) ≡ []
+none-behind [] h = absurd (omega (arith, h))
+none-behind (x ∷ []) h = refl
+none-behind (x ∷ (y ∷ gap)) h = absurd (omega (arith, h))
+
+module _ (gap : List Token) (next : Option Shape) (front : map shape_of gap ≡ Newline ∷ map shape_of (drop 1 gap)) where
+  pub trails-not-alone : length gap ≡ 1 → (attribution (map shape_of gap) false next).trailing ≡ None
+  trails-not-alone h = ap (λ g. (attribution g false next).trailing) (front ∙ ap (λ g. Newline ∷ g) (none-behind gap h)) ∙ newline-alone next
+
+  pub trails-not-twice : map shape_of (drop 1 gap) ≡ Newline ∷ map shape_of (drop 2 gap) → (attribution (map shape_of gap) false next).trailing ≡ None
+  trails-not-twice h = ap (λ g. (attribution g false next).trailing) (front ∙ ap (λ g. Newline ∷ g) h) ∙ two-newlines (map shape_of (drop 2 gap)) next
+
+  pub trails-not-lines : Lines (map shape_of (drop 1 gap)) → may_lead next ≡ true → (attribution (map shape_of gap) false next).trailing ≡ None
+  trails-not-lines h lead = ap (λ g. (attribution g false next).trailing) front ∙ lines-lead (map shape_of (drop 1 gap)) next h lead

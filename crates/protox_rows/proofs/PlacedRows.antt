@@ -171,14 +171,9 @@ module _ (table : Table) (k : ℕ) (some : 0 < k) (inside : k ≤ length (placed
 
 -- ---- answers
 
-pub trails : {E : Type 0} (r : Result GapComments E) (a : Attribution) (text : Option (List ℕ)) → IfOk r (λ g. attribution_of g ≡ a) → text ≡ a.trailing → IfOk r (λ g. g.trailing ≡ text)
-trails (Ok g) a text h e = ap (λ (b : Attribution). b.trailing) h ∙ sym e
-trails (Err d) a text h e = tt
-
-pub precede : {E : Type 0} (r : Result GapComments E) (a : Attribution) (texts : List (List ℕ)) (text : Option (List ℕ)) → IfOk r (λ g. attribution_of g ≡ a) → texts ≡ a.detached → text ≡ a.leading
-    → IfOk r (λ g. (g.detached ≡ texts) × (g.leading ≡ text))
-precede (Ok g) a texts text h d l = (ap (λ (b : Attribution). b.detached) h ∙ sym d, ap (λ (b : Attribution). b.leading) h ∙ sym l)
-precede (Err d) a texts text h e l = tt
+pub sided : {X Y E : Type 0} (r : Result X E) (f : X → Y) (y z : Y) → IfOk r (λ x. f x ≡ y) → z ≡ y → IfOk r (λ x. f x ≡ z)
+sided (Ok x) f y z h e = h ∙ sym e
+sided (Err d) f y z h e = tt
 
 -- After the last row there is none.
 pub none-there : {A : Type 0} (xs : List A) (k : ℕ) (d : A) → slice_get xs k ≡ None → slice_index_or xs k d ≡ d

@@ -1,9 +1,8 @@
 //! Positions among the rows of a table.
 
-ghost use Rattle.std.specs.Prelude.{◌≡◌, ◌==◌, ◌-◌, IfOk, [], drop, length, map, slice_index_or};
+ghost use Rattle.std.specs.Prelude.{◌≡◌, ◌==◌, ◌-◌, IfOk, false, [], drop, length, map, slice_index_or};
 ghost use Rattle.protox_ast.specs.Places.{placed};
 ghost use Rattle.protox_lexeme.specs.Gaps.{IsGap, attribution};
-ghost use Rattle.protox_comments.specs.inner.Attributing.{attribution_of};
 ghost use Rattle.protox_lex.specs.TableView.{shape_of_lent};
 ghost use Rattle.protox_lexeme.specs.TokenClass.{class};
 ghost use Rattle.protox_lexeme.specs.Tokens.{shape_of};
@@ -14,8 +13,8 @@ ghost use Rattle.protox_rows.specs.inner.Reads.{declared};
 use crate::class::INVALID;
 use crate::leaf::join;
 use protox_ast::ast::Comments;
-use protox_descriptor::values::Items;
-use protox_lex::comments::{GapComments, gap_comments};
+use protox_comments::sides::{comments_before, trailing_comment};
+use protox_descriptor::values::{Items, Text};
 use protox_lex::error::Span;
 use protox_lex::lex::{Token, TokenTable};
 use std::alloc::{AllocError, Global};
@@ -57,36 +56,71 @@ impl<'t, 'a> Model for Unread<'t, 'a> {
     ghost view = { rows_left };
 }
 
-// The comments of a gap. `index` is the row after it, which may be after the last.
-fn comments_in(
+// The comment of a gap that trails. `index` is the row after the gap, which may be after the last.
+fn trailing_in(
+    alloc: Global,
+    table: &TokenTable<'_>,
+    gap: &[Token<'_>],
+    index: usize,
+) -> Result<Option<Text>, AllocError>
+    requires { IsGap (map shape_of gap.now) }
+    ensures { IfOk result (λ t. t ≡ (attribution (map shape_of gap.now) false (shape_of_row table.now.rows index)).trailing) }
+{
+    match table.row(index) {
+        None => trailing_comment(alloc, gap, None),
+        Some(Ok(token)) => trailing_comment(alloc, gap, Some(token)),
+        Some(Err(())) => trailing_comment(alloc, gap, Some(&Token::Semicolon)),
+    }
+}
+
+// The comments of a gap that belong to the row after it. `index` is that row, and `first` says that the
+// gap begins the file.
+fn leading_in(
     alloc: Global,
     table: &TokenTable<'_>,
     gap: &[Token<'_>],
     index: usize,
     first: bool,
-) -> Result<GapComments, AllocError>
+) -> Result<(Items<Text>, Option<Text>), AllocError>
     requires { IsGap (map shape_of gap.now) }
-    ensures { IfOk result (λ c. attribution_of c ≡ attribution (map shape_of gap.now) first (shape_of_row table.now.rows index)) }
+    ensures detached { IfOk result (λ c. c.0 ≡ (attribution (map shape_of gap.now) first (shape_of_row table.now.rows index)).detached) }
+    ensures leading { IfOk result (λ c. c.1 ≡ (attribution (map shape_of gap.now) first (shape_of_row table.now.rows index)).leading) }
 {
     match table.row(index) {
-        None => gap_comments(alloc, gap, first, None),
-        Some(Ok(token)) => gap_comments(alloc, gap, first, Some(token)),
-        Some(Err(())) => gap_comments(alloc, gap, first, Some(&Token::Semicolon)),
+        None => comments_before(alloc, gap, first, None),
+        Some(Ok(token)) => comments_before(alloc, gap, first, Some(token)),
+        Some(Err(())) => comments_before(alloc, gap, first, Some(&Token::Semicolon)),
     }
 }
 
-// The comments of the gap with this number. `first` says that it begins the file.
-fn comments_at(
+// The comment that trails the row before the gap with this number.
+fn trailing_at(
+    alloc: Global,
+    table: &TokenTable<'_>,
+    index: usize,
+) -> Result<Option<Text>, AllocError>
+    ensures { IfOk result (λ t. t ≡ (attribution (slice_index_or table.now.gaps index []) false (shape_of_row table.now.rows index)).trailing) }
+{
+    match table.gap(index) {
+        Some(gap) => trailing_in(alloc, table, gap, index),
+        None => Ok(None),
+    }
+}
+
+// The comments of the gap with this number that belong to the row after it. `first` says that it begins
+// the file.
+fn leading_at(
     alloc: Global,
     table: &TokenTable<'_>,
     index: usize,
     first: bool,
-) -> Result<GapComments, AllocError>
-    ensures { IfOk result (λ c. attribution_of c ≡ attribution (slice_index_or table.now.gaps index []) first (shape_of_row table.now.rows index)) }
+) -> Result<(Items<Text>, Option<Text>), AllocError>
+    ensures detached { IfOk result (λ c. c.0 ≡ (attribution (slice_index_or table.now.gaps index []) first (shape_of_row table.now.rows index)).detached) }
+    ensures leading { IfOk result (λ c. c.1 ≡ (attribution (slice_index_or table.now.gaps index []) first (shape_of_row table.now.rows index)).leading) }
 {
     match table.gap(index) {
-        Some(gap) => comments_in(alloc, table, gap, index, first),
-        None => comments_in(alloc, table, &[], index, first),
+        Some(gap) => leading_in(alloc, table, gap, index, first),
+        None => Ok((Items::new(alloc), None)),
     }
 }
 
@@ -147,19 +181,20 @@ impl<'t, 'a> RowAt<'t, 'a> {
         class_in(self.table, self.behind - 1)
     }
 
-    /// The comments before this row.
-    fn before(&self, alloc: Global) -> Result<GapComments, AllocError>
-        ensures { IfOk result (λ c. (c.detached ≡ self.now.at.detached) × (c.leading ≡ self.now.at.leading)) }
+    /// The comments before this row: the detached ones, and the one that leads.
+    fn before(&self, alloc: Global) -> Result<(Items<Text>, Option<Text>), AllocError>
+        ensures detached { IfOk result (λ c. c.0 ≡ self.now.at.detached) }
+        ensures leading { IfOk result (λ c. c.1 ≡ self.now.at.leading) }
     {
         let index = self.behind - 1;
-        comments_at(alloc, self.table, index, index == 0)
+        leading_at(alloc, self.table, index, index == 0)
     }
 
-    /// The comments after this row.
-    fn after(&self, alloc: Global) -> Result<GapComments, AllocError>
-        ensures { IfOk result (λ c. c.trailing ≡ self.now.at.trailing) }
+    /// The comment after this row.
+    fn after(&self, alloc: Global) -> Result<Option<Text>, AllocError>
+        ensures { IfOk result (λ t. t ≡ self.now.at.trailing) }
     {
-        comments_at(alloc, self.table, self.behind, false)
+        trailing_at(alloc, self.table, self.behind)
     }
 
     /// The span of the row.
@@ -256,16 +291,16 @@ pub fn comments_between(
 ) -> Result<Comments, AllocError>
     ensures { IfOk result (λ c. c ≡ comments first.now.at last.now.at) }
 {
-    let before = first.before(alloc)?;
-    let after = last.after(alloc)?;
-    Comments::new(alloc, before.detached, before.leading, after.trailing)
+    let (detached, leading) = first.before(alloc)?;
+    let trailing = last.after(alloc)?;
+    Comments::new(alloc, detached, leading, trailing)
 }
 
 fn comments_behind(alloc: Global, last: &RowAt<'_, '_>) -> Result<Comments, AllocError>
     ensures { IfOk result (λ c. c ≡ declared [] last.now.at) }
 {
-    let behind = last.after(alloc)?;
-    Comments::new(alloc, Items::new(alloc), None, behind.trailing)
+    let trailing = last.after(alloc)?;
+    Comments::new(alloc, Items::new(alloc), None, trailing)
 }
 
 /// The comments of a declaration that begins with the first of these rows. It ends or opens its

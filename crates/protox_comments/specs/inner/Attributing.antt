@@ -29,6 +29,12 @@ abbrev pub Newlines : List Shape → Type 0
 Newlines [] = ⊤
 Newlines (shape ∷ gap) = (shape ≡ Newline) × Newlines gap
 
+-- The gap holds line comments and nothing else.
+abbrev pub Lines : List Shape → Type 0
+Lines [] = ⊤
+Lines (LineComment text ∷ gap) = Lines gap
+Lines (other ∷ gap) = ⊥
+
 -- The items still to come, with the open block in front.
 abbrev pub pending : Option Block → List Shape → List Item
 pending None gap = items gap

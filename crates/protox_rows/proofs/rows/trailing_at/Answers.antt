@@ -1,14 +1,14 @@
-use Rattle.std.proofs.Common.{◌≡◌, [], sym, ap, subst, ◌∙◌, IfOk}
+use Rattle.std.proofs.Common.{◌≡◌, [], false, sym, ap, ◌∙◌}
 use Rattle.std.specs.Prelude.{option_map}
-use Rattle.protox_comments.specs.inner.Attributing.{attribution_of}
 use Rattle.protox_lexeme.specs.Gaps.{attribution}
 use Rattle.protox_lex.specs.TableView.{shapes_of_lent}
+use Rattle.protox_comments.proofs.Attributing.{newlines_alone}
 use Rattle.protox_rows.specs.Rows.{shape_of_row}
 use Rattle.protox_rows.proofs.PlacedRows.{none-there}
-use Rattle.protox_rows.proofs.rows.comments_at.Goals as goal
+use Rattle.protox_rows.proofs.rows.trailing_at.Goals as goal
 
 pub returns-in-None : goal.returns-in-None
 returns-in-None c =
     let t = c.args.table.now in
     let none = none-there t.gaps c.args.index [] (sym c.gap.ensures.value ∙ ap (option_map shapes_of_lent) c.in-None.is) in
-    subst (λ gap. IfOk c.comments_in-in-None.result (λ g. attribution_of g ≡ attribution gap c.args.first (shape_of_row t.rows c.args.index))) (sym none) c.comments_in-in-None.ensures
+    sym (ap (λ gap. (attribution gap false (shape_of_row t.rows c.args.index)).trailing) none)

@@ -96,12 +96,11 @@ impl Comments {
         self.flush()
     }
 
-    // Finishes the open block, and opens a new one. On `AllocError` nothing changes.
-    fn open_as(&mut self, comment: CowStr<'_>, of_lines: bool) -> Result<(), AllocError>
-        ensures ok { OnOk result (self.new ≡ record (state.closed self.old) { open_block = Some (state.block (cow_str_bytes comment.entry) of_lines) }) }
+    // Finishes the open block, and opens a new one with this text. On `AllocError` nothing changes.
+    fn open_as(&mut self, text: Text, of_lines: bool) -> Result<(), AllocError>
+        ensures ok { OnOk result (self.new ≡ record (state.closed self.old) { open_block = Some (state.block text of_lines) }) }
         ensures err { OnErr result (self.new ≡ self.old) }
     {
-        let text = Text::from_cow(self.alloc, comment)?;
         self.close_block()?;
         self.open_block = Some(Block { text, of_lines });
         Ok(())
@@ -113,13 +112,22 @@ impl Comments {
         ensures ok { OnOk result (self.new ≡ state.with_block (cow_str_bytes comment.entry) self.old) }
         ensures err { OnErr result (self.new ≡ self.old) }
     {
-        self.open_as(comment, false)
+        let text = Text::from_cow(self.alloc, comment)?;
+        self.open_as(text, false)
     }
 
     /// Adds a line comment. It joins an open block of line comments. Else it finishes the open
     /// block and is the new one. On `AllocError` nothing changes.
     pub fn line_comment(&mut self, comment: CowStr<'_>) -> Result<(), AllocError>
         ensures ok { OnOk result (self.new ≡ state.with_line (cow_str_bytes comment.entry) self.old) }
+        ensures err { OnErr result (self.new ≡ self.old) }
+    {
+        self.add_line(comment.as_str(), 0)
+    }
+
+    // Adds a line comment. If it opens a block, the block gets room for so many bytes.
+    fn add_line(&mut self, comment: &str, room: usize) -> Result<(), AllocError>
+        ensures ok { OnOk result (self.new ≡ state.with_line comment.now self.old) }
         ensures err { OnErr result (self.new ≡ self.old) }
     {
         match self.open_block.take() {
@@ -129,7 +137,7 @@ impl Comments {
                     of_lines: true,
                 },
             ) => {
-                let pushed = text.push_str(self.alloc, comment.as_str());
+                let pushed = text.push_str(self.alloc, comment);
                 self.open_block = Some(Block {
                     text,
                     of_lines: true,
@@ -138,7 +146,8 @@ impl Comments {
             }
             other => {
                 self.open_block = other;
-                self.open_as(comment, true)
+                let text = Text::with_room(self.alloc, comment, room)?;
+                self.open_as(text, true)
             }
         }
     }
@@ -196,7 +205,7 @@ pub struct GapComments {
 }
 
 // Whether a comment may lead the token.
-fn may_lead(next: Option<&Token<'_>>) -> bool
+pub(crate) fn may_lead(next: Option<&Token<'_>>) -> bool
     ensures { result ≡ gaps.may_lead (shape_lent next.entry) }
 {
     match next {
@@ -222,7 +231,31 @@ fn block_len(gap: &[Token<'_>], at: usize) -> usize
     }
 }
 
+// How many bytes the line comments have that stand at `at` and right behind it.
+fn run_bytes(gap: &[Token<'_>], at: usize) -> usize
+    requires { at ≤ length gap.now }
+{
+    let mut bytes: usize = 0;
+    for token in &gap[at..] {
+        match token {
+            Token::LineComment(text) => bytes = bytes.saturating_add(text.as_str().len()),
+            _ => return bytes,
+        }
+    }
+    bytes
+}
+
 impl Comments {
+    // The room for the block that a line comment at `at` opens; 0 if a block is open.
+    fn room_at(&self, gap: &[Token<'_>], at: usize) -> usize
+        requires { at ≤ length gap.now }
+    {
+        if self.open_block.is_some() {
+            return 0;
+        }
+        run_bytes(gap, at)
+    }
+
     // Takes in the comment or newline at `at`. Answers how many tokens these are.
     fn take_at(&mut self, gap: &[Token<'_>], at: usize) -> Result<usize, AllocError>
         requires inside { at < length gap.now }
@@ -232,7 +265,8 @@ impl Comments {
     {
         match &gap[at] {
             Token::LineComment(text) => {
-                self.line_comment(CowStr::Borrowed(text.as_str()))?;
+                let room = self.room_at(gap, at);
+                self.add_line(text.as_str(), room)?;
                 Ok(1)
             }
             Token::BlockComment(text) => {
@@ -315,7 +349,7 @@ fn begin(
 }
 
 // Whether a gap has only newlines, as most do.
-fn is_bare(gap: &[Token<'_>]) -> bool
+pub(crate) fn is_bare(gap: &[Token<'_>]) -> bool
     ensures { result ≡ true → Newlines (map shape_of gap.now) }
 {
     for token in gap {

@@ -43,6 +43,7 @@ impl Model for Text {
 }
 
 // The bytes of both texts, one after the other, and then zeros.
+#[inline(always)]
 fn filled(front: &[u8], back: &[u8]) -> [u8; 30]
     requires { length front.now + length back.now ≤ 30 }
     ensures { take (length front.now + length back.now) result ≡ front.now ++ back.now }
@@ -56,6 +57,7 @@ fn filled(front: &[u8], back: &[u8]) -> [u8; 30]
 }
 
 // Both texts, one after the other, in one value. It takes no memory.
+#[inline(always)]
 fn short(front: &str, back: &str) -> Text
     requires { length front.now + length back.now ≤ 30 }
     ensures { result ≡ front.now ++ back.now }
@@ -99,7 +101,28 @@ impl Text {
         ensures value { IfOk result (λ made. made ≡ text.now) }
         ensures free { length text.now ≤ 30 → IsOk result }
     {
-        Text::joined(alloc, text, "")
+        if text.len() <= SHORT {
+            return Ok(short(text, ""));
+        }
+        let content = String::from_str(alloc, text)?;
+        Ok(Text {
+            held: Held::InString { content },
+        })
+    }
+
+    /// A copy of `text` with room for `room` bytes in all, or `AllocError`. If neither has more than 30
+    /// bytes, it takes no memory.
+    pub fn with_room(alloc: Global, text: &str, room: usize) -> Result<Text, AllocError>
+        ensures { IfOk result (λ made. made ≡ text.now) }
+    {
+        if text.len() <= SHORT && room <= SHORT {
+            return Ok(short(text, ""));
+        }
+        let mut content = String::with_capacity(alloc, text.len().max(room))?;
+        content.push_str(text)?;
+        Ok(Text {
+            held: Held::InString { content },
+        })
     }
 
     /// A text with the bytes of `front` and then those of `back`, or `AllocError`. Up to 30 bytes

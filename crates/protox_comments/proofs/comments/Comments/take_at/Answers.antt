@@ -6,14 +6,14 @@ use Rattle.protox_lexeme.specs.Tokens.{shape_of}
 use Rattle.protox_comments.proofs.Attributing.{shapes_at, line_turn, block_turn, flush_turn, no_other, gap_at}
 use Rattle.protox_comments.proofs.comments.Comments.take_at.Goals as goal
 
-pub returns-in_ok-line_comment-in-LineComment-clause-value :
-    goal.returns-in_ok-line_comment-in-LineComment-clause-value
-returns-in_ok-line_comment-in-LineComment-clause-value c next =
+pub returns-in_ok-add_line-in-LineComment-clause-value :
+    goal.returns-in_ok-add_line-in-LineComment-clause-value
+returns-in_ok-add_line-in-LineComment-clause-value c next =
     let gap = c.args.gap.now in
     let at = c.args.at in
     let here = shapes_at gap at c.index-gap-at.result c.requires.inside c.index-gap-at.is ∙ ap (λ x. shape_of x ∷ map shape_of (drop (at + 1) gap)) c.in-LineComment.is in
     let turn = line_turn c.args.self.now (cow_str_bytes c.in-LineComment.text) (map shape_of (drop (at + 1) gap)) next in
-    let state = c.in_ok-line_comment-in-LineComment.ensures.ok ∙ ap (λ t. with_line t c.args.self.now) c.as_str.ensures.value in
+    let state = c.in_ok-add_line-in-LineComment.ensures.ok ∙ ap (λ t. with_line t c.args.self.now) c.as_str.ensures.value in
     ap (λ s. outcome s (map shape_of (drop (at + 1) gap)) next) state ∙ turn ∙ ap (λ xs. outcome c.args.self.now xs next) (sym here)
 
 pub returns-in_ok-block_comment-in-BlockComment-clause-value :

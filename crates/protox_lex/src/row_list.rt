@@ -80,13 +80,23 @@ fn wide_row(wide: &[NumberedRow], index: usize) -> Option<NumberedRow>
     wide.get(index).copied()
 }
 
+/// An empty vector, with room for so many elements if memory allows.
+pub(crate) fn with_room<T>(alloc: Global, room: usize) -> Vec<T>
+    ensures { result.items ≡ [] }
+{
+    match Vec::with_capacity(alloc, room) {
+        Ok(made) => made,
+        Err(_) => Vec::new(alloc),
+    }
+}
+
 impl RowList {
-    /// No rows. It takes no memory.
-    pub(crate) fn new(alloc: Global) -> RowList
+    /// No rows, with room for so many narrow ones if memory allows.
+    pub(crate) fn new(alloc: Global, room: usize) -> RowList
         ensures { result ≡ [] }
     {
         RowList {
-            narrow: Vec::new(alloc),
+            narrow: with_room(alloc, room),
             wide: Vec::new(alloc),
             wide_from: TOO_LARGE,
         }

@@ -7,6 +7,7 @@ ghost use Rattle.protox_lex.specs.TableView.{shapes_of_lent};
 ghost use Rattle.protox_lexeme.specs.Tokens.{shape_of};
 
 use crate::groups::Groups;
+use crate::row_list::with_room;
 use protox_lexeme::token::Token;
 use std::alloc::{AllocError, Global};
 use std::marker::Model;
@@ -98,13 +99,13 @@ fn push_number(
 }
 
 impl<'a> SharedGaps<'a> {
-    /// No gaps, and an empty gap that has begun.
-    pub(crate) fn new(alloc: Global) -> Result<SharedGaps<'a>, AllocError>
+    /// No gaps, with room for so many if memory allows, and an empty gap that has begun.
+    pub(crate) fn new(alloc: Global, room: usize) -> Result<SharedGaps<'a>, AllocError>
         ensures { IfOk result (λ gaps. gaps ≡ record { ended = []; begun = [] }) }
     {
         Ok(SharedGaps {
             lines: newlines(alloc)?,
-            numbers: Vec::new(alloc),
+            numbers: with_room(alloc, room),
             wide: Vec::new(alloc),
             kept: Groups::new(alloc),
             keeps: false,

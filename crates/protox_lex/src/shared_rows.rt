@@ -188,12 +188,12 @@ fn push_last(rows: &mut RowList, number: usize, start: usize, len: usize) -> Res
 }
 
 impl<'a> SharedRows<'a> {
-    /// No rows.
-    pub(crate) fn new(alloc: Global) -> Result<SharedRows<'a>, AllocError>
+    /// No rows, with room for so many if memory allows.
+    pub(crate) fn new(alloc: Global, room: usize) -> Result<SharedRows<'a>, AllocError>
         ensures { IfOk result (λ rows. rows ≡ record { rows = []; borrowed = [] }) }
     {
         Ok(SharedRows {
-            rows: RowList::new(alloc),
+            rows: RowList::new(alloc, room),
             tokens: Vec::new(alloc),
             marks: vec![in alloc; None; 256]?,
             recent: vec![in alloc; 0; SLOTS]?,

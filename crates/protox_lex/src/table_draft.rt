@@ -217,9 +217,11 @@ impl<'a> TableDraft<'a> {
 fn draft<'a>(alloc: Global, source: &'a str) -> Result<TableDraft<'a>, AllocError>
     ensures { IfOk result (λ d. finished d [] ≡ table_of (spec.cut 0 source.entry.now)) }
 {
+    // A source of the usual kind has a row for 6 to 12 bytes.
+    let room = source.len() / 8;
     let mut draft = TableDraft {
-        rows: SharedRows::new(alloc)?,
-        gaps: SharedGaps::new(alloc)?,
+        rows: SharedRows::new(alloc, room)?,
+        gaps: SharedGaps::new(alloc, room)?,
         faults: LateGroups::new(alloc),
     };
     let mut at = 0;

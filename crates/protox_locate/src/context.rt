@@ -1,6 +1,6 @@
 //! The position in the tree while it is walked, and the locations so far.
 
-ghost use Rattle.std.specs.Prelude.{◌≡◌, ◌≤◌, ◌++◌, ◌∷◌, [], ℤ, pos, length, IfOk, OnOk, List};
+ghost use Rattle.std.specs.Prelude.{◌≡◌, ◌≤◌, ◌++◌, ◌∷◌, [], true, None, ℤ, pos, length, IfOk, OnOk, List};
 ghost use Rattle.std.specs.Option.{option_copied};
 ghost use Rattle.protox_locate.specs.inner.Bounds.{reach};
 ghost use Rattle.protox_places.specs.Lines.{numbers_at};
@@ -48,15 +48,30 @@ fn copied(alloc: Global, texts: &[Text]) -> Result<Items<Text>, AllocError>
     Ok(Items::from_vec(copies))
 }
 
+// Whether there are no comments, as at most declarations.
+fn is_bare(comments: &Comments) -> bool
+    ensures leading { result ≡ true → comments.now.leading_comment ≡ None }
+    ensures trailing { result ≡ true → comments.now.trailing_comment ≡ None }
+    ensures detached { result ≡ true → comments.now.leading_detached_comments ≡ [] }
+{
+    comments.leading_comment().is_none()
+        && comments.trailing_comment().is_none()
+        && comments.leading_detached_comments().is_empty()
+}
+
 impl Context {
-    /// The path of a file (empty), and no location.
-    pub fn new(alloc: Global) -> Context
+    /// The path of a file (empty), and no location. There is room for `room` locations, if memory
+    /// allows.
+    pub fn new(alloc: Global, room: usize) -> Context
         ensures path { result.path ≡ [] }
         ensures locations { result.locations ≡ [] }
     {
         Context {
             path: Items::new(alloc),
-            locations: Items::new(alloc),
+            locations: match Items::with_capacity(alloc, room) {
+                Ok(locations) => locations,
+                Err(_) => Items::new(alloc),
+            },
             near: 0,
         }
     }
@@ -90,6 +105,9 @@ impl Context {
         requires { reach span.now ≤ 2147483647 }
         ensures { OnOk result (Emits self.old self.new (commented (numbers_at lines.now) (self.old.path ++ tags.now) span.now comments.now ∷ [])) }
     {
+        if is_bare(comments) {
+            return self.add(alloc, lines, tags, span);
+        }
         let leading = copied_option(alloc, comments.leading_comment())?;
         let trailing = copied_option(alloc, comments.trailing_comment())?;
         let detached = copied(alloc, comments.leading_detached_comments())?;

@@ -16,7 +16,9 @@ use crate::imports::{locate_imports, locate_public_words, locate_weak_words};
 use crate::options::locate_options;
 use protox_ast::ast::{Comments, File, Opt, Package};
 use protox_descriptor::descriptor::SourceCodeInfo;
+use protox_descriptor::descriptor::source_code_info::Location;
 use protox_descriptor::tag::file::{OPTIONS, PACKAGE, SYNTAX};
+use protox_descriptor::values::Items;
 use protox_fault::error::Span;
 use protox_places::lines::LineResolver;
 use std::alloc::{AllocError, Global};
@@ -36,11 +38,20 @@ pub fn locate_file(alloc: Global, source: &str, ast: &File) -> Result<SourceCode
     ensures by_path { IfOk result (λ info. FileStands (length source.now) ast.now → AreByPath info.location) }
 {
     let lines = LineResolver::new(alloc, source)?;
-    let mut context = Context::new(alloc);
+    // A source of the usual kind has a location for 20 to 30 bytes.
+    let mut context = Context::new(alloc, source.len() / 24);
     locate_parts(alloc, &lines, &mut context, ast)?;
     Ok(SourceCodeInfo {
-        location: context.locations,
+        location: trimmed(context.locations),
     })
+}
+
+// The locations, without the room that none takes.
+fn trimmed(mut locations: Items<Location>) -> Items<Location>
+    ensures { result ≡ locations }
+{
+    locations.shrink_to_fit();
+    locations
 }
 
 fn locate_parts(

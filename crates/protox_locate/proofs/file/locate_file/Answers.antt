@@ -10,7 +10,7 @@ use Rattle.protox_locate.proofs.file.locate_file.Goals as goal
 pub returns-clause-located : goal.returns-clause-located
 returns-clause-located c =
     let emits = c.in_ok-locate_parts.ensures in
-    emits.locations ∙ ap (λ before. before ++ file_at (numbers_at c.in_ok-lines.lines) c.args.ast.now c.new-context.result.path) c.new-context.ensures.locations
+    c.trimmed.ensures ∙ emits.locations ∙ ap (λ before. before ++ file_at (numbers_at c.in_ok-lines.lines) c.args.ast.now c.new-context.result.path) c.new-context.ensures.locations
     ∙ ap (file_at (numbers_at c.in_ok-lines.lines) c.args.ast.now) c.new-context.ensures.path
     ∙ ap (λ n. file_locations n c.args.ast.now) (numbers-are c.args.source.now c.in_ok-lines.lines c.in_ok-lines.ensures)
 

@@ -211,22 +211,23 @@ pub fn int(rows: &mut Unread<'_, '_>) -> Result<Int, Refused>
 fn scalar_type(word: &str) -> Option<Ty>
     ensures { result ≡ option_map scalar (find_scalar all_scalars word.now) }
 {
+    // The frequent ones come first.
     match word {
-        "double" => Some(Ty::Double),
-        "float" => Some(Ty::Float),
+        "string" => Some(Ty::String),
         "int32" => Some(Ty::Int32),
+        "bool" => Some(Ty::Bool),
         "int64" => Some(Ty::Int64),
+        "bytes" => Some(Ty::Bytes),
+        "double" => Some(Ty::Double),
         "uint32" => Some(Ty::Uint32),
         "uint64" => Some(Ty::Uint64),
-        "sint32" => Some(Ty::Sint32),
-        "sint64" => Some(Ty::Sint64),
+        "float" => Some(Ty::Float),
         "fixed32" => Some(Ty::Fixed32),
         "fixed64" => Some(Ty::Fixed64),
+        "sint32" => Some(Ty::Sint32),
+        "sint64" => Some(Ty::Sint64),
         "sfixed32" => Some(Ty::Sfixed32),
         "sfixed64" => Some(Ty::Sfixed64),
-        "bool" => Some(Ty::Bool),
-        "string" => Some(Ty::String),
-        "bytes" => Some(Ty::Bytes),
         _ => None,
     }
 }

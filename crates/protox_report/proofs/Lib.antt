@@ -1,3 +1,4 @@
 pub mod Chains
 pub mod Floors
 pub mod Plain
+mod Windows

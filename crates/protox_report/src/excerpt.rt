@@ -4,6 +4,7 @@ ghost use Rattle.std.specs.Prelude.{◌≡◌, ◌≢◌, ◌-◌, ◌<◌, ◌�
 ghost use Rattle.std.specs.Str.{IsCharBoundary};
 ghost use Rattle.protox_report.specs.Excerpts.{begins_line, ends_line, IsExcerpt, IsFirst, IsLast};
 
+use memchr::{memchr, memrchr};
 use protox_fault::error::Span;
 
 /// How many bytes of a line are shown at most before a span, in it and behind it.
@@ -38,14 +39,10 @@ fn line_start(bytes: &[u8], least: usize, start: usize) -> usize
     ensures clean { (k : ℕ) → result ≤ k → k < start → slice_index bytes.now k ≢ 10 }
     ensures behind { least < result → slice_index bytes.now (result - 1) ≡ 10 }
 {
-    let mut at = start;
-    while least < at {
-        if bytes[at - 1] == b'\n' {
-            return at;
-        }
-        at -= 1;
+    match memrchr(b'\n', &bytes[least..start]) {
+        Some(newline) => least + newline + 1,
+        None => least,
     }
-    at
 }
 
 // The offset where the line ends at or behind `start`; `most` if that comes first.
@@ -57,12 +54,17 @@ fn line_end(bytes: &[u8], start: usize, most: usize) -> usize
     ensures clean { (k : ℕ) → start ≤ k → k < result → ends_line bytes.now k ≡ false }
     ensures ends { result < most → ends_line bytes.now result ≡ true }
 {
-    for at in start..most {
-        if ends_line_at(bytes, at) {
-            return at;
-        }
+    // A carriage return at the end of what may be shown counts if the newline is the next byte.
+    let window = &bytes[start..bytes.len().min(most + 1)];
+    let Some(newline) = memchr(b'\n', window) else {
+        return most;
+    };
+    let at = start + newline;
+    if newline > 0 && bytes[at - 1] == b'\r' {
+        at - 1
+    } else {
+        at
     }
-    most
 }
 
 // From where the line is shown before `start`.

@@ -1,10 +1,11 @@
 -- A text of printable ASCII is shown as itself, with a column for each byte.
-use Rattle.std.proofs.Common.{◌≡◌, ℕ, zero, suc, ◌+◌, ◌<◌, ◌≤◌, false, List, [], ◌∷◌, ◌++◌, length, drop, get_or, replicate, Some, None, refl, ap, subst, ◌∙◌, add-one, arith}
+use Rattle.std.proofs.Common.{◌≡◌, ℕ, zero, suc, ◌+◌, ◌-◌, ◌<◌, ◌≤◌, false, List, [], ◌∷◌, ◌++◌, length, take, drop, get_or, replicate, Some, None, refl, ap, subst, ◌∙◌, append_assoc, add-one, arith}
 use Rattle.std.specs.List.{flat_map}
 use Rattle.std.specs.Prelude.{⊤}
-use Rattle.std.specs.Str.{IsAscii}
+use Rattle.std.specs.Str.{IsAscii, IsCharBoundary}
 use Rattle.std.proofs.lemmas.Bool.{le-leb, lt-ltb}
-use Rattle.std.proofs.lemmas.Str.{chars-IsAscii, encode_ascii}
+use Rattle.std.proofs.lemmas.List.{length-replicate, replicate-append-replicate, take-replicate}
+use Rattle.std.proofs.lemmas.Str.{IsCharBoundary-from_ascii, chars-IsAscii, encode_ascii}
 use Rattle.std.proofs.lemmas.Str.Ascii.{IsAscii-cons, IsAscii-nil}
 use Rattle.unicode_width.specs.Width.{char_width}
 use Rattle.protox_report.specs.Shown.{columns, in_place, own_columns, shown, shown_character, under}
@@ -60,3 +61,25 @@ all-printable bs i so h = so (none-left bs i h) where
   none-left [] (suc j) h = tt
   none-left (x ∷ xs) zero h = absurd (omega (arith, h))
   none-left (x ∷ xs) (suc j) h = none-left xs j (omega (arith, h))
+
+-- ---- marks, sixteen at once
+
+module _ (old out : List ℕ) (mark count left : ℕ) (h : out ++ replicate left mark ≡ old ++ replicate count mark) where
+  -- sixteen more
+  pub sixteen-more : (new : List ℕ) → new ≡ out ++ replicate 16 mark → 16 ≤ left → new ++ replicate (left - 16) mark ≡ old ++ replicate count mark
+  sixteen-more new is le =
+      let all : replicate 16 mark ++ replicate (left - 16) mark ≡ replicate left mark = replicate-append-replicate 16 (left - 16) mark ∙ ap (λ n. replicate n mark) (omega (arith, le)) in
+      ap (λ v. v ++ replicate (left - 16) mark) is ∙ append_assoc out (replicate 16 mark) (replicate (left - 16) mark) ∙ ap (λ v. out ++ v) all ∙ h
+
+  -- the rest
+  pub rest-of-marks : (new : List ℕ) → new ≡ out ++ take left (replicate 16 mark) → left < 16 → new ≡ old ++ replicate count mark
+  rest-of-marks new is lt = is ∙ ap (λ v. out ++ v) (take-replicate left 16 mark (omega (arith, lt))) ∙ h
+
+-- a front of them is a text
+pub marks-boundary : (mark left : ℕ) → mark < 128 → left < 16 → IsCharBoundary (replicate 16 mark) left
+marks-boundary mark left small lt = IsCharBoundary-from_ascii (replicate 16 mark) left (ascii 16) (rw (length-replicate 16 mark) (omega (arith, lt))) where
+  ascii : (n : ℕ) → IsAscii (replicate n mark)
+  ascii zero = IsAscii-nil
+  ascii (suc n) = IsAscii-cons mark (replicate n mark) small (ascii n)
+
+pub ruleset marks = (sixteen-more, rest-of-marks, marks-boundary)

@@ -55,12 +55,12 @@ fn is_plain(text: &str) -> bool
     ensures shown { result ≡ true → shown text.now ≡ text.now }
     ensures columns { result ≡ true → (mark : ℕ) → under mark text.now ≡ replicate (length text.now) mark }
 {
+    let mut plain = true;
+    // No byte ends the loop, so that many are compared at once.
     for byte in text.as_bytes() {
-        if !is_printable(*byte) {
-            return false;
-        }
+        plain &= is_printable(*byte);
     }
-    true
+    plain
 }
 
 /// Adds a text as it is shown, on one line and safe on a terminal.
@@ -86,8 +86,8 @@ fn columns_of(alloc: Global, c: char) -> Result<usize, AllocError>
     Ok(text.len())
 }
 
-/// Adds an ASCII character `count` times.
-pub fn push_times(out: &mut String, mark: u8, count: usize) -> Result<(), AllocError>
+// Adds an ASCII character `count` times, one after another.
+fn push_singly(out: &mut String, mark: u8, count: usize) -> Result<(), AllocError>
     requires { mark < 128 }
     ensures { OnOk result (string_bytes out.new ≡ string_bytes out.old ++ replicate count mark) }
 {
@@ -95,6 +95,25 @@ pub fn push_times(out: &mut String, mark: u8, count: usize) -> Result<(), AllocE
         out.push(char::from(mark))?;
     }
     Ok(())
+}
+
+/// Adds an ASCII character `count` times.
+#[tactic(auto, using(crate::proofs::Plain::marks))]
+pub fn push_times(out: &mut String, mark: u8, count: usize) -> Result<(), AllocError>
+    requires { mark < 128 }
+    ensures { OnOk result (string_bytes out.new ≡ string_bytes out.old ++ replicate count mark) }
+{
+    let block = [mark; 16];
+    let Ok(marks) = str::from_utf8(&block) else {
+        return push_singly(out, mark, count);
+    };
+    let mut left = count;
+    // Sixteen at once, and then the rest.
+    'full: while 16 <= left {
+        out.push_str(marks)?;
+        left -= 16;
+    }
+    out.push_str(&marks[..left])
 }
 
 /// Adds `mark` once for each column that the text takes as it is shown.

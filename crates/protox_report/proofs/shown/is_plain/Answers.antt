@@ -3,7 +3,7 @@ use Rattle.protox_report.proofs.Plain.{Printable, shown-itself, a-column-each, a
 use Rattle.protox_report.proofs.shown.is_plain.Goals as goal
 
 pub returns-clause-shown : goal.returns-clause-shown
-returns-clause-shown c e = shown-itself c.args.text.now (subst Printable c.as_bytes-byte-items.ensures.value (all-printable _ c.loop-byte.byte-index c.loop-byte.invariant c.loop-byte-test.false))
+returns-clause-shown c e = shown-itself c.args.text.now (subst Printable c.as_bytes-byte-items.ensures.value (all-printable _ c.loop-byte.byte-index (c.loop-byte.invariant e) c.loop-byte-test.false))
 
 pub returns-clause-columns : goal.returns-clause-columns
-returns-clause-columns c e = a-column-each c.args.text.now (subst Printable c.as_bytes-byte-items.ensures.value (all-printable _ c.loop-byte.byte-index c.loop-byte.invariant c.loop-byte-test.false))
+returns-clause-columns c e = a-column-each c.args.text.now (subst Printable c.as_bytes-byte-items.ensures.value (all-printable _ c.loop-byte.byte-index (c.loop-byte.invariant e) c.loop-byte-test.false))

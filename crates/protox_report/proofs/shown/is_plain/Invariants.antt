@@ -1,6 +1,6 @@
-use Rattle.std.proofs.Common.{drop}
+use Rattle.std.proofs.Common.{◌≡◌, true, drop}
 use Rattle.protox_report.proofs.Plain.{Printable}
 use Rattle.protox_report.proofs.shown.is_plain.Given as goal
 
 abbrev pub invariant-loop-byte : goal.invariant-loop-byte
-invariant-loop-byte l = Printable (drop l.byte-index l.byte-items) → Printable l.byte-items
+invariant-loop-byte l = l.plain ≡ true → Printable (drop l.byte-index l.byte-items) → Printable l.byte-items

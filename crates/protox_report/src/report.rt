@@ -19,6 +19,9 @@ use std::alloc::{AllocError, Global};
 /// The least width of the column of line numbers.
 const WIDTH: usize = 5;
 
+/// How many bytes a report takes in most cases, without the name of the file.
+const USUAL: usize = 320;
+
 /// A source with its name and its lines, to report faults of.
 #[derive(Drop)]
 pub struct Source<'a> {
@@ -223,6 +226,13 @@ impl<'a> Source<'a> {
         })
     }
 
+    // Makes room for a report of usual length, if memory allows.
+    fn make_room(&self, out: &mut String)
+        ensures { string_bytes out.new ≡ string_bytes out.old }
+    {
+        let _ = out.reserve(self.name.len().saturating_add(USUAL));
+    }
+
     // Line and column of an offset, both from 1.
     fn position(&self, offset: usize) -> (u32, u32)
         ensures line { result.0 ≡ line self.now.text.now (min offset (length self.now.text.now)) + 1 }
@@ -352,6 +362,7 @@ impl<'a> Source<'a> {
     ) -> Result<(), AllocError>
         ensures { OnOk result (IsReported self.now.name.now self.now.text.now self.now.paint fault.now (string_bytes out.old) (string_bytes out.new)) }
     {
+        self.make_room(out);
         self.push_title(alloc, out, fault)?;
         self.push_excerpts(alloc, out, fault)?;
         push_help_of(alloc, out, fault)?;

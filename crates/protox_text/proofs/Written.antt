@@ -1,5 +1,5 @@
 -- Bytes that are written one after another.
-use Rattle.std.proofs.Common.{◌≡◌, ℕ, zero, suc, ◌+◌, ◌-◌, ◌<◌, ◌≤◌, List, [], ◌∷◌, ◌++◌, codes, length, take, drop, get_or, flat_map, Option, Some, None, Result, Ok, Err, OnOk, refl, ap, sym, subst, ◌∙◌, append_assoc, append-nil, add-one, arith}
+use Rattle.std.proofs.Common.{◌≡◌, ℕ, zero, suc, ◌+◌, ◌-◌, ◌*◌, ◌<◌, ◌≤◌, List, [], ◌∷◌, ◌++◌, codes, length, take, drop, get_or, replicate, flat_map, Option, Some, None, Result, Ok, Err, OnOk, refl, ap, sym, subst, ◌∙◌, append_assoc, append-nil, add-one, arith}
 use Rattle.std.specs.Io.KnownBytes.{Appends}
 use Rattle.std.proofs.lemmas.List.{length-drop, take_more}
 use Rattle.protox_descriptor.specs.Literal.{printed_byte}
@@ -28,8 +28,29 @@ blanks-more (suc depth) = ap (λ v. codes "  " ++ v) (blanks-more depth)
 pub indent-more : (a b c : Option (List ℕ)) (depth : ℕ) → Appends a b (indent depth) → Appends b c (codes "  ") → Appends a c (indent (depth + 1))
 indent-more a b c depth h k = rw (add-one) (subst (λ v. Appends a c v) (blanks-more depth) (then a b c (indent depth) (codes "  ") h k))
 
-pub more_blanks : (depth : ℕ) (xs ys : List ℕ) → xs ≡ indent depth → ys ≡ xs ++ codes "  " → ys ≡ indent (depth + 1)
-more_blanks depth xs ys h k = rw (add-one) (k ∙ ap (λ v. v ++ codes "  ") h ∙ blanks-more depth)
+-- two blanks for each level, of many blanks
+blanks-are : (depth n : ℕ) → 2 * depth ≤ n → take (2 * depth) (replicate n 32) ≡ indent depth
+blanks-are depth n h = rw (double depth) (pairs depth n (omega (arith, h))) where
+  double : (d : ℕ) → 2 * d ≡ d * 2
+  double d = omega arith
+
+  pairs : (d m : ℕ) → d * 2 ≤ m → take (d * 2) (replicate m 32) ≡ indent d
+  pairs zero m le = refl
+  pairs (suc d) zero le = absurd (omega (arith, le))
+  pairs (suc d) (suc zero) le = absurd (omega (arith, le))
+  pairs (suc d) (suc (suc m)) le =
+      let two : suc d * 2 ≡ suc (suc (d * 2)) = omega arith in
+      rw two (ap (λ v. codes "  " ++ v) (pairs d m (omega (arith, le))))
+
+-- the blanks, the name and the end, each put behind what was there
+pub front_is : (depth : ℕ) (name end bytes ending first second : List ℕ) → bytes ≡ name → ending ≡ end
+    → take (2 * depth + length bytes) first ≡ take (2 * depth) (replicate 48 32) ++ bytes
+    → take (2 * depth + length name + length ending) second ≡ take (2 * depth + length name) first ++ ending
+    → 2 * depth ≤ 48 → take (2 * depth + length name + length end) second ≡ indent depth ++ (name ++ end)
+front_is depth name end bytes ending first second is ends named ended small =
+    let front : take (2 * depth + length name) first ≡ indent depth ++ name = subst (λ n. take (2 * depth + length n) first ≡ indent depth ++ n) is (named ∙ ap (λ v. v ++ bytes) (blanks-are depth 48 small)) in
+    subst (λ e. take (2 * depth + length name + length e) second ≡ indent depth ++ (name ++ e)) ends
+    (ended ∙ ap (λ v. v ++ ending) front ∙ append_assoc (indent depth) name ending)
 
 pub ruleset blanks = (nothing, indent-more)
 

@@ -5,6 +5,7 @@ pub mod descriptors;
 mod each;
 mod enums;
 mod fields;
+mod front;
 pub mod lines;
 mod messages;
 mod numbers;

@@ -5,6 +5,7 @@ ghost use Rattle.std.specs.Io.KnownBytes.{Appends};
 ghost use Rattle.protox_descriptor.specs.Literal.{printed_byte};
 ghost use Rattle.protox_text.specs.TextLines.{indent, deeper, value_line, opened, closed, bytes_line};
 
+use crate::front::write_front;
 use std::alloc::Global;
 use std::io::{self, Write};
 
@@ -29,9 +30,9 @@ impl Level {
     }
 }
 
-// Writes two blanks for each level.
+/// Writes two blanks for each level.
 #[tactic(auto, using(crate::proofs::Written::blanks))]
-fn write_blanks<W: Write>(out: &mut W, depth: u32) -> io::Result<()>
+pub(crate) fn write_blanks<W: Write>(out: &mut W, depth: u32) -> io::Result<()>
     ensures { OnOk result (Appends (W.contents out.old) (W.contents out.new) (indent depth)) }
 {
     for _ in 0..depth {
@@ -40,36 +41,18 @@ fn write_blanks<W: Write>(out: &mut W, depth: u32) -> io::Result<()>
     Ok(())
 }
 
-/// Writes the indentation of a line.
-#[inline(always)]
-pub(crate) fn write_indent<W: Write>(out: &mut W, level: Level) -> io::Result<()>
-    ensures { OnOk result (Appends (W.contents out.old) (W.contents out.new) (indent level.depth)) }
-{
-    match level.depth {
-        0 => Ok(()),
-        1 => out.write_all(b"  "),
-        2 => out.write_all(b"    "),
-        3 => out.write_all(b"      "),
-        4 => out.write_all(b"        "),
-        depth => write_blanks(out, depth),
-    }
-}
-
 /// Writes `name {`.
 pub(crate) fn write_open<W: Write>(out: &mut W, level: Level, name: &str) -> io::Result<()>
     ensures { OnOk result (Appends (W.contents out.old) (W.contents out.new) (opened level.depth name.now)) }
 {
-    write_indent(out, level)?;
-    out.write_all(name.as_bytes())?;
-    out.write_all(b" {\n")
+    write_front(out, level, name, " {\n")
 }
 
 /// Writes `}`.
 pub(crate) fn write_close<W: Write>(out: &mut W, level: Level) -> io::Result<()>
     ensures { OnOk result (Appends (W.contents out.old) (W.contents out.new) (closed level.depth)) }
 {
-    write_indent(out, level)?;
-    out.write_all(b"}\n")
+    write_front(out, level, "", "}\n")
 }
 
 /// Writes `name: value`.
@@ -81,9 +64,7 @@ pub(crate) fn write_value<W: Write>(
 ) -> io::Result<()>
     ensures { OnOk result (Appends (W.contents out.old) (W.contents out.new) (value_line value.now level.depth name.now)) }
 {
-    write_indent(out, level)?;
-    out.write_all(name.as_bytes())?;
-    out.write_all(b": ")?;
+    write_front(out, level, name, ": ")?;
     out.write_all(value.as_bytes())?;
     out.write_all(b"\n")
 }
@@ -168,9 +149,7 @@ fn write_literal<W: Write>(out: &mut W, bytes: &[u8]) -> io::Result<()>
 pub fn write_bytes<W: Write>(out: &mut W, level: Level, name: &str, bytes: &[u8]) -> io::Result<()>
     ensures { OnOk result (Appends (W.contents out.old) (W.contents out.new) (bytes_line bytes.now level.depth name.now)) }
 {
-    write_indent(out, level)?;
-    out.write_all(name.as_bytes())?;
-    out.write_all(b": \"")?;
+    write_front(out, level, name, ": \"")?;
     write_literal(out, bytes)?;
     out.write_all(b"\"\n")
 }

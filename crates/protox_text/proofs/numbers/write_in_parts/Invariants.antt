@@ -1,7 +1,7 @@
 use Rattle.std.proofs.Common.{take}
 use Rattle.std.specs.Io.KnownBytes.{Appends}
 use Rattle.protox_text.specs.TextLines.{each, number_line}
-use Rattle.protox_text.proofs.numbers.write_numbers.Given as goal
+use Rattle.protox_text.proofs.numbers.write_in_parts.Given as goal
 
 abbrev pub invariant-loop-number : goal.invariant-loop-number
 invariant-loop-number g l =

@@ -114,8 +114,8 @@ fn write_byte<W: Write>(out: &mut W, byte: u8) -> io::Result<()>
     }
 }
 
-// Writes the bytes at the front that stand for themselves, and the byte behind them. Answers how many
-// bytes these are.
+// Writes the bytes at the front that stand for themselves, and the byte behind them. Answers how
+// many bytes these are.
 #[tactic(auto, using(crate::proofs::Written::run_alone, crate::proofs::Written::run_and_byte))]
 fn write_run<W: Write>(out: &mut W, bytes: &[u8]) -> io::Result<usize>
     requires { 0 < length bytes.now }
@@ -145,7 +145,8 @@ fn write_literal<W: Write>(out: &mut W, bytes: &[u8]) -> io::Result<()>
     Ok(())
 }
 
-/// Writes `name: "bytes"`, escaped as the tree prints string literals. It fails if the writer fails.
+/// Writes `name: "bytes"`, escaped as the tree prints string literals. It fails if the writer
+/// fails.
 pub fn write_bytes<W: Write>(out: &mut W, level: Level, name: &str, bytes: &[u8]) -> io::Result<()>
     ensures { OnOk result (Appends (W.contents out.old) (W.contents out.new) (bytes_line bytes.now level.depth name.now)) }
 {

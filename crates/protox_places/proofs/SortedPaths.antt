@@ -1,12 +1,12 @@
 -- In locations sorted by path: those before a path, at it and behind it.
-use Rattle.std.proofs.Common.{◌≡◌, ℕ, zero, suc, ◌<◌, ◌≤◌, true, false, List, [], ◌∷◌, length, get_or, refl, ap, sym, ◌∙◌, arith, subst, inl, inr, Ordering, Less, Equal, Greater}
-use Rattle.std.specs.Prelude.{ℤ, ◌<ℤ◌, ⊤}
+use Rattle.std.proofs.Common.{◌≡◌, ℕ, zero, suc, ◌<◌, ◌≤◌, true, false, List, [], ◌∷◌, length, drop, get_or, refl, ap, sym, ◌∙◌, arith, subst, inl, inr, Ordering, Less, Equal, Greater}
+use Rattle.std.specs.Prelude.{ℤ, ◌<ℤ◌, ⊤, nat_lt}
 use Rattle.std.specs.Cmp.{IsTotalOrder}
 use Rattle.std.specs.Cmp.Lexicographic.{slice_cmp}
 use Rattle.std.specs.List.{AllWithin}
 use Rattle.std.specs.List.Sorted.{IsPartitionedBy}
 use Rattle.std.specs.Ordering.{int_cmp, is_eq, is_lt, is_le, is_gt, MatchOrdering, ordering_reverse, ordering_then}
-use Rattle.std.proofs.lemmas.Bool.{cases_lt, false≢true}
+use Rattle.std.proofs.lemmas.Bool.{cases_lt, false≢true, le-ltb, lt-ltb}
 use Rattle.std.proofs.lemmas.Cmp.{int_cmp_total, int_ranked, lists_total, tied_itself, upto}
 use Rattle.protox_ast.specs.Basics.{Each}
 use Rattle.protox_descriptor.specs.declared.descriptor.source_code_info.Location.{Location}
@@ -25,6 +25,23 @@ compared = slice_cmp int_cmp
 
 abbrev total : IsTotalOrder compared
 total = lists_total int_cmp_total
+
+one-less : (m n : ℕ) → nat_lt m n ≡ nat_lt (suc m) (suc n)
+one-less m n = elim (cases_lt m n) [
+  | inl less ↦ lt-ltb m n less ∙ sym (lt-ltb (suc m) (suc n) (omega (arith, less)))
+  | inr not ↦ le-ltb m n not ∙ sym (le-ltb (suc m) (suc n) (omega (arith, not)))
+]
+
+-- behind the numbers that both paths have, the lengths decide
+pub lengths-decide : (xs ys : List ℤ) (i : ℕ) → i ≤ length xs → i ≤ length ys → (i < length xs → i < length ys → ⊥) → is_lt (compared (drop i xs) (drop i ys)) ≡ nat_lt (length xs) (length ys)
+lengths-decide [] [] zero in_first in_second ended = refl
+lengths-decide [] (y ∷ ys) zero in_first in_second ended = sym (lt-ltb 0 (suc (length ys)) (omega arith))
+lengths-decide (x ∷ xs) [] zero in_first in_second ended = sym (le-ltb (suc (length xs)) 0 (omega arith))
+lengths-decide (x ∷ xs) (y ∷ ys) zero in_first in_second ended = absurd (ended (omega arith) (omega arith))
+lengths-decide [] ys (suc i) in_first in_second ended = absurd (omega (arith, in_first))
+lengths-decide (x ∷ xs) [] (suc i) in_first in_second ended = absurd (omega (arith, in_second))
+lengths-decide (x ∷ xs) (y ∷ ys) (suc i) in_first in_second ended =
+    lengths-decide xs ys i (omega (arith, in_first)) (omega (arith, in_second)) (λ a b. ended (omega (arith, a)) (omega (arith, b))) ∙ one-less (length xs) (length ys)
 
 less-is : (o : Ordering) → is_lt o ≡ true → o ≡ Less
 less-is Less e = refl

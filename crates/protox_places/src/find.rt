@@ -3,6 +3,8 @@
 ghost use Rattle.std.specs.Prelude.{◌≡◌, ◌≤◌, if◌then◌else◌, Some, None, length, slice_get};
 ghost use Rattle.std.specs.List.{AllWithin};
 ghost use Rattle.std.specs.Option.{option_copied};
+ghost use Rattle.std.specs.Ordering.{int_cmp, is_lt};
+ghost use Rattle.std.specs.Cmp.Lexicographic.{slice_cmp};
 ghost use Rattle.protox_places.specs.First.{first_at, is_at, leading_of, trailing_of, detached_of};
 ghost use Rattle.protox_places.specs.Order.{AreByPath, AreThoseAt, ComesBefore};
 
@@ -12,6 +14,20 @@ use protox_descriptor::descriptor::source_code_info::Location;
 use protox_descriptor::values::Text;
 use std::ops::Range;
 
+// Whether a path is smaller than another, by the first number that differs. It is inlined into the
+// search, which asks it at each step.
+#[inline(always)]
+fn is_before(path: &[i32], other: &[i32]) -> bool
+    ensures { result ≡ is_lt (slice_cmp int_cmp path.now other.now) }
+{
+    for i in 0..path.len().min(other.len()) {
+        if path[i] != other[i] {
+            return path[i] < other[i];
+        }
+    }
+    path.len() < other.len()
+}
+
 // How many locations have a smaller path, by binary search.
 fn count_before(locations: &[Location], path: &[i32]) -> usize
     requires { AreByPath locations.now }
@@ -20,7 +36,7 @@ fn count_before(locations: &[Location], path: &[i32]) -> usize
     ensures from { AllWithin (λ l. ComesBefore l.path path.now → ⊥)
         locations.now result (length locations.now) }
 {
-    locations.partition_point(|location| location.path.as_slice().cmp(&path).is_lt())
+    locations.partition_point(|location| is_before(location.path.as_slice(), path))
 }
 
 // How many locations have a smaller path or this one, by binary search.

@@ -62,8 +62,8 @@ fn is_count(starts: &[usize], count: usize, offset: usize) -> bool
     begun && ended
 }
 
-// The same count, found at once if the offset lies in the line `near` or in one of the next seven, as
-// behind a comment.
+// The same count, found at once if the offset lies in the line `near` or in one of the next seven,
+// as behind a comment.
 fn count_near(starts: &[usize], near: usize, offset: usize) -> usize
     requires { Rises 0 starts.now }
     ensures found { Found starts.now offset result }

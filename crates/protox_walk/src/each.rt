@@ -36,7 +36,9 @@ pub(crate) fn name_in(alloc: Global, scope: &str, name: Option<&Text>) -> Result
     if scope.is_empty() {
         return Text::copy(alloc, name);
     }
-    let mut whole = Text::joined(alloc, scope, ".")?;
+    let room = scope.len().saturating_add(name.len()).saturating_add(1);
+    let mut whole = Text::with_room(alloc, scope, room)?;
+    whole.push_str(alloc, ".")?;
     whole.push_str(alloc, name)?;
     Ok(whole)
 }

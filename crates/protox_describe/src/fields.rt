@@ -156,6 +156,9 @@ pub(crate) fn field_proto(
         oneof_index,
         proto3_optional,
     );
+    if extendee.is_none() && default_value.is_none() && json_name.is_none() && options.is_none() {
+        return Ok(plain);
+    }
     plain.with_rare_parts(alloc, extendee, default_value, json_name, options)
 }
 

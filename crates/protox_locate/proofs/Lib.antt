@@ -1,6 +1,7 @@
 pub mod Fits
 pub mod FitsParts
 pub mod InOrder
+pub mod Joined
 pub mod Left
 pub mod Numbered
 pub mod Order

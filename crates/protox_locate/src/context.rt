@@ -48,6 +48,42 @@ fn copied(alloc: Global, texts: &[Text]) -> Result<Items<Text>, AllocError>
     Ok(Items::from_vec(copies))
 }
 
+// A path and one tag behind it. Paths of usual lengths are taken apart, so that nothing is called.
+#[inline(always)]
+fn tagged(alloc: Global, path: &[i32], tag: i32) -> Result<Numbers, AllocError>
+    ensures { IfOk result (λ made. made ≡ path.now ++ tag ∷ []) }
+{
+    match path {
+        [a, b] => Ok(Numbers::few(&[*a, *b, tag])),
+        [a, b, c, d] => Ok(Numbers::few(&[*a, *b, *c, *d, tag])),
+        _ => Numbers::joined(alloc, path, &[tag]),
+    }
+}
+
+// A copy of a path, in the same way.
+#[inline(always)]
+fn untagged(alloc: Global, path: &[i32]) -> Result<Numbers, AllocError>
+    ensures { IfOk result (λ made. made ≡ path.now) }
+{
+    match path {
+        [a, b] => Ok(Numbers::few(&[*a, *b])),
+        [a, b, c, d] => Ok(Numbers::few(&[*a, *b, *c, *d])),
+        _ => Numbers::from_slice(alloc, path),
+    }
+}
+
+// A path and then tags.
+#[inline(always)]
+fn joined(alloc: Global, path: &[i32], tags: &[i32]) -> Result<Numbers, AllocError>
+    ensures { IfOk result (λ made. made ≡ path.now ++ tags.now) }
+{
+    match tags {
+        [] => untagged(alloc, path),
+        [tag] => tagged(alloc, path, *tag),
+        _ => Numbers::joined(alloc, path, tags),
+    }
+}
+
 // Whether there are no comments, as at most declarations.
 fn is_bare(comments: &Comments) -> bool
     ensures leading { result ≡ true → comments.now.leading_comment ≡ None }
@@ -87,7 +123,7 @@ impl Context {
         requires { reach span.now ≤ 2147483647 }
         ensures { OnOk result (Emits self.old self.new (bare (numbers_at lines.now) (self.old.path ++ tags.now) span.now ∷ [])) }
     {
-        let path = Numbers::joined(alloc, self.path.as_slice(), tags)?;
+        let path = joined(alloc, self.path.as_slice(), tags)?;
         let span = lines.numbers_near(&mut self.near, copied_span(span));
         self.locations.push(Location::bare(path, span))
     }
@@ -111,7 +147,7 @@ impl Context {
         let leading = copied_option(alloc, comments.leading_comment())?;
         let trailing = copied_option(alloc, comments.trailing_comment())?;
         let detached = copied(alloc, comments.leading_detached_comments())?;
-        let path = Numbers::joined(alloc, self.path.as_slice(), tags)?;
+        let path = joined(alloc, self.path.as_slice(), tags)?;
         let span = lines.numbers_near(&mut self.near, copied_span(span));
         let location = Location::commented(alloc, path, span, leading, trailing, detached)?;
         self.locations.push(location)

@@ -50,7 +50,7 @@ fn write_end<W: Write>(
 }
 
 /// Writes the fields of a file's descriptor in the order of their numbers; `source_code_info` only
-/// if `source_info` is true. It fails if the writer fails, or if memory runs out.
+/// if `source_info` is true. It fails if the writer fails, and takes no memory of its own.
 pub fn write_file<W: Write>(
     alloc: Global,
     out: &mut W,

@@ -9,10 +9,10 @@ use crate::front::write_front;
 use std::alloc::Global;
 use std::io::{self, Write};
 
-/// The indentation of a line, two spaces for each level, and the allocator.
+/// The indentation of a line, two spaces for each level, and an allocator.
 #[derive(Clone, Copy)]
 pub struct Level {
-    /// Serves the writing of bytes.
+    /// For writing that takes memory. The functions of this crate take none.
     pub alloc: Global,
     /// How many levels.
     pub depth: u32,

@@ -52,11 +52,11 @@ tokens-print : (first : Bool) (rows : Rows Span) (gaps : List (List Shape)) → 
 tokens-print first [] gaps h v = tt
 tokens-print first (r ∷ rs) gaps h v = (token-prints r.shape h.0 v.0, tokens-print false rs (later_gaps gaps) h.1 v.1)
 
-behind-print : (xs ys : Rows Place) → ArePrintable (shapes (xs ++ ys)) → ArePrintable (shapes ys)
+pub behind-print : (xs ys : Rows Place) → ArePrintable (shapes (xs ++ ys)) → ArePrintable (shapes ys)
 behind-print [] ys h = h
 behind-print (x ∷ xs) ys h = behind-print xs ys h.1
 
-front-print : (xs ys : Rows Place) → ArePrintable (shapes (xs ++ ys)) → ArePrintable (shapes xs)
+pub front-print : (xs ys : Rows Place) → ArePrintable (shapes (xs ++ ys)) → ArePrintable (shapes xs)
 front-print [] ys h = tt
 front-print (x ∷ xs) ys h = (h.0, front-print xs ys h.1)
 

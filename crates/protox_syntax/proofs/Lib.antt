@@ -20,6 +20,8 @@ pub mod FirstIsTrue
 pub mod ParsedTableFirst
 pub mod FaultsStand
 pub mod ValuesBack
+pub mod OptionNames
+pub mod OptionsBack
 pub mod Along
 pub mod Alike
 pub mod Leading

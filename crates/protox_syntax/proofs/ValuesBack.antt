@@ -60,7 +60,7 @@ byte_octal b small rest =
     let value : ((0 * 8 + digit_value (digit_char (b / 64))) * 8 + digit_value (digit_char (b / 8 % 8))) * 8 + digit_value (digit_char (b % 8)) ≡ b = omega arith in
     octal_piece b (digit_char (b / 64)) (digit_char (b / 8 % 8)) (digit_char (b % 8)) rest (octal_digit (b / 64) high) (octal_digit (b / 8 % 8) middle) (octal_digit (b % 8) low) value small
 
-value_spells : Spells printed_byte
+pub value_spells : Spells printed_byte
 value_spells b small =
     let P : ℕ → Type 0 = λ k. SpellsByte (printed_byte k) k in
     elim (cases_Bool (eqb b 9)) [

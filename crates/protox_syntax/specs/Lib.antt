@@ -7,4 +7,5 @@ pub mod FirstFaults
 pub mod StandingFaults
 pub mod FoundFaults
 pub mod LostChecks
+pub mod OptionsBack
 pub mod inner

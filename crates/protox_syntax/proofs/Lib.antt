@@ -27,6 +27,7 @@ pub mod Alike
 pub mod Leading
 pub mod Invalid
 pub mod AllFound
+pub mod Fronts
 pub mod NodesTold
 pub mod NodesNoted
 pub mod SyntaxStops

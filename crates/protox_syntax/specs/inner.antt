@@ -5,3 +5,4 @@ pub mod Merge
 pub mod Recovery
 pub mod Leading
 pub mod ParsedTable
+pub mod Front

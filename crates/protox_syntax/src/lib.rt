@@ -4,6 +4,7 @@
 mod checks;
 mod expected_token;
 mod fault_list;
+mod front;
 pub mod laws;
 pub mod parse;
 mod parse_table;

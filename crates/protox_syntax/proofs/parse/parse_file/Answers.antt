@@ -1,7 +1,5 @@
-use Rattle.std.proofs.Common.{length, subst}
 use Rattle.protox_grammar.proofs.Main as main
 use Rattle.protox_options.specs.inner.Options.{here}
-use Rattle.protox_syntax.specs.inner.ParsedTable.{ParsesTable}
 use Rattle.protox_syntax.proofs.Accepts.{parsed-found, parsed-only}
 use Rattle.protox_syntax.proofs.Aggregates.{aggregates-lex-back}
 use Rattle.protox_syntax.proofs.FaultsStand.{parsed-stands-result}
@@ -13,52 +11,35 @@ use Rattle.protox_syntax.proofs.parse.parse_file.Goals as goal
 
 pub returns-clause-found : goal.returns-clause-found
 returns-clause-found c =
-    let parsed = subst (λ t. ParsesTable t (length c.args.source.now) c.parse_table.result) c.in_ok-table.ensures c.parse_table.ensures in
-    parsed-found c.args.source.now c.requires c.parse_table.result parsed
+    parsed-found c.args.source.now c.requires c.parse_source.result c.parse_source.ensures
 
 pub returns-clause-only : goal.returns-clause-only
 returns-clause-only c =
-    let parsed = subst (λ t. ParsesTable t (length c.args.source.now) c.parse_table.result) c.in_ok-table.ensures c.parse_table.ensures in
-    parsed-only c.args.source.now c.parse_table.result parsed
+    parsed-only c.args.source.now c.parse_source.result c.parse_source.ensures
 
 pub returns-clause-lexical : goal.returns-clause-lexical
 returns-clause-lexical c =
-    let parsed = subst (λ t. ParsesTable t (length c.args.source.now) c.parse_table.result) c.in_ok-table.ensures c.parse_table.ensures in
-    parsed-result c.args.source.now c.parse_table.result parsed
+    parsed-result c.args.source.now c.parse_source.result c.parse_source.ensures
 
 pub returns-clause-first : goal.returns-clause-first
 returns-clause-first c =
-    let parsed = subst (λ t. ParsesTable t (length c.args.source.now) c.parse_table.result) c.in_ok-table.ensures c.parse_table.ensures in
-    parsed-first c.args.source.now c.parse_table.result parsed
+    parsed-first c.args.source.now c.parse_source.result c.parse_source.ensures
 
 pub returns-clause-words : goal.returns-clause-words
 returns-clause-words c =
-    let parsed = subst (λ t. ParsesTable t (length c.args.source.now) c.parse_table.result) c.in_ok-table.ensures c.parse_table.ensures in
-    parsed-words c.args.source.now c.parse_table.result parsed
+    parsed-words c.args.source.now c.parse_source.result c.parse_source.ensures
 
 pub returns-clause-stands : goal.returns-clause-stands
 returns-clause-stands c =
-    let parsed = subst (λ t. ParsesTable t (length c.args.source.now) c.parse_table.result) c.in_ok-table.ensures c.parse_table.ensures in
-    parsed-stands-result c.args.source.now c.parse_table.result parsed
+    parsed-stands-result c.args.source.now c.parse_source.result c.parse_source.ensures
 
 pub returns-clause-all_found : goal.returns-clause-all_found
 returns-clause-all_found c =
-    let parsed = subst (λ t. ParsesTable t (length c.args.source.now) c.parse_table.result) c.in_ok-table.ensures c.parse_table.ensures in
-    parsed-found-all c.args.source.now c.parse_table.result parsed
+    parsed-found-all c.args.source.now c.parse_source.result c.parse_source.ensures
 
 pub returns-clause-no_check_lost : goal.returns-clause-no_check_lost
 returns-clause-no_check_lost c =
-    let parsed = subst (λ t. ParsesTable t (length c.args.source.now) c.parse_table.result) c.in_ok-table.ensures c.parse_table.ensures in
-    parsed-none-lost c.args.source.now c.parse_table.result parsed
-
-pub returns-in_err-table-clause-one_tree : goal.returns-in_err-table-clause-one_tree
-returns-in_err-table-clause-one_tree c = main.one_tree tt
-
-pub returns-in_err-table-clause-one_placed_tree : goal.returns-in_err-table-clause-one_placed_tree
-returns-in_err-table-clause-one_placed_tree c = main.one_tree here
-
-pub returns-in_err-table-clause-lexes_back : goal.returns-in_err-table-clause-lexes_back
-returns-in_err-table-clause-lexes_back c = aggregates-lex-back c.args.source.now c.utf8.source
+    parsed-none-lost c.args.source.now c.parse_source.result c.parse_source.ensures
 
 pub returns-clause-one_tree : goal.returns-clause-one_tree
 returns-clause-one_tree c = main.one_tree tt

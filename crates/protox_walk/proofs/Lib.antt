@@ -1,3 +1,3 @@
-pub mod Siblings
+pub mod Folds
 pub mod Levels
 pub mod ByPath

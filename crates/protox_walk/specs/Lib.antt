@@ -2,3 +2,4 @@ pub mod Parts
 pub mod Words
 pub mod Declarations
 pub mod Names
+pub mod Steps

@@ -1,15 +1,10 @@
 -- The full name of the declaration with a path.
-use Rattle.std.specs.Prelude.{ℕ, List, Option, option_map, Bool}
+use Rattle.std.specs.Prelude.{ℕ, List, Option, option_map}
 use Rattle.std.specs.Cmp.Lexicographic.{pointwise}
 use Rattle.std.specs.List.{find}
 use Rattle.std.specs.Ordering.{int_eq}
 use Rattle.protox_walk.specs.Declarations.{Path}
 use Rattle.protox_walk.specs.Parts.{Declared}
-use Rattle.protox_walk.specs.declared.Declaration.{Declaration}
-
--- The declaration has the path.
-abbrev pub is_at : Path → Declaration → Bool
-is_at path d = pointwise int_eq d.path path
 
 -- the full name of the declaration with this path, if there is one
 abbrev pub name_at : Path → List Declared → Option (List ℕ)

@@ -1,38 +1,45 @@
 //! Parts that declare something, and lists of like ones.
 
-ghost use Rattle.std.specs.Prelude.{◌≡◌, ◌∷◌, ◌++◌, [], ℕ, ℤ, List, map, IfOk, OnOk};
+ghost use Rattle.std.specs.Prelude.{◌≡◌, ℕ, ℤ, List, IfOk, OnOk};
+ghost use Rattle.std.specs.List.{FoldsTo};
 ghost use Rattle.std.specs.Option.{option_copied};
-ghost use Rattle.protox_walk.specs.Declarations.{At, all_in, declared, full_name, nth, siblings_at};
-ghost use Rattle.protox_walk.specs.Parts.{seen, part_of};
+ghost use Rattle.protox_walk.specs.Declarations.{At, all_in, full_name, nth, siblings_at, text_of};
 
-use crate::{Declaration, Part};
+use crate::Visit;
 use protox_descriptor::values::{Items, Numbers, Text};
 use std::alloc::{AllocError, Global};
 
 /// What declares something.
-pub(crate) trait Declares {
+pub(crate) trait Declares<'a, V: Visit<'a>> {
     /// What it declares, in the scope of a name and from a path on.
     ghost declares: { Self → List ℕ → At };
 
-    /// Appends what it declares.
-    fn push_to<'a>(
+    /// Visits what it declares.
+    fn walk(
         &'a self,
         alloc: Global,
-        found: &mut Vec<Declaration<'a>>,
+        visitor: &mut V,
         scope: &str,
         path: &[i32],
-    ) -> Result<(), AllocError>
-        ensures { OnOk result (map seen found.new.items ≡ map seen found.old.items ++ declares self.now scope.now path.now) };
+    ) -> Result<(), V::Error>
+        ensures { OnOk result (FoldsTo V.visits visitor.old (declares self.now scope.now path.now) visitor.new) };
+}
+
+/// The text of a name; the empty one where the name is not set.
+pub(crate) fn text_of(name: Option<&Text>) -> &str
+    ensures { result.now ≡ text_of (option_copied name.entry) }
+{
+    match name {
+        Some(name) => name.as_str(),
+        None => "",
+    }
 }
 
 /// The name of what is declared in a scope; the name alone in the empty scope.
 pub(crate) fn name_in(alloc: Global, scope: &str, name: Option<&Text>) -> Result<Text, AllocError>
     ensures { IfOk result (λ made. made ≡ full_name scope.now (option_copied name.entry)) }
 {
-    let name = match name {
-        Some(name) => name.as_str(),
-        None => "",
-    };
+    let name = text_of(name);
     if scope.is_empty() {
         return Text::copy(alloc, name);
     }
@@ -43,31 +50,13 @@ pub(crate) fn name_in(alloc: Global, scope: &str, name: Option<&Text>) -> Result
     Ok(whole)
 }
 
-/// Appends one declaration.
-pub(crate) fn push<'a>(
+/// The path of the sibling at an index.
+pub(crate) fn path_to(
     alloc: Global,
-    found: &mut Vec<Declaration<'a>>,
     path: &[i32],
-    full_name: &str,
-    part: Part<'a>,
-) -> Result<(), AllocError>
-    ensures { OnOk result (map seen found.new.items ≡ map seen found.old.items ++ declared path.now full_name.now (part_of part.entry) ∷ []) }
-{
-    let path = Numbers::from_slice(alloc, path)?;
-    let full_name = Text::copy(alloc, full_name)?;
-    let declaration = Declaration {
-        path,
-        full_name,
-        part,
-    };
-    if found.push(declaration).is_err() {
-        return Err(AllocError);
-    }
-    Ok(())
-}
-
-// The path of the sibling at an index.
-fn path_to(alloc: Global, path: &[i32], tag: i32, index: usize) -> Result<Numbers, AllocError>
+    tag: i32,
+    index: usize,
+) -> Result<Numbers, AllocError>
     ensures { IfOk result (λ made. made ≡ nth path.now tag index) }
 {
     if index > 2147483647 {
@@ -76,23 +65,22 @@ fn path_to(alloc: Global, path: &[i32], tag: i32, index: usize) -> Result<Number
     Numbers::joined(alloc, path, &[tag, index as i32])
 }
 
-/// Appends what each of like siblings declares.
-#[tactic(auto, using(crate::proofs::Siblings::siblings))]
-pub(crate) fn push_each<'a, D: Declares>(
+/// Visits what each of like siblings declares.
+pub(crate) fn walk_each<'a, D: Declares<'a, V>, V: Visit<'a>>(
     alloc: Global,
-    found: &mut Vec<Declaration<'a>>,
+    visitor: &mut V,
     scope: &str,
     path: &[i32],
     tag: i32,
     siblings: &'a Items<D>,
-) -> Result<(), AllocError>
-    ensures { OnOk result (map seen found.new.items ≡ map seen found.old.items
-        ++ siblings_at path.now tag (all_in D.declares scope.now siblings.entry.now)) }
+) -> Result<(), V::Error>
+    ensures { OnOk result (FoldsTo V.visits visitor.old
+        (siblings_at path.now tag (all_in D.declares scope.now siblings.entry.now)) visitor.new) }
 {
     let elements = siblings.as_slice();
     for (index, sibling) in elements.iter().enumerate() {
         let place = path_to(alloc, path, tag, index)?;
-        sibling.push_to(alloc, found, scope, place.as_slice())?;
+        sibling.walk(alloc, visitor, scope, place.as_slice())?;
     }
     Ok(())
 }

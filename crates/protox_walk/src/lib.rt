@@ -1,24 +1,29 @@
 //! The declarations of a file, one by one: each with its path, its full name and its descriptor.
 #![tactic(auto)]
 
-ghost use Rattle.std.specs.Prelude.{◌≡◌, map, IfOk};
-ghost use Rattle.std.specs.List.{find};
+ghost use Rattle.std.specs.Prelude.{◌≡◌, map, IfOk, OnOk};
+ghost use Rattle.std.specs.List.{FoldsTo};
 ghost use Rattle.std.specs.Option.{option_copied};
 ghost use Rattle.protox_places.specs.First.{first_at, leading_of, trailing_of, detached_of};
 ghost use Rattle.protox_places.specs.Order.{AreByPath};
 ghost use Rattle.protox_walk.specs.Declarations.{file_declarations};
-ghost use Rattle.protox_walk.specs.Names.{is_at, name_at};
+ghost use Rattle.protox_walk.specs.Names.{name_at};
 ghost use Rattle.protox_walk.specs.Parts.{seen};
 
 mod each;
-mod file;
+mod messages;
 mod part;
 mod parts;
+mod visit;
+mod visitors;
 
-use crate::file::push_file;
+use crate::each::{text_of, walk_each};
 pub use crate::part::Part;
+pub use crate::visit::Visit;
+use crate::visitors::{Collector, Finder};
 use protox_descriptor::descriptor::source_code_info::Location;
 use protox_descriptor::descriptor::{FileDescriptorProto, SourceCodeInfo};
+use protox_descriptor::tag::file::{ENUM_TYPE, EXTENSION, MESSAGE_TYPE, SERVICE};
 use protox_descriptor::values::{Numbers, Text};
 use protox_places::find::{self, LocationComments};
 use std::alloc::{AllocError, Global};
@@ -57,12 +62,36 @@ impl Declaration<'_> {
     }
 }
 
-/// All declarations of a file, each once, in the order of their paths: messages, enums, services and
-/// extensions; and behind a message, an enum or a service what is declared in it. Or `AllocError`, which
-/// is also the answer where a list has more than 2,147,483,648 parts, since a path can't count them.
+/// Visits each declaration of a file once, in the order of their paths: messages, enums, services and
+/// extensions; and behind a message, an enum or a service what is declared in it. An error of a visit
+/// stops the walk, which answers it. Where memory runs out it answers `AllocError`, made the visitor's
+/// error; so too where a list has more than 2,147,483,648 parts, since a path can't count them.
+///
+/// It makes no list of declarations: it takes memory for the names around and for long paths alone.
 ///
 /// The entries of maps and the oneofs that are made for `optional` fields are among them. They stand in
 /// no source, so they have no location.
+///
+/// ```
+/// walk(alloc, &file, &mut visitor)?;
+/// ```
+#[tactic(auto, using(crate::proofs::Folds::folds))]
+pub fn walk<'a, V: Visit<'a>>(
+    alloc: Global,
+    file: &'a FileDescriptorProto,
+    visitor: &mut V,
+) -> Result<(), V::Error>
+    ensures { OnOk result (FoldsTo V.visits visitor.old (file_declarations file.entry.now) visitor.new) }
+{
+    let scope = text_of(file.package.as_ref());
+    walk_each(alloc, visitor, scope, &[], MESSAGE_TYPE, &file.message_type)?;
+    walk_each(alloc, visitor, scope, &[], ENUM_TYPE, &file.enum_type)?;
+    walk_each(alloc, visitor, scope, &[], SERVICE, &file.service)?;
+    walk_each(alloc, visitor, scope, &[], EXTENSION, &file.extension)
+}
+
+/// All declarations of a file, each once, in the order in which `walk` visits them. Or `AllocError`, as
+/// `walk` answers it.
 ///
 /// ```
 /// for declaration in &declarations(alloc, &file)? {
@@ -75,29 +104,20 @@ pub fn declarations<'a>(
 ) -> Result<Vec<Declaration<'a>>, AllocError>
     ensures { IfOk result (λ found. map seen found.items ≡ file_declarations file.entry.now) }
 {
-    let mut found = Vec::new(alloc);
-    push_file(alloc, &mut found, file)?;
-    Ok(found)
-}
-
-// The declaration with this path, if there is one.
-fn with_path<'d, 'a>(found: &'d [Declaration<'a>], path: &[i32]) -> Option<&'d Declaration<'a>>
-    ensures { option_copied result ≡ find (is_at path.now) found.now }
-{
-    found
-        .iter()
-        .find(|declaration| declaration.path.as_slice() == path)
+    let found = Vec::new(alloc);
+    let mut collector = Collector { alloc, found };
+    walk(alloc, file, &mut collector)?;
+    Ok(collector.found)
 }
 
 /// The full name of the declaration with this path, as `declarations` has it; None if there is none.
-/// Or `AllocError`, as `declarations` answers it. It walks over the whole file: for many paths, walk
-/// once.
+/// Or `AllocError`, as `declarations` answers it. It walks over the whole file, and keeps one name: for
+/// many paths, walk once.
 ///
 /// ```
 /// // The full name of the second field of the first message.
 /// let name = name_at(alloc, &file, &[4, 0, 2, 1])?;
 /// ```
-#[tactic(auto, using(crate::proofs::ByPath::names_by_path))]
 pub fn name_at(
     alloc: Global,
     file: &FileDescriptorProto,
@@ -105,9 +125,11 @@ pub fn name_at(
 ) -> Result<Option<Text>, AllocError>
     ensures { IfOk result (λ name. name ≡ name_at path.now (file_declarations file.now)) }
 {
-    let found = declarations(alloc, file)?;
-    match with_path(found.as_slice(), path) {
-        Some(declaration) => Ok(Some(Text::copy(alloc, declaration.full_name.as_str())?)),
-        None => Ok(None),
-    }
+    let mut finder = Finder {
+        alloc,
+        path,
+        name: None,
+    };
+    walk(alloc, file, &mut finder)?;
+    Ok(finder.name)
 }

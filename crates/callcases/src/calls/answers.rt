@@ -9,7 +9,7 @@ use protox_parse::generate::LineResolver;
 use protox_parse::lex::{STREAM, Token};
 use protox_parse::syntax::{ExpectedToken, MAX_MESSAGE_NESTING_DEPTH};
 use protox_parse::{ParseError, ParseFailure, locate, parse, source_fits};
-use protox_walk::name_at;
+use protox_walk::{Part, Visit, name_at, walk};
 use std::alloc::{AllocError, Global};
 use std::fmt::Write;
 
@@ -102,6 +102,27 @@ fn two_names(alloc: Global, file: &FileDescriptorProto) -> Result<String, AllocE
     format!(in alloc; "{field:?} {none:?}")
 }
 
+// Writes the kind, the full name and the path of each declaration that it visits.
+#[derive(Drop)]
+struct Listing {
+    out: String,
+}
+
+impl<'a> Visit<'a> for Listing {
+    type Error = AllocError;
+
+    fn visit(&mut self, path: &[i32], full_name: &str, part: Part<'a>) -> Result<(), AllocError> {
+        Ok(write!(self.out, "; {} {full_name} {path:?}", part.kind())?)
+    }
+}
+
+fn listed(alloc: Global, file: &FileDescriptorProto) -> Result<String, AllocError> {
+    let out = String::new(alloc);
+    let mut listing = Listing { out };
+    walk(alloc, file, &mut listing)?;
+    Ok(listing.out)
+}
+
 fn found_in(
     alloc: Global,
     file: &FileDescriptorProto,
@@ -110,8 +131,8 @@ fn found_in(
     requires { AreByPath info.now.location }
 {
     let (indices, around) = (indices(alloc, info)?, around(alloc, info)?);
-    let names = two_names(alloc, file)?;
-    format!(in alloc; "{indices}; {around}; {names}")
+    let (names, listed) = (two_names(alloc, file)?, listed(alloc, file)?);
+    format!(in alloc; "{indices}; {around}; {names}{listed}")
 }
 
 pub fn finds(alloc: Global) -> Result<String, AllocError> {

@@ -1,7 +1,7 @@
 #!/usr/bin/env python3
 """Measures the parser beside protobuf's on made files.
 
-usage: beside.py PROTOSCAN PARSECOUNT PROTOBUF [read|whole]
+usage: beside.py PROTOSCAN PROTOBENCH PROTOBUF [read|whole]
 
 Instructions a byte are counted by valgrind on the made file of 1 MB, which is the same each time: so they are
 exact. Times are of 10 MB, in turns. "In process" is a further parse of the same text with dropping what it
@@ -46,9 +46,9 @@ def megabytes_used(words):
 
 
 def main():
-    protoscan, parsecount, protobuf, *kind = sys.argv[1:]
+    protoscan, protobench, protobuf, *kind = sys.argv[1:]
     kind = kind[0] if kind else 'read'
-    parsers = {'parse': [parsecount], 'protobuf': [protobuf, 'parse']}
+    parsers = {'parse': [protobench], 'protobuf': [protobuf, 'parse']}
     with tempfile.TemporaryDirectory() as folder:
         small, large, largest = (made(folder, megabytes, kind) for megabytes in (1, 10, 100))
         size = os.path.getsize(small)

@@ -4,11 +4,10 @@
 usage: edits.py [--dry] [--all] [CRATE..]        at the top of the repository
 
 The gate tries the edits of `crates/CRATE/must-fail/`. All others stand in `bench/edits/CRATE/`, in the
-same form. This program copies the tree, lays those edits (with --all, those of both folders) into the
-copy's must-fail folders, and has `rt ci CRATE..` try them. Crates that an earlier `rt ci` on this
-machine proved aren't proved again. With --dry it tries nothing, and only says of each edit of both
-folders whether it can be applied: whether each of its `old:` texts stands once in its file. Without a
-CRATE all are tried.
+same form. This program copies the crates that are named, and those below them. It lays those edits
+(with --all, those of both folders) into the copy's must-fail folders, and has `rt ci` try them there.
+With --dry it tries nothing, and only says of each edit of both folders whether it can be applied:
+whether each of its `old:` texts stands once in its file. Without a CRATE all are tried.
 
 The last line is 'N passed, M failed'.
 """
@@ -78,22 +77,39 @@ def lay(crate, room, both):
     return len(tried)
 
 
-def copy_to(room):
-    """Copies what git knows of the tree, but for the edits of the gate."""
-    files = subprocess.run(['git', 'ls-files', '-z'], stdout=subprocess.PIPE, check=True).stdout
+def lines_of(crates):
+    """The lines of crates.txt of these crates and of all below them."""
+    with open('crates.txt', encoding='utf-8') as file:
+        lines = {line.split()[0].rstrip(':'): line for line in file if ':' in line}
+    wanted, open_ends = set(), list(crates)
+    while open_ends:
+        crate = open_ends.pop()
+        if crate in lines and crate not in wanted:
+            wanted.add(crate)
+            open_ends += lines[crate].partition(':')[2].split()
+    return {crate: line for crate, line in lines.items() if crate in wanted}
+
+
+def copy_to(room, crates):
+    """Copies what git knows of these crates and of those below them, but for the edits of the gate."""
+    lines = lines_of(crates)
+    with open(f'{room}/crates.txt', 'w', encoding='utf-8') as file:
+        file.writelines(lines.values())
+    shutil.copy('HANDLES', room)
+    files = subprocess.run(['git', 'ls-files', '-z', 'crates'], stdout=subprocess.PIPE, check=True).stdout
     for name in filter(None, files.decode().split('\0')):
-        if os.path.isfile(name) and '/must-fail/' not in name:
-            os.makedirs(os.path.dirname(f'{room}/{name}') or room, exist_ok=True)
+        if os.path.isfile(name) and '/must-fail/' not in name and name.split('/')[1] in lines:
+            os.makedirs(os.path.dirname(f'{room}/{name}'), exist_ok=True)
             shutil.copy(name, f'{room}/{name}')
 
 
 def try_all(crates, both):
     """Has the prover try the edits in a copy of the tree, and counts those that it refused."""
+    with_edits = [crate for crate in crates if edits_of(crate)]
     with tempfile.TemporaryDirectory(prefix='edits-') as room:
-        copy_to(room)
-        tried = {crate: lay(crate, room, both) for crate in crates}
-        command = ['rt', 'ci', *(crate for crate in crates if tried[crate])]
-        ran = subprocess.run(command, cwd=room, stdout=subprocess.PIPE, text=True, check=False)
+        copy_to(room, with_edits)
+        tried = {crate: lay(crate, room, both) for crate in with_edits}
+        ran = subprocess.run(['rt', 'ci'], cwd=room, stdout=subprocess.PIPE, text=True, check=False)
         lines = [line for line in ran.stdout.splitlines() if 'must-fail ' in line or 'NOT PROVED' in line]
         print('\n'.join(lines))
         refused = sum(': refused, as it must be' in line for line in lines)

@@ -45,7 +45,7 @@ pub fn source_fits(len: usize) -> bool
 }
 
 // The syntax tree of the source; or the faults that the parser finds, or that memory ran out.
-#[tactic(auto, using(crate::proofs::Truths::read_lost))]
+#[tactic(auto, using(crate::proofs::Truths::reading))]
 fn read(alloc: Global, name: &str, source: &str) -> Result<ast::File, ParseFailure>
     requires { Fits source.now }
     ensures found { IfOk result (IsFileOf source.now) }

@@ -1,5 +1,7 @@
-use Rattle.std.proofs.Common.{IfErr, subst}
-use Rattle.std.specs.Prelude.{length}
+use Rattle.std.proofs.Common.{◌≡◌, ℕ, Bool, false, List, IfErr, subst}
+use Rattle.std.proofs.lemmas.Bool.{false≢true}
+use Rattle.std.specs.Prelude.{IsTrue, length}
+use Rattle.protox_ast.specs.Accepted.{Fits}
 use Rattle.protox_ast.specs.Ast as ast_of
 use Rattle.protox_parse.proofs.Translating.{found, only}
 use Rattle.protox_parse.proofs.Truths as truths
@@ -39,3 +41,24 @@ returns-in-Ok-clause-checked c f accepted = subst (λ v. IfErr c.translated.resu
 
 pub returns-in-Err-clause-checked : goal.returns-in-Err-clause-checked
 returns-in-Err-clause-checked c f accepted = truths.none-listed (ast_of.file (length c.args.source.now) f) _ (c.in-Err.ensures.only f accepted)
+
+not-fitting : (fits : Bool) (source : List ℕ) → (Fits source → IsTrue fits) → fits ≡ false → Fits source → ⊥
+not-fitting fits source says none it = false≢true (subst IsTrue none (says it))
+
+pub returns-then-not-source_fits-clause-first : goal.returns-then-not-source_fits-clause-first
+returns-then-not-source_fits-clause-first c = truths.large-first c.args.source.now c.args.name.now (not-fitting c.source_fits.result c.args.source.now c.source_fits.ensures.1 c.if-not-source_fits.true) c.too_large.result (c.too_large.ensures c.args.source.now (not-fitting c.source_fits.result c.args.source.now c.source_fits.ensures.1 c.if-not-source_fits.true))
+
+pub returns-then-not-source_fits-clause-stands : goal.returns-then-not-source_fits-clause-stands
+returns-then-not-source_fits-clause-stands c = truths.large-stand c.args.source.now c.args.name.now (not-fitting c.source_fits.result c.args.source.now c.source_fits.ensures.1 c.if-not-source_fits.true) c.too_large.result (c.too_large.ensures c.args.source.now (not-fitting c.source_fits.result c.args.source.now c.source_fits.ensures.1 c.if-not-source_fits.true))
+
+pub returns-then-not-source_fits-clause-lexical : goal.returns-then-not-source_fits-clause-lexical
+returns-then-not-source_fits-clause-lexical c = truths.large-lexical c.args.source.now c.args.name.now (not-fitting c.source_fits.result c.args.source.now c.source_fits.ensures.1 c.if-not-source_fits.true) c.too_large.result
+
+pub returns-then-not-source_fits-clause-all_found : goal.returns-then-not-source_fits-clause-all_found
+returns-then-not-source_fits-clause-all_found c = truths.large-all c.args.source.now c.args.name.now (not-fitting c.source_fits.result c.args.source.now c.source_fits.ensures.1 c.if-not-source_fits.true) c.too_large.result
+
+pub returns-then-not-source_fits-clause-no_check_lost : goal.returns-then-not-source_fits-clause-no_check_lost
+returns-then-not-source_fits-clause-no_check_lost c = truths.large-lost c.args.source.now c.args.name.now (not-fitting c.source_fits.result c.args.source.now c.source_fits.ensures.1 c.if-not-source_fits.true) c.too_large.result
+
+pub returns-then-not-source_fits-clause-words : goal.returns-then-not-source_fits-clause-words
+returns-then-not-source_fits-clause-words c = truths.large-words c.args.source.now c.args.name.now (not-fitting c.source_fits.result c.args.source.now c.source_fits.ensures.1 c.if-not-source_fits.true) c.too_large.result

@@ -5,7 +5,7 @@ usage: docs.py        at the top of the repository
 
 A name of a file is a text between backquotes that ends like one, as `Order.antt` or `bench/gate.py`:
 some file of the repository has to end so. A link has to lead to a file. Each edit of the gate has to
-stand in docs/PROVED.md just once, and no other. README's program has to be that of the gate. Each
+stand in docs/WRONG_BODIES.md just once, and no other. README's program has to be that of the gate. Each
 block of Rust in docs/LIBRARY.md has to stand to the letter in a source that the gate builds: of the
 example programs, or of the tests. The last line is 'N passed, M failed'.
 """
@@ -52,11 +52,11 @@ def missing_links(path, text):
 
 
 def wrong_edits():
-    """Edits of the gate that docs/PROVED.md doesn't name once, and others that it names."""
-    named = re.findall(r'`(\w+/\w+)` \|$', read('docs/PROVED.md'), flags=re.M)
+    """Edits of the gate that docs/WRONG_BODIES.md doesn't name once, and others that it names."""
+    named = re.findall(r'`(\w+/\w+)` \|$', read('docs/WRONG_BODIES.md'), flags=re.M)
     there = [re.sub(r'crates/(\w+)/must-fail/(\w+)\.edit', r'\1/\2', it) for it in glob.glob('crates/*/must-fail/*.edit')]
-    wrong = [f'docs/PROVED.md names {it} {named.count(it)} times' for it in there if named.count(it) != 1]
-    return wrong + [f'docs/PROVED.md names {it}, which the gate does not try' for it in named if it not in there]
+    wrong = [f'docs/WRONG_BODIES.md names {it} {named.count(it)} times' for it in there if named.count(it) != 1]
+    return wrong + [f'docs/WRONG_BODIES.md names {it}, which the gate does not try' for it in named if it not in there]
 
 
 def unquoted_blocks():

@@ -5,7 +5,7 @@ usage: cases.py [NAME..]        at the top of the repository; a NAME is a line o
        cases.py --calls         the same of crates/callcases: calls other than `parse`
        cases.py --runs          the same of crates/runcases: bytes, and what the programs do
 
-It takes less than a minute, most of it for the build. A case is a line of `stdout` that begins with
+It takes up to two minutes, most of them for the build. A case is a line of `stdout` that begins with
 `== `, and the lines below it. Of each case whose lines differ from those in `stdout` it shows the first
 that does. The large sources take too long in such a build: they are left to the gate. The last line is
 'N passed, M failed'.

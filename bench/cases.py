@@ -58,6 +58,9 @@ def run(words):
 
 def main():
     words = words_of(NAMES)
+    unknown = [name for name in NAMES if name not in words]
+    if unknown:
+        sys.exit(f'not in {FOLDER}/args: {" ".join(unknown)}')
     with open(f'{FOLDER}/stdout', encoding='utf-8') as file:
         wanted = cases_in(file.read())
     found = cases_in(run(words))

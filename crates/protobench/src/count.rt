@@ -1,5 +1,5 @@
-//! One file, parsed several times: the parser alone, with the time to drop the descriptor. After
-//! the first turn it uses memory that was used before.
+//! One file, parsed several times: the parser alone, with the time to drop the descriptor. After the
+//! first turn it uses memory that was used before.
 
 use protox_parse::lex::TokenTable;
 use protox_parse::{ParseFailure, parse};

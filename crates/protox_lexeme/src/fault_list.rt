@@ -53,10 +53,7 @@ pub fn tell(
     ensures free { faults_in text_format faults.now ≡ [] → IsOk result }
 {
     let mut told = told(alloc, faults, text_format)?;
-    if errors.is_empty() {
-        // A single comment may have millions of faults: they are not copied.
-        *errors = told;
-    } else if !told.is_empty() {
+    if !told.is_empty() {
         errors.append(&mut told)?;
     }
     Ok(())

@@ -110,8 +110,8 @@ impl Text {
         })
     }
 
-    /// A copy of `text` with room for `room` bytes in all, or `AllocError`. If neither has more
-    /// than 30 bytes, it takes no memory.
+    /// A copy of `text` with room for `room` bytes in all, or `AllocError`. If neither has more than 30
+    /// bytes, it takes no memory.
     pub fn with_room(alloc: Global, text: &str, room: usize) -> Result<Text, AllocError>
         ensures { IfOk result (λ made. made ≡ text.now) }
     {

@@ -105,8 +105,8 @@ pub fn lexer_stays(alloc: Global) -> Result<String, AllocError> {
     }
 }
 
-/// Whether the second row of a source is the word that it holds, and whether a row that is not there
-/// is.
+/// Whether the second row of a source is the word that it holds, and whether a row that is not
+/// there is.
 pub fn keywords(alloc: Global) -> Result<String, AllocError> {
     let table = TokenTable::new(alloc, "@ max")?;
     let word = Token::keyword(MAX);

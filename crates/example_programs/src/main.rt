@@ -1,5 +1,6 @@
-//! `example_programs WHAT FILE ..` shows how the library is used. WHAT is `list`, `lint`, `options`,
-//! `todos`, `faults`, or a line and a column from 0 with a colon between them, of a cursor.
+//! `example_programs WHAT FILE ..` shows how the library is used. WHAT is `list`, `lint`,
+//! `options`, `todos`, or a line and a column of a cursor, from 0, with a colon between them. If a
+//! file is refused, its faults are printed.
 #![tactic(auto)]
 
 mod cursor;

@@ -1,7 +1,7 @@
-//! `protocases [FILE..] [--lexemes FILE..] [--fronts FILE..] [--returns FILE..] [--large]` prints what
-//! the parser answers for each file: its descriptor in text format, and a line for each location
-//! with its comments; or what is wrong with the file. A case is a file in `data/` and its lines in
-//! `stdout`. The words between the files change what is printed for the files behind them:
+//! `protocases [FILE..] [--lexemes FILE..] [--fronts FILE..] [--returns FILE..] [--large]` prints
+//! what the parser answers for each file: its descriptor in text format, and a line for each
+//! location with its comments; or what is wrong with the file. A case is a file in `data/` and its
+//! lines in `stdout`. The words between the files change what is printed for the files behind them:
 //!
 //! - `--lexemes`: the lexemes and faults that the lexer gives, and the rows, gaps, comments and
 //!   faults of the table

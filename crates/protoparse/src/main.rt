@@ -1,5 +1,5 @@
-//! `protoparse [OPTIONS] FILE..` checks Protocol Buffers files, and prints what is wrong with them, or
-//! what is in them. `protoparse --help` says more.
+//! `protoparse [OPTIONS] FILE..` checks Protocol Buffers files, and prints what is wrong with them,
+//! or what is in them. `protoparse --help` says more.
 #![tactic(auto)]
 
 use protoparse_run::{Host, broken, run, wordless};

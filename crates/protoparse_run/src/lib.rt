@@ -232,7 +232,8 @@ fn write_set<H: Host, W: Write, E: Write>(
     host.write(name, set)
 }
 
-// One file after another, the summary where any is only checked, and the set where one is asked for.
+// Handles one file after another. Then it prints the summary if any file was only checked, and
+// writes the set if one was asked for.
 fn handle_all<H: Host, W: Write, E: Write>(
     alloc: Global,
     host: &H,
@@ -290,9 +291,9 @@ fn worked<H: Host, W: Write, E: Write>(
     }
 }
 
-/// Does what the words ask for: checks files, and prints what is wrong with them or what is asked for
-/// of them. With many files it shows how far it has come, if errors go to a terminal. The answer is
-/// the status.
+/// Does what the words ask for: checks files, and prints what is wrong with them or what is asked
+/// for of them. With many files it shows how far it has come, if errors go to a terminal. The
+/// answer is the status.
 pub fn run<H: Host, W: Write, E: Write>(
     alloc: Global,
     host: &H,

@@ -1,4 +1,5 @@
-//! How far the work on many files has come: a line on a terminal that is written anew for each file.
+//! How far the work on many files has come: a line on a terminal that is written anew for each
+//! file.
 
 use crate::complaints::say;
 use std::io::Write;

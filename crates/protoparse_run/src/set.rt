@@ -40,8 +40,8 @@ fn complain_of_bytes<E: Write>(
     }
 }
 
-/// Adds a file to a set, or says of the file with this path why it can't be added: whether it is. Sets
-/// stand one behind the other.
+/// Appends the bytes of a set with this file alone, and returns true. (Sets one after the other are
+/// one set of all their files.) If memory runs out, it writes that to `err`, and returns false.
 pub fn add_to_set<E: Write>(
     alloc: Global,
     err: &mut E,

@@ -1,5 +1,5 @@
-//! The comments of a gap that belong to one of its sides. Most gaps have nothing on a side, and that is
-//! seen before a text is made.
+//! The comments of a gap that belong to one of its sides. Most gaps have nothing on a side, and
+//! that is seen before a text is made.
 ghost use Rattle.std.specs.Prelude.{◌≡◌, ◌≤◌, ◌<◌, ◌+◌, ◌∷◌, true, false, None, Some, Option, [], map, drop, length, IfOk, IfSome};
 ghost use Rattle.protox_comments.specs.inner.Attributing.{Lines, Newlines, shape_lent};
 ghost use Rattle.protox_lexeme.specs.Gaps as gaps;
@@ -49,9 +49,9 @@ fn is_newline_at(gap: &[Token<'_>], at: usize) -> bool
     matches!(&gap[at], Token::Newline)
 }
 
-// Whether a gap is seen to have nothing that trails: it is empty, or it begins with a newline, behind
-// which stands another one or nothing, or only line comments that lead the next token. So it is in
-// most gaps.
+// Whether it is clear at once that no comment of a gap trails: the gap is empty; or it begins with
+// a newline, after which comes another one, nothing, or only line comments that lead the next
+// token. This holds of most gaps.
 fn nothing_trails(gap: &[Token<'_>], next: Option<&Token<'_>>) -> bool
     ensures { result ≡ true → (gaps.attribution (map shape_of gap.now) false (shape_lent next.entry)).trailing ≡ None }
 {
@@ -83,8 +83,8 @@ fn line_at_front<'g>(gap: &'g [Token<'_>]) -> Option<&'g str>
     }
 }
 
-/// The comment of a gap that trails the declaration before it, as `gap_comments` answers it for a gap
-/// that doesn't stand at the start of the file.
+/// The comment of a gap that trails the declaration before it: that of `gap_comments`, for a gap
+/// that isn't at the start of the file.
 pub fn trailing_comment(
     alloc: Global,
     gap: &[Token<'_>],
@@ -103,8 +103,8 @@ pub fn trailing_comment(
     Ok(found.trailing)
 }
 
-// Whether a gap, not at the start of the file, is seen to have nothing that belongs to the declaration
-// behind it: it begins with a line comment, and the rest is newlines.
+// Whether it is clear at once that no comment of a gap, not at the start of the file, belongs to
+// the declaration after it: the gap is empty, or a line comment and newlines.
 fn only_trails(gap: &[Token<'_>]) -> bool
     ensures detached { result ≡ true → (next : Option Shape) → (gaps.attribution (map shape_of gap.now) false next).detached ≡ [] }
     ensures leading { result ≡ true → (next : Option Shape) → (gaps.attribution (map shape_of gap.now) false next).leading ≡ None }
@@ -118,8 +118,8 @@ fn only_trails(gap: &[Token<'_>]) -> bool
     }
 }
 
-/// The comments of a gap that belong to the declaration behind it: the detached ones, and the one that
-/// leads. They are those that `gap_comments` answers.
+/// The comments of a gap that belong to the declaration after it: the detached ones, and the one
+/// that leads. They are those of `gap_comments`.
 pub fn comments_before(
     alloc: Global,
     gap: &[Token<'_>],

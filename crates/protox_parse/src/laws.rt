@@ -22,8 +22,8 @@ pub fn first_faults_are_true()
     ensures { (source : List ℕ) (wrong : ParseErrorKind) → IsFirstOfSource source wrong → IsTrueOfSource source wrong }
 {}
 
-/// If the faults of a refusal are those of a syntax tree in order, each is wrong of the tree, and each
-/// that is wrong of the tree is among them.
+/// If the faults of a refusal are those of a syntax tree in order, each is wrong of the tree, and
+/// each that is wrong of the tree is among them.
 #[tactic(auto, using(crate::proofs::AnswerLaws::each_is_wrong, crate::proofs::AnswerLaws::all_are_listed))]
 pub fn checked_faults_are_all()
     ensures wrong { (file : File) (failure : ParseFailure) → AreListedOf file failure → AreWrongOf file failure }

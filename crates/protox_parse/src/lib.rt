@@ -124,7 +124,8 @@ pub fn parse(alloc: Global, name: &str, source: &str) -> Result<FileDescriptorPr
     ensures refused { IfErr result (IsRefusalOf name.now source.now) }
     // The first fault is true of the source, and no fault comes before it.
     ensures first { IfErr result (BeginsWithFirst source.now) }
-    // If the source is accepted with a tree, the faults are exactly those of its syntax tree, in order.
+    // If the source is accepted with a tree, the faults are exactly those of its syntax tree, in
+    // order.
     ensures checked { (f : tree.File Place) → IsAccepted source.now f → IfErr result (AreListedOf (ast_of.file (length source.now) f)) }
     // Each fault of a lexeme and each unexpected token stands in the source. No fault of a lexeme
     // is listed twice.

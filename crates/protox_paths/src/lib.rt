@@ -88,10 +88,10 @@ fn name_behind(alloc: Global, parts: &[&str], above: &[&str]) -> Result<Option<S
     }
 }
 
-/// What the path is called in the folder: the parts of the path behind those of the folder, with a
-/// slash between each two. None where the path lies outside: not all parts of the folder come first,
-/// nothing follows them, a `..` does, or one of the two begins with a slash and the other doesn't.
-/// Parts are told apart by their bytes; `.` and what is empty between two slashes is none.
+/// The path relative to the folder: the parts of the path after those of the folder, with a slash
+/// between each two. None if the path is outside: it doesn't begin with all parts of the folder,
+/// nothing follows them, a `..` follows them, or one of the two begins with a slash and the other
+/// doesn't. Parts are compared by their bytes. `.` and an empty part don't count.
 ///
 /// # Errors
 /// `AllocError` where memory runs out.

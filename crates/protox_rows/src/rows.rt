@@ -73,8 +73,8 @@ fn trailing_in(
     }
 }
 
-// The comments of a gap that belong to the row after it. `index` is that row, and `first` says that the
-// gap begins the file.
+// The comments of a gap that belong to the row after it. `index` is that row, and `first` says that
+// the gap begins the file.
 fn leading_in(
     alloc: Global,
     table: &TokenTable<'_>,
@@ -107,8 +107,8 @@ fn trailing_at(
     }
 }
 
-// The comments of the gap with this number that belong to the row after it. `first` says that it begins
-// the file.
+// The comments of the gap with this number that belong to the row after it. `first` says that it
+// begins the file.
 fn leading_at(
     alloc: Global,
     table: &TokenTable<'_>,

@@ -32,8 +32,8 @@ pub fn values_lex_back()
     ensures { (string : String) → AreBytes string.value → (borrowed : Bool) × (spec.cut 0 (token_string (value.String string)) ≡ record { start = 0; stop = length (token_string (value.String string)); shape = Str string.value; borrowed = borrowed; faults = [] } ∷ []) }
 {}
 
-/// `Display` prints the string of an uninterpreted option as one lexeme of the same bytes, without a
-/// fault.
+/// `Display` prints the string of an uninterpreted option as one lexeme of the same bytes, without
+/// a fault.
 #[tactic(auto, using(crate::proofs::ValuesBack::option_alone))]
 pub fn option_strings_lex_back()
     ensures { (bytes : List ℕ) → AreBytes bytes → (borrowed : Bool) × (spec.cut 0 (value_text (printed.String bytes)) ≡ record { start = 0; stop = length (value_text (printed.String bytes)); shape = Str bytes; borrowed = borrowed; faults = [] } ∷ []) }

@@ -51,7 +51,8 @@ impl Declaration<'_> {
         find::location(info, self.path.as_slice())
     }
 
-    /// Its comments: those of the first location with its path. It needs what `find::comments` needs.
+    /// Its comments: those of the first location with its path. It needs what `find::comments`
+    /// needs.
     pub fn comments<'i>(&self, info: &'i SourceCodeInfo) -> LocationComments<'i>
         requires { AreByPath info.now.location }
         ensures leading { option_copied result.leading ≡ leading_of (first_at self.now.path info.now.location) }
@@ -62,15 +63,16 @@ impl Declaration<'_> {
     }
 }
 
-/// Visits each declaration of a file once, in the order of their paths: messages, enums, services and
-/// extensions; and behind a message, an enum or a service what is declared in it. An error of a visit
-/// stops the walk, which answers it. Where memory runs out it answers `AllocError`, made the visitor's
-/// error; so too where a list has more than 2,147,483,648 parts, since a path can't count them.
+/// Visits each declaration of a file once, in the order of their paths: messages, enums, services
+/// and extensions; and after a message, an enum or a service, what it declares. The first error of
+/// a visit ends the walk, and `walk` returns it. If memory runs out, or if a list has more than
+/// 2,147,483,648 parts (a path can't count them), `walk` returns `AllocError`, converted to the
+/// visitor's error.
 ///
-/// It makes no list of declarations: it takes memory for the names around and for long paths alone.
+/// It makes no list of declarations. It takes memory only for the names around, and for long paths.
 ///
-/// The entries of maps and the oneofs that are made for `optional` fields are among them. They stand in
-/// no source, so they have no location.
+/// It also visits the entry messages of maps, and the oneofs that are made for `optional` fields.
+/// No source has them, so they have no location.
 ///
 /// ```
 /// walk(alloc, &file, &mut visitor)?;
@@ -90,8 +92,8 @@ pub fn walk<'a, V: Visit<'a>>(
     walk_each(alloc, visitor, scope, &[], EXTENSION, &file.extension)
 }
 
-/// All declarations of a file, each once, in the order in which `walk` visits them. Or `AllocError`, as
-/// `walk` answers it.
+/// All declarations of a file, each once, in the order in which `walk` visits them. It returns
+/// `AllocError` in the same cases as `walk`.
 ///
 /// ```
 /// for declaration in &declarations(alloc, &file)? {
@@ -110,9 +112,9 @@ pub fn declarations<'a>(
     Ok(collector.found)
 }
 
-/// The full name of the declaration with this path, as `declarations` has it; None if there is none.
-/// Or `AllocError`, as `declarations` answers it. It walks over the whole file, and keeps one name: for
-/// many paths, walk once.
+/// The full name of the declaration with this path, as `declarations` has it; None if there is
+/// none. It returns `AllocError` in the same cases as `walk`. It walks over the whole file, so for
+/// many paths call `declarations` once.
 ///
 /// ```
 /// // The full name of the second field of the first message.

@@ -42,8 +42,8 @@ fn options_in<O: HasUninterpreted>(options: Option<&O>) -> &[UninterpretedOption
 }
 
 impl Part<'_> {
-    /// What it is, in a word: `message`, `field`, `extension`, `oneof`, `enum`, `value`, `service` or
-    /// `method`.
+    /// What it is, in a word: `message`, `field`, `extension`, `oneof`, `enum`, `value`, `service`
+    /// or `method`.
     pub fn kind(&self) -> &'static str
         ensures { result.now ≡ kind_of (part_of self.now) }
     {

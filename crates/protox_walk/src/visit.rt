@@ -22,14 +22,14 @@ use std::alloc::AllocError;
 /// }
 /// ```
 pub trait Visit<'a> {
-    /// What a visit that succeeds does: the visitor before it, the declaration, and the visitor after
-    /// it. Left out, it says nothing.
+    /// What a visit that succeeds does: a relation between the visitor before it, the declaration,
+    /// and the visitor after it. By default it says nothing.
     ghost visits: { Self → Declared → Self → Type 0 } = { λ _ _ _. ⊤ };
 
-    /// Why a visit stops the walk. That memory ran out is always among it.
+    /// Why a visit ends the walk. Any type that an `AllocError` can be converted to.
     type Error: From<AllocError>;
 
-    /// Takes one declaration: its path, its full name and its descriptor. An error stops the walk.
+    /// Takes one declaration: its path, its full name and its descriptor. An error ends the walk.
     fn visit(&mut self, path: &[i32], full_name: &str, part: Part<'a>) -> Result<(), Self::Error>
         ensures { OnOk result (visits self.old (declared path.now full_name.now (part_of part.entry)) self.new) };
 }

@@ -1,5 +1,5 @@
-//! `runcases [--bytes LIST] [--scans LIST] [--words LIST]` prints bytes of descriptors, and what the
-//! programs do. Its lines are in `stdout`.
+//! `runcases [--bytes LIST] [--scans LIST] [--words LIST]` prints bytes of descriptors, and what
+//! the programs do. Its lines are in `stdout`.
 //!
 //! - `--bytes`: the bytes of the descriptors of the files that the lines of the list name
 //! - `--scans`: what `protoscan` does with the words of each line of the list

@@ -114,10 +114,10 @@ fn write_case(rt: &HostRuntime, line: &str) -> io::Result<()> {
     lines.flush()
 }
 
-/// Prints what `protoparse` does with the words of each line: the line behind `$`, what it writes to
-/// a file behind `+`, the output behind `>`, what goes where errors go behind `!`, and the status
-/// behind `=`. If `tty` is the first word, errors go to a terminal. `double TEXT` is a line for a
-/// file with an option that is a double of this text, which is added to a set.
+/// Prints what `protoparse` does with the words of each line: the line behind `$`, what it writes
+/// to a file behind `+`, the output behind `>`, what goes where errors go behind `!`, and the
+/// status behind `=`. If `tty` is the first word, errors go to a terminal. `double TEXT` is a line
+/// for a file with an option that is a double of this text, which is added to a set.
 pub fn write_words(rt: &HostRuntime, list: &str) -> io::Result<()> {
     for line in list.lines() {
         write_case(rt, line)?;

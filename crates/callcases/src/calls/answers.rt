@@ -77,7 +77,8 @@ fn indices(alloc: Global, info: &SourceCodeInfo) -> Result<String, AllocError>
     format!(in alloc; "{root:?} {options:?} {later:?} {none:?}")
 }
 
-// The span of the first field, the comment of its message, and the path around each of seven places.
+// The span of the first field, the comment of its message, and the path around each of seven
+// places.
 fn around(alloc: Global, info: &SourceCodeInfo) -> Result<String, AllocError>
     requires { AreByPath info.now.location }
 {

@@ -53,7 +53,10 @@ pub fn tell(
     ensures free { faults_in text_format faults.now ≡ [] → IsOk result }
 {
     let mut told = told(alloc, faults, text_format)?;
-    if !told.is_empty() {
+    // A single comment may have millions of faults: they are not copied.
+    if errors.is_empty() && errors.capacity() < told.len() {
+        *errors = told;
+    } else if !told.is_empty() {
         errors.append(&mut told)?;
     }
     Ok(())

@@ -42,6 +42,17 @@ impl Model for Comments {
     ghost view = { state_seen };
 }
 
+// The text of a comment, with room for so many bytes. If no room is asked for, an owned text is moved,
+// which takes no memory.
+fn text_with_room(alloc: Global, comment: CowStr<'_>, room: usize) -> Result<Text, AllocError>
+    ensures { IfOk result (λ made. made ≡ cow_str_bytes comment.entry) }
+{
+    if room == 0 {
+        return Text::from_cow(alloc, comment);
+    }
+    Text::with_room(alloc, comment.as_str(), room)
+}
+
 impl Comments {
     /// No comment, and none may trail. It takes no memory; later growth takes it from `alloc`.
     pub fn new(alloc: Global) -> Comments
@@ -122,12 +133,12 @@ impl Comments {
         ensures ok { OnOk result (self.new ≡ state.with_line (cow_str_bytes comment.entry) self.old) }
         ensures err { OnErr result (self.new ≡ self.old) }
     {
-        self.add_line(comment.as_str(), 0)
+        self.add_line(comment, 0)
     }
 
     // Adds a line comment. If it opens a block, the block gets room for so many bytes.
-    fn add_line(&mut self, comment: &str, room: usize) -> Result<(), AllocError>
-        ensures ok { OnOk result (self.new ≡ state.with_line comment.now self.old) }
+    fn add_line(&mut self, comment: CowStr<'_>, room: usize) -> Result<(), AllocError>
+        ensures ok { OnOk result (self.new ≡ state.with_line (cow_str_bytes comment.entry) self.old) }
         ensures err { OnErr result (self.new ≡ self.old) }
     {
         match self.open_block.take() {
@@ -137,7 +148,7 @@ impl Comments {
                     of_lines: true,
                 },
             ) => {
-                let pushed = text.push_str(self.alloc, comment);
+                let pushed = text.push_str(self.alloc, comment.as_str());
                 self.open_block = Some(Block {
                     text,
                     of_lines: true,
@@ -146,7 +157,7 @@ impl Comments {
             }
             other => {
                 self.open_block = other;
-                let text = Text::with_room(self.alloc, comment, room)?;
+                let text = text_with_room(self.alloc, comment, room)?;
                 self.open_as(text, true)
             }
         }
@@ -266,7 +277,7 @@ impl Comments {
         match &gap[at] {
             Token::LineComment(text) => {
                 let room = self.room_at(gap, at);
-                self.add_line(text.as_str(), room)?;
+                self.add_line(CowStr::Borrowed(text.as_str()), room)?;
                 Ok(1)
             }
             Token::BlockComment(text) => {

@@ -110,10 +110,11 @@ impl Text {
         })
     }
 
-    /// A copy of `text` with room for `room` bytes in all, or `AllocError`. If neither has more than 30
-    /// bytes, it takes no memory.
+    /// A copy of `text` with room for `room` bytes in all, or `AllocError`. If neither has more
+    /// than 30 bytes, it takes no memory.
     pub fn with_room(alloc: Global, text: &str, room: usize) -> Result<Text, AllocError>
-        ensures { IfOk result (λ made. made ≡ text.now) }
+        ensures value { IfOk result (λ made. made ≡ text.now) }
+        ensures free { length text.now ≤ 30 → room ≤ 30 → IsOk result }
     {
         if text.len() <= SHORT && room <= SHORT {
             return Ok(short(text, ""));

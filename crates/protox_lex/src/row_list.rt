@@ -102,6 +102,13 @@ impl RowList {
         }
     }
 
+    /// Gives back the room that no row takes.
+    pub(crate) fn shrink_to_fit(&mut self)
+        ensures { self.new ≡ self.old }
+    {
+        self.narrow.shrink_to_fit();
+    }
+
     /// The number of rows.
     pub(crate) fn len(&self) -> usize
         ensures { result ≡ length self.now }

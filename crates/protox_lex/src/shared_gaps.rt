@@ -113,6 +113,13 @@ impl<'a> SharedGaps<'a> {
         })
     }
 
+    /// Gives back the room that no gap takes.
+    pub(crate) fn shrink_to_fit(&mut self)
+        ensures { self.new ≡ self.old }
+    {
+        self.numbers.shrink_to_fit();
+    }
+
     /// Gap `index`, counted from 0. None if that gap hasn't ended.
     pub(crate) fn get(&self, index: usize) -> Option<&[Token<'a>]>
         ensures { option_map shapes_of_lent result ≡ slice_get self.now.ended index }

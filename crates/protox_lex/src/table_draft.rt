@@ -235,11 +235,13 @@ fn draft<'a>(alloc: Global, source: &'a str) -> Result<TableDraft<'a>, AllocErro
     Ok(draft)
 }
 
-/// The table of a source, with its last gap ended.
+/// The table of a source, with its last gap ended. Room that it doesn't take is given back.
 pub(crate) fn ended_draft<'a>(alloc: Global, source: &'a str) -> Result<TableDraft<'a>, AllocError>
     ensures { IfOk result (λ d. ended_table d ≡ table_of (spec.cut 0 source.entry.now)) }
 {
     let mut draft = draft(alloc, source)?;
     draft.end_gap()?;
+    draft.rows.shrink_to_fit();
+    draft.gaps.shrink_to_fit();
     Ok(draft)
 }

@@ -207,6 +207,15 @@ fn push_help_of(alloc: Global, out: &mut String, fault: &ParseErrorKind) -> Resu
     push_help(alloc, out, help.as_str())
 }
 
+// Gives back the room of a short report, if more than half of it is free.
+fn give_back(out: &mut String)
+    ensures { string_bytes out.new ≡ string_bytes out.old }
+{
+    if out.len() < out.capacity() / 2 {
+        out.shrink_to_fit();
+    }
+}
+
 impl<'a> Source<'a> {
     /// A source with the name that reports show. `AllocError` if memory runs out.
     pub fn new(
@@ -226,11 +235,17 @@ impl<'a> Source<'a> {
         })
     }
 
-    // Makes room for a report of usual length, if memory allows.
-    fn make_room(&self, out: &mut String)
+    // Makes room for a report of usual length in an empty text, if memory allows. Answers whether the
+    // text got larger.
+    fn make_room(&self, out: &mut String) -> bool
         ensures { string_bytes out.new ≡ string_bytes out.old }
     {
+        if !out.is_empty() {
+            return false;
+        }
+        let before = out.capacity();
         let _ = out.reserve(self.name.len().saturating_add(USUAL));
+        before < out.capacity()
     }
 
     // Line and column of an offset, both from 1.
@@ -362,10 +377,13 @@ impl<'a> Source<'a> {
     ) -> Result<(), AllocError>
         ensures { OnOk result (IsReported self.now.name.now self.now.text.now self.now.paint fault.now (string_bytes out.old) (string_bytes out.new)) }
     {
-        self.make_room(out);
+        let grew = self.make_room(out);
         self.push_title(alloc, out, fault)?;
         self.push_excerpts(alloc, out, fault)?;
         push_help_of(alloc, out, fault)?;
+        if grew {
+            give_back(out);
+        }
         Ok(())
     }
 }

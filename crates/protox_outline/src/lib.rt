@@ -1,6 +1,8 @@
 //! The outline of a file: one line for each declaration, in the order of the source.
 #![tactic(auto)]
 
+ghost use Rattle.std.specs.Prelude.{◌≡◌, ◌<◌, ◌%◌, true, None, length, IfOk};
+
 use protox_descriptor::descriptor::source_code_info::Location;
 use protox_descriptor::descriptor::{
     DescriptorProto, EnumDescriptorProto, FileDescriptorProto, ServiceDescriptorProto,
@@ -101,7 +103,9 @@ fn lead<'a>(
     file: &'a FileDescriptorProto,
     path: &[i32],
     name: &mut Vec<&'a str>,
-) -> Result<Option<&'static str>, AllocError> {
+) -> Result<Option<&'static str>, AllocError>
+    ensures { length path.now % 2 ≡ 1 → IfOk result (λ kind. kind ≡ None) }
+{
     let mut kind = "";
     let mut place = Place::File(file);
     for pair in path.chunks(2) {
@@ -121,6 +125,15 @@ fn lead<'a>(
         place = found.place;
     }
     Ok(Some(kind))
+}
+
+// Whether a path ends with a field number that has no index, behind others that have one. Such a path
+// leads to no declaration, and most locations have one.
+fn ends_without_index(path: &[i32]) -> bool
+    ensures odd { result ≡ true → length path.now % 2 ≡ 1 }
+    ensures long { result ≡ true → 1 < length path.now }
+{
+    path.len() % 2 == 1 && path.len() > 1
 }
 
 // The first line of a comment that is not blank.
@@ -150,8 +163,7 @@ fn line_of(
     location: &Location,
 ) -> Result<Option<Line>, AllocError> {
     let path = location.path.as_slice();
-    // The path of a declaration has an index for each field number.
-    if path.len() % 2 == 1 && path.len() > 1 {
+    if ends_without_index(path) {
         return Ok(None);
     }
     let mut parts = Vec::new(alloc);

@@ -207,11 +207,11 @@ fn push_help_of(alloc: Global, out: &mut String, fault: &ParseErrorKind) -> Resu
     push_help(alloc, out, help.as_str())
 }
 
-// Gives back the room of a short report, if more than half of it is free.
-fn give_back(out: &mut String)
+// Gives back the room of a short report, if the text grew for it and more than half is free.
+fn give_back(out: &mut String, grew: bool)
     ensures { string_bytes out.new ≡ string_bytes out.old }
 {
-    if out.len() < out.capacity() / 2 {
+    if grew && out.len() < out.capacity() / 2 {
         out.shrink_to_fit();
     }
 }
@@ -367,6 +367,21 @@ impl<'a> Source<'a> {
         Ok(())
     }
 
+    // Adds the title, the excerpts and the help of a fault.
+    fn push_parts(
+        &self,
+        alloc: Global,
+        out: &mut String,
+        fault: &ParseErrorKind,
+    ) -> Result<(), AllocError>
+        ensures { OnOk result (IsReported self.now.name.now self.now.text.now self.now.paint fault.now (string_bytes out.old) (string_bytes out.new)) }
+    {
+        self.push_title(alloc, out, fault)?;
+        self.push_excerpts(alloc, out, fault)?;
+        push_help_of(alloc, out, fault)?;
+        Ok(())
+    }
+
     /// Adds the report of a fault to `out`: its title, its excerpts and its help, each on its own
     /// lines. `AllocError` if memory runs out.
     pub fn push_fault(
@@ -378,12 +393,8 @@ impl<'a> Source<'a> {
         ensures { OnOk result (IsReported self.now.name.now self.now.text.now self.now.paint fault.now (string_bytes out.old) (string_bytes out.new)) }
     {
         let grew = self.make_room(out);
-        self.push_title(alloc, out, fault)?;
-        self.push_excerpts(alloc, out, fault)?;
-        push_help_of(alloc, out, fault)?;
-        if grew {
-            give_back(out);
-        }
+        self.push_parts(alloc, out, fault)?;
+        give_back(out, grew);
         Ok(())
     }
 }

@@ -1,12 +1,18 @@
 #!/usr/bin/env python3
-"""Measures the parser beside protobuf's on made files.
+"""Measures the parser beside protobuf's on made files and on small real ones, and prints tables.
 
-usage: beside.py PROTOSCAN PROTOBENCH PROTOBUF [read|whole]
+usage: beside.py PROTOBENCH PROTOBUF [read|whole|notes|small ..]
 
-Instructions a byte are counted by valgrind on the made file of 1 MB, which is the same each time: so they are
-exact. Times are of 10 MB, in turns. "In process" is a further parse of the same text with dropping what it
-answers: the difference between several turns and one, over their number. Memory is the largest of one turn.
+PROTOBENCH is what `rt run` leaves in crates/protobench/out, and PROTOBUF is built from protobuf.cc.
+`read`, `whole` and `notes` are files of make_proto.py. `small` are the files that come with protobuf
+(Debian: libprotobuf-dev), of 2 to 38 KB, each parsed often.
+
+A parse is one in process, with the drop of its result: the difference between several turns and one, over
+their number. Instructions are counted by valgrind, on 1 MB of a made file, and are the same each
+time. Times are of processor time, on 10 MB of a made file: the shortest of 7 runs in turns. Memory is
+the largest of one turn.
 """
+import glob
 import os
 import subprocess
 import sys
@@ -16,10 +22,12 @@ from time_runs import run
 
 ROUNDS = 7
 TURNS = 6
+SMALL_TURNS = 401
+REAL = '/usr/include/google/protobuf/**/*.proto'
 
 
-def made(folder, megabytes, kind):
-    name = os.path.join(folder, f'{megabytes}.proto')
+def make(folder, megabytes, kind):
+    name = os.path.join(folder, f'{kind}{megabytes}.proto')
     maker = os.path.join(os.path.dirname(os.path.abspath(__file__)), 'make_proto.py')
     with open(name, 'wb') as out:
         subprocess.run([sys.executable, maker, str(megabytes), kind], stdout=out, check=True)
@@ -28,8 +36,8 @@ def made(folder, megabytes, kind):
 
 def instructions(folder, words):
     counts = os.path.join(folder, 'counts')
-    subprocess.run(['valgrind', '--tool=callgrind', f'--callgrind-out-file={counts}', *words], check=True,
-                   stdout=subprocess.DEVNULL, stderr=subprocess.DEVNULL)
+    subprocess.run(['valgrind', '--tool=callgrind', f'--callgrind-out-file={counts}', *words],
+                   check=True, stdout=subprocess.DEVNULL, stderr=subprocess.DEVNULL)
     with open(counts) as lines:
         return next(int(line.split()[1]) for line in lines if line.startswith('summary:'))
 
@@ -45,27 +53,55 @@ def megabytes_used(words):
     return run(words)[2].ru_maxrss / 1000
 
 
-def main():
-    protoscan, protobench, protobuf, *kind = sys.argv[1:]
-    kind = kind[0] if kind else 'read'
-    parsers = {'parse': [protobench], 'protobuf': [protobuf, 'parse']}
-    with tempfile.TemporaryDirectory() as folder:
-        small, large, largest = (made(folder, megabytes, kind) for megabytes in (1, 10, 100))
-        size = os.path.getsize(small)
-        print(f'protoscan: {instructions(folder, [protoscan, small]) / size:.1f} instructions a byte, '
-              f'{megabytes_used([protoscan, large]):.0f} MB at 10 MB, {megabytes_used([protoscan, largest]):.0f} at 100 MB')
+def size_of(files):
+    return sum(os.path.getsize(name) for name in files)
+
+
+def instructions_a_byte(folder, words, files, turns):
+    """Instructions of one parse, a byte of these files."""
+    counts = [[instructions(folder, [*words, name, str(n)]) for n in (1, turns)] for name in files]
+    return sum(last - first for first, last in counts) / (turns - 1) / size_of(files)
+
+
+def shortest(parsers, files, turns):
+    """The shortest milliseconds in which each parser parses these files, in turns."""
+    times = {name: [] for name in parsers}
+    for _ in range(ROUNDS):
         for name, words in parsers.items():
-            one, three = (instructions(folder, [*words, small, turns]) for turns in ('1', '3'))
-            print(f'{name} in process: {(three - one) / 2 / size:.1f} instructions a byte')
-        times = {name: [] for name in parsers}
-        for _ in range(ROUNDS):
-            for name, words in parsers.items():
-                one, several = (seconds([*words, large, str(turns)]) for turns in (1, TURNS))
-                times[name].append((several - one) / (TURNS - 1))
-        for name, found in times.items():
-            found.sort()
-            print(f'{name} in process: shortest {found[0] * 1000:.0f} ms, median {found[len(found) // 2] * 1000:.0f} ms, '
-                  f'{megabytes_used([*parsers[name], large, "1"]):.0f} MB in one turn')
+            took = [seconds([*words, file, str(n)]) for file in files for n in (1, turns)]
+            times[name].append(sum(took[1::2]) - sum(took[::2]))
+    return {name: min(found) * 1000 / (turns - 1) for name, found in times.items()}
+
+
+def row(kind, what, numbers, digits):
+    here, theirs = numbers
+    print(f'| {kind} | {what} | {here:.{digits}f} | {theirs:.{digits}f} | {theirs / here:.2f} |')
+
+
+def measure(folder, parsers, kind):
+    if kind == 'small':
+        counted = timed = sorted(glob.glob(REAL, recursive=True))
+        turns, many = 11, SMALL_TURNS
+    else:
+        counted, timed = ([make(folder, size, kind)] for size in (1, 10))
+        turns, many = 3, TURNS
+    counts = [instructions_a_byte(folder, words, counted, turns) for words in parsers.values()]
+    row(kind, 'instructions a byte', counts, 1)
+    times = shortest(parsers, timed, many)
+    row(kind, f'milliseconds for {size_of(timed) / 1e6:.1f} MB', list(times.values()),
+        2 if kind == 'small' else 0)
+    if kind != 'small':
+        row(kind, 'largest memory, MB', [megabytes_used([*words, timed[0], '1'])
+                                         for words in parsers.values()], 0)
+
+
+def main():
+    protobench, protobuf, *kinds = sys.argv[1:]
+    parsers = {'here': [protobench], 'protobuf': [protobuf, 'parse']}
+    print('| files | a parse | here | protobuf | protobuf over here |\n|---|---|---|---|---|')
+    with tempfile.TemporaryDirectory() as folder:
+        for kind in kinds or ['read', 'notes', 'whole', 'small']:
+            measure(folder, parsers, kind)
 
 
 if __name__ == '__main__':

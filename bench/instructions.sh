@@ -1,7 +1,7 @@
 #!/usr/bin/env bash
 # Counts the instructions that a built program takes for each byte of a made file, by valgrind: the
 # same at each run, whatever else the machine does.
-# usage: bench/instructions.sh PROGRAM [MEGABYTES [whole|read [ARGUMENT..]]]
+# usage: bench/instructions.sh PROGRAM [MEGABYTES [whole|read|notes [ARGUMENT..]]]
 set -eu
 program=$1
 size=${2:-10}

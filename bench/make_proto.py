@@ -1,10 +1,11 @@
 #!/usr/bin/env python3
 """Writes a large .proto file to standard output.
 
-usage: make_proto.py MEGABYTES [whole|read]
+usage: make_proto.py MEGABYTES [whole|read|notes]
 
 `whole` uses the whole language, as schemas in the field do: comments, options, nested messages, enums
-and services. `read` uses what the parser reads today: imports, and messages of plain fields.
+and services. `read` has messages of plain fields, which have most locations a byte. `notes` has messages
+of fields with comments, which are most of its bytes.
 """
 import sys
 
@@ -61,10 +62,41 @@ message Account{n} {{
 }}
 '''
 
+NOTES = '''
+// The state of shipment {n}, as the carrier reports it. A shipment is made when an order is
+// packed, and is never deleted.
+//
+// See also the guide on deliveries.
+message Shipment{n} {{
+  // The name of the resource, in the form `shipments/{{shipment}}`.
+  // The server assigns it.
+  string name = 1;
+
+  // Where the shipment is to go. It can be changed until the carrier has taken it over.
+  Address target = 2;
+
+  int64 weight_grams = 3;  // with the packaging
+
+  // Set when the carrier has taken the shipment over.
+  // Output only.
+  google.protobuf.Timestamp taken_over_at = 4;
+
+  /* The places that it passed, the latest first. At most a hundred are kept. */
+  repeated Place places = 5;
+
+  // The price, without taxes, in the currency of the order.
+
+  // If the carrier hasn't told its price yet, this is an estimate.
+  Money price = 6;  // Required.
+}}
+'''
+
+BLOCKS = {'whole': WHOLE, 'read': READ, 'notes': NOTES}
+
 
 def main():
     wanted = int(float(sys.argv[1]) * 1_000_000)
-    block = READ if sys.argv[2:] == ['read'] else WHOLE
+    block = BLOCKS[sys.argv[2] if len(sys.argv) > 2 else 'whole']
     out = sys.stdout
     head = 'syntax = "proto3";\n\nimport "google/type/latlng.proto";\n'
     written = out.write(head)

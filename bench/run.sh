@@ -1,6 +1,6 @@
 #!/usr/bin/env bash
 # Times a built program on made files of 1, 10 and 100 MB.
-# usage: bench/run.sh PROGRAM [whole|read [ARGUMENT..]]
+# usage: bench/run.sh PROGRAM [whole|read|notes [ARGUMENT..]]
 set -eu
 program=$1
 kind=${2:-whole}

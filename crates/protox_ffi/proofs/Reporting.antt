@@ -6,7 +6,7 @@ use Rattle.protox_ast.specs.Places.{Place}
 use Rattle.protox_ast.specs.Tree as tree
 use Rattle.protox_descriptor.specs.declared.descriptor.FileDescriptorProto.{FileDescriptorProto}
 use Rattle.protox_parse.specs.Failures.{IsOutOfMemory, IsRefusalOf}
-use Rattle.protox_parse.specs.FaultLists.{AreAllFound, AreLexicalAlone, AreListedOf, AreStanding, NoCheckIsLost}
+use Rattle.protox_parse.specs.FaultLists.{AreAllFound, AreLexicalAlone, AreListedOf, AreStanding, ExpectsTruly, NoCheckIsLost}
 use Rattle.protox_parse.specs.Files.{IsFile, IsTranslation}
 use Rattle.protox_parse.specs.FirstFault.{BeginsWithFirst}
 use Rattle.protox_parse.specs.Refusal.{Refusal}
@@ -22,9 +22,9 @@ use Rattle.protox_ffi.specs.Outcomes.{HasNoDescriptor, IsReport, reason}
 pub reported : (name source : List ℕ) (failure : ParseFailure) (refusal : Refusal) → failure ≡ Refused refusal
     → IsRefusalOf name source failure → (IsFile source → IsOutOfMemory failure) → BeginsWithFirst source failure
     → ((f : tree.File Place) → IsAccepted source f → AreListedOf (ast_of.file (length source) f) failure)
-    → AreStanding source failure → AreLexicalAlone source failure → AreAllFound source failure → NoCheckIsLost source failure
+    → AreStanding source failure → AreLexicalAlone source failure → AreAllFound source failure → NoCheckIsLost source failure → ExpectsTruly source failure
     → (bytes : List ℕ) → bytes ≡ records refusal.source refusal.errors → IsReport name source bytes
-reported name source failure refusal is of_source only first checked stands lexical all_found no_check_lost bytes spelled =
+reported name source failure refusal is of_source only first checked stands lexical all_found no_check_lost words bytes spelled =
     record {
       refusal = refusal;
       spelled = spelled;
@@ -36,6 +36,7 @@ reported name source failure refusal is of_source only first checked stands lexi
       lexical = subst (λ (f : ParseFailure). AreLexicalAlone source f) is lexical;
       all_found = subst (λ (f : ParseFailure). AreAllFound source f) is all_found;
       no_check_lost = subst (λ (f : ParseFailure). NoCheckIsLost source f) is no_check_lost;
+      words = subst (λ (f : ParseFailure). ExpectsTruly source f) is words;
     }
 
 -- A source with a translation is a file, and a file has a translation under each name.

@@ -13,7 +13,7 @@ use Rattle.protox_encode.specs.Messages as encoded
 use Rattle.protox_encode.specs.Wire.{message}
 use Rattle.protox_encode.specs.declared.fault.EncodeError.TheVariants as error
 use Rattle.protox_parse.specs.Failures.{IsRefusalOf}
-use Rattle.protox_parse.specs.FaultLists.{AreAllFound, AreLexicalAlone, AreListedOf, AreStanding, NoCheckIsLost}
+use Rattle.protox_parse.specs.FaultLists.{AreAllFound, AreLexicalAlone, AreListedOf, AreStanding, ExpectsTruly, NoCheckIsLost}
 use Rattle.protox_parse.specs.Files.{IsFile, IsTranslation}
 use Rattle.protox_parse.specs.FirstFault.{BeginsWithFirst}
 use Rattle.protox_parse.specs.Refusal.{Refusal}
@@ -59,6 +59,7 @@ pub record IsReport (name source bytes : List ℕ) : Type 0 where
   pub lexical : AreLexicalAlone source (failed.Refused refusal)
   pub all_found : AreAllFound source (failed.Refused refusal)
   pub no_check_lost : NoCheckIsLost source (failed.Refused refusal)
+  pub words : ExpectsTruly source (failed.Refused refusal)
 
 -- The records would take 2 GiB or more.
 pub record IsTooLarge (name source : List ℕ) : Type 0 where

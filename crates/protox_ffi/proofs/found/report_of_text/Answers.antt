@@ -8,4 +8,4 @@ pub returns-in-Err-Refused : goal.returns-in-Err-Refused
 returns-in-Err-Refused c =
     let promises = c.in-Err-Refused.ensures in
     c.records_of.ensures c.args.name.now c.args.source.now (reported c.args.name.now c.args.source.now c.in-Err-Refused.field-0 c.in-Err-Refused.error c.in-Err-Refused.field-0-is
-    promises.refused promises.only promises.first promises.checked promises.stands promises.lexical promises.all_found promises.no_check_lost)
+    promises.refused promises.only promises.first promises.checked promises.stands promises.lexical promises.all_found promises.no_check_lost promises.words)

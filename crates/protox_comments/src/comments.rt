@@ -42,8 +42,8 @@ impl Model for Comments {
     ghost view = { state_seen };
 }
 
-// The text of a comment, with room for so many bytes. If no room is asked for, an owned text is moved,
-// which takes no memory.
+// The text of a comment, with room for so many bytes. If no room is asked for, an owned text is
+// moved, which takes no memory.
 fn text_with_room(alloc: Global, comment: CowStr<'_>, room: usize) -> Result<Text, AllocError>
     ensures { IfOk result (λ made. made ≡ cow_str_bytes comment.entry) }
 {

@@ -127,8 +127,8 @@ fn lead<'a>(
     Ok(Some(kind))
 }
 
-// Whether a path ends with a field number that has no index, behind others that have one. Such a path
-// leads to no declaration, and most locations have one.
+// Whether a path ends with a field number that has no index, behind others that have one. Such a
+// path leads to no declaration, and most locations have one.
 fn ends_without_index(path: &[i32]) -> bool
     ensures odd { result ≡ true → length path.now % 2 ≡ 1 }
     ensures long { result ≡ true → 1 < length path.now }

@@ -235,8 +235,8 @@ impl<'a> Source<'a> {
         })
     }
 
-    // Makes room for a report of usual length in an empty text, if memory allows. Answers whether the
-    // text got larger.
+    // Makes room for a report of usual length in an empty text, if memory allows. Answers whether
+    // the text got larger.
     fn make_room(&self, out: &mut String) -> bool
         ensures { string_bytes out.new ≡ string_bytes out.old }
     {

@@ -1,11 +1,15 @@
 //! Lines of the text format of Protocol Buffers: a field and its value, or a message in braces.
+//!
+//! Each line goes to the writer in pieces: two blanks for each level, the name, what stands behind
+//! it, and the value; a value of bytes goes byte by byte. A writer with a buffer of its own empties
+//! it between two pieces, so other pieces would let other bytes go out before an error, or before
+//! what someone else writes to the same file.
 
-ghost use Rattle.std.specs.Prelude.{◌≡◌, ◌≤◌, ◌<◌, ◌∷◌, [], true, length, take, flat_map, IfOk, OnOk};
+ghost use Rattle.std.specs.Prelude.{◌≡◌, ◌∷◌, flat_map, OnOk};
 ghost use Rattle.std.specs.Io.KnownBytes.{Appends};
-ghost use Rattle.protox_descriptor.specs.Literal.{printed_byte};
+ghost use Rattle.protox_descriptor.specs.Literal.{octal, printed_byte};
 ghost use Rattle.protox_text.specs.TextLines.{indent, deeper, value_line, opened, closed, bytes_line};
 
-use crate::front::write_front;
 use std::alloc::Global;
 use std::io::{self, Write};
 
@@ -30,12 +34,12 @@ impl Level {
     }
 }
 
-/// Writes two blanks for each level.
+/// Writes the indentation of a line.
 #[tactic(auto, using(crate::proofs::Written::blanks))]
-pub(crate) fn write_blanks<W: Write>(out: &mut W, depth: u32) -> io::Result<()>
-    ensures { OnOk result (Appends (W.contents out.old) (W.contents out.new) (indent depth)) }
+pub(crate) fn write_indent<W: Write>(out: &mut W, level: Level) -> io::Result<()>
+    ensures { OnOk result (Appends (W.contents out.old) (W.contents out.new) (indent level.depth)) }
 {
-    for _ in 0..depth {
+    for _ in 0..level.depth {
         out.write_all(b"  ")?;
     }
     Ok(())
@@ -45,14 +49,17 @@ pub(crate) fn write_blanks<W: Write>(out: &mut W, depth: u32) -> io::Result<()>
 pub(crate) fn write_open<W: Write>(out: &mut W, level: Level, name: &str) -> io::Result<()>
     ensures { OnOk result (Appends (W.contents out.old) (W.contents out.new) (opened level.depth name.now)) }
 {
-    write_front(out, level, name, " {\n")
+    write_indent(out, level)?;
+    out.write_all(name.as_bytes())?;
+    out.write_all(b" {\n")
 }
 
 /// Writes `}`.
 pub(crate) fn write_close<W: Write>(out: &mut W, level: Level) -> io::Result<()>
     ensures { OnOk result (Appends (W.contents out.old) (W.contents out.new) (closed level.depth)) }
 {
-    write_front(out, level, "", "}\n")
+    write_indent(out, level)?;
+    out.write_all(b"}\n")
 }
 
 /// Writes `name: value`.
@@ -64,33 +71,21 @@ pub(crate) fn write_value<W: Write>(
 ) -> io::Result<()>
     ensures { OnOk result (Appends (W.contents out.old) (W.contents out.new) (value_line value.now level.depth name.now)) }
 {
-    write_front(out, level, name, ": ")?;
+    write_indent(out, level)?;
+    out.write_all(name.as_bytes())?;
+    out.write_all(b": ")?;
     out.write_all(value.as_bytes())?;
     out.write_all(b"\n")
 }
 
-// Whether a byte stands for itself in a string literal.
-fn is_plain(byte: u8) -> bool
-    ensures { result ≡ true → printed_byte byte ≡ byte ∷ [] }
+// Writes a byte as a backslash and three octal digits.
+fn write_octal<W: Write>(out: &mut W, byte: u8) -> io::Result<()>
+    ensures { OnOk result (Appends (W.contents out.old) (W.contents out.new) (92 ∷ octal byte)) }
 {
-    match byte {
-        b'\'' | b'"' | b'\\' => false,
-        byte => (32..=126).contains(&byte),
-    }
-}
-
-// How many bytes at the front stand for themselves.
-#[tactic(auto, using(crate::proofs::Written::plain_more, crate::proofs::Written::plain_all))]
-fn plain_len(bytes: &[u8]) -> usize
-    ensures within { result ≤ length bytes.now }
-    ensures plain { flat_map printed_byte (take result bytes.now) ≡ take result bytes.now }
-{
-    for at in 0..bytes.len() {
-        if !is_plain(bytes[at]) {
-            return at;
-        }
-    }
-    bytes.len()
+    out.write_all(b"\\")?;
+    out.write_all(&[b'0' + byte / 64])?;
+    out.write_all(&[b'0' + byte / 8 % 8])?;
+    out.write_all(&[b'0' + byte % 8])
 }
 
 // Writes a byte as it stands in a string literal.
@@ -105,42 +100,17 @@ fn write_byte<W: Write>(out: &mut W, byte: u8) -> io::Result<()>
         b'\'' => out.write_all(b"\\'"),
         b'"' => out.write_all(b"\\\""),
         32..=126 => out.write_all(&[byte]),
-        _ => out.write_all(&[
-            b'\\',
-            b'0' + byte / 64,
-            b'0' + byte / 8 % 8,
-            b'0' + byte % 8,
-        ]),
+        _ => write_octal(out, byte),
     }
 }
 
-// Writes the bytes at the front that stand for themselves, and the byte behind them. Answers how
-// many bytes these are.
-#[tactic(auto, using(crate::proofs::Written::run_alone, crate::proofs::Written::run_and_byte))]
-fn write_run<W: Write>(out: &mut W, bytes: &[u8]) -> io::Result<usize>
-    requires { 0 < length bytes.now }
-    ensures some { IfOk result (λ n. 0 < n) }
-    ensures within { IfOk result (λ n. n ≤ length bytes.now) }
-    ensures written { IfOk result (λ n. Appends (W.contents out.old) (W.contents out.new) (flat_map printed_byte (take n bytes.now))) }
-{
-    let len = plain_len(bytes);
-    out.write_all(&bytes[..len])?;
-    if len == bytes.len() {
-        return Ok(len);
-    }
-    write_byte(out, bytes[len])?;
-    Ok(len + 1)
-}
-
-// Writes bytes as they stand in a string literal, between its quotes. Runs of bytes that stand for
-// themselves are written at once.
+// Writes bytes as they stand in a string literal, between its quotes.
 #[tactic(auto, using(crate::proofs::Written::literal))]
 fn write_literal<W: Write>(out: &mut W, bytes: &[u8]) -> io::Result<()>
     ensures { OnOk result (Appends (W.contents out.old) (W.contents out.new) (flat_map printed_byte bytes.now)) }
 {
-    let mut at = 0;
-    'runs: while at < bytes.len() {
-        at += write_run(out, &bytes[at..])?;
+    for byte in bytes {
+        write_byte(out, *byte)?;
     }
     Ok(())
 }
@@ -150,7 +120,9 @@ fn write_literal<W: Write>(out: &mut W, bytes: &[u8]) -> io::Result<()>
 pub fn write_bytes<W: Write>(out: &mut W, level: Level, name: &str, bytes: &[u8]) -> io::Result<()>
     ensures { OnOk result (Appends (W.contents out.old) (W.contents out.new) (bytes_line bytes.now level.depth name.now)) }
 {
-    write_front(out, level, name, ": \"")?;
+    write_indent(out, level)?;
+    out.write_all(name.as_bytes())?;
+    out.write_all(b": \"")?;
     write_literal(out, bytes)?;
     out.write_all(b"\"\n")
 }

@@ -2,7 +2,6 @@
 
 use crate::each::{InText, write_each, write_items, write_lent};
 use crate::lines::{Level, write_close, write_open};
-use crate::numbers::write_numbers;
 use protox_descriptor::descriptor::SourceCodeInfo;
 use protox_descriptor::descriptor::source_code_info::Location;
 use std::io::{self, Write};
@@ -15,8 +14,8 @@ impl InText for Location {
     fn write_to<W: Write>(&self, out: &mut W, level: Level, name: &str) -> io::Result<()> {
         write_open(out, level, name)?;
         let inner = level.inner();
-        write_numbers(out, inner, "path", self.path.as_slice())?;
-        write_numbers(out, inner, "span", self.span.as_slice())?;
+        write_each(out, inner, "path", self.path.as_slice())?;
+        write_each(out, inner, "span", self.span.as_slice())?;
         write_lent(out, inner, "leading_comments", self.leading_comments())?;
         write_lent(out, inner, "trailing_comments", self.trailing_comments())?;
         write_each(

@@ -20,7 +20,7 @@ use std::alloc::{AllocError, Global};
 const WIDTH: usize = 5;
 
 /// How many bytes a report takes in most cases, without the name of the file.
-const USUAL: usize = 320;
+const USUAL: usize = 192;
 
 /// A source with its name and its lines, to report faults of.
 #[derive(Drop)]

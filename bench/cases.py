@@ -5,10 +5,11 @@ usage: cases.py [NAME..]        at the top of the repository; a NAME is a line o
        cases.py --calls         the same of crates/callcases: calls other than `parse`
        cases.py --runs          the same of crates/runcases: bytes, and what the programs do
 
-The build takes a minute or two. The program is kept in the crate's folder `out/`, so that a run takes
-seconds until a source changes. A case is a line of `stdout` that begins with `== `, and the lines below
-it. Of each case whose lines differ from those in `stdout` it shows the first that does. The large
-sources take too long in such a build: they are left to the gate. The last line is 'N passed, M failed'.
+The build takes one to three minutes. The program is kept in the crate's folder `out/`, so that a run
+takes seconds until a source of the crate or of one below it changes. A case is a line of `stdout` that
+begins with `== `, and the lines below it. All cases run, and of each whose lines or whose place differ
+from those in `stdout` it shows how. With a NAME only its cases are looked at. The large sources take too
+long in such a build: they are left to the gate. The last line is 'N passed, M failed'.
 """
 import glob
 import itertools
@@ -17,6 +18,10 @@ import subprocess
 import sys
 import tempfile
 import time
+
+sys.dont_write_bytecode = True
+sys.path.insert(0, os.path.dirname(os.path.abspath(__file__)))
+from edits import lines_of
 
 FOLDERS = {'--calls': 'crates/callcases', '--runs': 'crates/runcases'}
 NAMES = [word for word in sys.argv[1:] if word not in FOLDERS]
@@ -36,13 +41,19 @@ def cases_in(text):
     return cases
 
 
-def words_of(names):
-    """The words of the program for these cases, or for all."""
+def words_of():
+    """The words of the program, but for the large sources."""
     if not os.path.isfile(f'{FOLDER}/args'):
         return []
     with open(f'{FOLDER}/args', encoding='utf-8') as file:
-        words = file.read().split()
-    return [word for word in words if word != LARGE and (word.startswith('--') or not names or word in names)]
+        words = [word for word in file.read().split() if word != LARGE]
+    missing = [word for word in words if not word.startswith('--') and not os.path.isfile(f'{FOLDER}/data/{word}')]
+    if missing:
+        sys.exit(f'not in {FOLDER}/data: {" ".join(dict.fromkeys(missing))}')
+    unknown = [name for name in NAMES if name not in words]
+    if unknown:
+        sys.exit(f'not in {FOLDER}/args: {" ".join(unknown)}')
+    return words
 
 
 def files_below(folder):
@@ -57,8 +68,9 @@ def kept_program():
 
 
 def is_fresh(program):
-    """Whether the program is there, and no source has changed since it was built."""
-    sources = ['crates.txt', *glob.glob('crates/*/src/**/*.rt', recursive=True)]
+    """Whether the program is there, and no source of it has changed since it was built."""
+    crates = lines_of([os.path.basename(FOLDER)])
+    sources = [name for crate in crates for name in glob.glob(f'crates/{crate}/src/**/*.rt', recursive=True)]
     return os.path.isfile(program) and os.path.getmtime(program) > max(map(os.path.getmtime, sources))
 
 
@@ -104,23 +116,40 @@ def run(words):
     return printed
 
 
+def difference(name, found, wanted):
+    """How a case differs from what is wanted: None, or a text."""
+    if name not in found:
+        return f'the program prints no case {name}'
+    if name not in wanted:
+        return f'no line of stdout is `== {name}`'
+    pairs = itertools.zip_longest(found[name], wanted[name], fillvalue='(no line)')
+    differing = [pair for pair in pairs if pair[0] != pair[1] and pair != ('', '(no line)')]
+    if differing:
+        return f'found  {differing[0][0]}\n{" " * len(name)}  wanted {differing[0][1]}'
+    return None
+
+
+def misplaced(found, wanted):
+    """The first case that stands at another place in stdout than the program prints it at, if any."""
+    printed = [name for name in found if name in wanted]
+    standing = [name for name in wanted if name in found]
+    pairs = [(there, here) for there, here in zip(standing, printed) if there != here]
+    return f'{pairs[0][0]} stands in stdout where {pairs[0][1]} is printed' if pairs else None
+
+
 def main():
-    words = words_of(NAMES)
-    unknown = [name for name in NAMES if name not in words]
-    if unknown:
-        sys.exit(f'not in {FOLDER}/args: {" ".join(unknown)}')
+    words = words_of()
     with open(f'{FOLDER}/stdout', encoding='utf-8') as file:
         wanted = cases_in(file.read())
     found = cases_in(run(words))
-    passed = failed = 0
-    for name in found if NAMES else dict.fromkeys(case for case in [*wanted, *found] if case != LARGE):
-        pairs = itertools.zip_longest(found.get(name, []), wanted.get(name, []), fillvalue='(no line)')
-        differing = [pair for pair in pairs if pair[0] != pair[1] and pair != ('', '(no line)')]
-        passed, failed = passed + (not differing), failed + bool(differing)
-        if differing:
-            print(f'{name}: found  {differing[0][0]}\n{" " * len(name)}  wanted {differing[0][1]}')
-    print(f'{passed} passed, {failed} failed')
-    return 1 if failed else 0
+    cases = [case for case in dict.fromkeys([*wanted, *found]) if case != LARGE]
+    chosen = [case for case in cases if not NAMES or set(case.split()) & set(NAMES)]
+    told = {case: difference(case, found, wanted) for case in chosen}
+    differing = [f'{case}: {how}' for case, how in told.items() if how]
+    order = misplaced(found, wanted)
+    print('\n'.join(differing + ([order] if order else [])), end='\n' if differing or order else '')
+    print(f'{len(chosen) - len(differing)} passed, {len(differing) + bool(order)} failed')
+    return 1 if differing or order else 0
 
 
 if __name__ == '__main__':

@@ -1,10 +1,8 @@
-//! The descriptor of a file.
+//! The descriptor of a file: its head, and what each of its items adds.
 
-ghost use Rattle.std.specs.Prelude.{◌≡◌, ◌≤◌, ◌++◌, [], map, IfOk, OnOk};
-ghost use Rattle.std.specs.List.{flat_map};
+ghost use Rattle.std.specs.Prelude.{◌≡◌, ◌≤◌, ◌++◌, [], length, IfOk, OnOk};
 ghost use Rattle.protox_describe.specs.File.{item_messages, item_enums, item_services, item_extensions, file_proto};
-ghost use Rattle.protox_describe.specs.Siblings.{greatest};
-ghost use Rattle.protox_describe.specs.inner.Widths.{file_item_width, file_width};
+ghost use Rattle.protox_describe.specs.inner.Widths.{file_item_width};
 
 use crate::enums::enum_proto;
 use crate::head::{ImportLists, imports, package_name, syntax_name};
@@ -37,22 +35,6 @@ fn push_messages(
     }
 }
 
-// Each item is dropped once its message is made, so that its memory can serve the descriptor.
-fn messages(
-    alloc: Global,
-    syntax: Syntax,
-    items: Items<FileItem>,
-) -> Result<Items<DescriptorProto>, AllocError>
-    requires { greatest (map file_item_width items) ≤ 2147483647 }
-    ensures { IfOk result (λ found. found ≡ flat_map (item_messages syntax) items) }
-{
-    let mut found = Items::new(alloc);
-    for item in items.into_vec() {
-        push_messages(alloc, syntax, &item, &mut found)?;
-    }
-    Ok(found)
-}
-
 fn push_enums(
     alloc: Global,
     item: &FileItem,
@@ -68,16 +50,6 @@ fn push_enums(
     }
 }
 
-fn enums(alloc: Global, items: &[FileItem]) -> Result<Items<EnumDescriptorProto>, AllocError>
-    ensures { IfOk result (λ found. found ≡ flat_map item_enums items.now) }
-{
-    let mut found = Items::new(alloc);
-    for item in items {
-        push_enums(alloc, item, &mut found)?;
-    }
-    Ok(found)
-}
-
 fn push_services(
     alloc: Global,
     item: &FileItem,
@@ -91,16 +63,6 @@ fn push_services(
         FileItem::Extend(_) => Ok(()),
         FileItem::Enum(_) => Ok(()),
     }
-}
-
-fn services(alloc: Global, items: &[FileItem]) -> Result<Items<ServiceDescriptorProto>, AllocError>
-    ensures { IfOk result (λ found. found ≡ flat_map item_services items.now) }
-{
-    let mut found = Items::new(alloc);
-    for item in items {
-        push_services(alloc, item, &mut found)?;
-    }
-    Ok(found)
 }
 
 fn push_file_extensions(
@@ -119,51 +81,65 @@ fn push_file_extensions(
     }
 }
 
-fn extensions(
+/// The lists of a file's descriptor that the file's items fill, as far as they have been described.
+#[derive(Drop)]
+pub struct ItemLists {
+    /// The messages, with those of groups and maps in `extend` statements.
+    pub message_type: Items<DescriptorProto>,
+    /// The enums.
+    pub enum_type: Items<EnumDescriptorProto>,
+    /// The services.
+    pub service: Items<ServiceDescriptorProto>,
+    /// The extensions.
+    pub extension: Items<FieldDescriptorProto>,
+}
+
+impl ItemLists {
+    /// The lists before the first item. They take no memory; later growth takes it from `alloc`.
+    pub fn new(alloc: Global) -> ItemLists
+        ensures { result ≡ record { message_type = []; enum_type = []; service = []; extension = [] } }
+    {
+        ItemLists {
+            message_type: Items::new(alloc),
+            enum_type: Items::new(alloc),
+            service: Items::new(alloc),
+            extension: Items::new(alloc),
+        }
+    }
+}
+
+/// Appends what an item of a file adds to each list. `AllocError` if memory runs out.
+///
+/// Needs that no message of the item has more items than an `i32` counts.
+pub fn describe_item(
     alloc: Global,
     syntax: Syntax,
-    items: &[FileItem],
-) -> Result<Items<FieldDescriptorProto>, AllocError>
-    ensures { IfOk result (λ found. found ≡ flat_map (item_extensions syntax) items.now) }
+    item: &FileItem,
+    lists: &mut ItemLists,
+) -> Result<(), AllocError>
+    requires { file_item_width item.now ≤ 2147483647 }
+    ensures messages { OnOk result (lists.new.message_type ≡ lists.old.message_type ++ item_messages syntax item.now) }
+    ensures enums { OnOk result (lists.new.enum_type ≡ lists.old.enum_type ++ item_enums item.now) }
+    ensures services { OnOk result (lists.new.service ≡ lists.old.service ++ item_services item.now) }
+    ensures extensions { OnOk result (lists.new.extension ≡ lists.old.extension ++ item_extensions syntax item.now) }
 {
-    let mut found = Items::new(alloc);
-    for item in items {
-        push_file_extensions(alloc, syntax, item, &mut found)?;
-    }
-    Ok(found)
+    push_messages(alloc, syntax, item, &mut lists.message_type)?;
+    push_enums(alloc, item, &mut lists.enum_type)?;
+    push_services(alloc, item, &mut lists.service)?;
+    push_file_extensions(alloc, syntax, item, &mut lists.extension)
 }
 
-// The lists of the descriptor that the items of a file fill, without messages.
-#[derive(Drop)]
-struct ItemLists {
-    enum_type: Items<EnumDescriptorProto>,
-    service: Items<ServiceDescriptorProto>,
-    extension: Items<FieldDescriptorProto>,
-}
-
-fn definitions(alloc: Global, syntax: Syntax, items: &[FileItem]) -> Result<ItemLists, AllocError>
-    ensures enums { IfOk result (λ made. made.enum_type ≡ flat_map item_enums items.now) }
-    ensures services { IfOk result (λ made. made.service ≡ flat_map item_services items.now) }
-    ensures extensions { IfOk result (λ made. made.extension ≡ flat_map (item_extensions syntax) items.now) }
-{
-    let enum_type = enums(alloc, items)?;
-    let service = services(alloc, items)?;
-    let extension = extensions(alloc, syntax, items)?;
-    Ok(ItemLists {
-        enum_type,
-        service,
-        extension,
-    })
-}
-
-// Borrows the tree, so that an early exit drops a few parts and not the tree as well.
-fn all_but_messages(
+/// The descriptor of a file of this name, without its locations and without what its items add.
+/// `AllocError` if memory runs out.
+///
+/// Needs that the file has no more imports than an `i32` counts.
+pub fn describe_head(
     alloc: Global,
     name: &str,
     ast: &File,
 ) -> Result<FileDescriptorProto, AllocError>
-    requires { file_width ast.now ≤ 2147483647 }
-    ensures { IfOk result (λ file. file ≡ record (file_proto name.now ast.now) { message_type = [] }) }
+    requires { length ast.now.imports ≤ 2147483647 }
+    ensures { IfOk result (λ file. file ≡ record (file_proto name.now ast.now) { message_type = []; enum_type = []; service = []; extension = [] }) }
 {
     let name = Text::copy(alloc, name)?;
     let package = package_name(alloc, &ast.package)?;
@@ -174,11 +150,6 @@ fn all_but_messages(
         weak_dependency,
     } = imports(alloc, ast.imports.as_slice())?;
     let options = file_options(alloc, ast.options.as_slice())?;
-    let ItemLists {
-        enum_type,
-        service,
-        extension,
-    } = definitions(alloc, ast.syntax, ast.items.as_slice())?;
     Ok(FileDescriptorProto {
         name: Some(name),
         package,
@@ -186,35 +157,11 @@ fn all_but_messages(
         public_dependency,
         weak_dependency,
         message_type: Items::new(alloc),
-        enum_type,
-        service,
-        extension,
+        enum_type: Items::new(alloc),
+        service: Items::new(alloc),
+        extension: Items::new(alloc),
         options,
         source_code_info: None,
         syntax,
     })
-}
-
-fn messages_of(alloc: Global, ast: File) -> Result<Items<DescriptorProto>, AllocError>
-    requires { file_width ast ≤ 2147483647 }
-    ensures { IfOk result (λ found. found ≡ flat_map (item_messages ast.syntax) ast.items) }
-{
-    messages(alloc, ast.syntax, ast.items)
-}
-
-/// The descriptor of a file of this name, without locations. It uses the tree up.
-///
-/// Needs that no message of the file has more items, and the file no more imports, than an `i32`
-/// counts. `AllocError` if memory runs out.
-pub fn describe_file(
-    alloc: Global,
-    name: &str,
-    ast: File,
-) -> Result<FileDescriptorProto, AllocError>
-    requires { file_width ast ≤ 2147483647 }
-    ensures { IfOk result (λ file. file ≡ file_proto name.now ast) }
-{
-    let mut file = all_but_messages(alloc, name, &ast)?;
-    file.message_type = messages_of(alloc, ast)?;
-    Ok(file)
 }

@@ -1,3 +1,4 @@
+pub mod Items
 pub mod Wide
 pub mod Standing
 pub mod Outcomes

@@ -2,3 +2,4 @@ pub mod File
 pub mod NamePaths
 pub mod Names
 pub mod Commented
+pub mod inner

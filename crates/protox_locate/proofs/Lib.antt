@@ -1,3 +1,4 @@
+pub mod Draft
 pub mod Fits
 pub mod FitsParts
 pub mod InOrder

@@ -94,7 +94,7 @@ module _ {A B : Type 0} (f : A → B) (old mid new : Context) (tag : ℤ) (first
 
 -- ---- a loop over parts at one path
 
-each_at_append : (path : Path) (xs ys : List Part) → each_at path (xs ++ ys) ≡ each_at path xs ++ each_at path ys
+pub each_at_append : (path : Path) (xs ys : List Part) → each_at path (xs ++ ys) ≡ each_at path xs ++ each_at path ys
 each_at_append path [] ys = refl
 each_at_append path (at ∷ xs) ys = ap (λ l. at path ++ l) (each_at_append path xs ys) ∙ sym (append_assoc (at path) (each_at path xs) (each_at path ys))
 

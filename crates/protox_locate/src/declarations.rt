@@ -1,9 +1,9 @@
-//! The locations of a file's declarations, one kind after another.
+//! The locations of an item of a file, one kind of parts after another.
 
-ghost use Rattle.std.specs.Prelude.{◌≡◌, ◌≤◌, ◌+◌, flat_map, map, IfOk, OnOk};
-ghost use Rattle.protox_locate.specs.inner.Bounds.{file_item_reach, file_item_weight, greatest, total};
+ghost use Rattle.std.specs.Prelude.{◌≡◌, ◌≤◌, ◌+◌, IfOk, OnOk};
+ghost use Rattle.protox_locate.specs.inner.Bounds.{file_item_reach, file_item_weight};
 ghost use Rattle.protox_places.specs.Lines.{numbers_at};
-ghost use Rattle.protox_locate.specs.LocationWords.{each_at, part, siblings_at};
+ghost use Rattle.protox_locate.specs.LocationWords.{each_at, part};
 ghost use Rattle.protox_locate.specs.Locations.{item_blocks, item_enums, item_extensions, item_messages, item_services};
 ghost use Rattle.protox_locate.specs.inner.Walk.{Emits, Numbers};
 
@@ -17,27 +17,10 @@ use protox_descriptor::tag::file::{ENUM_TYPE, EXTENSION, MESSAGE_TYPE, SERVICE};
 use protox_places::lines::LineResolver;
 use std::alloc::{AllocError, Global};
 
-/// Adds the locations of the messages, with those of groups in `extend` statements.
+/// Adds the locations of a message, or of the groups in an `extend` statement. `first` is the index
+/// of the first of them. Answers the index behind the last.
 #[tactic(auto, using(crate::proofs::Numbered::walk))]
-pub(crate) fn locate_messages(
-    alloc: Global,
-    lines: &LineResolver,
-    context: &mut Context,
-    items: &[FileItem],
-) -> Result<(), AllocError>
-    requires room { total (map file_item_weight items.now) ≤ 2147483647 }
-    requires reach { greatest (map file_item_reach items.now) ≤ 2147483647 }
-    ensures { OnOk result (Emits context.old context.new (siblings_at context.old.path MESSAGE_TYPE (flat_map (item_messages (numbers_at lines.now)) items.now))) }
-{
-    let mut next: usize = 0;
-    for item in items {
-        next = messages_of(alloc, lines, context, item, next)?;
-    }
-    Ok(())
-}
-
-#[tactic(auto, using(crate::proofs::Numbered::walk))]
-fn messages_of(
+pub(crate) fn messages_of(
     alloc: Global,
     lines: &LineResolver,
     context: &mut Context,
@@ -71,92 +54,83 @@ fn messages_of(
     }
 }
 
-/// Adds the locations of the enums.
+/// Adds the locations of an enum, in the same way.
 #[tactic(auto, using(crate::proofs::Numbered::walk))]
-pub(crate) fn locate_enums(
+pub(crate) fn enums_of(
     alloc: Global,
     lines: &LineResolver,
     context: &mut Context,
-    items: &[FileItem],
-) -> Result<(), AllocError>
-    requires room { total (map file_item_weight items.now) ≤ 2147483647 }
-    requires reach { greatest (map file_item_reach items.now) ≤ 2147483647 }
-    ensures { OnOk result (Emits context.old context.new (siblings_at context.old.path ENUM_TYPE (flat_map (item_enums (numbers_at lines.now)) items.now))) }
+    item: &FileItem,
+    first: usize,
+) -> Result<usize, AllocError>
+    requires room { first + file_item_weight item.now ≤ 2147483647 }
+    requires reach { file_item_reach item.now ≤ 2147483647 }
+    ensures siblings { IfOk result (λ next. Numbers context.old context.new ENUM_TYPE first next (item_enums (numbers_at lines.now) item.now)) }
+    ensures within { IfOk result (λ next. next ≤ first + file_item_weight item.now) }
 {
-    let mut next: usize = 0;
-    for item in items {
-        if let FileItem::Enum(ast) = item {
-            enum_at(alloc, lines, context, ENUM_TYPE, ast, next)?;
-            next += 1;
+    match item {
+        FileItem::Enum(ast) => {
+            enum_at(alloc, lines, context, ENUM_TYPE, ast, first)?;
+            Ok(first + 1)
         }
+        FileItem::Message(_) => Ok(first),
+        FileItem::Extend(_) => Ok(first),
+        FileItem::Service(_) => Ok(first),
     }
-    Ok(())
 }
 
-/// Adds the locations of the services.
+/// Adds the locations of a service, in the same way.
 #[tactic(auto, using(crate::proofs::Numbered::walk))]
-pub(crate) fn locate_services(
+pub(crate) fn services_of(
     alloc: Global,
     lines: &LineResolver,
     context: &mut Context,
-    items: &[FileItem],
-) -> Result<(), AllocError>
-    requires room { total (map file_item_weight items.now) ≤ 2147483647 }
-    requires reach { greatest (map file_item_reach items.now) ≤ 2147483647 }
-    ensures { OnOk result (Emits context.old context.new (siblings_at context.old.path SERVICE (flat_map (item_services (numbers_at lines.now)) items.now))) }
+    item: &FileItem,
+    first: usize,
+) -> Result<usize, AllocError>
+    requires room { first + file_item_weight item.now ≤ 2147483647 }
+    requires reach { file_item_reach item.now ≤ 2147483647 }
+    ensures siblings { IfOk result (λ next. Numbers context.old context.new SERVICE first next (item_services (numbers_at lines.now) item.now)) }
+    ensures within { IfOk result (λ next. next ≤ first + file_item_weight item.now) }
 {
-    let mut next: usize = 0;
-    for item in items {
-        if let FileItem::Service(ast) = item {
-            context.enter(SERVICE, next)?;
+    match item {
+        FileItem::Service(ast) => {
+            context.enter(SERVICE, first)?;
             locate_service(alloc, lines, context, ast)?;
             context.leave();
-            next += 1;
+            Ok(first + 1)
         }
+        FileItem::Message(_) => Ok(first),
+        FileItem::Enum(_) => Ok(first),
+        FileItem::Extend(_) => Ok(first),
     }
-    Ok(())
 }
 
-/// Adds the locations of the `extend` statements, all at the path of the list of extensions.
+/// Adds the location of an `extend` statement, at the path of the list of extensions.
 #[tactic(auto, using(crate::proofs::Numbered::walk))]
-pub(crate) fn locate_blocks(
+pub(crate) fn blocks_of(
     alloc: Global,
     lines: &LineResolver,
     context: &mut Context,
-    items: &[FileItem],
+    item: &FileItem,
 ) -> Result<(), AllocError>
-    requires { greatest (map file_item_reach items.now) ≤ 2147483647 }
-    ensures { OnOk result (Emits context.old context.new (each_at (part context.old.path EXTENSION) (flat_map (item_blocks (numbers_at lines.now)) items.now))) }
+    requires { file_item_reach item.now ≤ 2147483647 }
+    ensures { OnOk result (Emits context.old context.new (each_at (part context.old.path EXTENSION) (item_blocks (numbers_at lines.now) item.now))) }
 {
-    for item in items {
-        if let FileItem::Extend(ast) = item {
-            context.add_with(alloc, lines, &[EXTENSION], &ast.span, &ast.comments)?;
+    match item {
+        FileItem::Extend(ast) => {
+            context.add_with(alloc, lines, &[EXTENSION], &ast.span, &ast.comments)
         }
+        FileItem::Message(_) => Ok(()),
+        FileItem::Enum(_) => Ok(()),
+        FileItem::Service(_) => Ok(()),
     }
-    Ok(())
 }
 
-/// Adds the locations of the extensions of all `extend` statements.
+/// Adds the locations of the extensions of an `extend` statement. `first` is the index of the first
+/// of them. Answers the index behind the last.
 #[tactic(auto, using(crate::proofs::Numbered::walk))]
-pub(crate) fn locate_extensions(
-    alloc: Global,
-    lines: &LineResolver,
-    context: &mut Context,
-    items: &[FileItem],
-) -> Result<(), AllocError>
-    requires room { total (map file_item_weight items.now) ≤ 2147483647 }
-    requires reach { greatest (map file_item_reach items.now) ≤ 2147483647 }
-    ensures { OnOk result (Emits context.old context.new (siblings_at context.old.path EXTENSION (flat_map (item_extensions (numbers_at lines.now)) items.now))) }
-{
-    let mut next: usize = 0;
-    for item in items {
-        next = extensions_of(alloc, lines, context, item, next)?;
-    }
-    Ok(())
-}
-
-#[tactic(auto, using(crate::proofs::Numbered::walk))]
-fn extensions_of(
+pub(crate) fn extensions_of(
     alloc: Global,
     lines: &LineResolver,
     context: &mut Context,

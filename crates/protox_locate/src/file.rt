@@ -1,20 +1,21 @@
-//! The locations of a file.
+//! The locations of a file: those in front of its items, each item's, and those behind the items.
 
-ghost use Rattle.std.specs.Prelude.{◌≡◌, ◌≤◌, length, IfOk, OnOk};
-ghost use Rattle.protox_ast.specs.Siblings.{FileStands};
-ghost use Rattle.protox_locate.specs.inner.Bounds.{file_reach, file_weight, package_reach, syntax_reach};
-ghost use Rattle.protox_places.specs.Lines.{numbers_at, span_numbers};
-ghost use Rattle.protox_locate.specs.Locations.{file_at, file_from_blocks, file_locations, package_locations, syntax_locations};
-ghost use Rattle.protox_places.specs.Order.{AreByPath, InOrder, StartsBefore};
+ghost use Rattle.std.specs.Prelude.{◌≡◌, ◌≤◌, ◌+◌, ◌∷◌, ◌++◌, ℕ, ℤ, List, [], length, IfOk, OnOk};
+ghost use Rattle.protox_ast.specs.declared.ast.File as file_type;
+ghost use Rattle.protox_ast.specs.declared.ast.FileItem as item_type;
+ghost use Rattle.protox_descriptor.specs.declared.descriptor.source_code_info.Location as location_type;
+ghost use Rattle.protox_fault.specs.Faults as faults;
+ghost use Rattle.protox_locate.specs.inner.Bounds.{file_item_reach, file_item_weight, file_reach, package_reach, syntax_reach};
+ghost use Rattle.protox_locate.specs.inner.Draft.{HasRoom, IsDraft, file_end, file_front};
+ghost use Rattle.protox_places.specs.Lines.{numbers_at};
+ghost use Rattle.protox_locate.specs.Locations.{file_at, package_locations, syntax_locations};
 ghost use Rattle.protox_locate.specs.inner.Walk.{Emits};
 
 use crate::context::Context;
-use crate::declarations::{
-    locate_blocks, locate_enums, locate_extensions, locate_messages, locate_services,
-};
+use crate::declarations::{blocks_of, enums_of, extensions_of, messages_of, services_of};
 use crate::imports::{locate_imports, locate_public_words, locate_weak_words};
 use crate::options::locate_options;
-use protox_ast::ast::{Comments, File, Opt, Package};
+use protox_ast::ast::{Comments, File, FileItem, Opt, Package};
 use protox_descriptor::descriptor::SourceCodeInfo;
 use protox_descriptor::descriptor::source_code_info::Location;
 use protox_descriptor::tag::file::{OPTIONS, PACKAGE, SYNTAX};
@@ -23,27 +24,150 @@ use protox_fault::error::Span;
 use protox_places::lines::LineResolver;
 use std::alloc::{AllocError, Global};
 
-/// The locations of all parts of a file, in the order of their paths. `source` is the text that the
-/// tree was parsed from. `AllocError` if memory runs out.
+/// The locations of a file while its items are located one by one: a list for each kind of parts,
+/// and the index of the next part of this kind.
+#[derive(Drop)]
+pub struct LocationDraft {
+    // The first list begins with the locations in front of the items.
+    messages: Context,
+    next_message: usize,
+    enums: Context,
+    next_enum: usize,
+    services: Context,
+    next_service: usize,
+    // The `extend` statements have no index.
+    blocks: Context,
+    extensions: Context,
+    next_extension: usize,
+}
+
+fn add_front(
+    alloc: Global,
+    lines: &LineResolver,
+    context: &mut Context,
+    ast: &File,
+) -> Result<(), AllocError>
+    requires imports { length ast.now.imports ≤ 2147483647 }
+    requires reach { file_reach ast.now ≤ 2147483647 }
+    ensures { OnOk result (Emits context.old context.new (file_front (numbers_at lines.now) ast.now context.old.path)) }
+{
+    context.add(alloc, lines, &[], &ast.span)?;
+    locate_package(alloc, lines, context, &ast.package)?;
+    locate_imports(alloc, lines, context, ast.imports.as_slice())
+}
+
+/// The locations that come before those of a file's items: those of the file itself, of its package
+/// and of its imports. There is room for `room` locations, if memory allows. `AllocError` if memory
+/// runs out.
 ///
 /// Lines and columns are from 0; columns count bytes. Needs that the numbers of paths and the
 /// offsets of spans fit an `i32`. They do for each tree that `parse_file` answers.
-pub fn locate_file(alloc: Global, source: &str, ast: &File) -> Result<SourceCodeInfo, AllocError>
-    requires length { length source.now ≤ 2147483647 }
-    requires room { file_weight ast.now ≤ 2147483647 }
+pub fn locate_front(
+    alloc: Global,
+    lines: &LineResolver,
+    ast: &File,
+    room: usize,
+) -> Result<LocationDraft, AllocError>
+    requires imports { length ast.now.imports ≤ 2147483647 }
     requires reach { file_reach ast.now ≤ 2147483647 }
-    ensures located { IfOk result (λ info. info.location ≡ file_locations (span_numbers source.now) ast.now) }
-    // They are in order if the tree's nodes stand in the source. Those of each accepted source do.
-    ensures in_order { IfOk result (λ info. FileStands (length source.now) ast.now → InOrder StartsBefore info.location) }
-    ensures by_path { IfOk result (λ info. FileStands (length source.now) ast.now → AreByPath info.location) }
+    ensures located { IfOk result (λ draft. IsDraft (numbers_at lines.now) (file_front (numbers_at lines.now) ast.now []) [] draft) }
+    ensures room { IfOk result (λ draft. (more : ℕ) → more ≤ 2147483647 → HasRoom draft more) }
 {
-    let lines = LineResolver::new(alloc, source)?;
-    // A source of the usual kind has a location for 20 to 30 bytes.
-    let mut context = Context::new(alloc, source.len() / 24);
-    locate_parts(alloc, &lines, &mut context, ast)?;
-    Ok(SourceCodeInfo {
-        location: trimmed(context.locations),
+    let mut messages = Context::new(alloc, room);
+    add_front(alloc, lines, &mut messages, ast)?;
+    Ok(LocationDraft {
+        messages,
+        next_message: 0,
+        enums: Context::new(alloc, 0),
+        next_enum: 0,
+        services: Context::new(alloc, 0),
+        next_service: 0,
+        blocks: Context::new(alloc, 0),
+        extensions: Context::new(alloc, 0),
+        next_extension: 0,
     })
+}
+
+/// Adds the locations of an item. `AllocError` if memory runs out. Needs what `locate_front` needs.
+pub fn locate_item(
+    alloc: Global,
+    lines: &LineResolver,
+    draft: &mut LocationDraft,
+    item: &FileItem,
+) -> Result<(), AllocError>
+    requires room { HasRoom draft.old (file_item_weight item.now) }
+    requires reach { file_item_reach item.now ≤ 2147483647 }
+    ensures located { OnOk result ((front : List location_type.Location) (items : List item_type.FileItem) → IsDraft (numbers_at lines.now) front items draft.old → IsDraft (numbers_at lines.now) front (items ++ item.now ∷ []) draft.new) }
+    ensures room { OnOk result ((more : ℕ) → HasRoom draft.old (file_item_weight item.now + more) → HasRoom draft.new more) }
+{
+    let message = messages_of(alloc, lines, &mut draft.messages, item, draft.next_message)?;
+    let enum_ = enums_of(alloc, lines, &mut draft.enums, item, draft.next_enum)?;
+    let service = services_of(alloc, lines, &mut draft.services, item, draft.next_service)?;
+    blocks_of(alloc, lines, &mut draft.blocks, item)?;
+    let extension = extensions_of(
+        alloc,
+        lines,
+        &mut draft.extensions,
+        item,
+        draft.next_extension,
+    )?;
+    draft.next_message = message;
+    draft.next_enum = enum_;
+    draft.next_service = service;
+    draft.next_extension = extension;
+    Ok(())
+}
+
+fn add_end(
+    alloc: Global,
+    lines: &LineResolver,
+    context: &mut Context,
+    ast: &File,
+) -> Result<(), AllocError>
+    requires imports { length ast.now.imports ≤ 2147483647 }
+    requires options { length ast.now.options ≤ 2147483647 }
+    requires reach { file_reach ast.now ≤ 2147483647 }
+    ensures { OnOk result (Emits context.old context.new (file_end (numbers_at lines.now) ast.now context.old.path)) }
+{
+    let imports = ast.imports.as_slice();
+    locate_options(alloc, lines, context, OPTIONS, ast.options.as_slice())?;
+    locate_public_words(alloc, lines, context, imports)?;
+    locate_weak_words(alloc, lines, context, imports)?;
+    locate_syntax(alloc, lines, context, &ast.syntax_span)
+}
+
+/// The locations that come behind those of a file's items: those of its options, of the words
+/// `public` and `weak`, and of its syntax. `AllocError` if memory runs out. Needs what
+/// `locate_front` needs.
+pub fn locate_end(
+    alloc: Global,
+    lines: &LineResolver,
+    ast: &File,
+) -> Result<Items<Location>, AllocError>
+    requires imports { length ast.now.imports ≤ 2147483647 }
+    requires options { length ast.now.options ≤ 2147483647 }
+    requires reach { file_reach ast.now ≤ 2147483647 }
+    ensures { IfOk result (λ end. end ≡ file_end (numbers_at lines.now) ast.now []) }
+{
+    let mut context = Context::new(alloc, 0);
+    add_end(alloc, lines, &mut context, ast)?;
+    Ok(context.locations)
+}
+
+fn listed(context: Context) -> Items<Location>
+    ensures { result ≡ context.locations }
+{
+    context.locations
+}
+
+// Both lists, one after the other.
+fn joined(front: Items<Location>, back: Items<Location>) -> Result<Items<Location>, AllocError>
+    ensures { IfOk result (λ all. all ≡ front ++ back) }
+{
+    let mut all = front.into_vec();
+    let mut more = back.into_vec();
+    all.append(&mut more)?;
+    Ok(Items::from_vec(all))
 }
 
 // The locations, without the room that none takes.
@@ -54,46 +178,30 @@ fn trimmed(mut locations: Items<Location>) -> Items<Location>
     locations
 }
 
-fn locate_parts(
-    alloc: Global,
-    lines: &LineResolver,
-    context: &mut Context,
-    ast: &File,
-) -> Result<(), AllocError>
-    requires room { file_weight ast.now ≤ 2147483647 }
-    requires reach { file_reach ast.now ≤ 2147483647 }
-    ensures { OnOk result (Emits context.old context.new (file_at (numbers_at lines.now) ast.now context.old.path)) }
+/// All locations of a file whose items have been located, in the order of their paths. `end` are
+/// those behind the items. `AllocError` if memory runs out.
+pub fn all_locations(
+    draft: LocationDraft,
+    end: Items<Location>,
+) -> Result<SourceCodeInfo, AllocError>
+    ensures { IfOk result (λ info. (numbers : faults.Span → List ℤ) (file : file_type.File) → IsDraft numbers (file_front numbers file []) file.items draft → end ≡ file_end numbers file [] → info.location ≡ file_at numbers file []) }
 {
-    let items = ast.items.as_slice();
-    let imports = ast.imports.as_slice();
-    context.add(alloc, lines, &[], &ast.span)?;
-    locate_package(alloc, lines, context, &ast.package)?;
-    locate_imports(alloc, lines, context, imports)?;
-    locate_messages(alloc, lines, context, items)?;
-    locate_enums(alloc, lines, context, items)?;
-    locate_services(alloc, lines, context, items)?;
-    locate_from_blocks(alloc, lines, context, ast)
-}
-
-// Adds the locations in a file, from its `extend` statements on.
-fn locate_from_blocks(
-    alloc: Global,
-    lines: &LineResolver,
-    context: &mut Context,
-    ast: &File,
-) -> Result<(), AllocError>
-    requires room { file_weight ast.now ≤ 2147483647 }
-    requires reach { file_reach ast.now ≤ 2147483647 }
-    ensures { OnOk result (Emits context.old context.new (file_from_blocks (numbers_at lines.now) ast.now context.old.path)) }
-{
-    let items = ast.items.as_slice();
-    let imports = ast.imports.as_slice();
-    locate_blocks(alloc, lines, context, items)?;
-    locate_extensions(alloc, lines, context, items)?;
-    locate_options(alloc, lines, context, OPTIONS, ast.options.as_slice())?;
-    locate_public_words(alloc, lines, context, imports)?;
-    locate_weak_words(alloc, lines, context, imports)?;
-    locate_syntax(alloc, lines, context, &ast.syntax_span)
+    let LocationDraft {
+        messages,
+        enums,
+        services,
+        blocks,
+        extensions,
+        ..
+    } = draft;
+    let with_enums = joined(listed(messages), listed(enums))?;
+    let with_services = joined(with_enums, listed(services))?;
+    let with_blocks = joined(with_services, listed(blocks))?;
+    let with_extensions = joined(with_blocks, listed(extensions))?;
+    let all = joined(with_extensions, end)?;
+    Ok(SourceCodeInfo {
+        location: trimmed(all),
+    })
 }
 
 fn locate_package(

@@ -1,7 +1,19 @@
-use Rattle.std.proofs.Common.{Some}
-use Rattle.protox_generate.specs.File.{file_descriptor}
+use Rattle.std.proofs.Common.{sym, subst}
+use Rattle.protox_generate.specs.File.{AreLocated, AreSorted, file_descriptor}
+use Rattle.protox_locate.proofs.InOrder.{in-order}
+use Rattle.protox_places.proofs.SortedPaths.{sorted-by-path}
+use Rattle.protox_places.specs.Order.{StartsBefore}
+use Rattle.protox_locate.specs.Locations.{file_locations}
+use Rattle.protox_places.specs.Lines.{span_numbers}
 use Rattle.protox_generate.proofs.generate.described.Goals as goal
 
 pub returns-clause-found : goal.returns-clause-found
+returns-clause-found c = c.in_ok-file.ensures c.args.name.now c.args.source.now c.in_ok-begun.ensures.begun
+
+pub returns-clause-located : goal.returns-clause-located
 unfolding file_descriptor
-returns-clause-found c = λ i. record (c.in_ok-file.ensures i) { source_code_info = Some (record { location = c.in_ok-info.ensures.located i }) }
+returns-clause-located c = subst AreLocated (sym (returns-clause-found c)) (in-order c.args.source.now _ c.args.ast c.requires.stands)
+
+pub returns-clause-sorted : goal.returns-clause-sorted
+unfolding file_descriptor
+returns-clause-sorted c = subst AreSorted (sym (returns-clause-found c)) (sorted-by-path StartsBefore (file_locations (span_numbers c.args.source.now) c.args.ast) (in-order c.args.source.now _ c.args.ast c.requires.stands))

@@ -1,0 +1,54 @@
+-- A draft of a file's locations, before its first item, behind one more, and behind the last.
+use Rattle.std.proofs.Common.{◌≡◌, ℕ, ◌+◌, ◌≤◌, List, [], ◌∷◌, ◌++◌, length, map, flat_map, refl, ap, sym, ◌∙◌, arith, append_assoc, append-nil, length-append}
+use Rattle.std.specs.Prelude.{ℤ}
+use Rattle.std.proofs.lemmas.Grind.{flat_map-append}
+use Rattle.protox_descriptor.specs.declared.descriptor.source_code_info.Location.{Location}
+use Rattle.protox_locate.specs.LocationWords.{Part, part, each_at, numbered, siblings_at}
+use Rattle.protox_locate.specs.inner.Draft.{AreParts, AreSiblings}
+use Rattle.protox_locate.specs.inner.Walk.{Emits, Numbers}
+use Rattle.protox_locate.specs.declared.context.Context.{Context}
+use Rattle.protox_locate.proofs.Numbered.{each_at_append, numbered_append}
+
+-- what a list of items gives, and one more item
+pub one_more : {A B : Type 0} (kind : A → List B) (items : List A) (item : A) → flat_map kind (items ++ item ∷ []) ≡ flat_map kind items ++ kind item
+one_more kind items item = flat_map-append kind items (item ∷ []) ∙ ap (λ l. flat_map kind items ++ l) (append-nil (kind item))
+
+module _ (old new : Context) (tag : ℤ) where
+  pub more_siblings : (n m : ℕ) (front : List Location) (xs ys all : List Part) → AreSiblings old n tag front xs → Numbers old new tag n m ys → all ≡ xs ++ ys → AreSiblings new m tag front all
+  more_siblings n m front xs ys all a s e = record {
+    path = s.located.path ∙ a.path;
+    locations =
+        s.located.locations
+        ∙ ap (λ l. l ++ numbered old.path tag n ys) a.locations
+        ∙ ap (λ p. (front ++ siblings_at [] tag xs) ++ numbered p tag n ys) a.path
+        ∙ ap (λ k. (front ++ siblings_at [] tag xs) ++ numbered [] tag k ys) a.counted
+        ∙ append_assoc front (siblings_at [] tag xs) (numbered [] tag (length xs) ys)
+        ∙ ap (λ k. front ++ (siblings_at [] tag xs ++ numbered [] tag k ys)) (let e : length xs ≡ 0 + length xs = omega arith in e)
+        ∙ ap (λ l. front ++ l) (sym (numbered_append [] tag 0 xs ys))
+        ∙ ap (λ l. front ++ siblings_at [] tag l) (sym e);
+    counted = s.counted ∙ ap (λ k. k + length ys) a.counted ∙ sym (length-append xs ys) ∙ ap length (sym e);
+  }
+
+  pub more_parts : (xs ys all : List Part) → AreParts old tag xs → Emits old new (each_at (part old.path tag) ys) → all ≡ xs ++ ys → AreParts new tag all
+  more_parts xs ys all a s e = record {
+    path = s.path ∙ a.path;
+    locations =
+        s.locations
+        ∙ ap (λ l. l ++ each_at (part old.path tag) ys) a.locations
+        ∙ ap (λ p. each_at (part [] tag) xs ++ each_at (part p tag) ys) a.path
+        ∙ sym (each_at_append (part [] tag) xs ys)
+        ∙ ap (each_at (part [] tag)) (sym e);
+  }
+
+-- all lists of a file, one behind the other
+pub in_a_row : (own : Location) (head imports messages enums services blocks extensions end : List Location)
+    → ((((((own ∷ (head ++ imports)) ++ messages) ++ enums) ++ services) ++ blocks) ++ extensions) ++ end
+    ≡ own ∷ (head ++ (imports ++ (messages ++ (enums ++ (services ++ (blocks ++ (extensions ++ end)))))))
+in_a_row own head imports messages enums services blocks extensions end =
+    let front = own ∷ (head ++ imports) in
+    append_assoc ((((front ++ messages) ++ enums) ++ services) ++ blocks) extensions end
+    ∙ append_assoc (((front ++ messages) ++ enums) ++ services) blocks (extensions ++ end)
+    ∙ append_assoc ((front ++ messages) ++ enums) services (blocks ++ (extensions ++ end))
+    ∙ append_assoc (front ++ messages) enums (services ++ (blocks ++ (extensions ++ end)))
+    ∙ append_assoc front messages (enums ++ (services ++ (blocks ++ (extensions ++ end))))
+    ∙ ap (λ l. own ∷ l) (append_assoc head imports (messages ++ (enums ++ (services ++ (blocks ++ (extensions ++ end))))))

@@ -13,7 +13,7 @@ use std::marker::Model;
 /// newlines.
 #[derive(Drop)]
 pub struct LineResolver {
-    starts: Vec<usize>,
+    starts: Vec<u32>,
 }
 
 impl Model for LineResolver {
@@ -28,28 +28,29 @@ impl Model for LineResolver {
 }
 
 #[tactic(auto, using(crate::proofs::Newlines::starts_places, crate::proofs::Newlines::places_below))]
-fn starts_of(alloc: Global, source: &[u8]) -> Result<Vec<usize>, AllocError>
+fn starts_of(alloc: Global, source: &[u8]) -> Result<Vec<u32>, AllocError>
+    requires { length source.now ≤ 2147483647 }
     ensures { IfOk result (λ found. found.items ≡ starts 0 source.now) }
 {
     let mut found = Vec::new(alloc);
     for newline in memchr_iter(b'\n', source) {
-        found.push(newline + 1)?;
+        found.push(newline as u32 + 1)?;
     }
     Ok(found)
 }
 
 // How many of the numbers are at most `offset`, by binary search.
-fn count_up_to(starts: &[usize], offset: usize) -> usize
+fn count_up_to(starts: &[u32], offset: usize) -> usize
     requires { Rises 0 starts.now }
     ensures found { Found starts.now offset result }
     ensures small { result ≤ offset }
 {
-    starts.partition_point(|start| *start <= offset)
+    starts.partition_point(|start| *start as usize <= offset)
 }
 
 // Whether exactly `count` of the numbers are at most `offset`.
 #[inline(always)]
-fn is_count(starts: &[usize], count: usize, offset: usize) -> bool
+fn is_count(starts: &[u32], count: usize, offset: usize) -> bool
     requires { Rises 0 starts.now }
     ensures found { result ≡ true → Found starts.now offset count }
     ensures small { result ≡ true → count ≤ offset }
@@ -57,14 +58,14 @@ fn is_count(starts: &[usize], count: usize, offset: usize) -> bool
     if starts.len() < count {
         return false;
     }
-    let begun = count == 0 || starts[count - 1] <= offset;
-    let ended = count == starts.len() || offset < starts[count];
+    let begun = count == 0 || starts[count - 1] as usize <= offset;
+    let ended = count == starts.len() || offset < starts[count] as usize;
     begun && ended
 }
 
 // The same count, found at once if the offset lies in the line `near` or in one of the next seven,
 // as behind a comment.
-fn count_near(starts: &[usize], near: usize, offset: usize) -> usize
+fn count_near(starts: &[u32], near: usize, offset: usize) -> usize
     requires { Rises 0 starts.now }
     ensures found { Found starts.now offset result }
     ensures small { result ≤ offset }
@@ -79,7 +80,7 @@ fn count_near(starts: &[usize], near: usize, offset: usize) -> usize
 
 // Line and column of an offset in this line.
 #[inline(always)]
-fn place(starts: &[usize], line: usize, offset: usize) -> (i32, i32)
+fn place(starts: &[u32], line: usize, offset: usize) -> (i32, i32)
     requires rises { Rises 0 starts.now }
     requires found { Found starts.now offset line }
     requires small { line ≤ offset }
@@ -87,13 +88,17 @@ fn place(starts: &[usize], line: usize, offset: usize) -> (i32, i32)
     ensures line { result.0 ≡ pos (count_le offset starts.now) }
     ensures column { result.1 ≡ pos (offset - last_le 0 offset starts.now) }
 {
-    let start = if line == 0 { 0 } else { starts[line - 1] };
+    let start = if line == 0 {
+        0
+    } else {
+        starts[line - 1] as usize
+    };
     (line as i32, (offset - start) as i32)
 }
 
 // The numbers of a span that starts in the line `first` and ends in the line `last`.
 #[inline(always)]
-fn numbers_in(starts: &[usize], first: usize, last: usize, span: Span) -> Numbers
+fn numbers_in(starts: &[u32], first: usize, last: usize, span: Span) -> Numbers
     requires rises { Rises 0 starts.now }
     requires start { span.start ≤ 2147483647 }
     requires end { span.end ≤ 2147483647 }

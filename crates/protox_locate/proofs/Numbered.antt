@@ -123,13 +123,6 @@ pub add_one : (old new : Context) (tag : ℤ) (at : Part) → Emits old new (at 
 add_one old new tag at e = record { path = e.path; locations = e.locations ∙ ap (λ l. old.locations ++ l) (sym (append-nil (at (part old.path tag)))) }
 
 module _ {A : Type 0} (old mid new : Context) (tag : ℤ) (all : List Part) (xs : List A) (i : ℕ) (x : A) where
-  -- the next brings some
-  pub add_some_of : (kind : A → List Part) → ToAdd old mid tag all (flat_map kind (drop i xs)) → Emits mid new (each_at (part mid.path tag) (kind x)) → x ≡ get_or xs i x → i < length xs
-      → ToAdd old new tag all (flat_map kind (drop (i + 1) xs))
-  add_some_of kind t e is lt =
-      adds old mid new tag all (kind x) (flat_map kind (drop (i + 1) xs))
-      (subst (λ l. ToAdd old mid tag all (flat_map kind l)) (drop_more xs i x lt is) t) e
-
   -- the next is one itself
   pub add_one_of : (at : A → Part) → ToAdd old mid tag all (map at (drop i xs)) → Emits mid new (at x (part mid.path tag)) → x ≡ get_or xs i x → i < length xs
       → ToAdd old new tag all (map at (drop (i + 1) xs))

@@ -1,9 +1,9 @@
-use Rattle.std.proofs.Common.{◌≡◌, ◌≤◌, List, map, arith, subst}
+use Rattle.std.proofs.Common.{◌≤◌, List, map, arith, subst}
 use Rattle.protox_ast.specs.declared.ast.FileItem.{FileItem}
 use Rattle.protox_describe.specs.File.{item_enums, item_extensions, item_messages, item_services}
 use Rattle.protox_describe.specs.Siblings.{greatest as widest}
 use Rattle.protox_describe.specs.inner.Widths.{file_item_width}
-use Rattle.protox_generate.proofs.Items.{all_reached, none_yet, one_more, one_more_listed}
+use Rattle.protox_generate.proofs.Items.{one_more, one_more_listed}
 use Rattle.protox_locate.specs.inner.Bounds.{file_item_reach, file_item_weight, greatest, total}
 use Rattle.protox_locate.specs.inner.Draft.{HasRoom}
 use Rattle.protox_places.specs.Lines.{numbers_at}

@@ -1,6 +1,7 @@
 -- Tables of lexemes.
-use Rattle.std.proofs.Common.{◌≡◌, ◌+◌, inl, inr, length, arith, ℕ, zero, suc, List, [], ◌∷◌, ◌++◌, get_or, refl, sym, ap, ◌∙◌, subst, append-nil, Bool, true, false, Option, Some, None}
+use Rattle.std.proofs.Common.{◌≡◌, ◌≤◌, ◌+◌, drop, inl, inr, length, arith, ℕ, zero, suc, List, [], ◌∷◌, ◌++◌, get_or, refl, sym, ap, ◌∙◌, subst, append-nil, Bool, true, false, Option, Some, None}
 use Rattle.std.proofs.lemmas.Bool.{cases_Bool}
+use Rattle.std.proofs.lemmas.List.{drop_all}
 use Rattle.std.specs.Borrow.{Bor}
 use Rattle.std.specs.Option.{option_map}
 use Rattle.std.specs.Prelude.{slice_get, IfSome, map}
@@ -12,7 +13,10 @@ use Rattle.protox_fault.specs.Faults.{faults_in}
 use Rattle.protox_lexeme.specs.Gaps.{IsGap, HoldGaps}
 use Rattle.protox_lexeme.specs.Lexemes.{Lexeme}
 use Rattle.protox_lexeme.specs.Shapes.{Shape}
-use Rattle.protox_lexeme.specs.Table.{is_gap, in_front, rows_of, gaps_of, faults_of, table_of}
+use Rattle.protox_lexeme.specs.Table.{Table, is_gap, in_front, rows_of, gaps_of, faults_of, table_of}
+use Rattle.protox_lexeme.specs.Lexemes.{cut}
+use Rattle.protox_lexeme.proofs.Cut.{cut_none}
+use Rattle.protox_lex.specs.Parts.{EndsAt, IsPart}
 use Rattle.protox_lex.specs.TableView.{finished, shapes_of_lent}
 
 in_front_nil : {T : Type 0} (xss : List (List T)) → in_front [] xss ≡ xss
@@ -89,3 +93,18 @@ gaps_held gaps xs e = let P : List (List Shape) → Type 0 = λ gs. HoldGaps gs 
 pub lent_gap : (gaps : List (List Shape)) (k : ℕ) (r : Option (Bor (List Token))) → HoldGaps gaps → option_map shapes_of_lent r ≡ slice_get gaps k → IfSome r (λ gap. IsGap (map shape_of gap.now))
 lent_gap gaps k None h e = tt
 lent_gap gaps k (Some gap) h e = h k (map shape_of gap.now) (sym e)
+
+-- ---- parts of a source
+
+-- At the end of a source there is no lexeme.
+pub none_at_end : (source : List ℕ) (end : ℕ) → length source ≤ end → cut end (drop end source) ≡ []
+none_at_end source end past = ap (cut end) (drop_all end source past) ∙ cut_none end [] (omega arith)
+
+-- Where no lexeme is left, a part ends at the end of the source.
+pub ends_with : (source : List ℕ) (from at : ℕ) (xs : List Lexeme) → EndsAt source from xs at → cut at (drop at source) ≡ [] → EndsAt source from xs (length source)
+ends_with source from at xs ends none = ends ∙ ap (λ ys. xs ++ ys) (none ∙ sym (none_at_end source (length source) (omega arith)))
+
+-- A part that reaches from the start to the end has all lexemes.
+pub whole_part : (source : List ℕ) (table : Table) (end : ℕ) → length source ≤ end → IsPart source 0 table end → table ≡ table_of (cut 0 source)
+whole_part source table end past part =
+    part.is ∙ ap table_of (sym (part.ends ∙ ap (λ ys. part.lexemes ++ ys) (none_at_end source end past) ∙ append-nil part.lexemes))

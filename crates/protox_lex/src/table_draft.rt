@@ -9,6 +9,7 @@ ghost use Rattle.protox_lexeme.specs.Scanning as scanned;
 ghost use Rattle.protox_lexeme.specs.Shapes.{Mark, Newline};
 ghost use Rattle.protox_lexeme.specs.Table.{is_gap, table_of, invalid_faults};
 ghost use Rattle.protox_lex.specs.inner.Sharing.{and_row};
+ghost use Rattle.protox_lex.specs.Parts.{EndsAt};
 ghost use Rattle.protox_lex.specs.TableView.{finished, ended_table};
 ghost use Rattle.protox_lexeme.specs.Tokens.{shape_of, shape_of_result, borrowed_of_result, holds_none};
 
@@ -213,35 +214,56 @@ impl<'a> TableDraft<'a> {
     }
 }
 
-// Cuts a source into lexemes. The last gap has not ended.
-fn draft<'a>(alloc: Global, source: &'a str) -> Result<TableDraft<'a>, AllocError>
-    ensures { IfOk result (λ d. finished d [] ≡ table_of (spec.cut 0 source.entry.now)) }
+// Cuts the lexemes that stand between `from` and `until`, with the whole of the last one. The last
+// gap has not ended. Answers where the lexemes end.
+fn draft<'a>(
+    alloc: Global,
+    source: &'a str,
+    from: usize,
+    until: usize,
+) -> Result<(TableDraft<'a>, usize), AllocError>
+    requires fits { until ≤ length source.now }
+    requires order { from ≤ until }
+    requires boundary { IsCharBoundary source.now from }
+    ensures table { IfOk result (λ part. (xs : List spec.Lexeme) × (finished part.0 [] ≡ table_of xs) × EndsAt source.entry.now from xs part.1) }
+    ensures past { IfOk result (λ part. until ≤ part.1) }
 {
     // A source of the usual kind has a row for 6 to 12 bytes.
-    let room = source.len() / 8;
+    let room = (until - from) / 8;
     let mut draft = TableDraft {
         rows: SharedRows::new(alloc, room)?,
         gaps: SharedGaps::new(alloc, room)?,
         faults: LateGroups::new(alloc),
     };
-    let mut at = 0;
-    'lexemes: while at < source.len() {
+    let mut at = from;
+    'lexemes: while at < until {
         let (blanks, text) = skip_blanks(&source[at..]);
         if text.is_empty() {
-            break;
+            return Ok((draft, source.len()));
         }
         at = draft.read(alloc, text, at + blanks)?;
     }
-    Ok(draft)
+    Ok((draft, at))
 }
 
-/// The table of a source, with its last gap ended. Room that it doesn't take is given back.
-pub(crate) fn ended_draft<'a>(alloc: Global, source: &'a str) -> Result<TableDraft<'a>, AllocError>
-    ensures { IfOk result (λ d. ended_table d ≡ table_of (spec.cut 0 source.entry.now)) }
+/// The table of the lexemes that stand between `from` and `until`, with the whole of the last one.
+/// Its last gap has ended, and room that it doesn't take is given back. Answers where the lexemes
+/// end.
+pub(crate) fn ended_draft<'a>(
+    alloc: Global,
+    source: &'a str,
+    from: usize,
+    until: usize,
+) -> Result<(TableDraft<'a>, usize), AllocError>
+    requires fits { until ≤ length source.now }
+    requires order { from ≤ until }
+    requires boundary { IsCharBoundary source.now from }
+    ensures table { IfOk result (λ part. (xs : List spec.Lexeme) × (ended_table part.0 ≡ table_of xs) × EndsAt source.entry.now from xs part.1) }
+    ensures past { IfOk result (λ part. until ≤ part.1) }
 {
-    let mut draft = draft(alloc, source)?;
+    let (mut draft, end) = draft(alloc, source, from, until)?;
     draft.end_gap()?;
     draft.rows.shrink_to_fit();
     draft.gaps.shrink_to_fit();
-    Ok(draft)
+    Ok((draft, end))
 }

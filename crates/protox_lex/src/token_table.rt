@@ -1,5 +1,5 @@
 //! The table of a source: its tokens, and the comments and newlines before each of them.
-ghost use Rattle.std.specs.Prelude.{◌≡◌, ◌↔◌, IsTrue, ◌++◌, [], length, map, slice_get, slice_index_or, OnOk, OnErr, IfOk, IfSome, IsOk};
+ghost use Rattle.std.specs.Prelude.{◌≡◌, ◌≤◌, ◌↔◌, IsTrue, ◌++◌, [], length, map, slice_get, slice_index_or, OnOk, OnErr, IfOk, IfSome, IsOk};
 ghost use Rattle.std.specs.List.{All};
 ghost use Rattle.std.specs.Option.{option_map};
 ghost use Rattle.protox_fault.specs.Faults.{faults_in};
@@ -7,6 +7,8 @@ ghost use Rattle.protox_lexeme.specs.Gaps.{IsGap};
 ghost use Rattle.protox_lexeme.specs.Lexemes as spec;
 ghost use Rattle.protox_lexeme.specs.Table.{table_of};
 ghost use Rattle.protox_lexeme.specs.TokenClass.{class};
+ghost use Rattle.std.specs.Str.{IsCharBoundary};
+ghost use Rattle.protox_lex.specs.Parts.{IsPart};
 ghost use Rattle.protox_lex.specs.TableView.{shape_of_lent, borrowed_of_lent, shapes_of_lent};
 ghost use Rattle.protox_lexeme.specs.Tokens.{shape_of};
 
@@ -45,12 +47,33 @@ impl<'a> Model for TokenTable<'a> {
 
 impl<'a> TokenTable<'a> {
     /// The table of a source of any length, or `AllocError` if memory runs out.
-    #[tactic(auto, using(crate::proofs::Tables::gaps_held))]
     pub fn new(alloc: Global, source: &'a str) -> Result<TokenTable<'a>, AllocError>
         ensures { IfOk result (λ table. table ≡ table_of (spec.cut 0 source.entry.now)) }
     {
-        let TableDraft { rows, gaps, faults } = ended_draft(alloc, source)?;
-        Ok(TokenTable { rows, gaps, faults })
+        let (table, _) = TokenTable::part(alloc, source, 0, source.len())?;
+        Ok(table)
+    }
+
+    /// The table of a part of a source: of the lexemes that stand between `from` and `until`, with
+    /// the whole of the last one. Answers where they end too. Or `AllocError` if memory runs out.
+    ///
+    /// Both are byte offsets in the source, and a lexeme begins at `from`, or a blank. The last row
+    /// doesn't know what comes behind the part.
+    #[tactic(auto, using(crate::proofs::Tables::gaps_held))]
+    pub fn part(
+        alloc: Global,
+        source: &'a str,
+        from: usize,
+        until: usize,
+    ) -> Result<(TokenTable<'a>, usize), AllocError>
+        requires fits { until ≤ length source.now }
+        requires order { from ≤ until }
+        requires boundary { IsCharBoundary source.now from }
+        ensures part { IfOk result (λ part. IsPart source.entry.now from part.0 part.1) }
+        ensures past { IfOk result (λ part. until ≤ part.1) }
+    {
+        let (TableDraft { rows, gaps, faults }, end) = ended_draft(alloc, source, from, until)?;
+        Ok((TokenTable { rows, gaps, faults }, end))
     }
 
     /// The number of rows.

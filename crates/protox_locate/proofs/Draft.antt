@@ -1,6 +1,7 @@
 -- A draft of a file's locations, before its first item, behind one more, and behind the last.
-use Rattle.std.proofs.Common.{◌≡◌, ℕ, ◌+◌, List, [], ◌∷◌, ◌++◌, length, flat_map, ap, sym, ◌∙◌, arith, append_assoc, append-nil, length-append}
+use Rattle.std.proofs.Common.{◌≡◌, ℕ, ◌+◌, List, [], ◌∷◌, ◌++◌, length, drop, flat_map, ap, sym, ◌∙◌, arith, append_assoc, append-nil, length-append}
 use Rattle.std.specs.Prelude.{ℤ}
+use Rattle.std.proofs.Math.Seq.{drop-append_seam}
 use Rattle.std.proofs.lemmas.Grind.{flat_map-append}
 use Rattle.protox_descriptor.specs.declared.descriptor.source_code_info.Location.{Location}
 use Rattle.protox_locate.specs.LocationWords.{Part, part, each_at, numbered, siblings_at}
@@ -39,6 +40,10 @@ module _ (old new : Context) (tag : ℤ) where
         ∙ sym (each_at_append (part [] tag) xs ys)
         ∙ ap (each_at (part [] tag)) (sym e);
   }
+
+-- what stands behind the reserved places
+pub behind_reserved : {A : Type 0} (front more all : List A) (reserved : ℕ) → length front ≡ reserved → all ≡ front ++ more → drop reserved all ≡ more
+behind_reserved front more all reserved e is = ap (drop reserved) is ∙ ap (λ n. drop n (front ++ more)) (sym e) ∙ drop-append_seam front more
 
 -- all lists of a file, one behind the other
 pub in_a_row : (own : Location) (head imports messages enums services blocks extensions end : List Location)

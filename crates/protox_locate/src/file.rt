@@ -1,9 +1,8 @@
 //! The locations of a file: those in front of its items, each item's, and those behind the items.
 
-ghost use Rattle.std.specs.Prelude.{◌≡◌, ◌≤◌, ◌+◌, ◌∷◌, ◌++◌, ℕ, ℤ, List, [], length, IfOk, OnOk};
+ghost use Rattle.std.specs.Prelude.{◌≡◌, ◌≤◌, ◌+◌, ◌∷◌, ◌++◌, ℕ, ℤ, List, [], drop, length, IfOk, OnOk};
 ghost use Rattle.protox_ast.specs.declared.ast.File as file_type;
 ghost use Rattle.protox_ast.specs.declared.ast.FileItem as item_type;
-ghost use Rattle.protox_descriptor.specs.declared.descriptor.source_code_info.Location as location_type;
 ghost use Rattle.protox_fault.specs.Faults as faults;
 ghost use Rattle.protox_locate.specs.inner.Bounds.{file_item_reach, file_item_weight, file_reach, package_reach, syntax_reach};
 ghost use Rattle.protox_locate.specs.inner.Draft.{HasRoom, IsDraft, file_end, file_front};
@@ -28,7 +27,9 @@ use std::alloc::{AllocError, Global};
 /// and the index of the next part of this kind.
 #[derive(Drop)]
 pub struct LocationDraft {
-    // The first list begins with the locations in front of the items.
+    // The first list begins with so many empty locations. At the end those in front of the items
+    // take their places.
+    reserved: usize,
     messages: Context,
     next_message: usize,
     enums: Context,
@@ -57,8 +58,7 @@ fn add_front(
 }
 
 /// The locations that come before those of a file's items: those of the file itself, of its package
-/// and of its imports. There is room for `room` locations, if memory allows. `AllocError` if memory
-/// runs out.
+/// and of its imports. `AllocError` if memory runs out.
 ///
 /// Lines and columns are from 0; columns count bytes. Needs that the numbers of paths and the
 /// offsets of spans fit an `i32`. They do for each tree that `parse_file` answers.
@@ -66,26 +66,50 @@ pub fn locate_front(
     alloc: Global,
     lines: &LineResolver,
     ast: &File,
-    room: usize,
-) -> Result<LocationDraft, AllocError>
+) -> Result<Items<Location>, AllocError>
     requires imports { length ast.now.imports ≤ 2147483647 }
     requires reach { file_reach ast.now ≤ 2147483647 }
-    ensures located { IfOk result (λ draft. IsDraft (numbers_at lines.now) (file_front (numbers_at lines.now) ast.now []) [] draft) }
-    ensures room { IfOk result (λ draft. (more : ℕ) → more ≤ 2147483647 → HasRoom draft more) }
+    ensures { IfOk result (λ front. front ≡ file_front (numbers_at lines.now) ast.now []) }
 {
-    let mut messages = Context::new(alloc, room);
-    add_front(alloc, lines, &mut messages, ast)?;
-    Ok(LocationDraft {
-        messages,
-        next_message: 0,
-        enums: Context::new(alloc, 0),
-        next_enum: 0,
-        services: Context::new(alloc, 0),
-        next_service: 0,
-        blocks: Context::new(alloc, 0),
-        extensions: Context::new(alloc, 0),
-        next_extension: 0,
-    })
+    let mut context = Context::new(alloc, 0);
+    add_front(alloc, lines, &mut context, ast)?;
+    Ok(context.locations)
+}
+
+// A list that begins with `reserved` empty locations. There is room for `room` locations, if memory
+// allows.
+fn begun(alloc: Global, reserved: usize, room: usize) -> Result<Context, AllocError>
+    ensures path { IfOk result (λ context. context.path ≡ []) }
+    ensures reserved { IfOk result (λ context. length context.locations ≡ reserved) }
+{
+    let mut context = Context::new(alloc, room);
+    for _ in 0..reserved {
+        context.locations.push(Location::new(alloc))?;
+    }
+    Ok(context)
+}
+
+impl LocationDraft {
+    /// No item yet. `reserved` places are kept for the locations in front of the items, and there
+    /// is room for `room` locations, if memory allows. `AllocError` if memory runs out.
+    pub fn new(alloc: Global, reserved: usize, room: usize) -> Result<LocationDraft, AllocError>
+        ensures located { IfOk result (λ draft. (numbers : faults.Span → List ℤ) → IsDraft numbers [] draft) }
+        ensures room { IfOk result (λ draft. (more : ℕ) → more ≤ 2147483647 → HasRoom draft more) }
+    {
+        let messages = begun(alloc, reserved, room)?;
+        Ok(LocationDraft {
+            reserved,
+            messages,
+            next_message: 0,
+            enums: Context::new(alloc, 0),
+            next_enum: 0,
+            services: Context::new(alloc, 0),
+            next_service: 0,
+            blocks: Context::new(alloc, 0),
+            extensions: Context::new(alloc, 0),
+            next_extension: 0,
+        })
+    }
 }
 
 /// Adds the locations of an item. `AllocError` if memory runs out. Needs what `locate_front` needs.
@@ -97,7 +121,7 @@ pub fn locate_item(
 ) -> Result<(), AllocError>
     requires room { HasRoom draft.old (file_item_weight item.now) }
     requires reach { file_item_reach item.now ≤ 2147483647 }
-    ensures located { OnOk result ((front : List location_type.Location) (items : List item_type.FileItem) → IsDraft (numbers_at lines.now) front items draft.old → IsDraft (numbers_at lines.now) front (items ++ item.now ∷ []) draft.new) }
+    ensures located { OnOk result ((items : List item_type.FileItem) → IsDraft (numbers_at lines.now) items draft.old → IsDraft (numbers_at lines.now) (items ++ item.now ∷ []) draft.new) }
     ensures room { OnOk result ((more : ℕ) → HasRoom draft.old (file_item_weight item.now + more) → HasRoom draft.new more) }
 {
     let message = messages_of(alloc, lines, &mut draft.messages, item, draft.next_message)?;
@@ -170,6 +194,42 @@ fn joined(front: Items<Location>, back: Items<Location>) -> Result<Items<Locatio
     Ok(Items::from_vec(all))
 }
 
+// The locations behind the first `count`.
+fn behind(locations: Items<Location>, count: usize) -> Result<Items<Location>, AllocError>
+    ensures { IfOk result (λ rest. rest ≡ drop count locations) }
+{
+    let mut all = locations.into_vec();
+    let len = all.len();
+    let rest = all.split_off(if count < len { count } else { len })?;
+    Ok(Items::from_vec(rest))
+}
+
+// The list with these locations in place of its first ones.
+fn replaced(front: Items<Location>, locations: Items<Location>) -> Items<Location>
+    requires { length front ≤ length locations }
+    ensures { result ≡ front ++ drop (length front) locations }
+{
+    let mut first = front.into_vec();
+    let mut all = locations.into_vec();
+    let (places, _) = all.split_at_mut(first.len());
+    places.swap_with_slice(&mut first);
+    Items::from_vec(all)
+}
+
+// The list with these locations in place of the first `reserved`.
+fn fronted(
+    front: Items<Location>,
+    locations: Items<Location>,
+    reserved: usize,
+) -> Result<Items<Location>, AllocError>
+    ensures { IfOk result (λ all. all ≡ front ++ drop reserved locations) }
+{
+    if front.len() == reserved && reserved <= locations.len() {
+        return Ok(replaced(front, locations));
+    }
+    joined(front, behind(locations, reserved)?)
+}
+
 // The locations, without the room that none takes.
 fn trimmed(mut locations: Items<Location>) -> Items<Location>
     ensures { result ≡ locations }
@@ -178,15 +238,17 @@ fn trimmed(mut locations: Items<Location>) -> Items<Location>
     locations
 }
 
-/// All locations of a file whose items have been located, in the order of their paths. `end` are
-/// those behind the items. `AllocError` if memory runs out.
+/// All locations of a file whose items have been located, in the order of their paths. `front` are
+/// those in front of the items, `end` those behind them. `AllocError` if memory runs out.
 pub fn all_locations(
+    front: Items<Location>,
     draft: LocationDraft,
     end: Items<Location>,
 ) -> Result<SourceCodeInfo, AllocError>
-    ensures { IfOk result (λ info. (numbers : faults.Span → List ℤ) (file : file_type.File) → IsDraft numbers (file_front numbers file []) file.items draft → end ≡ file_end numbers file [] → info.location ≡ file_at numbers file []) }
+    ensures { IfOk result (λ info. (numbers : faults.Span → List ℤ) (file : file_type.File) → IsDraft numbers file.items draft → front ≡ file_front numbers file [] → end ≡ file_end numbers file [] → info.location ≡ file_at numbers file []) }
 {
     let LocationDraft {
+        reserved,
         messages,
         enums,
         services,
@@ -194,7 +256,8 @@ pub fn all_locations(
         extensions,
         ..
     } = draft;
-    let with_enums = joined(listed(messages), listed(enums))?;
+    let with_messages = fronted(front, listed(messages), reserved)?;
+    let with_enums = joined(with_messages, listed(enums))?;
     let with_services = joined(with_enums, listed(services))?;
     let with_blocks = joined(with_services, listed(blocks))?;
     let with_extensions = joined(with_blocks, listed(extensions))?;

@@ -40,8 +40,11 @@ module _ (numbers : Span → List ℤ) where
       ++ (siblings_at path tag.WEAK_DEPENDENCY (flat_map (λ (statement : Import). weak_words numbers statement.kind) file.imports)
       ++ syntax_locations numbers path file.syntax_span))
 
-  -- These items have been located, behind the locations `front`.
-  pub record IsDraft (front : List Location) (items : List FileItem) (draft : LocationDraft) : Type 0 where
+  -- These items have been located. In front of those of the messages stand as many locations as are
+  -- reserved.
+  pub record IsDraft (items : List FileItem) (draft : LocationDraft) : Type 0 where
+    pub front : List Location
+    pub reserved : length front ≡ draft.reserved
     pub messages : AreSiblings draft.messages draft.next_message tag.MESSAGE_TYPE front (flat_map (item_messages numbers) items)
     pub enums : AreSiblings draft.enums draft.next_enum tag.ENUM_TYPE [] (flat_map (item_enums numbers) items)
     pub services : AreSiblings draft.services draft.next_service tag.SERVICE [] (flat_map (item_services numbers) items)

@@ -1,6 +1,7 @@
 pub mod Adding
 pub mod DefaultLaw
 pub mod FaultLaw
+pub mod FaultlessItems
 pub mod FaultsLie
 pub mod Left
 pub mod ListedFaults

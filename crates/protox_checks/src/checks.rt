@@ -1,8 +1,8 @@
 //! The checks of a whole file.
 
-ghost use Rattle.std.specs.Prelude.{IfOk, OnOk};
+ghost use Rattle.std.specs.Prelude.{◌≡◌, [], true, IfOk, OnOk};
 ghost use Rattle.std.specs.List.{flat_map};
-ghost use Rattle.protox_checks.specs.Checks.{AreListed};
+ghost use Rattle.protox_checks.specs.Checks.{AreListed, nodes_faults};
 ghost use Rattle.protox_checks.specs.Faults.{EachIsWrong, HasEachWrong};
 ghost use Rattle.protox_checks.specs.Nodes.{file_nodes, item_nodes};
 ghost use Rattle.protox_checks.specs.inner.Walk.{AddsIn};
@@ -41,6 +41,15 @@ fn check_whole(ast: &File, errors: &mut Found) -> Result<(), AllocError>
 {
     check_items(ast.syntax, ast.items.as_slice(), errors)?;
     check_statements(ast.options.as_slice(), errors)
+}
+
+/// Whether nothing is wrong with an item of a file in this syntax. `AllocError` if memory runs out.
+pub fn item_is_right(alloc: Global, syntax: Syntax, item: &FileItem) -> Result<bool, AllocError>
+    ensures { IfOk result (λ right. right ≡ true → nodes_faults syntax (item_nodes item.now) ≡ []) }
+{
+    let mut errors = Found::new(alloc);
+    check_item(syntax, item, &mut errors)?;
+    Ok(errors.into_items().is_empty())
 }
 
 /// Checks the syntax tree of a file. Answers its faults in the order in which they are found; none

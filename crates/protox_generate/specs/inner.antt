@@ -1,1 +1,1 @@
-pub mod Begun
+pub mod Taken

@@ -1,4 +1,5 @@
-use Rattle.std.proofs.Common.{sym, subst}
+use Rattle.std.proofs.Common.{List, ap, sym, subst, ◌∙◌}
+use Rattle.protox_ast.specs.declared.ast.FileItem.{FileItem}
 use Rattle.protox_generate.specs.File.{AreLocated, AreSorted, file_descriptor}
 use Rattle.protox_locate.proofs.InOrder.{in-order}
 use Rattle.protox_places.proofs.SortedPaths.{sorted-by-path}
@@ -8,7 +9,11 @@ use Rattle.protox_places.specs.Lines.{span_numbers}
 use Rattle.protox_generate.proofs.generate.described.Goals as goal
 
 pub returns-clause-found : goal.returns-clause-found
-returns-clause-found c = c.in_ok-file.ensures c.args.name.now c.args.source.now c.in_ok-begun.ensures.begun
+returns-clause-found c =
+    let source = c.args.source.now in
+    let taken = c.in_ok-take_items.ensures source (c.in_ok-draft.ensures.taken c.args.ast.syntax) in
+    let whole = λ (items : List FileItem). file_descriptor c.args.name.now source (record c.args.ast { items = items }) in
+    c.in_ok-file.ensures source _ taken ∙ ap whole c.replace-items.ensures.value
 
 pub returns-clause-located : goal.returns-clause-located
 unfolding file_descriptor

@@ -1,0 +1,19 @@
+use Rattle.std.proofs.lemmas.Result.{on_ok_weaker}
+use Rattle.protox_describe.specs.File.{item_enums, item_extensions, item_messages, item_services}
+use Rattle.protox_generate.proofs.Items.{one_more_listed}
+use Rattle.protox_generate.proofs.draft.FileDraft.take.Goals as goal
+
+pub returns-clause-taken : goal.returns-clause-taken
+returns-clause-taken c =
+    let syntax = c.args.head.now.syntax in
+    let item = c.args.item in
+    let described = c.in_ok-describe_item.ensures in
+    on_ok_weaker c.locate.result
+    (λ drafted source items t. record {
+      lines = t.lines;
+      located = drafted items t.located;
+      messages = one_more_listed (item_messages syntax) items item _ _ t.messages described.messages;
+      enums = one_more_listed item_enums items item _ _ t.enums described.enums;
+      services = one_more_listed item_services items item _ _ t.services described.services;
+      extensions = one_more_listed (item_extensions syntax) items item _ _ t.extensions described.extensions;
+    }) c.locate.ensures.located

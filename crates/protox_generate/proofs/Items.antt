@@ -1,5 +1,5 @@
 -- How many of the items of a file have been taken.
-use Rattle.std.proofs.Common.{◌≡◌, ℕ, List, [], ◌∷◌, ◌++◌, flat_map, refl, sym, subst, ◌∙◌, append_assoc, append-nil, ap}
+use Rattle.std.proofs.Common.{◌≡◌, ℕ, List, [], ◌∷◌, ◌++◌, flat_map, sym, ◌∙◌, append_assoc, append-nil, ap}
 use Rattle.std.proofs.lemmas.Grind.{flat_map-append}
 use Rattle.protox_ast.specs.declared.ast.FileItem.{FileItem}
 use Rattle.protox_ast.specs.declared.ast.Syntax.{Syntax}
@@ -13,9 +13,6 @@ pub record Reached (source : List ℕ) (syntax : Syntax) (all rest : List FileIt
   pub is : IsTaken source syntax done draft
 
 module _ (source : List ℕ) (syntax : Syntax) (all : List FileItem) where
-  pub none_yet : (draft : FileDraft) → IsTaken source syntax [] draft → Reached source syntax all all draft
-  none_yet draft is = record { done = []; split = refl; is = is }
-
   pub one_more : (item : FileItem) (rest left : List FileItem) (old new : FileDraft) → left ≡ item ∷ rest → Reached source syntax all left old
       → ((items : List FileItem) → IsTaken source syntax items old → IsTaken source syntax (items ++ item ∷ []) new) → Reached source syntax all rest new
   one_more item rest left old new e r more = record {
@@ -23,9 +20,6 @@ module _ (source : List ℕ) (syntax : Syntax) (all : List FileItem) where
     split = append_assoc r.done (item ∷ []) rest ∙ ap (λ l. r.done ++ l) (sym e) ∙ r.split;
     is = more r.done r.is;
   }
-
-  pub all_reached : (rest : List FileItem) (draft : FileDraft) → rest ≡ [] → Reached source syntax all rest draft → IsTaken source syntax all draft
-  all_reached rest draft none r = subst (λ items. IsTaken source syntax items draft) (sym (append-nil r.done) ∙ ap (λ l. r.done ++ l) (sym none) ∙ r.split) r.is
 
 -- what items add to a list, and what one more adds
 pub one_more_listed : {A B : Type 0} (kind : A → List B) (items : List A) (item : A) (old new : List B) → old ≡ flat_map kind items → new ≡ old ++ kind item → new ≡ flat_map kind (items ++ item ∷ [])

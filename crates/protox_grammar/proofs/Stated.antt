@@ -26,7 +26,7 @@ use Rattle.protox_grammar.proofs.Told.{Says}
 
 -- ---- steps without a package statement
 
-noted-append : (p : Option (t.Package Place)) (w : Place) (l j : Steps Place) → noted_nodes p w (l ++ j) ≡ noted_nodes p w l ++ noted_nodes (first_behind p l) (keyword_behind w l) j
+pub noted-append : (p : Option (t.Package Place)) (w : Place) (l j : Steps Place) → noted_nodes p w (l ++ j) ≡ noted_nodes p w l ++ noted_nodes (first_behind p l) (keyword_behind w l) j
 noted-append p w [] j = refl
 noted-append p w (Token r ∷ l) j = noted-append p w l j
 noted-append p w (Note (ANode x) ∷ l) j = ap (λ v. x ∷ v) (noted-append p w l j)
@@ -125,7 +125,7 @@ again-first : (p : Option (t.Package Place)) (x : t.Package Place) → place_of 
 again-first None x = refl
 again-first (Some f) x = refl
 
-first-append : (p : Option (t.Package Place)) (l k : Steps Place) → first_behind p (l ++ k) ≡ first_behind (first_behind p l) k
+pub first-append : (p : Option (t.Package Place)) (l k : Steps Place) → first_behind p (l ++ k) ≡ first_behind (first_behind p l) k
 first-append p [] k = refl
 first-append p (Token r ∷ l) k = first-append p l k
 first-append None (Note (APackage x) ∷ l) k = first-append (Some x) l k

@@ -34,4 +34,6 @@ pub mod SyntaxStops
 pub mod NoCheckLost
 pub mod ExactFile
 pub mod TrueWords
+pub mod ReadRight
+pub mod RightFiles
 pub mod samples

@@ -8,4 +8,5 @@ pub mod StandingFaults
 pub mod FoundFaults
 pub mod LostChecks
 pub mod OptionsBack
+pub mod NextStatement
 pub mod inner

@@ -6,7 +6,7 @@ use protox_lex::error::Span;
 
 /// A statement of a file.
 #[derive(Drop)]
-pub(crate) enum Statement {
+pub enum Statement {
     Empty,
     Import(Import),
     Package(Package),
@@ -24,7 +24,7 @@ pub(crate) struct StatementStart {
 
 /// What the statements of a file declare. Only the first package is kept.
 #[derive(Drop)]
-pub(crate) struct Statements {
+pub struct Statements {
     pub first: Option<Package>,
     pub imports: Items<Import>,
     pub options: Items<OptionStatement>,

@@ -1,0 +1,117 @@
+-- Where no fault is noted, what was read is right.
+use Rattle.std.proofs.Common.{◌≡◌, Bool, true, false, List, [], ◌∷◌, ◌++◌, Option, None, option_map, Result, Ok, Err, refl, sym, ap, subst, ◌∙◌}
+use Rattle.std.specs.Prelude.{◌&&◌, ◌<◌, IfOk, length}
+use Rattle.std.specs.declared.alloc.AllocError.{AllocError}
+use Rattle.std.specs.List.{list_all}
+use Rattle.protox_fault.specs.Faults.{Span}
+use Rattle.protox_lexeme.specs.Shapes.{Rows}
+use Rattle.protox_ast.specs.inner.Fine.{IsFine}
+use Rattle.protox_ast.specs.KeywordWalk as k
+use Rattle.protox_ast.specs.Keywords.{Each}
+use Rattle.protox_ast.specs.Places.{Place}
+use Rattle.protox_ast.specs.Spelling as s
+use Rattle.protox_ast.specs.Tree as tree
+use Rattle.protox_ast.specs.declared.ast.Comments.{Comments}
+use Rattle.protox_ast.specs.declared.ast.Syntax.{Syntax}
+use Rattle.protox_grammar.specs.Bodies as bodies
+use Rattle.protox_grammar.specs.Class.{only}
+use Rattle.protox_grammar.specs.Noted.{noted_nodes}
+use Rattle.protox_grammar.specs.Rule as rule
+use Rattle.protox_grammar.specs.Rules as r
+use Rattle.protox_grammar.specs.Told.{Notes, first_behind}
+use Rattle.protox_grammar.specs.Token as token
+use Rattle.protox_grammar.proofs.Depths.{body-laws}
+use Rattle.protox_grammar.specs.declared.note.Note.{Note}
+use Rattle.protox_grammar.specs.declared.note.Noted.{Noted}
+use Rattle.protox_grammar.specs.declared.note.Noted.TheVariants.{Fault, TextFormat}
+use Rattle.protox_grammar.proofs.FineNotes.{AreTokens, IsFaultless, IsNoFault, fine-told}
+use Rattle.protox_grammar.proofs.Forms.{optional-laws}
+use Rattle.protox_grammar.proofs.Kept as kept
+use Rattle.protox_grammar.proofs.Messages as messages
+use Rattle.protox_grammar.proofs.Parts as parts
+use Rattle.protox_grammar.proofs.Stated.{place_of}
+use Rattle.protox_grammar.proofs.Takes.{bind_ok, ok_is}
+use Rattle.protox_options.specs.inner.Options.{here}
+use Rattle.protox_rows.specs.declared.refused.Refused.{Refused}
+use Rattle.protox_rows.specs.inner.Notes.{Adds}
+use Rattle.protox_rows.specs.inner.Outcome.{Gives}
+use Rattle.protox_syntax.proofs.Turns.{statement-eats}
+use Rattle.protox_syntax.specs.NextStatement.{IfRead, IsNextStatement, IsNextSyntax, is_no_fault}
+use Rattle.protox_syntax.specs.declared.next.Next.{Next}
+use Rattle.protox_syntax.specs.declared.next.Next.TheVariants as next
+use Rattle.protox_syntax.specs.declared.statement_types.Statement as statement_type
+use Rattle.protox_syntax.specs.inner.Statements.{levels, next_first, statement, statement_rule, statement_seen, syntax_if_any, syntax_seen}
+
+pub statement-next : (first : Option Span) (old new : Rows Place) (found : statement_type.Statement) → AreTokens old → statement.code old ≡ Ok (found, new) → IsFaultless (statement.notes first old) → IsNextStatement first old new found
+unfolding bodies.statement
+statement-next first old new found valid e f =
+    let p = bind_ok (statement_rule.read old) (λ y. Ok (statement_seen y.0, y.1)) (found, new) (sym (statement.shows.same old) ∙ e) in
+    let same = ok_is (statement_seen p.0.0, p.0.1) (found, new) p.2 in
+    let l = messages.statement-laws here k.KeepsMbody (bodies.FitsMbody levels) (bodies.unsealed levels).read (bodies.unsealed levels).steps (bodies.unsealed levels).trace (body-laws here levels) in
+    let took = l.read.takes old p.0 p.1 in
+    let traced : statement_rule.trace old ≡ statement_rule.steps p.0.0 = l.traced.ok old p.0 p.1 in
+    record {
+      it = p.0.0;
+      rows = took.parts ∙ ap (λ (i : statement_type.Statement × Rows Place). s.statement p.0.0 ++ i.1) same;
+      seen = ap (λ (i : statement_type.Statement × Rows Place). i.0) (sym same);
+      right = record {
+        fits = took.fits;
+        fine = λ q w is. subst (λ t. Each IsFine (noted_nodes q w t)) traced
+            (fine-told q w (statement_rule.trace old) old valid (subst IsFaultless (ap (λ v. statement.notes v old) (sym is) ∙ sym (statement.says q w old)) f));
+        next = λ q is. ap (λ t. place_of (first_behind q t)) (sym traced) ∙ statement.first q old p.0 p.1 ∙ ap (λ v. next_first v (statement_seen p.0.0)) is;
+      };
+    }
+
+abbrev syntax_rule : rule.Rule Place (Option (tree.Syntax Place))
+syntax_rule = rule.optional (only token.syntax) r.syntax
+
+pub syntax-next : (old new : Rows Place) (found : Option (Syntax × (Span × Comments))) → AreTokens old → syntax_if_any.code old ≡ Ok (found, new) → IsFaultless (syntax_if_any.notes old) → IsNextSyntax old new found
+unfolding r.syntax
+syntax-next old new found valid e f =
+    let p = bind_ok (syntax_rule.read old) (λ y. Ok (option_map syntax_seen y.0, y.1)) (found, new) (sym (syntax_if_any.shows.same old) ∙ e) in
+    let same = ok_is (option_map syntax_seen p.0.0, p.0.1) (found, new) p.2 in
+    let l = optional-laws (only token.syntax) (parts.syntax-laws here) refl in
+    let took = l.read.takes old p.0 p.1 in
+    let traced : syntax_rule.trace old ≡ syntax_rule.steps p.0.0 = l.traced.ok old p.0 p.1 in
+    record {
+      it = p.0.0;
+      rows = took.parts ∙ ap (λ (i : Option (Syntax × (Span × Comments)) × Rows Place). s.maybe s.syntax p.0.0 ++ i.1) same;
+      seen = ap (λ (i : Option (Syntax × (Span × Comments)) × Rows Place). i.0) (sym same);
+      fine = λ w. subst (λ t. Each IsFine (noted_nodes None w t)) traced
+          (fine-told None w (syntax_rule.trace old) old valid (subst IsFaultless (sym (syntax_if_any.tells.says None w old)) f));
+      no_package = ap (first_behind None) (sym traced) ∙ kept.syntax-first here None old p.0 p.1;
+    }
+
+first-no-fault : (n : Noted) (b : Bool) → (is_no_fault n && b) ≡ true → IsNoFault n × (b ≡ true)
+first-no-fault (Fault f) b h = absurd cc
+first-no-fault (TextFormat open_now) b h = (tt, h)
+
+pub none_faulty : (notes : Notes) → list_all (λ (n : Note). is_no_fault n.noted) notes ≡ true → IsFaultless notes
+none_faulty [] h = tt
+none_faulty (n ∷ ns) h = let k = first-no-fault n.noted (list_all (λ (m : Note). is_no_fault m.noted) ns) h in (k.0, none_faulty ns k.1)
+
+-- ---- what the code answers
+
+module _ {T : Type 0} (P : T → Type 0) where
+  pub judged-by : (result : Result (Next T) AllocError) (read : Result T Refused) (notes : Notes) → IfOk result (λ next. IfRead next (λ x. (read ≡ Ok x) × IsFaultless notes)) → ((x : T) → read ≡ Ok x → IsFaultless notes → P x) → IfOk result (λ next. IfRead next P)
+  judged-by (Err e) read notes h f = tt
+  judged-by (Ok (next.Read x)) read notes h f = f x h.0 h.1
+  judged-by (Ok next.Ended) read notes h f = tt
+  judged-by (Ok next.Wrong) read notes h f = tt
+
+given-ok : {X Y : Type 0} (view : X → Y) (read : Result X Refused) (x : X) (new : Rows Place) (r : _) → read ≡ Ok x → Gives view read new r → r ≡ Ok (view x, new)
+given-ok view read x new r e h = subst (λ v. Gives view v new r) e h
+
+added-ok : {X : Type 0} (read : Result X Refused) (x : X) (start added new : Notes) → start ≡ [] → read ≡ Ok x → Adds read start added new → new ≡ added
+added-ok read x start added new none e h = subst (λ v. Adds v start added new) e h ∙ ap (λ l. l ++ added) none
+
+pub read-statement : (first : Option Span) (old new : Rows Place) (read : Result statement_type.Statement Refused) (start notes : Notes) (x : statement_type.Statement) → AreTokens old → start ≡ [] → Gives (λ x. x) read new (statement.code old) → Adds read start (statement.notes first old) notes
+    → read ≡ Ok x → IsFaultless notes → IsNextStatement first old new x
+read-statement first old new read start notes x valid none gives adds e fine = statement-next first old new x valid (given-ok (λ x. x) read x new (statement.code old) e gives) (subst IsFaultless (added-ok read x start (statement.notes first old) notes none e adds) fine)
+
+pub read-syntax : (old new : Rows Place) (read : Result (Option (Syntax × (Span × Comments))) Refused) (start notes : Notes) (x : Option (Syntax × (Span × Comments))) → AreTokens old → start ≡ [] → Gives (λ x. x) read new (syntax_if_any.code old) → Adds read start (syntax_if_any.notes old) notes
+    → read ≡ Ok x → IsFaultless notes → IsNextSyntax old new x
+read-syntax old new read start notes x valid none gives adds e fine = syntax-next old new x valid (given-ok (λ x. x) read x new (syntax_if_any.code old) e gives) (subst IsFaultless (added-ok read x start (syntax_if_any.notes old) notes none e adds) fine)
+
+pub read-fewer : (old new : Rows Place) (read : Result statement_type.Statement Refused) (x : statement_type.Statement) → Gives (λ x. x) read new (statement.code old) → read ≡ Ok x → length new < length old
+read-fewer old new read x gives e = statement-eats old (x, new) (given-ok (λ x. x) read x new (statement.code old) e gives)

@@ -1,0 +1,108 @@
+-- A file that is read statement by statement: once all rows are read, the source is accepted.
+use Rattle.std.proofs.Common.{◌≡◌, ◌≤◌, ℕ, List, [], ◌∷◌, ◌++◌, length, Option, None, Ok, refl, sym, ap, subst, ◌∙◌, append-nil, append_assoc}
+use Rattle.protox_fault.specs.Faults.{Span}
+use Rattle.protox_lexeme.specs.Lexemes.{cut}
+use Rattle.protox_lexeme.specs.Shapes.{Rows}
+use Rattle.protox_lexeme.specs.Table.{table_of}
+use Rattle.protox_ast.proofs.SpansStand.{each-append}
+use Rattle.protox_ast.specs.Accepted.{Fits, IsAccepted}
+use Rattle.protox_ast.specs.Checks.{NothingWrong}
+use Rattle.protox_ast.specs.Fronts.{AreClean}
+use Rattle.protox_ast.specs.inner.Fine.{IsFine}
+use Rattle.protox_ast.specs.KeywordWalk as k
+use Rattle.protox_ast.specs.Keywords.{Each}
+use Rattle.protox_ast.specs.Places.{Place, placed}
+use Rattle.protox_ast.specs.Spelling as s
+use Rattle.protox_ast.specs.Tree as tree
+use Rattle.protox_grammar.specs.Bodies as bodies
+use Rattle.protox_grammar.specs.Noted.{noted_nodes, steps, trace}
+use Rattle.protox_grammar.specs.Reads.{read}
+use Rattle.protox_grammar.specs.Rules as r
+use Rattle.protox_grammar.specs.Steps.{Steps, steps_of_many}
+use Rattle.protox_grammar.specs.Told.{first_behind, keyword_behind}
+use Rattle.protox_grammar.proofs.FineNotes.{AreTokens, told-fine}
+use Rattle.protox_grammar.proofs.Main as main
+use Rattle.protox_grammar.proofs.NotedWrong.{noted-wrong, read-traced}
+use Rattle.protox_grammar.proofs.Stated.{first-append, noted-append, place_of}
+use Rattle.protox_options.specs.inner.Options.{here}
+use Rattle.protox_syntax.specs.NextStatement.{IsNextSyntax, IsRight, syntax_steps}
+use Rattle.protox_syntax.specs.inner.Statements.{levels, next_first, statement_rule, statement_seen}
+
+-- A syntax statement, or none, and no other statement yet.
+abbrev pub begun : Option (tree.Syntax Place) → tree.File Place
+begun x = record { syntax = x; statements = [] }
+
+-- The file with one more statement.
+abbrev pub and_statement : tree.File Place → tree.Statement Place → tree.File Place
+and_statement f x = record { syntax = f.syntax; statements = f.statements ++ x ∷ [] }
+
+-- Nothing is wrong with the file so far. Its first package statement has this place.
+pub record IsRightSoFar (first : Option Span) (f : tree.File Place) : Type 0 where
+  pub fits : k.Each (bodies.StatementHas (bodies.FitsMbody levels)) f.statements
+  pub fine : Each IsFine (noted_nodes None here (steps levels f))
+  pub place : place_of (first_behind None (steps levels f)) ≡ first
+
+steps-begun : (x : Option (tree.Syntax Place)) → steps levels (begun x) ≡ syntax_steps x
+unfolding bodies.file
+steps-begun x = append-nil (syntax_steps x)
+
+pub right-begun : (old new : Rows Place) (found : _) (n : IsNextSyntax old new found) → IsRightSoFar None (begun n.it)
+right-begun old new found n = record {
+  fits = tt;
+  fine = subst (λ l. Each IsFine (noted_nodes None here l)) (sym (steps-begun n.it)) (n.fine here);
+  place = ap (λ l. place_of (first_behind None l)) (steps-begun n.it) ∙ ap place_of n.no_package;
+}
+
+many-more : {A : Type 0} (f : A → Steps Place) (xs : List A) (x : A) → steps_of_many f (xs ++ x ∷ []) ≡ steps_of_many f xs ++ f x
+many-more f [] x = append-nil (f x)
+many-more f (y ∷ ys) x = ap (λ l. f y ++ l) (many-more f ys x) ∙ sym (append_assoc (f y) (steps_of_many f ys) (f x))
+
+steps-more : (f : tree.File Place) (x : tree.Statement Place) → steps levels (and_statement f x) ≡ steps levels f ++ statement_rule.steps x
+unfolding bodies.file
+steps-more f x = ap (λ l. syntax_steps f.syntax ++ l) (many-more statement_rule.steps f.statements x) ∙ sym (append_assoc (syntax_steps f.syntax) (steps_of_many statement_rule.steps f.statements) (statement_rule.steps x))
+
+each-more : {A : Type 0} (P : A → Type 0) (xs : List A) (x : A) → k.Each P xs → P x → k.Each P (xs ++ x ∷ [])
+each-more P [] x h p = (p, tt)
+each-more P (y ∷ ys) x h p = (h.0, each-more P ys x h.1 p)
+
+pub right-more : (first : Option Span) (f : tree.File Place) (x : tree.Statement Place) → IsRightSoFar first f → IsRight first x → IsRightSoFar (next_first first (statement_seen x)) (and_statement f x)
+right-more first f x so_far right =
+    let before = first_behind None (steps levels f) in
+    let keyword = keyword_behind here (steps levels f) in
+    record {
+      fits = each-more (bodies.StatementHas (bodies.FitsMbody levels)) f.statements x so_far.fits right.fits;
+      fine = subst (Each IsFine) (sym (ap (noted_nodes None here) (steps-more f x) ∙ noted-append None here (steps levels f) (statement_rule.steps x)))
+          (each-append IsFine (noted_nodes None here (steps levels f)) (noted_nodes before keyword (statement_rule.steps x)) so_far.fine (right.fine before keyword so_far.place));
+      place = ap (λ l. place_of (first_behind None l)) (steps-more f x) ∙ ap place_of (first-append None (steps levels f) (statement_rule.steps x)) ∙ right.next before so_far.place;
+    }
+
+-- ---- all rows are read
+
+module _ (first : Option Span) (f : tree.File Place) (so_far : IsRightSoFar first f) where
+  may : (main.file_at here levels).may f
+  unfolding bodies.file
+  may = (main.laws here levels).read.within f so_far.fits
+
+  keeps : k.KeepsKeywords f
+  keeps = main.of-may here levels f may
+
+  keeps-each : k.Each (bodies.StatementHas k.KeepsMbody) f.statements
+  unfolding bodies.file
+  keeps-each = may
+
+  is-read : (rows : Rows Place) → rows ≡ s.spell f → read levels rows ≡ Ok f
+  unfolding read bodies.file
+  is-read rows is =
+      let a = (main.laws here levels).read.again f [] so_far.fits (main.ends-of here levels f keeps) in
+      let b : (main.file_at here levels).read rows ≡ Ok (f, []) = subst (λ v. (main.file_at here levels).read v ≡ Ok (f, [])) (append-nil ((main.file_at here levels).spell f) ∙ main.spelling here levels f ∙ sym is) a in
+      rw b refl
+
+  nothing-wrong : (rows : Rows Place) → AreTokens rows → rows ≡ s.spell f → NothingWrong f
+  nothing-wrong rows valid is =
+      let traced = read-traced here levels rows f (is-read rows is) in
+      (noted-wrong here rows f valid keeps-each traced).0 (told-fine None here (trace levels rows) rows (subst (λ l. Each IsFine (noted_nodes None here l)) (sym traced) so_far.fine))
+
+  pub accepted : (source : List ℕ) → Fits source → AreTokens (placed (table_of (cut 0 source))) → AreClean (cut 0 source) → placed (table_of (cut 0 source)) ≡ s.spell f → IsAccepted source f
+  accepted source short valid clean is =
+      let a = (main.accepts_iff here levels (placed (table_of (cut 0 source))) f).0 (is-read (placed (table_of (cut 0 source))) is) in
+      record { fits = short; spells = a.0; clean = clean; levels = a.1; nothing_wrong = nothing-wrong (placed (table_of (cut 0 source))) valid is }

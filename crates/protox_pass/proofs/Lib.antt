@@ -1,0 +1,11 @@
+pub mod Rows
+pub mod Flawless
+pub mod Bounds
+pub mod Taking
+pub mod Steps
+pub mod Opening
+pub mod Noting
+pub mod Completing
+pub mod Cutting
+pub mod Beginning
+pub mod Answering

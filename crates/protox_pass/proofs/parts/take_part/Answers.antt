@@ -1,0 +1,27 @@
+use Rattle.std.proofs.Common.{◌≡◌, ℕ, Some, None, drop, leb, length, refl, sym, subst, ap, ◌∙◌}
+use Rattle.protox_fault.specs.Faults.{Span}
+use Rattle.protox_lexeme.specs.Lexemes.{cut}
+use Rattle.protox_pass.specs.inner.Reached.{IsPartOf}
+use Rattle.protox_pass.proofs.Cutting.{none-some, part-of, some-same}
+use Rattle.protox_pass.proofs.parts.take_part.Goals as goal
+use Rattle.protox_pass.proofs.parts.take_part.Goals.{in-Some, in-None}
+
+pub take_first-requires-clause-part : goal.take_first-requires-clause-part
+take_first-requires-clause-part c =
+    let source = c.args.source.now in
+    let part = part-of source c.match-progress.from c.in_ok-table.table c.in_ok-table.end c.is_none.result c.in_ok-table.ensures.part (c.if-not-is_faultless.ensures.0 refl) in
+    elim c.match-progress.branch [
+      | in-Some w ↦ absurd (none-some c.args.progress.now.last w.in-Some.last c.is_none.result c.is_none.ensures c.if-part.true w.in-Some.is)
+      | in-None w ↦ subst (λ (from : ℕ). IsPartOf (cut from (drop from source)) (record { table = c.in_ok-table.table; begins = c.is_none.result; ends = leb (length source) c.in_ok-table.end })) w.from-is part
+    ]
+
+pub take_later-requires-clause-part : goal.take_later-requires-clause-part
+take_later-requires-clause-part c last is =
+    let source = c.args.source.now in
+    let part = part-of source c.match-progress.from c.in_ok-table.table c.in_ok-table.end c.is_none.result c.in_ok-table.ensures.part (c.if-not-is_faultless.ensures.0 refl) in
+    elim c.match-progress.branch [
+      | in-Some w ↦
+          let same : w.in-Some.last ≡ last = some-same w.in-Some.last last (sym w.in-Some.is ∙ is) in
+          subst (λ (from : ℕ). IsPartOf (cut from (drop from source)) (record { table = c.in_ok-table.table; begins = c.is_none.result; ends = leb (length source) c.in_ok-table.end })) (w.from-is ∙ ap (λ (s : Span). s.start) same) part
+      | in-None w ↦ let e : None ≡ Some last = sym w.in-None.is ∙ is in absurd cc
+    ]

@@ -1,0 +1,22 @@
+use Rattle.protox_generate.proofs.Outcomes.{empty-none, none-found}
+use Rattle.protox_pass.proofs.Completing.{few-imports, few-options, found-of, reach-fits}
+use Rattle.protox_pass.proofs.pass.finished.Goals as goal
+
+pub finish-requires-clause-imports : goal.finish-requires-clause-imports
+finish-requires-clause-imports c = few-imports c.args.source.now c.utf8.source c.args.head c.args.draft c.requires.all
+
+pub finish-requires-clause-options : goal.finish-requires-clause-options
+finish-requires-clause-options c = few-options c.args.source.now c.utf8.source c.args.head c.args.draft c.requires.all
+
+pub finish-requires-clause-reach : goal.finish-requires-clause-reach
+finish-requires-clause-reach c = reach-fits c.args.source.now c.utf8.source c.args.head c.args.draft c.requires.all
+
+pub returns : goal.returns
+returns c =
+    let none = empty-none c.in_ok-check_file.field-0 c.is_empty-2.result c.is_empty-2.ensures c.if-not-is_empty.false in
+    record {
+      found =
+          found-of c.args.source.now c.utf8.source c.args.head c.args.draft c.requires.all c.args.name.now c.in_ok-file.file
+          (none-found c.args.head c.in_ok-check_file.field-0 c.in_ok-check_file.ensures.in_order none)
+          (c.in_ok-file.ensures c.args.source.now c.requires.all.items c.requires.all.taken);
+    }

@@ -38,24 +38,27 @@ module _ (source : List ℕ) (part : Part) (progress : Progress) (head : File) (
       by (inr n) = let same = sym none ∙ n.5 in absurd cc
 
   pub first-part : progress.last ≡ None → (here : IsInPart source part (placed part.table) head draft) × (here.first ≡ true)
-  first-part none = (record {
-    f = begun None;
-    first = true;
-    outside = [];
-    read = [];
-    left = p.inside;
-    behind = p.behind;
-    all = p.split;
-    table_is = p.table_is;
-    begun_here = λ e. refl;
-    ended_here = p.ended_here;
-    flawless_before = tt;
-    flawless = p.flawless;
-    rows_are = ap placed p.table_is;
-    whole = ap (places true) p.split;
-    reached = subst (λ (f : tree.File Place). IsReached source f head draft) (fresh none).1 between.reached;
-    last = inl (refl, begins, refl, refl);
-  }, refl)
+  first-part none = (
+    record {
+      f = begun None;
+      first = true;
+      outside = [];
+      read = [];
+      left = p.inside;
+      behind = p.behind;
+      all = p.split;
+      table_is = p.table_is;
+      begun_here = λ e. refl;
+      ended_here = p.ended_here;
+      flawless_before = tt;
+      flawless = p.flawless;
+      rows_are = ap placed p.table_is;
+      whole = ap (places true) p.split;
+      reached = subst (λ (f : tree.File Place). IsReached source f head draft) (fresh none).1 between.reached;
+      last = inl (refl, begins, refl, refl);
+    },
+    refl,
+  )
 
   pub open-first : progress.last ≡ None → IsOpen source part.begins progress
   open-first none = subst (λ b. IsOpen source b progress) (sym begins) (by between.noted)

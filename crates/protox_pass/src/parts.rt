@@ -123,7 +123,11 @@ fn take_rows<'t, 'a>(
     if !part.ends {
         return Ok(Turn::On);
     }
-    if rows.is_empty() { Ok(Turn::Done) } else { Ok(Turn::Wrong) }
+    if rows.is_empty() {
+        Ok(Turn::Done)
+    } else {
+        Ok(Turn::Wrong)
+    }
 }
 
 // Takes the first part of a source.
@@ -233,7 +237,17 @@ fn take_enough(
     ensures { IfOk result (λ turn. IsTurn source.now turn progress.new head.new draft.new) }
 {
     let before = last_end(progress);
-    for size in [PART, PART << 2, PART << 4, PART << 6, PART << 8, PART << 10, PART << 12, PART << 14, PART << 16] {
+    for size in [
+        PART,
+        PART << 2,
+        PART << 4,
+        PART << 6,
+        PART << 8,
+        PART << 10,
+        PART << 12,
+        PART << 14,
+        PART << 16,
+    ] {
         let turn = take_part(alloc, source, size, head, draft, progress)?;
         if !matches!(turn, Turn::On) || last_end(progress) != before {
             return Ok(turn);

@@ -31,10 +31,10 @@ use protox_generate::generate::generate_file;
 pub use protox_lex::error::ParseErrorKind;
 use protox_lex::error::SyntaxFailure;
 pub use protox_lex::{comments, error, lex};
+use protox_pass::pass::translate;
 pub use protox_places::find::locate;
 pub use protox_places::{faults, find};
 pub use protox_syntax::parse as syntax;
-use protox_pass::pass::translate;
 use protox_syntax::parse::parse_file;
 use std::alloc::{AllocError, Global};
 

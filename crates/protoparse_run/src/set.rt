@@ -41,7 +41,9 @@ fn complain_of_bytes<E: Write>(
 }
 
 /// Appends the bytes of a set with this file alone, and returns true. (Sets one after the other are
-/// one set of all their files.) If memory runs out, it writes that to `err`, and returns false.
+/// one set of all their files.) If the file has no bytes, it writes why to `err`, leaves the set as it
+/// is, and returns false: memory ran out, the bytes would be 2 GiB or more, or a double of an option
+/// is no float.
 pub fn add_to_set<E: Write>(
     alloc: Global,
     err: &mut E,

@@ -1,4 +1,5 @@
-//! How the bytes of a string are written between quotes.
+//! How the bytes of a string are written between quotes. `protox_text` repeats these escapes in its
+//! `lines.rt`, where each piece goes straight to a writer of bytes.
 
 ghost use Rattle.std.specs.Prelude.{◌≡◌, ◌∷◌, ◌<◌, Some, flat_map};
 ghost use Rattle.std.specs.Char.{digit_char};

@@ -3,7 +3,9 @@
 //! Each line goes to the writer in pieces: two blanks for each level, the name, what stands behind
 //! it, and the value; a value of bytes goes byte by byte. A writer with a buffer of its own empties
 //! it between two pieces, so other pieces would let other bytes go out before an error, or before
-//! what someone else writes to the same file.
+//! what someone else writes to the same file. So the escapes of a literal stand here too, and not only
+//! in `literal.rt` of `protox_descriptor`, which makes longer pieces. One definition says what both
+//! write.
 
 ghost use Rattle.std.specs.Prelude.{◌≡◌, ◌∷◌, flat_map, OnOk};
 ghost use Rattle.std.specs.Io.KnownBytes.{Appends};

@@ -69,7 +69,8 @@ impl Declaration<'_> {
 /// 2,147,483,648 parts (a path can't count them), `walk` returns `AllocError`, converted to the
 /// visitor's error.
 ///
-/// It makes no list of declarations. It takes memory only for the names around, and for long paths.
+/// It makes no list of declarations. It takes memory only for the names around, for each full name
+/// of over 30 bytes, and for long paths.
 ///
 /// It also visits the entry messages of maps, and the oneofs that are made for `optional` fields.
 /// No source has them, so they have no location.

@@ -1,7 +1,8 @@
 -- Tables of lexemes.
-use Rattle.std.proofs.Common.{◌≡◌, ◌≤◌, ◌+◌, drop, inl, inr, length, arith, ℕ, zero, suc, List, [], ◌∷◌, ◌++◌, get_or, refl, sym, ap, ◌∙◌, subst, append-nil, Bool, true, false, Option, Some, None}
+use Rattle.std.proofs.Common.{◌≡◌, ◌≤◌, ◌+◌, ◌-◌, take, drop, inl, inr, length, arith, ℕ, zero, suc, List, [], ◌∷◌, ◌++◌, get_or, refl, sym, ap, ◌∙◌, subst, append-nil, length-append, Bool, true, false, Option, Some, None}
 use Rattle.std.proofs.lemmas.Bool.{cases_Bool}
 use Rattle.std.proofs.lemmas.List.{drop_all}
+use Rattle.std.proofs.Math.Seq.{take-append_seam}
 use Rattle.std.specs.Borrow.{Bor}
 use Rattle.std.specs.Option.{option_map}
 use Rattle.std.specs.Prelude.{slice_get, IfSome, map}
@@ -16,7 +17,7 @@ use Rattle.protox_lexeme.specs.Shapes.{Shape}
 use Rattle.protox_lexeme.specs.Table.{Table, is_gap, in_front, rows_of, gaps_of, faults_of, table_of}
 use Rattle.protox_lexeme.specs.Lexemes.{cut}
 use Rattle.protox_lexeme.proofs.Cut.{cut_none}
-use Rattle.protox_lex.specs.Parts.{EndsAt, IsPart}
+use Rattle.protox_lex.specs.Parts.{EndsAt, IsPart, end_of}
 use Rattle.protox_lex.specs.TableView.{finished, shapes_of_lent}
 
 in_front_nil : {T : Type 0} (xss : List (List T)) → in_front [] xss ≡ xss
@@ -103,6 +104,16 @@ none_at_end source end past = ap (cut end) (drop_all end source past) ∙ cut_no
 -- Where no lexeme is left, a part ends at the end of the source.
 pub ends_with : (source : List ℕ) (from at : ℕ) (xs : List Lexeme) → EndsAt source from xs at → cut at (drop at source) ≡ [] → EndsAt source from xs (length source)
 ends_with source from at xs ends none = ends ∙ ap (λ ys. xs ++ ys) (none ∙ sym (none_at_end source (length source) (omega arith)))
+
+-- One more lexeme: the part ends where it stops, and it is the last.
+pub end_of_more : (from : ℕ) (xs : List Lexeme) (x : Lexeme) → end_of from (xs ++ x ∷ []) ≡ x.stop
+end_of_more from [] x = refl
+end_of_more from (y ∷ xs) x = end_of_more y.stop xs x
+
+pub all_but_more : (xs : List Lexeme) (x : Lexeme) → take (length (xs ++ x ∷ []) - 1) (xs ++ x ∷ []) ≡ xs
+all_but_more xs x =
+    let count : length (xs ++ x ∷ []) - 1 ≡ length xs = let more = length-append xs (x ∷ []) in omega (arith, more) in
+    ap (λ n. take n (xs ++ x ∷ [])) count ∙ take-append_seam xs (x ∷ [])
 
 -- A part that reaches from the start to the end has all lexemes.
 pub whole_part : (source : List ℕ) (table : Table) (end : ℕ) → length source ≤ end → IsPart source 0 table end → table ≡ table_of (cut 0 source)

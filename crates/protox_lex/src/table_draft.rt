@@ -9,7 +9,7 @@ ghost use Rattle.protox_lexeme.specs.Scanning as scanned;
 ghost use Rattle.protox_lexeme.specs.Shapes.{Mark, Newline};
 ghost use Rattle.protox_lexeme.specs.Table.{is_gap, table_of, invalid_faults};
 ghost use Rattle.protox_lex.specs.inner.Sharing.{and_row};
-ghost use Rattle.protox_lex.specs.Parts.{EndsAt};
+ghost use Rattle.protox_lex.specs.Parts.{EndsAt, IsReach};
 ghost use Rattle.protox_lex.specs.TableView.{finished, ended_table};
 ghost use Rattle.protox_lexeme.specs.Tokens.{shape_of, shape_of_result, borrowed_of_result, holds_none};
 
@@ -22,6 +22,14 @@ use protox_lexeme::lexeme_fault::LexemeFault;
 use protox_lexeme::scan::{Kind, scan};
 use protox_lexeme::token::Token;
 use std::alloc::{AllocError, Global};
+
+/// For how many bytes of a source there is room at once. What comes behind gets its room as it is
+/// needed: room counts against a limit of memory even if it is never touched, and a long comment
+/// takes no row.
+const AT_ONCE: usize = 0x10_0000;
+
+/// A source of the usual kind has a row for 6 to 12 bytes.
+const BYTES_A_ROW: usize = 8;
 
 /// A table, as far as the source has been cut.
 #[derive(Drop)]
@@ -226,10 +234,10 @@ fn draft<'a>(
     requires order { from ≤ until }
     requires boundary { IsCharBoundary source.now from }
     ensures table { IfOk result (λ part. (xs : List spec.Lexeme) × (finished part.0 [] ≡ table_of xs) × EndsAt source.entry.now from xs part.1) }
+    ensures reach { IfOk result (λ part. IsReach source.entry.now from until part.1) }
     ensures past { IfOk result (λ part. until ≤ part.1) }
 {
-    // A source of the usual kind has a row for 6 to 12 bytes.
-    let room = (until - from) / 8;
+    let room = (until - from).min(AT_ONCE) / BYTES_A_ROW;
     let mut draft = TableDraft {
         rows: SharedRows::new(alloc, room)?,
         gaps: SharedGaps::new(alloc, room)?,
@@ -259,6 +267,7 @@ pub(crate) fn ended_draft<'a>(
     requires order { from ≤ until }
     requires boundary { IsCharBoundary source.now from }
     ensures table { IfOk result (λ part. (xs : List spec.Lexeme) × (ended_table part.0 ≡ table_of xs) × EndsAt source.entry.now from xs part.1) }
+    ensures reach { IfOk result (λ part. IsReach source.entry.now from until part.1) }
     ensures past { IfOk result (λ part. until ≤ part.1) }
 {
     let (mut draft, end) = draft(alloc, source, from, until)?;

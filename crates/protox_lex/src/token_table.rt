@@ -8,7 +8,7 @@ ghost use Rattle.protox_lexeme.specs.Lexemes as spec;
 ghost use Rattle.protox_lexeme.specs.Table.{table_of};
 ghost use Rattle.protox_lexeme.specs.TokenClass.{class};
 ghost use Rattle.std.specs.Str.{IsCharBoundary};
-ghost use Rattle.protox_lex.specs.Parts.{IsPart};
+ghost use Rattle.protox_lex.specs.Parts.{IsPart, IsReach};
 ghost use Rattle.protox_lex.specs.TableView.{shape_of_lent, borrowed_of_lent, shapes_of_lent};
 ghost use Rattle.protox_lexeme.specs.Tokens.{shape_of};
 
@@ -57,8 +57,9 @@ impl<'a> TokenTable<'a> {
     /// The table of a part of a source: of the lexemes that stand between `from` and `until`, with
     /// the whole of the last one. Answers where they end too. Or `AllocError` if memory runs out.
     ///
-    /// Both are byte offsets in the source, and a lexeme begins at `from`, or a blank. The last row
-    /// doesn't know what comes behind the part.
+    /// Both are byte offsets in the source, and a lexeme begins at `from`, or a blank. Blanks between
+    /// lexemes are skipped. Where only blanks are left, the part ends at the end of the source. The
+    /// last row doesn't know what comes behind the part.
     #[tactic(auto, using(crate::proofs::Tables::gaps_held))]
     pub fn part(
         alloc: Global,
@@ -70,6 +71,8 @@ impl<'a> TokenTable<'a> {
         requires order { from ≤ until }
         requires boundary { IsCharBoundary source.now from }
         ensures part { IfOk result (λ part. IsPart source.entry.now from part.0 part.1) }
+        // Each lexeme but the last stops before `until`, and the part ends with the last one.
+        ensures reach { IfOk result (λ part. IsReach source.entry.now from until part.1) }
         ensures past { IfOk result (λ part. until ≤ part.1) }
     {
         let (TableDraft { rows, gaps, faults }, end) = ended_draft(alloc, source, from, until)?;

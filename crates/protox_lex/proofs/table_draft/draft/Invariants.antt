@@ -1,8 +1,9 @@
-use Rattle.std.proofs.Common.{◌≡◌, ◌-◌, ◌++◌, List, length, drop}
+use Rattle.std.proofs.Common.{◌≡◌, ◌<◌, ◌≤◌, ◌-◌, ◌++◌, List, length, take, drop}
+use Rattle.std.specs.List.{All}
 use Rattle.std.specs.Str.{IsCharBoundary}
 use Rattle.protox_lexeme.specs.Lexemes.{Lexeme}
 use Rattle.protox_lexeme.specs.Table.{table_of}
-use Rattle.protox_lex.specs.Parts.{EndsAt}
+use Rattle.protox_lex.specs.Parts.{EndsAt, end_of}
 use Rattle.protox_lex.specs.TableView.{finished}
 use Rattle.protox_lex.proofs.table_draft.draft.Given as goal
 
@@ -12,6 +13,9 @@ invariant-lexemes l = record {
   lexemes : List Lexeme;
   whole : (rest : List Lexeme) → finished l.draft rest ≡ table_of (lexemes ++ rest);
   ends : EndsAt l.source l.from lexemes l.at;
+  stopped : All (λ x. x.stop ≤ l.at) lexemes;
+  before : All (λ x. x.stop < l.until) (take (length lexemes - 1) lexemes);
+  stops : l.at ≡ end_of l.from lexemes;
 }
 
 abbrev pub decreases-lexemes : goal.decreases-lexemes

@@ -1,8 +1,10 @@
 //! The descriptor of a file: its head, and what each of its items adds.
 
-ghost use Rattle.std.specs.Prelude.{◌≡◌, ◌≤◌, ◌++◌, [], length, IfOk, OnOk};
+ghost use Rattle.std.specs.Prelude.{◌≡◌, ◌≤◌, ◌++◌, [], length, map, IfOk, OnOk};
+ghost use Rattle.std.specs.List.{flat_map};
 ghost use Rattle.protox_describe.specs.File.{item_messages, item_enums, item_services, item_extensions, file_proto};
-ghost use Rattle.protox_describe.specs.inner.Widths.{file_item_width};
+ghost use Rattle.protox_describe.specs.Siblings.{greatest};
+ghost use Rattle.protox_describe.specs.inner.Widths.{file_item_width, file_width};
 
 use crate::enums::enum_proto;
 use crate::head::{ImportLists, imports, package_name, syntax_name};
@@ -106,9 +108,21 @@ impl ItemLists {
             extension: Items::new(alloc),
         }
     }
+
+    /// A descriptor with these lists in place of its own.
+    pub fn put_into(self, mut file: FileDescriptorProto) -> FileDescriptorProto
+        ensures { result ≡ record file { message_type = self.message_type; enum_type = self.enum_type; service = self.service; extension = self.extension } }
+    {
+        file.message_type = self.message_type;
+        file.enum_type = self.enum_type;
+        file.service = self.service;
+        file.extension = self.extension;
+        file
+    }
 }
 
-/// Appends what an item of a file adds to each list. `AllocError` if memory runs out.
+/// Appends what an item of a file adds to each list. On `AllocError` (memory ran out) the lists may
+/// hold a part of it, so they are of no more use.
 ///
 /// Needs that no message of the item has more items than an `i32` counts.
 pub fn describe_item(
@@ -164,4 +178,41 @@ pub fn describe_head(
         source_code_info: None,
         syntax,
     })
+}
+
+// What all items add to the lists. Each item is dropped once it is described, so that its memory
+// can serve the descriptor.
+fn describe_items(
+    alloc: Global,
+    syntax: Syntax,
+    items: Items<FileItem>,
+) -> Result<ItemLists, AllocError>
+    requires { greatest (map file_item_width items) ≤ 2147483647 }
+    ensures messages { IfOk result (λ lists. lists.message_type ≡ flat_map (item_messages syntax) items) }
+    ensures enums { IfOk result (λ lists. lists.enum_type ≡ flat_map item_enums items) }
+    ensures services { IfOk result (λ lists. lists.service ≡ flat_map item_services items) }
+    ensures extensions { IfOk result (λ lists. lists.extension ≡ flat_map (item_extensions syntax) items) }
+{
+    let mut lists = ItemLists::new(alloc);
+    for item in items.into_vec() {
+        describe_item(alloc, syntax, &item, &mut lists)?;
+    }
+    Ok(lists)
+}
+
+/// The descriptor of a file of this name, without locations. It uses the tree up.
+///
+/// Needs that no message of the file has more items, and the file no more imports, than an `i32`
+/// counts. `AllocError` if memory runs out.
+pub fn describe_file(
+    alloc: Global,
+    name: &str,
+    ast: File,
+) -> Result<FileDescriptorProto, AllocError>
+    requires { file_width ast ≤ 2147483647 }
+    ensures { IfOk result (λ file. file ≡ file_proto name.now ast) }
+{
+    let file = describe_head(alloc, name, &ast)?;
+    let lists = describe_items(alloc, ast.syntax, ast.items)?;
+    Ok(lists.put_into(file))
 }

@@ -1,14 +1,17 @@
 -- Siblings, one after another, and what loops over them add.
-use Rattle.std.proofs.Common.{◌≡◌, ℕ, ◌+◌, ◌<◌, List, [], ◌∷◌, ◌++◌, length, map, flat_map, drop, get_or, refl, ap, sym, ◌∙◌, arith, append_assoc, append-nil, length-append, subst, add-one, suc, Result, Ok, Err}
+use Rattle.std.proofs.Common.{◌≡◌, ℕ, ◌+◌, ◌<◌, List, [], ◌∷◌, ◌++◌, length, map, flat_map, drop, get_or, take, refl, ap, sym, ◌∙◌, arith, append_assoc, append-nil, length-append, subst, add-one, suc, Result, Ok, Err}
 use Rattle.std.specs.Prelude.{OnOk}
 use Rattle.std.specs.Prelude.{ℤ}
-use Rattle.std.proofs.Math.Seq.{drop-cons}
+use Rattle.std.proofs.Math.Seq.{drop-cons, take-suc}
 use Rattle.protox_locate.specs.LocationWords.{Path, Part, part, nth, each_at, numbered}
 use Rattle.protox_locate.specs.inner.Walk.{Emits, Numbers, ToAdd, ToCome}
 use Rattle.protox_locate.specs.declared.context.Context.{Context}
 
 pub drop_more : {A : Type 0} (xs : List A) (i : ℕ) (x : A) → i < length xs → x ≡ get_or xs i x → drop i xs ≡ x ∷ drop (i + 1) xs
 drop_more xs i x h e = rw (add-one) (drop-cons xs i x h ∙ ap (λ y. y ∷ drop (suc i) xs) (sym e))
+
+pub take_more : {A : Type 0} (xs : List A) (i : ℕ) (x : A) → i < length xs → x ≡ get_or xs i x → take (i + 1) xs ≡ take i xs ++ x ∷ []
+take_more xs i x h e = rw (add-one) (take-suc xs i x h ∙ ap (λ y. take i xs ++ y ∷ []) (sym e))
 
 pub numbered_append : (path : Path) (tag : ℤ) (n : ℕ) (xs ys : List Part)
     → numbered path tag n (xs ++ ys) ≡ numbered path tag n xs ++ numbered path tag (n + length xs) ys

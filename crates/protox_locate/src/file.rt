@@ -1,18 +1,21 @@
 //! The locations of a file: those in front of its items, each item's, and those behind the items.
 
-ghost use Rattle.std.specs.Prelude.{◌≡◌, ◌≤◌, ◌+◌, ◌∷◌, ◌++◌, ℕ, ℤ, List, [], drop, length, IfOk, OnOk};
+ghost use Rattle.std.specs.Prelude.{◌≡◌, ◌≤◌, ◌+◌, ◌∷◌, ◌++◌, ℕ, ℤ, List, [], length, map, IfOk, OnOk};
+ghost use Rattle.protox_ast.specs.Siblings.{FileStands};
 ghost use Rattle.protox_ast.specs.declared.ast.File as file_type;
 ghost use Rattle.protox_ast.specs.declared.ast.FileItem as item_type;
 ghost use Rattle.protox_fault.specs.Faults as faults;
-ghost use Rattle.protox_locate.specs.inner.Bounds.{file_item_reach, file_item_weight, file_reach, package_reach, syntax_reach};
+ghost use Rattle.protox_locate.specs.inner.Bounds.{file_item_reach, file_item_weight, file_reach, file_weight, greatest, package_reach, syntax_reach, total};
 ghost use Rattle.protox_locate.specs.inner.Draft.{HasRoom, IsDraft, file_end, file_front};
-ghost use Rattle.protox_places.specs.Lines.{numbers_at};
-ghost use Rattle.protox_locate.specs.Locations.{file_at, package_locations, syntax_locations};
+ghost use Rattle.protox_places.specs.Lines.{numbers_at, span_numbers};
+ghost use Rattle.protox_places.specs.Order.{AreByPath, InOrder, StartsBefore};
+ghost use Rattle.protox_locate.specs.Locations.{file_at, file_locations, package_locations, syntax_locations};
 ghost use Rattle.protox_locate.specs.inner.Walk.{Emits};
 
 use crate::context::Context;
 use crate::declarations::{blocks_of, enums_of, extensions_of, messages_of, services_of};
 use crate::imports::{locate_imports, locate_public_words, locate_weak_words};
+use crate::lists::{fronted, joined, listed, trimmed};
 use crate::options::locate_options;
 use protox_ast::ast::{Comments, File, FileItem, Opt, Package};
 use protox_descriptor::descriptor::SourceCodeInfo;
@@ -55,6 +58,18 @@ fn add_front(
     context.add(alloc, lines, &[], &ast.span)?;
     locate_package(alloc, lines, context, &ast.package)?;
     locate_imports(alloc, lines, context, ast.imports.as_slice())
+}
+
+/// How many locations `locate_front` makes for a file with this head, if its imports are no more
+/// than an `i32` counts.
+pub fn front_len(head: &File) -> usize
+    ensures { (numbers : faults.Span → List ℤ) → length head.now.imports ≤ 2147483647 → result ≡ length (file_front numbers head.now []) }
+{
+    let imports = head.imports.len();
+    match &head.package {
+        Some(_) => imports.saturating_add(2),
+        None => imports.saturating_add(1),
+    }
 }
 
 /// The locations that come before those of a file's items: those of the file itself, of its package
@@ -112,7 +127,8 @@ impl LocationDraft {
     }
 }
 
-/// Adds the locations of an item. `AllocError` if memory runs out. Needs what `locate_front` needs.
+/// Adds the locations of an item. On `AllocError` (memory ran out) the draft may hold a part of
+/// them, so it is of no more use. Needs what `locate_front` needs.
 pub fn locate_item(
     alloc: Global,
     lines: &LineResolver,
@@ -178,66 +194,6 @@ pub fn locate_end(
     Ok(context.locations)
 }
 
-fn listed(context: Context) -> Items<Location>
-    ensures { result ≡ context.locations }
-{
-    context.locations
-}
-
-// Both lists, one after the other.
-fn joined(front: Items<Location>, back: Items<Location>) -> Result<Items<Location>, AllocError>
-    ensures { IfOk result (λ all. all ≡ front ++ back) }
-{
-    let mut all = front.into_vec();
-    let mut more = back.into_vec();
-    all.append(&mut more)?;
-    Ok(Items::from_vec(all))
-}
-
-// The locations behind the first `count`.
-fn behind(locations: Items<Location>, count: usize) -> Result<Items<Location>, AllocError>
-    ensures { IfOk result (λ rest. rest ≡ drop count locations) }
-{
-    let mut all = locations.into_vec();
-    let len = all.len();
-    let rest = all.split_off(if count < len { count } else { len })?;
-    Ok(Items::from_vec(rest))
-}
-
-// The list with these locations in place of its first ones.
-fn replaced(front: Items<Location>, locations: Items<Location>) -> Items<Location>
-    requires { length front ≤ length locations }
-    ensures { result ≡ front ++ drop (length front) locations }
-{
-    let mut first = front.into_vec();
-    let mut all = locations.into_vec();
-    let (places, _) = all.split_at_mut(first.len());
-    places.swap_with_slice(&mut first);
-    Items::from_vec(all)
-}
-
-// The list with these locations in place of the first `reserved`.
-fn fronted(
-    front: Items<Location>,
-    locations: Items<Location>,
-    reserved: usize,
-) -> Result<Items<Location>, AllocError>
-    ensures { IfOk result (λ all. all ≡ front ++ drop reserved locations) }
-{
-    if front.len() == reserved && reserved <= locations.len() {
-        return Ok(replaced(front, locations));
-    }
-    joined(front, behind(locations, reserved)?)
-}
-
-// The locations, without the room that none takes.
-fn trimmed(mut locations: Items<Location>) -> Items<Location>
-    ensures { result ≡ locations }
-{
-    locations.shrink_to_fit();
-    locations
-}
-
 /// All locations of a file whose items have been located, in the order of their paths. `front` are
 /// those in front of the items, `end` those behind them. `AllocError` if memory runs out.
 pub fn all_locations(
@@ -265,6 +221,46 @@ pub fn all_locations(
     Ok(SourceCodeInfo {
         location: trimmed(all),
     })
+}
+
+// Adds the locations of all items.
+fn locate_items(
+    alloc: Global,
+    lines: &LineResolver,
+    draft: &mut LocationDraft,
+    items: &[FileItem],
+) -> Result<(), AllocError>
+    requires room { HasRoom draft.old (total (map file_item_weight items.now)) }
+    requires reach { greatest (map file_item_reach items.now) ≤ 2147483647 }
+    ensures { OnOk result (IsDraft (numbers_at lines.now) [] draft.old → IsDraft (numbers_at lines.now) items.now draft.new) }
+{
+    for item in items {
+        locate_item(alloc, lines, draft, item)?;
+    }
+    Ok(())
+}
+
+/// The locations of all parts of a file, in the order of their paths. `source` is the text that the
+/// tree was parsed from. `AllocError` if memory runs out.
+///
+/// Lines and columns are from 0; columns count bytes. Needs that the numbers of paths and the
+/// offsets of spans fit an `i32`. They do for each tree that `parse_file` answers.
+pub fn locate_file(alloc: Global, source: &str, ast: &File) -> Result<SourceCodeInfo, AllocError>
+    requires length { length source.now ≤ 2147483647 }
+    requires room { file_weight ast.now ≤ 2147483647 }
+    requires reach { file_reach ast.now ≤ 2147483647 }
+    ensures located { IfOk result (λ info. info.location ≡ file_locations (span_numbers source.now) ast.now) }
+    // They are in order if the tree's nodes stand in the source. Those of each accepted source do.
+    ensures in_order { IfOk result (λ info. FileStands (length source.now) ast.now → InOrder StartsBefore info.location) }
+    ensures by_path { IfOk result (λ info. FileStands (length source.now) ast.now → AreByPath info.location) }
+{
+    let lines = LineResolver::new(alloc, source)?;
+    let mut draft = LocationDraft::new(alloc, front_len(ast), 0)?;
+    locate_items(alloc, &lines, &mut draft, ast.items.as_slice())?;
+    let front = locate_front(alloc, &lines, ast)?;
+    let end = locate_end(alloc, &lines, ast)?;
+    let info = all_locations(front, draft, end)?;
+    Ok(info)
 }
 
 fn locate_package(

@@ -9,6 +9,7 @@ mod fields;
 pub mod file;
 mod imports;
 mod items;
+mod lists;
 mod messages;
 mod options;
 mod ranges;

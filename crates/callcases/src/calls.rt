@@ -3,6 +3,7 @@
 
 mod answers;
 mod descriptors;
+mod parts;
 mod trees;
 mod values;
 
@@ -109,6 +110,12 @@ fn write_tokens<W: Write>(alloc: Global, out: &mut W) -> io::Result<()> {
     write_answer(out, "lexer", lexer_stays(alloc))
 }
 
+fn write_parts<W: Write>(alloc: Global, out: &mut W) -> io::Result<()> {
+    write_answer(out, "located", parts::located(alloc))?;
+    write_answer(out, "described", parts::described(alloc))?;
+    write_answer(out, "translated", parts::translated(alloc))
+}
+
 /// Writes a line for each call.
 pub fn write_calls<W: Write>(alloc: Global, out: &mut W) -> io::Result<()> {
     writeln!(out, "== calls")?;
@@ -116,5 +123,6 @@ pub fn write_calls<W: Write>(alloc: Global, out: &mut W) -> io::Result<()> {
     write_values(alloc, out)?;
     write_descriptors(alloc, out)?;
     write_answers(alloc, out)?;
-    write_tokens(alloc, out)
+    write_tokens(alloc, out)?;
+    write_parts(alloc, out)
 }

@@ -1,5 +1,5 @@
 -- How many of the items of a file have been taken.
-use Rattle.std.proofs.Common.{◌≡◌, ℕ, List, [], ◌∷◌, ◌++◌, flat_map, sym, ◌∙◌, append_assoc, append-nil, ap}
+use Rattle.std.proofs.Common.{◌≡◌, ℕ, List, [], ◌∷◌, ◌++◌, flat_map, sym, ◌∙◌, append_assoc, append-nil, length, ap, subst, arith}
 use Rattle.std.proofs.lemmas.Grind.{flat_map-append}
 use Rattle.protox_ast.specs.declared.ast.FileItem.{FileItem}
 use Rattle.protox_ast.specs.declared.ast.Syntax.{Syntax}
@@ -20,6 +20,11 @@ module _ (source : List ℕ) (syntax : Syntax) (all : List FileItem) where
     split = append_assoc r.done (item ∷ []) rest ∙ ap (λ l. r.done ++ l) (sym e) ∙ r.split;
     is = more r.done r.is;
   }
+
+-- Where no item is left, all have been taken.
+pub all_taken : (source : List ℕ) (syntax : Syntax) (all rest : List FileItem) (draft : FileDraft) → length rest ≡ 0 → Reached source syntax all rest draft → IsTaken source syntax all draft
+all_taken source syntax all [] draft none r = subst (λ (l : List FileItem). IsTaken source syntax l draft) (sym (append-nil r.done) ∙ r.split) r.is
+all_taken source syntax all (item ∷ rest) draft none r = absurd (omega (arith, none))
 
 -- what items add to a list, and what one more adds
 pub one_more_listed : {A B : Type 0} (kind : A → List B) (items : List A) (item : A) (old new : List B) → old ≡ flat_map kind items → new ≡ old ++ kind item → new ≡ flat_map kind (items ++ item ∷ [])

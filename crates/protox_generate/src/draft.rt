@@ -6,115 +6,149 @@ ghost use Rattle.protox_ast.specs.declared.ast.Syntax as syntax_type;
 ghost use Rattle.protox_describe.specs.inner.Widths.{file_item_width};
 ghost use Rattle.protox_fault.specs.Faults as faults;
 ghost use Rattle.protox_generate.specs.File.{file_descriptor};
-ghost use Rattle.protox_generate.specs.inner.Taken.{AreDrafted, HasPlacesFor, HasRoomFor, IsTaken};
+ghost use Rattle.protox_generate.specs.inner.Taken.{ArePlaced, HasPlacesFor, HasRoomFor, IsTaken};
 ghost use Rattle.protox_locate.specs.inner.Bounds.{file_item_reach, file_item_weight, file_reach};
-ghost use Rattle.protox_locate.specs.inner.Draft.{IsDraft};
-ghost use Rattle.protox_places.specs.Lines.{numbers_at};
+ghost use Rattle.protox_locate.specs.inner.Draft.{HasRoom, IsDraft};
+ghost use Rattle.protox_places.specs.Lines.{numbers_at, starts};
 
+use crate::short_source::ShortSource;
 use protox_ast::ast::{File, FileItem};
 use protox_describe::file::{ItemLists, describe_head, describe_item};
 use protox_descriptor::descriptor::{FileDescriptorProto, SourceCodeInfo};
-use protox_locate::file::{LocationDraft, all_locations, locate_end, locate_front, locate_item};
+use protox_locate::file::{
+    LocationDraft, all_locations, front_len, locate_end, locate_front, locate_item,
+};
 use protox_places::lines::LineResolver;
 use std::alloc::{AllocError, Global};
+
+/// For how many bytes of a source there is room for locations at once. Locations behind these get
+/// their room as it is needed: room counts against a limit of memory even if it is never touched.
+const AT_ONCE: usize = 0x10_0000;
+
+/// Fields without comments have a location for some 13 bytes of source, commented ones for 30 and
+/// more.
+const BYTES_A_LOCATION: usize = 24;
+
+// The lines of a source, and the locations of the items so far.
+#[derive(Drop)]
+struct ItemPlaces {
+    lines: LineResolver,
+    locations: LocationDraft,
+}
 
 /// What is made of the items of a file, one by one. The rest of the file may be known only at the
 /// end.
 #[derive(Drop)]
-pub struct FileDraft {
-    lines: LineResolver,
+pub struct FileDraft<'a> {
+    source: ShortSource<'a>,
     // None before the first item.
-    locations: Option<LocationDraft>,
+    places: Option<ItemPlaces>,
     lists: ItemLists,
 }
 
-// How many locations stand in front of the items. With another number, `all_locations` would have
-// to move those of the items.
-fn front_len(head: &File) -> usize {
-    let own = if head.package.is_some() { 2 } else { 1 };
-    head.imports.len().saturating_add(own)
+impl ItemPlaces {
+    // No item yet. `reserved` places are kept for the locations in front of the items, and there is
+    // room for `room` locations, if memory allows.
+    fn new(
+        alloc: Global,
+        source: &str,
+        reserved: usize,
+        room: usize,
+    ) -> Result<ItemPlaces, AllocError>
+        requires { length source.now ≤ 2147483647 }
+        ensures lines { IfOk result (λ places. places.lines ≡ starts 0 source.now) }
+        ensures located { IfOk result (λ places. (numbers : faults.Span → List ℤ) → IsDraft numbers [] places.locations) }
+        ensures room { IfOk result (λ places. (more : ℕ) → more ≤ 2147483647 → HasRoom places.locations more) }
+    {
+        Ok(ItemPlaces {
+            lines: LineResolver::new(alloc, source)?,
+            locations: LocationDraft::new(alloc, reserved, room)?,
+        })
+    }
+
+    fn locate(&mut self, alloc: Global, item: &FileItem) -> Result<(), AllocError>
+        requires room { HasRoom self.old.locations (file_item_weight item.now) }
+        requires reach { file_item_reach item.now ≤ 2147483647 }
+        ensures lines { self.new.lines ≡ self.old.lines }
+        ensures located { OnOk result ((items : List item_type.FileItem) → IsDraft (numbers_at self.old.lines) items self.old.locations → IsDraft (numbers_at self.old.lines) (items ++ item.now ∷ []) self.new.locations) }
+        ensures room { OnOk result ((more : ℕ) → HasRoom self.old.locations (file_item_weight item.now + more) → HasRoom self.new.locations more) }
+    {
+        locate_item(alloc, &self.lines, &mut self.locations, item)
+    }
 }
 
-// Locates an item. The first one also makes the draft, with room for `room` locations.
+// Locates an item. The first one also makes the table of lines and the lists of locations.
 fn locate(
     alloc: Global,
-    lines: &LineResolver,
-    locations: &mut Option<LocationDraft>,
+    source: &str,
+    places: &mut Option<ItemPlaces>,
     head: &File,
     item: &FileItem,
-    room: usize,
 ) -> Result<(), AllocError>
-    requires room { HasPlacesFor locations.old (file_item_weight item.now) }
+    requires fits { length source.now ≤ 2147483647 }
+    requires room { HasPlacesFor places.old (file_item_weight item.now) }
     requires reach { file_item_reach item.now ≤ 2147483647 }
-    ensures located { OnOk result ((items : List item_type.FileItem) → AreDrafted (numbers_at lines.now) items locations.old → AreDrafted (numbers_at lines.now) (items ++ item.now ∷ []) locations.new) }
-    ensures room { OnOk result ((more : ℕ) → HasPlacesFor locations.old (file_item_weight item.now + more) → HasPlacesFor locations.new more) }
+    ensures located { OnOk result ((items : List item_type.FileItem) → ArePlaced source.now items places.old → ArePlaced source.now (items ++ item.now ∷ []) places.new) }
+    ensures room { OnOk result ((more : ℕ) → HasPlacesFor places.old (file_item_weight item.now + more) → HasPlacesFor places.new more) }
 {
-    match locations {
-        Some(draft) => locate_item(alloc, lines, draft, item),
+    match places {
+        Some(known) => known.locate(alloc, item),
         None => {
-            let mut draft = LocationDraft::new(alloc, front_len(head), room)?;
-            locate_item(alloc, lines, &mut draft, item)?;
-            *locations = Some(draft);
+            let room = source.len().min(AT_ONCE) / BYTES_A_LOCATION;
+            let mut made = ItemPlaces::new(alloc, source, front_len(head), room)?;
+            made.locate(alloc, item)?;
+            *places = Some(made);
             Ok(())
         }
     }
 }
 
-// The draft of the locations; without any item, an empty one.
-fn located(alloc: Global, locations: Option<LocationDraft>) -> Result<LocationDraft, AllocError>
-    ensures { IfOk result (λ draft. (numbers : faults.Span → List ℤ) (items : List item_type.FileItem) → AreDrafted numbers items locations → IsDraft numbers items draft) }
+// The places of the items; without any item, those of none.
+fn placed(alloc: Global, source: &str, places: Option<ItemPlaces>) -> Result<ItemPlaces, AllocError>
+    requires { length source.now ≤ 2147483647 }
+    ensures { IfOk result (λ known. (items : List item_type.FileItem) → ArePlaced source.now items places → ArePlaced source.now items (Some known)) }
 {
-    match locations {
-        Some(draft) => Ok(draft),
-        None => LocationDraft::new(alloc, 0, 0),
+    match places {
+        Some(known) => Ok(known),
+        None => ItemPlaces::new(alloc, source, 0, 0),
     }
 }
 
 // The descriptor with what its items add, and with its locations.
-fn filled(
-    mut file: FileDescriptorProto,
-    lists: ItemLists,
-    info: SourceCodeInfo,
-) -> FileDescriptorProto
+fn filled(file: FileDescriptorProto, lists: ItemLists, info: SourceCodeInfo) -> FileDescriptorProto
     ensures { result ≡ record file { message_type = lists.message_type; enum_type = lists.enum_type; service = lists.service; extension = lists.extension; source_code_info = Some info } }
 {
-    file.message_type = lists.message_type;
-    file.enum_type = lists.enum_type;
-    file.service = lists.service;
-    file.extension = lists.extension;
-    file.source_code_info = Some(info);
-    file
+    let mut whole = lists.put_into(file);
+    whole.source_code_info = Some(info);
+    whole
 }
 
-impl FileDraft {
-    /// No item yet, of a file with this source. `AllocError` if memory runs out.
+impl<'a> FileDraft<'a> {
+    /// No item yet, of a file with this source. It takes no memory; what the draft takes later comes
+    /// from `alloc`.
     ///
     /// Needs that the source has at most 2,147,483,647 bytes.
-    pub fn new(alloc: Global, source: &str) -> Result<FileDraft, AllocError>
+    pub fn new(alloc: Global, source: &'a str) -> FileDraft<'a>
         requires { length source.now ≤ 2147483647 }
         // The draft has no item, and there is room for as many parts as an i32 counts.
-        ensures taken { IfOk result (λ draft. (syntax : syntax_type.Syntax) → IsTaken source.now syntax [] draft) }
-        ensures room { IfOk result (λ draft. (more : ℕ) → more ≤ 2147483647 → HasRoomFor draft more) }
+        ensures taken { (syntax : syntax_type.Syntax) → IsTaken source.now syntax [] result }
+        ensures room { (more : ℕ) → more ≤ 2147483647 → HasRoomFor result more }
     {
-        Ok(FileDraft {
-            lines: LineResolver::new(alloc, source)?,
-            locations: None,
+        FileDraft {
+            source: ShortSource::new(source),
+            places: None,
             lists: ItemLists::new(alloc),
-        })
+        }
     }
 
     /// Describes and locates an item. Then it is dropped, so that its memory can serve what comes
-    /// next. `AllocError` if memory runs out.
+    /// next. On `AllocError` (memory ran out) the draft may hold a part of the item, so it is of no
+    /// more use.
     ///
     /// `head` says the syntax. What it has in front of its items is best known here, but may be
-    /// known only at the end. The first item makes room for `room` locations, if memory allows.
-    pub fn take(
-        &mut self,
-        alloc: Global,
-        head: &File,
-        item: FileItem,
-        room: usize,
-    ) -> Result<(), AllocError>
+    /// known only at the end. The first item also makes the table of lines, and room for the
+    /// locations of a source of the usual kind, if memory allows.
+    pub fn take(&mut self, alloc: Global, head: &File, item: FileItem) -> Result<(), AllocError>
         requires room { HasRoomFor self.old (file_item_weight item) }
         requires reach { file_item_reach item ≤ 2147483647 }
         requires width { file_item_width item ≤ 2147483647 }
@@ -123,7 +157,7 @@ impl FileDraft {
         ensures room { OnOk result ((more : ℕ) → HasRoomFor self.old (file_item_weight item + more) → HasRoomFor self.new more) }
     {
         describe_item(alloc, head.syntax, &item, &mut self.lists)?;
-        locate(alloc, &self.lines, &mut self.locations, head, &item, room)
+        locate(alloc, self.source.text, &mut self.places, head, &item)
     }
 
     /// The descriptor of the file of this name that has this head and the items taken. Items of
@@ -137,16 +171,17 @@ impl FileDraft {
         requires imports { length head.now.imports ≤ 2147483647 }
         requires options { length head.now.options ≤ 2147483647 }
         requires reach { file_reach head.now ≤ 2147483647 }
-        ensures { IfOk result (λ file. (source : List ℕ) (items : List item_type.FileItem) → IsTaken source head.now.syntax items self → file ≡ file_descriptor name.now source (record head.now { items = items })) }
+        ensures { IfOk result (λ file. (source : List ℕ) (items : List item_type.FileItem) → IsTaken source head.now.syntax items self.entry → file ≡ file_descriptor name.now source (record head.now { items = items })) }
     {
         let FileDraft {
-            lines,
-            locations,
+            source,
+            places,
             lists,
         } = self;
+        let ItemPlaces { lines, locations } = placed(alloc, source.text, places)?;
         let front = locate_front(alloc, &lines, head)?;
         let end = locate_end(alloc, &lines, head)?;
-        let info = all_locations(front, located(alloc, locations)?, end)?;
+        let info = all_locations(front, locations, end)?;
         let file = describe_head(alloc, name, head)?;
         Ok(filled(file, lists, info))
     }

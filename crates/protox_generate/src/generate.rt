@@ -26,10 +26,9 @@ use std::mem;
 
 fn take_items(
     alloc: Global,
-    draft: &mut FileDraft,
+    draft: &mut FileDraft<'_>,
     head: &File,
     items: Items<FileItem>,
-    room: usize,
 ) -> Result<(), AllocError>
     requires room { HasRoomFor draft.old (total (map file_item_weight items)) }
     requires reach { greatest (map file_item_reach items) ≤ 2147483647 }
@@ -37,7 +36,7 @@ fn take_items(
     ensures { OnOk result ((source : List ℕ) → IsTaken source head.now.syntax [] draft.old → IsTaken source head.now.syntax items draft.new) }
 {
     for item in items.into_vec() {
-        draft.take(alloc, head, item, room)?;
+        draft.take(alloc, head, item)?;
     }
     Ok(())
 }
@@ -61,9 +60,8 @@ fn described(
 {
     let mut head = ast;
     let items = mem::replace(&mut head.items, Items::new(alloc));
-    let mut draft = FileDraft::new(alloc, source)?;
-    // A source of the usual kind has a location for 20 to 30 bytes.
-    take_items(alloc, &mut draft, &head, items, source.len() / 24)?;
+    let mut draft = FileDraft::new(alloc, source);
+    take_items(alloc, &mut draft, &head, items)?;
     let file = draft.finish(alloc, name, &head)?;
     Ok(file)
 }

@@ -8,7 +8,6 @@ use Rattle.protox_descriptor.specs.declared.descriptor.FileDescriptorProto.{File
 use Rattle.protox_checks.specs.Faults.{IsFaultless, Wrong}
 use Rattle.protox_generate.specs.File.{file_descriptor}
 use Rattle.protox_fault.specs.declared.error.ParseErrorKind.{ParseErrorKind}
-use Rattle.protox_pass.specs.Found.{IsFound}
 use Rattle.protox_parse.specs.Failures.{IsOutOfMemory}
 use Rattle.protox_parse.specs.Files.{IsTranslation}
 use Rattle.protox_parse.specs.declared.failure.ParseFailure.{ParseFailure}
@@ -32,9 +31,3 @@ only name source file same (Ok d) its is none ok h = found name source file (Ok 
 pub none-wrong : (file : File) (faults : List ParseErrorKind) → faults ≢ [] → Each (Wrong file) faults → IsFaultless file → ⊥
 none-wrong file [] some each none = some refl
 none-wrong file (wrong ∷ more) some each none = none wrong each.0
-
--- What a pass finds is the translation.
-pub translation : (name source : List ℕ) (d : FileDescriptorProto) → IsFound name source d → IsTranslation name source d
-translation name source d f =
-    let is = f.of_source in
-    (is.0, is.1, subst IsFaultless is.2 f.faultless, f.described ∙ ap (file_descriptor name source) is.2)

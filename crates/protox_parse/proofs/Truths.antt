@@ -52,38 +52,32 @@ module _ (source : List ℕ) where
   -- ---- the faults of reading
 
   pub read-first : (e : SyntaxFailure) (r : ParseFailure) → HasFaultsOf e r → syntax.BeginsWithFirst source e → BeginsWithFirst source r
-  unfolding BeginsWithFirst
   read-first e OutOfMemory same h = tt
   read-first failure.OutOfMemory (Refused x) same h = absurd same
   read-first (failure.Faults v) (Refused x) same h =
       subst (λ errors. IfSome (first_of errors) (IsFirstOfSource source)) (sym same) (if-more (IsFirstFault (cut 0 source)) (IsFirstOfSource source) (first_of v.items) (λ f k. inr (inl k)) h)
 
   pub read-stand : (e : SyntaxFailure) (r : ParseFailure) → HasFaultsOf e r → standing.AreStanding source e → AreStanding source r
-  unfolding AreStanding
   read-stand e OutOfMemory same h = tt
   read-stand failure.OutOfMemory (Refused x) same h = absurd same
   read-stand (failure.Faults v) (Refused x) same h = subst (StandIn (cut 0 source)) (sym same) h
 
   pub read-lexical : (e : SyntaxFailure) (r : ParseFailure) → HasFaultsOf e r → lexical.AreLexicalAlone source e → AreLexicalAlone source r
-  unfolding AreLexicalAlone
   read-lexical e OutOfMemory same h = tt
   read-lexical failure.OutOfMemory (Refused x) same h = absurd same
   read-lexical (failure.Faults v) (Refused x) same h = λ fits f spelled deep nothing valid unclean. subst (AreFaultsOf (cut 0 source)) (sym same) (h f spelled deep nothing valid)
 
   pub read-all : (e : SyntaxFailure) (r : ParseFailure) → HasFaultsOf e r → found.AreAllFound source e → AreAllFound source r
-  unfolding AreAllFound
   read-all e OutOfMemory same h = tt
   read-all failure.OutOfMemory (Refused x) same h = absurd same
   read-all (failure.Faults v) (Refused x) same h = λ fits none. subst (AreAllFaults source) (sym same) h
 
   pub read_lost : (e : SyntaxFailure) (r : ParseFailure) → HasFaultsOf e r → lost.NoCheckIsLost source e → NoCheckIsLost source r
-  unfolding NoCheckIsLost
   read_lost e OutOfMemory same h = tt
   read_lost failure.OutOfMemory (Refused x) same h = absurd same
   read_lost (failure.Faults v) (Refused x) same h = λ fits none. subst (NoneIsLost (cut 0 source)) (sym same) h
 
   pub read-words : (e : SyntaxFailure) (r : ParseFailure) → HasFaultsOf e r → words.ExpectsTruly source e → ExpectsTruly source r
-  unfolding ExpectsTruly
   read-words e OutOfMemory same h = tt
   read-words failure.OutOfMemory (Refused x) same h = absurd same
   read-words (failure.Faults v) (Refused x) same h = λ fits none. subst (λ errors. IfSome (first_of errors) (words.HasTrueWords (cut 0 source))) (sym same) h
@@ -91,27 +85,21 @@ module _ (source : List ℕ) where
   -- ---- memory ran out
 
   pub none-first : BeginsWithFirst source OutOfMemory
-  unfolding BeginsWithFirst
   none-first = tt
 
   pub none-stand : AreStanding source OutOfMemory
-  unfolding AreStanding
   none-stand = tt
 
   pub none-lexical : AreLexicalAlone source OutOfMemory
-  unfolding AreLexicalAlone
   none-lexical = tt
 
   pub none-all : AreAllFound source OutOfMemory
-  unfolding AreAllFound
   none-all = tt
 
   pub none-lost : NoCheckIsLost source OutOfMemory
-  unfolding NoCheckIsLost
   none-lost = tt
 
   pub none-words : ExpectsTruly source OutOfMemory
-  unfolding ExpectsTruly
   none-words = tt
 
   -- ---- those of the generator
@@ -125,37 +113,31 @@ module _ (source : List ℕ) where
       if-more (Wrong file) (IsFirstOfSource source) (first_of errors) (λ wrong w. inr (inr (is.0, is.1, subst (λ u. Wrong u wrong) is.2 w))) (first-wrong file errors h)
 
   pub made-first : (file : File) → IsFileOf source file → (r : Result FileDescriptorProto ParseFailure) → IfErr r (AreWrongOf file) → IfErr r (BeginsWithFirst source)
-  unfolding BeginsWithFirst
   made-first file is (Ok d) h = tt
   made-first file is (Err OutOfMemory) h = tt
   made-first file is (Err (Refused e)) h = its-tree file is e.errors h
 
   pub made-stand : (file : File) (r : Result FileDescriptorProto ParseFailure) → IfErr r (AreWrongOf file) → IfErr r (AreStanding source)
-  unfolding AreStanding
   made-stand file (Ok d) h = tt
   made-stand file (Err OutOfMemory) h = tt
   made-stand file (Err (Refused e)) h = plain-stand (cut 0 source) e.errors (all-plain file e.errors h)
 
   pub made-lexical : (file : File) → IsFileOf source file → (r : Result FileDescriptorProto ParseFailure) → IfErr r (AreLexicalAlone source)
-  unfolding AreLexicalAlone
   made-lexical file is (Ok d) = tt
   made-lexical file is (Err OutOfMemory) = tt
   made-lexical file is (Err (Refused e)) = λ fits f spelled deep nothing valid unclean. absurd (unclean is.1.clean)
 
   pub made-all : (file : File) → IsFileOf source file → (r : Result FileDescriptorProto ParseFailure) → IfErr r (AreAllFound source)
-  unfolding AreAllFound
   made-all file is (Ok d) = tt
   made-all file is (Err OutOfMemory) = tt
   made-all file is (Err (Refused e)) = λ fits none. absurd (none is.0 is.1)
 
   pub made-lost : (file : File) → IsFileOf source file → (r : Result FileDescriptorProto ParseFailure) → IfErr r (NoCheckIsLost source)
-  unfolding NoCheckIsLost
   made-lost file is (Ok d) = tt
   made-lost file is (Err OutOfMemory) = tt
   made-lost file is (Err (Refused e)) = λ fits none. absurd (none is.0 is.1)
 
   pub made-words : (file : File) → IsFileOf source file → (r : Result FileDescriptorProto ParseFailure) → IfErr r (ExpectsTruly source)
-  unfolding ExpectsTruly
   made-words file is (Ok d) = tt
   made-words file is (Err OutOfMemory) = tt
   made-words file is (Err (Refused e)) = λ fits none. absurd (none is.0 is.1)
@@ -168,33 +150,27 @@ module _ (source : List ℕ) where
     alone (Refused e) h P p Q none k = k e (elim h.1 as (λ _. P e.errors) [ inl fits ↦ absurd (large fits.0) | inr other ↦ subst P (sym other.2) p ])
 
     pub large-first : (r : ParseFailure) → IsRefusalOf name source r → BeginsWithFirst source r
-    unfolding BeginsWithFirst
     large-first r h = alone r h (λ errors. IfSome (first_of errors) (IsFirstOfSource source)) (inl (large, refl)) (BeginsWithFirst source) tt (λ e p. p)
 
     pub large-stand : (r : ParseFailure) → IsRefusalOf name source r → AreStanding source r
-    unfolding AreStanding
     large-stand r h = alone r h (StandIn (cut 0 source)) (plain-stand (cut 0 source) (FileTooLarge ∷ []) (refl, tt)) (AreStanding source) tt (λ e p. p)
 
     pub large-only : (r : ParseFailure) → IsFile source → IsOutOfMemory r
     large-only r is = absurd (large is.1.fits)
 
     pub large-lexical : (r : ParseFailure) → AreLexicalAlone source r
-    unfolding AreLexicalAlone
     large-lexical OutOfMemory = tt
     large-lexical (Refused e) = λ fits f spelled deep nothing valid unclean. absurd (large fits)
 
     pub large-all : (r : ParseFailure) → AreAllFound source r
-    unfolding AreAllFound
     large-all OutOfMemory = tt
     large-all (Refused e) = λ fits none. absurd (large fits)
 
     pub large-words : (r : ParseFailure) → ExpectsTruly source r
-    unfolding ExpectsTruly
     large-words OutOfMemory = tt
     large-words (Refused e) = λ fits none. absurd (large fits)
 
     pub large-lost : (r : ParseFailure) → NoCheckIsLost source r
-    unfolding NoCheckIsLost
     large-lost OutOfMemory = tt
     large-lost (Refused e) = λ fits none. absurd (large fits)
 

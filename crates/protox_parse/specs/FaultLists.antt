@@ -32,14 +32,14 @@ HasFaultsOf failure.OutOfMemory (Refused e) = ⊥
 
 -- Each fault of a lexeme and each unexpected token stands somewhere in the source. No fault of a
 -- lexeme is listed twice.
-unfoldable pub AreStanding : List ℕ → ParseFailure → Type 0
+abbrev pub AreStanding : List ℕ → ParseFailure → Type 0
 AreStanding source OutOfMemory = Unit {0}
 AreStanding source (Refused e) = StandIn (cut 0 source) e.errors
 
 -- If only lexemes are at fault, exactly their faults are reported, in their order. This needs that
 -- the source is within the length limit, that no character is invalid, and that the tokens spell a
 -- tree of at most 31 levels that passes each check made while reading.
-unfoldable pub AreLexicalAlone : List ℕ → ParseFailure → Type 0
+abbrev pub AreLexicalAlone : List ℕ → ParseFailure → Type 0
 AreLexicalAlone source OutOfMemory = Unit {0}
 AreLexicalAlone source (Refused e) =
     Fits source → (f : t.File Place) → Spells (placed (table_of (cut 0 source))) f → depth f ≤ 31 → NothingWrong f → AreTokens (cut 0 source) → (AreClean (cut 0 source) → ⊥)
@@ -47,19 +47,19 @@ AreLexicalAlone source (Refused e) =
 
 -- If the source is within the length limit and the parser accepts no tree of it, the list has all
 -- its faults, in their order. Only the words of what was expected may differ.
-unfoldable pub AreAllFound : List ℕ → ParseFailure → Type 0
+abbrev pub AreAllFound : List ℕ → ParseFailure → Type 0
 AreAllFound source OutOfMemory = Unit {0}
 AreAllFound source (Refused e) = Fits source → ((f : t.File Place) → IsAccepted source f → ⊥) → AreAllFaults source e.errors
 
 -- If the source is within the length limit and the parser accepts no tree of it, no check made
 -- while reading is lost; or memory ran out.
-unfoldable pub NoCheckIsLost : List ℕ → ParseFailure → Type 0
+abbrev pub NoCheckIsLost : List ℕ → ParseFailure → Type 0
 NoCheckIsLost source OutOfMemory = Unit {0}
 NoCheckIsLost source (Refused e) = Fits source → ((f : t.File Place) → IsAccepted source f → ⊥) → NoneIsLost (cut 0 source) e.errors
 
 -- If the source is within the length limit and the parser accepts no tree of it, the words of the
 -- first fault are true, if it has some; or memory ran out.
-unfoldable pub ExpectsTruly : List ℕ → ParseFailure → Type 0
+abbrev pub ExpectsTruly : List ℕ → ParseFailure → Type 0
 ExpectsTruly source OutOfMemory = Unit {0}
 ExpectsTruly source (Refused e) = Fits source → ((f : t.File Place) → IsAccepted source f → ⊥) → IfSome (first_of e.errors) (HasTrueWords (cut 0 source))
 

@@ -29,6 +29,6 @@ abbrev pub IsFirstOfSource : List ℕ → ParseErrorKind → Type 0
 IsFirstOfSource source wrong = IsTrueOfSize source wrong ⊎ (IsFirstFault (cut 0 source) wrong ⊎ IsTrueOfTree source wrong)
 
 -- The refusal begins with the first fault of the source; or memory ran out.
-unfoldable pub BeginsWithFirst : List ℕ → ParseFailure → Type 0
+abbrev pub BeginsWithFirst : List ℕ → ParseFailure → Type 0
 BeginsWithFirst source OutOfMemory = Unit {0}
 BeginsWithFirst source (Refused e) = IfSome (first_of e.errors) (IsFirstOfSource source)

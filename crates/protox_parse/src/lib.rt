@@ -31,12 +31,11 @@ use protox_generate::generate::generate_file;
 pub use protox_lex::error::ParseErrorKind;
 use protox_lex::error::SyntaxFailure;
 pub use protox_lex::{comments, error, lex};
-use protox_pass::pass::translate;
 pub use protox_places::find::locate;
 pub use protox_places::{faults, find};
 pub use protox_syntax::parse as syntax;
 use protox_syntax::parse::parse_file;
-use std::alloc::{AllocError, Global};
+use std::alloc::Global;
 
 /// Whether a source of `len` bytes is within the limit of 2,147,483,647 bytes.
 pub fn source_fits(len: usize) -> bool
@@ -103,7 +102,6 @@ fn translated(
 /// It fails with `ParseFailure::Refused` if something is wrong with the source, also if it is
 /// longer than `source_fits` allows. It fails with `ParseFailure::OutOfMemory` if memory runs out.
 /// Imported files are not read, and names of types are not resolved.
-#[tactic(auto, using(crate::proofs::Translating::translation))]
 pub fn parse(alloc: Global, name: &str, source: &str) -> Result<FileDescriptorProto, ParseFailure>
     // The answer is the translation of the source: it is a file, and this is its descriptor.
     ensures found { IfOk result (IsTranslation name.now source.now) }
@@ -146,13 +144,6 @@ pub fn parse(alloc: Global, name: &str, source: &str) -> Result<FileDescriptorPr
 {
     if !source_fits(source.len()) {
         return Err(too_large(alloc, name));
-    }
-    // Most sources are right, and one pass takes less time and memory. Where it gives up, the syntax
-    // tree tells what is wrong.
-    match translate(alloc, name, source) {
-        Ok(Some(descriptor)) => return Ok(descriptor),
-        Ok(None) => (),
-        Err(AllocError) => return Err(ParseFailure::OutOfMemory),
     }
     match read(alloc, name, source) {
         Ok(file) => translated(alloc, file, name, source),

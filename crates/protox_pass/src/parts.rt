@@ -107,7 +107,7 @@ fn take_rows<'t, 'a>(
     part: &'t Part<'a>,
     rest: Unread<'t, 'a>,
     head: &mut File,
-    draft: &mut FileDraft,
+    draft: &mut FileDraft<'_>,
     progress: &mut Progress,
 ) -> Result<Turn, AllocError>
     requires fits { Fits source.now }
@@ -136,7 +136,7 @@ fn take_first(
     source: &str,
     part: &Part<'_>,
     head: &mut File,
-    draft: &mut FileDraft,
+    draft: &mut FileDraft<'_>,
     progress: &mut Progress,
 ) -> Result<Turn, AllocError>
     requires fits { Fits source.now }
@@ -160,7 +160,7 @@ fn take_later(
     source: &str,
     part: &Part<'_>,
     head: &mut File,
-    draft: &mut FileDraft,
+    draft: &mut FileDraft<'_>,
     progress: &mut Progress,
 ) -> Result<Turn, AllocError>
     requires fits { Fits source.now }
@@ -182,7 +182,7 @@ fn take_part(
     source: &str,
     size: usize,
     head: &mut File,
-    draft: &mut FileDraft,
+    draft: &mut FileDraft<'_>,
     progress: &mut Progress,
 ) -> Result<Turn, AllocError>
     requires fits { Fits source.now }
@@ -229,7 +229,7 @@ fn take_enough(
     alloc: Global,
     source: &str,
     head: &mut File,
-    draft: &mut FileDraft,
+    draft: &mut FileDraft<'_>,
     progress: &mut Progress,
 ) -> Result<Turn, AllocError>
     requires fits { Fits source.now }
@@ -261,7 +261,7 @@ pub(crate) fn take_all(
     alloc: Global,
     source: &str,
     head: &mut File,
-    draft: &mut FileDraft,
+    draft: &mut FileDraft<'_>,
     progress: &mut Progress,
 ) -> Result<bool, AllocError>
     requires fits { Fits source.now }

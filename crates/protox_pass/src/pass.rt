@@ -35,12 +35,12 @@ fn no_file(alloc: Global) -> File
 }
 
 // The head and the items of a source, if nothing is found that is wrong with it.
-fn taken(alloc: Global, source: &str) -> Result<Option<(File, FileDraft)>, AllocError>
+fn taken<'a>(alloc: Global, source: &'a str) -> Result<Option<(File, FileDraft<'a>)>, AllocError>
     requires { Fits source.now }
     ensures { IfOk result (λ found. IfSome found (λ x. IsAll source.now x.0 x.1)) }
 {
     let mut head = no_file(alloc);
-    let mut draft = FileDraft::new(alloc, source)?;
+    let mut draft = FileDraft::new(alloc, source);
     let mut progress = Progress {
         start: source.len(),
         last: None,
@@ -58,7 +58,7 @@ fn finished(
     name: &str,
     source: &str,
     head: File,
-    draft: FileDraft,
+    draft: FileDraft<'_>,
 ) -> Result<Option<FileDescriptorProto>, AllocError>
     requires fits { Fits source.now }
     requires all { IsAll source.now head draft }

@@ -55,9 +55,8 @@ fn keep_first_package(head: &mut File, found: Package)
 fn take_item(
     alloc: Global,
     head: &File,
-    draft: &mut FileDraft,
+    draft: &mut FileDraft<'_>,
     item: FileItem,
-    room: usize,
 ) -> Result<bool, AllocError>
     requires { CanTakeItem draft.old item }
     ensures right { IfOk result (λ right. right ≡ true → nodes_faults head.now.syntax (item_nodes item) ≡ []) }
@@ -67,7 +66,7 @@ fn take_item(
     if !item_is_right(alloc, head.syntax, &item)? {
         return Ok(false);
     }
-    draft.take(alloc, head, item, room)?;
+    draft.take(alloc, head, item)?;
     Ok(true)
 }
 
@@ -75,9 +74,8 @@ fn take_item(
 fn take_statement(
     alloc: Global,
     head: &mut File,
-    draft: &mut FileDraft,
+    draft: &mut FileDraft<'_>,
     statement: Statement,
-    room: usize,
 ) -> Result<bool, AllocError>
     requires { CanTake draft.old statement }
     ensures held { IfOk result (λ right. right ≡ true → (source : List ℕ) (syntax : syntax_type.Syntax) (st : statements_type.Statements) → IsHeld source syntax st head.old draft.old → IsHeld source syntax (add_statement st statement) head.new draft.new) }
@@ -88,7 +86,7 @@ fn take_statement(
         Statement::Import(import) => head.imports.push(import)?,
         Statement::Package(package) => keep_first_package(head, package),
         Statement::Option(option) => head.options.push(option)?,
-        Statement::Item(item) => return take_item(alloc, head, draft, item, room),
+        Statement::Item(item) => return take_item(alloc, head, draft, item),
     }
     Ok(true)
 }
@@ -101,7 +99,7 @@ pub(crate) fn take_statements<'t, 'a>(
     part: &'t Part<'a>,
     rows: &mut Unread<'t, 'a>,
     head: &mut File,
-    draft: &mut FileDraft,
+    draft: &mut FileDraft<'_>,
 ) -> Result<bool, AllocError>
     requires fits { Fits source.now }
     requires ahead { IsInPart source.now part.now rows.old head.old draft.old }
@@ -111,7 +109,7 @@ pub(crate) fn take_statements<'t, 'a>(
         let mut ahead = rows.again();
         match next_statement(alloc, &mut ahead, &first_place(head))? {
             Next::Read(statement) if part.ends || !ahead.is_empty() => {
-                if !take_statement(alloc, head, draft, statement, source.len() / 24)? {
+                if !take_statement(alloc, head, draft, statement)? {
                     return Ok(false);
                 }
             }

@@ -5,8 +5,7 @@ use Rattle.protox_ast.specs.Accepted.{Fits}
 use Rattle.protox_ast.specs.Ast as ast_of
 use Rattle.protox_parse.proofs.Translating.{found, only}
 use Rattle.protox_parse.proofs.Truths as truths
-use Rattle.protox_parse.specs.FaultLists.{AreAllFound, AreLexicalAlone, AreListedOf, AreStanding, ExpectsTruly, NoCheckIsLost}
-use Rattle.protox_parse.specs.FirstFault.{BeginsWithFirst}
+use Rattle.protox_parse.specs.FaultLists.{AreListedOf}
 use Rattle.protox_parse.proofs.parse.Goals as goal
 
 pub returns-in-Ok-clause-found : goal.returns-in-Ok-clause-found
@@ -16,8 +15,8 @@ pub returns-in-Ok-clause-only : goal.returns-in-Ok-clause-only
 returns-in-Ok-clause-only c is =
     only c.args.name.now c.args.source.now c.in-Ok.file _ c.translated.result c.in-Ok.ensures.found (c.in-Ok.ensures.only is.0 is.1) is.2 c.translated.ensures.found c.translated.ensures.only
 
-pub returns-in-Err-read-clause-only : goal.returns-in-Err-read-clause-only
-returns-in-Err-read-clause-only c is = c.in-Err-read.ensures.only is.0 is.1
+pub returns-in-Err-clause-only : goal.returns-in-Err-clause-only
+returns-in-Err-clause-only c is = c.in-Err.ensures.only is.0 is.1
 
 pub returns-in-Ok-clause-first : goal.returns-in-Ok-clause-first
 returns-in-Ok-clause-first c = truths.made-first c.args.source.now c.in-Ok.file c.in-Ok.ensures.found c.translated.result c.translated.ensures.wrong
@@ -40,8 +39,8 @@ returns-in-Ok-clause-words c = truths.made-words c.args.source.now c.in-Ok.file 
 pub returns-in-Ok-clause-checked : goal.returns-in-Ok-clause-checked
 returns-in-Ok-clause-checked c f accepted = subst (λ v. IfErr c.translated.result (AreListedOf v)) (c.in-Ok.ensures.only f accepted) c.translated.ensures.checked
 
-pub returns-in-Err-read-clause-checked : goal.returns-in-Err-read-clause-checked
-returns-in-Err-read-clause-checked c f accepted = truths.none-listed (ast_of.file (length c.args.source.now) f) _ (c.in-Err-read.ensures.only f accepted)
+pub returns-in-Err-clause-checked : goal.returns-in-Err-clause-checked
+returns-in-Err-clause-checked c f accepted = truths.none-listed (ast_of.file (length c.args.source.now) f) _ (c.in-Err.ensures.only f accepted)
 
 not-fitting : (fits : Bool) (source : List ℕ) → (Fits source → IsTrue fits) → fits ≡ false → Fits source → ⊥
 not-fitting fits source says none it = false≢true (subst IsTrue none (says it))
@@ -63,27 +62,3 @@ returns-then-not-source_fits-clause-no_check_lost c = truths.large-lost c.args.s
 
 pub returns-then-not-source_fits-clause-words : goal.returns-then-not-source_fits-clause-words
 returns-then-not-source_fits-clause-words c = truths.large-words c.args.source.now c.args.name.now (not-fitting c.source_fits.result c.args.source.now c.source_fits.ensures.1 c.if-not-source_fits.true) c.too_large.result
-
-pub returns-in-Err-clause-first : goal.returns-in-Err-clause-first
-unfolding BeginsWithFirst
-returns-in-Err-clause-first c = tt
-
-pub returns-in-Err-clause-stands : goal.returns-in-Err-clause-stands
-unfolding AreStanding
-returns-in-Err-clause-stands c = tt
-
-pub returns-in-Err-clause-lexical : goal.returns-in-Err-clause-lexical
-unfolding AreLexicalAlone
-returns-in-Err-clause-lexical c = tt
-
-pub returns-in-Err-clause-all_found : goal.returns-in-Err-clause-all_found
-unfolding AreAllFound
-returns-in-Err-clause-all_found c = tt
-
-pub returns-in-Err-clause-no_check_lost : goal.returns-in-Err-clause-no_check_lost
-unfolding NoCheckIsLost
-returns-in-Err-clause-no_check_lost c = tt
-
-pub returns-in-Err-clause-words : goal.returns-in-Err-clause-words
-unfolding ExpectsTruly
-returns-in-Err-clause-words c = tt

@@ -11,7 +11,7 @@ use Rattle.protox_generate.proofs.generate.described.Goals as goal
 pub returns-clause-found : goal.returns-clause-found
 returns-clause-found c =
     let source = c.args.source.now in
-    let taken = c.in_ok-take_items.ensures source (c.in_ok-draft.ensures.taken c.args.ast.syntax) in
+    let taken = c.in_ok-take_items.ensures source (c.new-draft.ensures.taken c.args.ast.syntax) in
     let whole = λ (items : List FileItem). file_descriptor c.args.name.now source (record c.args.ast { items = items }) in
     c.in_ok-file.ensures source _ taken ∙ ap whole c.replace-items.ensures.value
 

@@ -1,8 +1,8 @@
-use Rattle.std.proofs.Common.{◌≤◌, List, map, arith, subst}
+use Rattle.std.proofs.Common.{◌≤◌, List, map, arith, subst, sym, ◌∙◌}
 use Rattle.protox_ast.specs.declared.ast.FileItem.{FileItem}
 use Rattle.protox_describe.specs.Siblings.{greatest as widest}
 use Rattle.protox_describe.specs.inner.Widths.{file_item_width}
-use Rattle.protox_generate.proofs.Items.{one_more}
+use Rattle.protox_generate.proofs.Items.{all_taken, one_more}
 use Rattle.protox_generate.specs.inner.Taken.{HasRoomFor}
 use Rattle.protox_locate.specs.inner.Bounds.{file_item_reach, file_item_weight, greatest, total}
 use Rattle.protox_generate.proofs.generate.take_items.Goals as goal
@@ -20,3 +20,6 @@ loop-item-preserved c =
       reach = omega (arith, reach);
       width = omega (arith, width);
     }
+
+pub returns : goal.returns
+returns c = λ source is. all_taken source c.args.head.now.syntax c.args.items _ c.loop-item.draft (sym c.loop-item.item-iterator.rest.ok.0 ∙ c.in-None.ensures.steps.0) (c.loop-item.invariant.taken source is)

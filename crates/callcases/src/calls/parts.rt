@@ -1,0 +1,61 @@
+//! Calls of the parts that an answer is made of.
+
+use protox_describe::file::describe_file;
+use protox_locate::file::locate_file;
+use protox_parse::ast::{Comments, Enum, File, FileItem, Ident, Syntax};
+use protox_parse::values::Items;
+use protox_pass::pass::translate;
+use std::alloc::{AllocError, Global};
+
+const NAME: &str = "e.proto";
+
+const SOURCE: &str = "enum E {}";
+
+// The enum of the source.
+fn item(alloc: Global) -> Result<FileItem, AllocError> {
+    let name = Ident::new(String::from_str(alloc, "E")?, 5..6);
+    let comments = Comments::new(alloc, Items::new(alloc), None, None)?;
+    Ok(FileItem::Enum(Enum {
+        name,
+        options: Items::new(alloc),
+        values: Items::new(alloc),
+        reserved: Items::new(alloc),
+        comments,
+        span: 0..9,
+    }))
+}
+
+// The tree of the source, with these items.
+fn tree(alloc: Global, items: Items<FileItem>) -> File {
+    File {
+        span: 0..9,
+        syntax: Syntax::Proto2,
+        syntax_span: None,
+        package: None,
+        imports: Items::new(alloc),
+        options: Items::new(alloc),
+        items,
+    }
+}
+
+pub fn located(alloc: Global) -> Result<String, AllocError> {
+    let mut items = Items::new(alloc);
+    items.push(item(alloc)?)?;
+    let ast = tree(alloc, items);
+    let info = locate_file(alloc, SOURCE, &ast)?;
+    format!(in alloc; "{info:?}")
+}
+
+pub fn described(alloc: Global) -> Result<String, AllocError> {
+    let mut items = Items::new(alloc);
+    items.push(item(alloc)?)?;
+    let file = describe_file(alloc, NAME, tree(alloc, items))?;
+    format!(in alloc; "{file:?}")
+}
+
+// What one pass finds of the source, and of one that is refused.
+pub fn translated(alloc: Global) -> Result<String, AllocError> {
+    let found = translate(alloc, NAME, SOURCE)?;
+    let refused = translate(alloc, NAME, "enum {}")?;
+    format!(in alloc; "{found:?} {refused:?}")
+}

@@ -1,5 +1,5 @@
 -- The text of the report of a fault.
-use Rattle.std.specs.Prelude.{ℕ, ◌≡◌, ◌+◌, ◌-◌, ◌==◌, min, max, Bool, true, false, MatchOption, if◌then◌else◌, List, [], ◌++◌, codes, length, replicate, slice_index, Some, None}
+use Rattle.std.specs.Prelude.{ℕ, ◌≡◌, ◌+◌, ◌-◌, ◌==◌, min, max, Bool, true, false, MatchOption, if◌then◌else◌, List, [], ◌++◌, codes, length, replicate, Some, None}
 use Rattle.std.specs.Fmt.{decimal}
 use Rattle.protox_fault.specs.FaultNotes.{help_of, label_of, second_label_of}
 use Rattle.protox_fault.specs.Faults.{Span, span_from, span_of}

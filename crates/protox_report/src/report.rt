@@ -1,6 +1,6 @@
 //! The report of a fault as text.
 
-ghost use Rattle.std.specs.Prelude.{◌≡◌, ◌≤◌, ◌+◌, ◌++◌, min, ℕ, List, IfOk, OnOk, codes, length, replicate};
+ghost use Rattle.std.specs.Prelude.{◌≡◌, ◌≤◌, ◌<◌, ◌+◌, ◌++◌, min, ℕ, List, IfOk, OnOk, codes, false, true, length, replicate, string_capacity, string_len};
 ghost use Rattle.std.specs.String.{string_bytes};
 ghost use Rattle.protox_fault.specs.FaultTexts.{text_of};
 ghost use Rattle.protox_report.specs.Shown.{shown};
@@ -207,11 +207,14 @@ fn push_help_of(alloc: Global, out: &mut String, fault: &ParseErrorKind) -> Resu
     push_help(alloc, out, help.as_str())
 }
 
-// Gives back the room of a short report, if the text grew for it and more than half is free.
+// Gives back the room of a short report, if it was made for that report and half of it or more is
+// free. Otherwise the text keeps its room.
 fn give_back(out: &mut String, grew: bool)
-    ensures { string_bytes out.new ≡ string_bytes out.old }
+    ensures bytes { string_bytes out.new ≡ string_bytes out.old }
+    ensures kept { grew ≡ false → string_capacity out.new ≡ string_capacity out.old }
+    ensures freed { grew ≡ true → string_len out.old ≡ 0 → string_capacity out.new ≡ 0 }
 {
-    if grew && out.len() < out.capacity() / 2 {
+    if grew && out.len() <= out.capacity() / 2 {
         out.shrink_to_fit();
     }
 }
@@ -235,17 +238,18 @@ impl<'a> Source<'a> {
         })
     }
 
-    // Makes room for a report of usual length in an empty text, if memory allows. Answers whether
-    // the text got larger.
+    // Makes room for a report of usual length in a text that has no memory yet, if memory allows.
+    // Answers whether it did. A text with room of its own, such as a cleared one, stays as it is.
     fn make_room(&self, out: &mut String) -> bool
-        ensures { string_bytes out.new ≡ string_bytes out.old }
+        ensures bytes { string_bytes out.new ≡ string_bytes out.old }
+        ensures made { result ≡ true → length self.now.name.now + 192 ≤ string_capacity out.new }
+        ensures not_made { 0 < string_capacity out.old → result ≡ false }
+        ensures kept { 0 < string_capacity out.old → string_capacity out.new ≡ string_capacity out.old }
     {
-        if !out.is_empty() {
+        if out.capacity() != 0 {
             return false;
         }
-        let before = out.capacity();
-        let _ = out.reserve(self.name.len().saturating_add(USUAL));
-        before < out.capacity()
+        out.reserve(self.name.len().saturating_add(USUAL)).is_ok()
     }
 
     // Line and column of an offset, both from 1.
@@ -383,7 +387,8 @@ impl<'a> Source<'a> {
     }
 
     /// Adds the report of a fault to `out`: its title, its excerpts and its help, each on its own
-    /// lines. `AllocError` if memory runs out.
+    /// lines. A text that has no memory yet gets room for a report of usual length at once. A text
+    /// that has room keeps it. `AllocError` if memory runs out.
     pub fn push_fault(
         &self,
         alloc: Global,
@@ -393,8 +398,9 @@ impl<'a> Source<'a> {
         ensures { OnOk result (IsReported self.now.name.now self.now.text.now self.now.paint fault.now (string_bytes out.old) (string_bytes out.new)) }
     {
         let grew = self.make_room(out);
-        self.push_parts(alloc, out, fault)?;
+        let done = self.push_parts(alloc, out, fault);
+        // The room is given back also if memory ran out.
         give_back(out, grew);
-        Ok(())
+        done
     }
 }

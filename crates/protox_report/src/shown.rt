@@ -97,9 +97,9 @@ fn push_singly(out: &mut String, mark: u8, count: usize) -> Result<(), AllocErro
     Ok(())
 }
 
-/// Adds an ASCII character `count` times.
+// Adds an ASCII character `count` times, sixteen at once, and then the rest at once.
 #[tactic(auto, using(crate::proofs::Plain::marks))]
-pub fn push_times(out: &mut String, mark: u8, count: usize) -> Result<(), AllocError>
+fn push_sixteens(out: &mut String, mark: u8, count: usize) -> Result<(), AllocError>
     requires { mark < 128 }
     ensures { OnOk result (string_bytes out.new ≡ string_bytes out.old ++ replicate count mark) }
 {
@@ -108,12 +108,23 @@ pub fn push_times(out: &mut String, mark: u8, count: usize) -> Result<(), AllocE
         return push_singly(out, mark, count);
     };
     let mut left = count;
-    // Sixteen at once, and then the rest.
     'full: while 16 <= left {
         out.push_str(marks)?;
         left -= 16;
     }
     out.push_str(&marks[..left])
+}
+
+/// Adds an ASCII character `count` times.
+pub fn push_times(out: &mut String, mark: u8, count: usize) -> Result<(), AllocError>
+    requires { mark < 128 }
+    ensures { OnOk result (string_bytes out.new ≡ string_bytes out.old ++ replicate count mark) }
+{
+    // Few marks cost less one by one than a block of sixteen does.
+    if count < 16 {
+        return push_singly(out, mark, count);
+    }
+    push_sixteens(out, mark, count)
 }
 
 /// Adds `mark` once for each column that the text takes as it is shown.
@@ -125,8 +136,9 @@ pub fn push_under(alloc: Global, out: &mut String, text: &str, mark: u8) -> Resu
         return push_times(out, mark, text.len());
     }
     for c in text.chars() {
+        // A character takes at most ten columns.
         let count = columns_of(alloc, c)?;
-        push_times(out, mark, count)?;
+        push_singly(out, mark, count)?;
     }
     Ok(())
 }

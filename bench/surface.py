@@ -1,14 +1,15 @@
 #!/usr/bin/env python3
 """Lays what two checkouts offer side by side, and prints what is gone or changed in the new one.
 
-usage: surface.py OLD NEW
+usage: surface.py [--private] OLD NEW
 
 Of each crate: the `pub` items of src/ (functions with their clauses; structs with their public fields;
 enums, traits, constants, types, re-exports, modules), its derives, its `impl Trait for Type` with their
 clauses and models; and the definitions of specs/. Of a function each `ensures` is an item of its own, so
-a new one is not a change; a new `requires` is. `pub(crate)` is private. An item of a private module that
-no `pub use` of the crate hands out is marked `(private module)`. A definition without `pub` is marked
-`(not pub)`. Texts are compared word for word, without comments, white space and trailing commas. A word
+a new one is not a change; a new `requires` is. `pub(crate)` is private. What no caller sees is left out:
+an item of a private module that no `pub use` of the crate hands out, and a definition that no public item
+and no other definition cites. With --private it is shown too, marked `(private module)` and `(not cited)`.
+A definition without `pub` is marked `(not pub)`. Texts are compared word for word, without comments, white space and trailing commas. A word
 may be the same and yet mean another thing: so of each file it is compared where the imported words come
 from that its items use. Of the edits (crates/*/must-fail, bench/edits) the names are compared.
 
@@ -24,7 +25,8 @@ import sys
 CLAUSE = re.compile(r'(requires|ensures)\*?(\s+[^\s{}();,]+)?\s*$')
 STRING_OR_COMMENT = re.compile(r'''//[^\n]*|/\*.*?\*/|b?"(?:\\.|[^"\\])*"|b?'(?:\\[^']+|[^'\\])\'''', re.S)
 CLOSED = {'(': ')', '[': ']', '{': '}'}
-PRIVATE = ' (private module)'
+WORD = re.compile(r'[^\s(){}\[\],;:.&<>=]+')
+PRIVATE, NOT_CITED = ' (private module)', ' (not cited)'
 
 
 def normal(text):
@@ -98,6 +100,8 @@ class Surface:
 
     def __init__(self, top):
         self.texts = collections.defaultdict(list)
+        # Where each definition is, the paths that a text cites, and the paths that a `pub use` hands on.
+        self.defined, self.cited, self.handed_on = {}, set(), {}
         for crate in sorted(os.listdir(f'{top}/crates')):
             if os.path.isdir(f'{top}/crates/{crate}/src'):
                 self.sources(top, crate)
@@ -134,13 +138,36 @@ class Surface:
         if not head:
             return
         name = f'{head[2] or ""}{head[3]}' if head[2] in ('use ', 'mod ') else head[3]
-        self.add(f'{place} {name}' + ('' if head[1] else ' (not pub)'), f'{front} {part}')
+        key = f'{place} {name}' + ('' if head[1] else ' (not pub)')
+        self.add(key, f'{front} {part}')
+        module = 'Rattle.' + place.removesuffix('.antt').replace('/', '.').removesuffix('.Lib')
+        if head[2] == 'use ':
+            self.handed_on.update({f'{module}.{it}': path for it, path in leaves(part.split(None, 2)[2])})
+        elif head[2] != 'mod ':
+            self.defined[key] = f'{module}.{name}'
         self.words(place, part, words)
+        # A definition of the same file is cited by its name alone; the one that is defined here isn't cited.
+        self.cited |= {f'{module}.{word}' for word in set(WORD.findall(part)) - {name} - set(words)}
 
     def words(self, place, text, words):
         """Where the imported words come from that stand in the text."""
-        for word in set(re.findall(r'[^\s(){}\[\],;:.&<>=]+', text)) & set(words):
+        found = set(WORD.findall(text))
+        for word in found & set(words):
             self.add(f'{place} [the word {word}]', words[word])
+            self.cited.add(words[word])
+        for front, word in re.findall(r'([^\s(){}\[\],;:.&<>=]+)\.([^\s(){}\[\],;:.&<>=]+)', text):
+            if front in words:
+                self.cited.add(f'{words[front]}.{word}')
+
+    def not_cited(self):
+        """The keys of the definitions that no public item and no other definition cites."""
+        cited = set()
+        for path in self.cited:
+            while path not in cited:
+                cited.add(path)
+                module, _, word = path.rpartition('.')
+                path = self.handed_on.get(path) or f'{self.handed_on.get(module, module)}.{word}'
+        return {key for key, path in self.defined.items() if path not in cited}
 
     # ---- src/
 
@@ -294,9 +321,11 @@ def say(what, key, old, new):
             print(f'  {name}: {text}')
 
 
-def compare(old, new):
-    gone = changed = 0
+def compare(old, new, with_private):
+    gone, changed, not_cited = 0, 0, old.not_cited()
     for key, texts in old.texts.items():
+        if not with_private and (PRIVATE in key or key in not_cited):
+            continue
         lost = [text for text in texts if text not in new.texts.get(key, [])]
         if not lost or ('[the word' in key and key not in new.texts):
             continue
@@ -304,7 +333,8 @@ def compare(old, new):
         if key in new.texts:
             say('CHANGED', key, lost, [text for text in new.texts[key] if text not in texts])
         else:
-            say(f'MOVED to {moved[0]}:' if moved else 'GONE', key, lost, [])
+            mark = NOT_CITED if key in not_cited else ''
+            say(f'MOVED to {moved[0]}:' if moved else 'GONE', key + mark, lost, [])
         gone, changed = gone + (key not in new.texts and not moved), changed + (key in new.texts or bool(moved))
     for edit in sorted(old.edits - new.edits):
         moved = [it for it in new.edits if os.path.basename(it) == os.path.basename(edit)]
@@ -315,4 +345,7 @@ def compare(old, new):
 
 
 if __name__ == '__main__':
-    sys.exit(compare(Surface(sys.argv[1]), Surface(sys.argv[2])))
+    checkouts = [word for word in sys.argv[1:] if word != '--private']
+    if len(checkouts) != 2:
+        sys.exit(__doc__)
+    sys.exit(compare(*map(Surface, checkouts), '--private' in sys.argv))

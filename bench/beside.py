@@ -1,9 +1,9 @@
 #!/usr/bin/env python3
 """Measures the parser beside protobuf's on made files and on small real ones, and prints tables.
 
-usage: beside.py PROTOBENCH PROTOBUF [read|whole|notes|small ..]
+usage: beside.py PARSECOUNT PROTOBUF [read|whole|notes|small ..]
 
-PROTOBENCH is what `rt run` leaves in crates/protobench/out, and PROTOBUF is built from protobuf.cc.
+PARSECOUNT is what `rt run` leaves in crates/parsecount/out, and PROTOBUF is built from protobuf.cc.
 `read`, `whole` and `notes` are files of make_proto.py. `small` are the files that come with protobuf
 (Debian: libprotobuf-dev), of 2 to 38 KB, each parsed often.
 
@@ -96,8 +96,8 @@ def measure(folder, parsers, kind):
 
 
 def main():
-    protobench, protobuf, *kinds = sys.argv[1:]
-    parsers = {'here': [protobench], 'protobuf': [protobuf, 'parse']}
+    parsecount, protobuf, *kinds = sys.argv[1:]
+    parsers = {'here': [parsecount], 'protobuf': [protobuf, 'parse']}
     print('| files | a parse | here | protobuf | protobuf over here |\n|---|---|---|---|---|')
     with tempfile.TemporaryDirectory() as folder:
         for kind in kinds or ['read', 'notes', 'whole', 'small']:

@@ -1,23 +1,22 @@
 #!/usr/bin/env python3
-"""Runs the cases of crates/protocases by a build without proofs, and shows the lines that differ.
+"""Runs the cases of crates/protocases without proving anything, and shows the lines that differ.
 
 usage: cases.py [NAME..]        at the top of the repository; a NAME is a line of args, as foo.proto
        cases.py --calls         the same of crates/callcases: calls other than `parse`
        cases.py --runs          the same of crates/runcases: bytes, and what the programs do
 
-The build takes one to three minutes. The program is kept in the crate's folder `out/`, so that a run
-takes seconds until a source of the crate or of one below it changes. A case is a line of `stdout` that
-begins with `== `, and the lines below it. All cases run, and of each whose lines or whose place differ
-from those in `stdout` it shows how. With a NAME only its cases are looked at. The large sources take too
-long in such a build: they are left to the gate. The last line is 'N passed, M failed'.
+Each call is one `rt try`, which builds the program and runs all cases: one to three minutes. If `rt run`
+or `rt ci` left the proved program in the crate's folder `out/`, and no source of the crate or of one
+below it is newer, this program runs instead, in a second. A case is a line of `stdout` that begins with
+`== `, and the lines below it. All cases run, and of each whose lines or whose place differ from those in
+`stdout` it shows how. With a NAME only its cases are looked at. The large sources take too long in a
+build without proofs: they are left to the gate. The last line is 'N passed, M failed'.
 """
 import glob
 import itertools
 import os
 import subprocess
 import sys
-import tempfile
-import time
 
 sys.dont_write_bytecode = True
 sys.path.insert(0, os.path.dirname(os.path.abspath(__file__)))
@@ -61,12 +60,6 @@ def files_below(folder):
     return sorted(os.path.relpath(f'{at}/{name}', folder) for at, _, names in os.walk(folder) for name in names)
 
 
-def kept_program():
-    """Where the program of this crate and this kit is kept."""
-    kit = subprocess.run(['rt', 'version'], capture_output=True, text=True, check=True).stdout.split()[0]
-    return f'{FOLDER}/out/tried-{kit}'
-
-
 def is_fresh(program):
     """Whether the program is there, and no source of it has changed since it was built."""
     crates = lines_of([os.path.basename(FOLDER)])
@@ -74,46 +67,23 @@ def is_fresh(program):
     return os.path.isfile(program) and os.path.getmtime(program) > max(map(os.path.getmtime, sources))
 
 
-def keep(made, program):
-    """Gives the program that `rt try` runs, and then removes, a second name."""
-    try:
-        os.link(made, program)
-    except OSError:
-        pass
-
-
-def build_and_run(words, program):
-    """What the program ends with and prints, built without proofs. The program is kept."""
-    data = files_below(f'{FOLDER}/data')
-    flags = list(itertools.chain.from_iterable(('--data', f'{name}=data/{name}') for name in data))
-    os.makedirs(f'{FOLDER}/out', exist_ok=True)
-    for old in glob.glob(f'{FOLDER}/out/tried-*'):
-        os.remove(old)
-    place = tempfile.TemporaryDirectory(dir=f'{FOLDER}/out')
-    with place as room, tempfile.TemporaryFile('w+') as out, tempfile.TemporaryFile('w+') as err:
-        tried = subprocess.Popen(['rt', 'try', *flags, '--', *words], cwd=FOLDER, stdout=out, stderr=err,
-                                 env=dict(os.environ, TMPDIR=os.path.abspath(room)))
-        while tried.poll() is None:
-            for made in glob.glob(f'{room}/*/*/program'):
-                keep(made, program)
-            time.sleep(0.05)
-        out.seek(0)
-        err.seek(0)
-        return tried.returncode, out.read(), err.read()
+def command(words):
+    """What to run, and in which folder: the proved program, or a build of its own without proofs."""
+    program = os.path.abspath(f'{FOLDER}/out/{os.path.basename(FOLDER)}')
+    if is_fresh(program):
+        print(f'by {os.path.relpath(program)}')
+        return [program, *words], f'{FOLDER}/data' if os.path.isdir(f'{FOLDER}/data') else FOLDER
+    flags = [word for name in files_below(f'{FOLDER}/data') for word in ('--data', f'{name}=data/{name}')]
+    return ['rt', 'try', *flags, '--', *words], FOLDER
 
 
 def run(words):
-    """What the program prints: the one that is kept, or a new one."""
-    program = kept_program()
-    if is_fresh(program):
-        folder = f'{FOLDER}/data' if os.path.isdir(f'{FOLDER}/data') else FOLDER
-        ran = subprocess.run([os.path.abspath(program), *words], cwd=folder, capture_output=True, text=True, check=False)
-        status, printed, said = ran.returncode, ran.stdout, ran.stderr
-    else:
-        status, printed, said = build_and_run(words, program)
-    if status:
-        sys.exit(f'{printed[-2000:]}{said[-2000:]}\nthe program ended with status {status}')
-    return printed
+    """What the program prints."""
+    line, folder = command(words)
+    ran = subprocess.run(line, cwd=folder, capture_output=True, text=True, check=False)
+    if ran.returncode:
+        sys.exit(f'{ran.stdout[-2000:]}{ran.stderr[-2000:]}\nthe program ended with status {ran.returncode}')
+    return ran.stdout
 
 
 def difference(name, found, wanted):
@@ -144,6 +114,8 @@ def main():
     found = cases_in(run(words))
     cases = [case for case in dict.fromkeys([*wanted, *found]) if case != LARGE]
     chosen = [case for case in cases if not NAMES or set(case.split()) & set(NAMES)]
+    if not chosen:
+        sys.exit(f'no case has the name {" ".join(NAMES)}')
     told = {case: difference(case, found, wanted) for case in chosen}
     differing = [f'{case}: {how}' for case, how in told.items() if how]
     order = misplaced(found, wanted)

@@ -7,7 +7,7 @@ Each source has about BYTES bytes, and then twice as many; those whose answer gr
 have few. A line for each: its name, its bytes, the seconds and the largest memory of the program on
 it, and by how much both grow when the source doubles. A factor of 2 is growth in line with the source,
 and one of 4 with its square. The program is run as PROGRAM FILE ARGUMENT.., for
-example crates/protobench/out/protobench, which parses and prints a number; it may refuse the file.
+example crates/parsecount/out/parsecount, which parses and prints a number; it may refuse the file.
 """
 import os
 import sys

@@ -1,4 +1,4 @@
-// Times protobuf's C++ library on a file, to compare with `protobench` and `protoscan`.
+// Times protobuf's C++ library on a file, to compare with `parsecount` and `protoscan`.
 // build: g++ -O2 -o /tmp/protobuf bench/protobuf.cc -lprotobuf   (Debian: libprotobuf-dev, libprotoc-dev)
 // usage: /tmp/protobuf cut|keep|parse FILE [TURNS]
 //   cut    its tokenizer alone

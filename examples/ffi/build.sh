@@ -40,8 +40,11 @@ end() {
     exit
 }
 
-heap=
-if has rt; then heap=$(dirname "$(rt doc)")/c/liblibc_c.a; fi
+# The library leaves rattle_alloc, rattle_realloc and rattle_dealloc to the kit's liblibc_c.a. It is
+# linked where it stands.
+kit=
+if has rt; then kit=$(dirname "$(rt doc)")/c; fi
+heap=$kit/liblibc_c.a
 has gcc || missing gcc "apt-get install gcc"
 has cargo || missing cargo "https://rustup.rs"
 "$python" -c 'import google.protobuf' 2>/dev/null \
@@ -52,9 +55,8 @@ has cargo || missing cargo "https://rustup.rs"
 if [ ! -f "$library" ] || [ ! -f "$heap" ] || ! has gcc; then end; fi
 
 cp "$library" "$made/libprotox_ffi.a"
-cp "$heap" "$made/liblibc_c.a"
 cd "$made" || exit 2
-archives="$made/libprotox_ffi.a $made/liblibc_c.a"
+archives="$made/libprotox_ffi.a $heap"
 flags="-std=c11 -O2 -Wall -Wextra -Werror -I$here"
 
 # The calls, from outside.
@@ -99,7 +101,7 @@ cat python.tests
 
 # Rust.
 if has cargo; then
-    export CARGO_TARGET_DIR=$made/rust PROTOX_LIBRARIES=$made
+    export CARGO_TARGET_DIR=$made/rust PROTOX_LIBRARIES=$made:$kit
     cargo build --quiet --release --offline --manifest-path "$here/rust/Cargo.toml"
     count $? "the Rust crate builds"
     "$made/rust/release/messages" "$top/examples/library.proto" > rust.out

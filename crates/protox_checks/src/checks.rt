@@ -1,6 +1,6 @@
 //! The checks of a whole file.
 
-ghost use Rattle.std.specs.Prelude.{◌≡◌, [], true, IfOk, OnOk};
+ghost use Rattle.std.specs.Prelude.{◌≡◌, ◌↔◌, [], IfOk, IsTrue, OnOk};
 ghost use Rattle.std.specs.List.{flat_map};
 ghost use Rattle.protox_checks.specs.Checks.{AreListed, nodes_faults};
 ghost use Rattle.protox_checks.specs.Faults.{EachIsWrong, HasEachWrong};
@@ -45,7 +45,7 @@ fn check_whole(ast: &File, errors: &mut Found) -> Result<(), AllocError>
 
 /// Whether nothing is wrong with an item of a file in this syntax. `AllocError` if memory runs out.
 pub fn item_is_right(alloc: Global, syntax: Syntax, item: &FileItem) -> Result<bool, AllocError>
-    ensures { IfOk result (λ right. right ≡ true → nodes_faults syntax (item_nodes item.now) ≡ []) }
+    ensures { IfOk result (λ right. IsTrue right ↔ (nodes_faults syntax (item_nodes item.now) ≡ [])) }
 {
     let mut errors = Found::new(alloc);
     check_item(syntax, item, &mut errors)?;

@@ -15,9 +15,9 @@ use Rattle.protox_grammar.specs.TagLaws.{no_place, place_at, placed_nodes_by, pl
 use Rattle.protox_grammar.specs.Noted.{noted_nodes, trace}
 use Rattle.protox_grammar.specs.Reader.{Refusal}
 use Rattle.protox_grammar.specs.Steps.{Event, Token, Note, Steps, is_too_deep, tokens, until}
-use Rattle.protox_grammar.specs.Told.{first_behind, keyword_behind, past, told}
+use Rattle.protox_grammar.specs.Told.{first_behind, keyword_behind, past, told, IsFaultless}
 use Rattle.protox_grammar.proofs.EndsDeep.{stops-ends}
-use Rattle.protox_grammar.proofs.FineNotes.{IsFaultless, faultless-first}
+use Rattle.protox_grammar.proofs.FineNotes.{faultless-first}
 use Rattle.protox_grammar.proofs.FirstCheck.{FirstCheck, first-check}
 use Rattle.protox_grammar.proofs.FirstWords.{is_wordless, placed-worded, same-nodes, worded-front}
 use Rattle.protox_grammar.proofs.Holding.{Holds, any-holds, holds-any, holds-of, holds-one}

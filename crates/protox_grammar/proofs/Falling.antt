@@ -7,9 +7,9 @@ use Rattle.protox_ast.specs.Keywords.{Each}
 use Rattle.protox_ast.specs.Places.{Place}
 use Rattle.protox_ast.specs.Tree as t
 use Rattle.protox_grammar.specs.Steps.{ANode, APackage, AKeyword, ADeepBody, ADeeperBody, AnOpenBrace, ACloseBrace, Token, Note, Steps}
-use Rattle.protox_grammar.specs.Told.{Notes, behind, node_notes, past, told}
+use Rattle.protox_grammar.specs.Told.{Notes, behind, node_notes, past, told, IsFaultless}
 use Rattle.protox_grammar.specs.declared.note.Note as note_type
-use Rattle.protox_grammar.proofs.FineNotes.{IsFaultless, faultless-first, faultless-last}
+use Rattle.protox_grammar.proofs.FineNotes.{faultless-first, faultless-last}
 use Rattle.protox_grammar.proofs.FirstCheck.{node-by}
 
 -- From note to note the number of rows that are left never grows.

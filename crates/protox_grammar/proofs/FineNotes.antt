@@ -13,19 +13,10 @@ use Rattle.protox_ast.specs.Tree as t
 use Rattle.protox_grammar.specs.Noted.{noted_nodes}
 use Rattle.protox_grammar.specs.Reader.{head_in}
 use Rattle.protox_grammar.specs.Steps.{ANode, APackage, AKeyword, ADeepBody, ADeeperBody, AnOpenBrace, ACloseBrace, Token, Note, Steps}
-use Rattle.protox_grammar.specs.Told.{Notes, behind, brace_notes, is_invalid, node_notes, noted, at_once, told, unless_so}
-use Rattle.protox_grammar.specs.declared.note.Noted.{Noted}
-use Rattle.protox_grammar.specs.declared.note.Noted.TheVariants.{Fault, TextFormat}
+use Rattle.protox_grammar.specs.Told.{AreValidTokens, IsFaultless, Notes, behind, brace_notes, is_invalid, node_notes, noted, at_once, told, unless_so}
+use Rattle.protox_grammar.specs.declared.note.Noted.TheVariants.{Fault}
 
 -- ---- notes without a fault
-
-abbrev pub IsNoFault : Noted → Type 0
-IsNoFault (Fault f) = ⊥
-IsNoFault (TextFormat open_now) = Unit {0}
-
-abbrev pub IsFaultless : Notes → Type 0
-IsFaultless [] = Unit {0}
-IsFaultless (n ∷ ns) = IsNoFault n.noted × IsFaultless ns
 
 pub faultless-both : (a b : Notes) → IsFaultless a → IsFaultless b → IsFaultless (a ++ b)
 faultless-both [] b h k = k
@@ -82,16 +73,11 @@ noted-fine (ATooDeep keyword open_at) xs e h = h.0
 
 -- ---- steps
 
--- All rows are valid tokens.
-abbrev pub AreTokens : Rows Place → Type 0
-AreTokens [] = Unit {0}
-AreTokens (r ∷ rs) = (is_invalid r.shape ≡ false) × AreTokens rs
-
-head-token : (xs : Rows Place) → AreTokens xs → head_in is_invalid xs ≡ false
+head-token : (xs : Rows Place) → AreValidTokens xs → head_in is_invalid xs ≡ false
 head-token [] h = refl
 head-token (r ∷ rs) h = h.0
 
-tokens-behind : (xs : Rows Place) → AreTokens xs → AreTokens (behind xs)
+tokens-behind : (xs : Rows Place) → AreValidTokens xs → AreValidTokens (behind xs)
 tokens-behind [] h = tt
 tokens-behind (r ∷ rs) h = h.1
 
@@ -107,7 +93,7 @@ told-fine first w (Note (ADeeperBody m) ∷ l) xs h = told-fine first w l xs h
 told-fine first w (Note (AnOpenBrace m) ∷ l) xs h = (tt, told-fine first w l xs h)
 told-fine first w (Note (ACloseBrace m) ∷ l) xs h = (tt, told-fine first w l xs h)
 
-pub fine-told : (first : Option (t.Package Place)) (w : Place) (l : Steps Place) (xs : Rows Place) → AreTokens xs → IsFaultless (told first w l xs) → Each IsFine (noted_nodes first w l)
+pub fine-told : (first : Option (t.Package Place)) (w : Place) (l : Steps Place) (xs : Rows Place) → AreValidTokens xs → IsFaultless (told first w l xs) → Each IsFine (noted_nodes first w l)
 fine-told first w [] xs a h = tt
 fine-told first w (Token r ∷ l) xs a h = fine-told first w l (behind xs) (tokens-behind xs a) h
 fine-told first w (Note (ANode x) ∷ l) xs a h = (noted-fine x xs (head-token xs a) (faultless-first _ _ h), fine-told first w l xs a (faultless-last (node_notes x xs) _ h))

@@ -12,10 +12,10 @@ use Rattle.protox_ast.specs.Tree as t
 use Rattle.protox_grammar.specs.Noted.{noted_nodes}
 use Rattle.protox_grammar.specs.Reader.{head_in}
 use Rattle.protox_grammar.specs.Steps.{Event, ANode, APackage, AKeyword, ADeepBody, ADeeperBody, AnOpenBrace, ACloseBrace, Token, Note, Steps}
-use Rattle.protox_grammar.specs.Told.{Notes, at_once, behind, first_with, is_invalid, keyword_with, node_notes, noted, run_note, past, span_of, told, unless_so}
+use Rattle.protox_grammar.specs.Told.{Notes, at_once, behind, first_with, is_invalid, keyword_with, node_notes, noted, run_note, past, span_of, told, unless_so, IsFaultless}
 use Rattle.protox_grammar.specs.declared.note.Note as note_type
 use Rattle.protox_grammar.specs.declared.note.Noted.TheVariants.{Fault}
-use Rattle.protox_grammar.proofs.FineNotes.{IsFaultless, faultless-both}
+use Rattle.protox_grammar.proofs.FineNotes.{faultless-both}
 use Rattle.protox_grammar.proofs.Holding.{Holds}
 use Rattle.protox_grammar.proofs.Telling.{told-append}
 

@@ -20,9 +20,9 @@ use Rattle.protox_grammar.specs.TagLaws.{place_at, placed_nodes_by, placed_steps
 use Rattle.protox_grammar.specs.Noted.{noted_nodes, trace}
 use Rattle.protox_grammar.specs.Reader.{head_in}
 use Rattle.protox_grammar.specs.Steps.{ANode, APackage, AKeyword, ADeepBody, ADeeperBody, AnOpenBrace, ACloseBrace, Token, Note, Steps, tokens, until}
-use Rattle.protox_grammar.specs.Told.{behind, is_invalid, node_notes, told}
+use Rattle.protox_grammar.specs.Told.{behind, is_invalid, node_notes, told, IsFaultless}
 use Rattle.protox_grammar.proofs.DeepNoted.{too_deep_is_noted}
-use Rattle.protox_grammar.proofs.FineNotes.{IsFaultless, faultless-first, faultless-last, noted-fine}
+use Rattle.protox_grammar.proofs.FineNotes.{faultless-first, faultless-last, noted-fine}
 use Rattle.protox_grammar.proofs.Holding.{Holds, any-holds, holds-any}
 use Rattle.protox_grammar.proofs.NotedTrue.{noted-front}
 use Rattle.protox_grammar.proofs.PassedOver.{none_is_passed_over}

@@ -12,8 +12,8 @@ use Rattle.protox_ast.specs.Tree as t
 use Rattle.protox_grammar.specs.Bodies as rule
 use Rattle.protox_grammar.specs.Noted.{noted_nodes, steps, trace}
 use Rattle.protox_grammar.specs.Reads.{read}
-use Rattle.protox_grammar.specs.Told.{told}
-use Rattle.protox_grammar.proofs.FineNotes.{AreTokens, IsFaultless, told-fine, fine-told}
+use Rattle.protox_grammar.specs.Told.{told, AreValidTokens, IsFaultless}
+use Rattle.protox_grammar.proofs.FineNotes.{told-fine, fine-told}
 use Rattle.protox_grammar.proofs.Holding.{Holds}
 use Rattle.protox_grammar.proofs.Main.{laws}
 use Rattle.protox_grammar.proofs.NotedFiles.{file-noted}
@@ -35,7 +35,7 @@ each-noted w f h = (
   λ g. each-by IsFine (noted_nodes None w (steps 31 f)) (λ x e. each-in IsFine (checked_nodes f) x g ((file-noted (λ y. y ≡ x) w f h).0 e)),
 )
 
-pub noted-wrong : (w : Place) (xs : Rows Place) (f : t.File Place) → AreTokens xs → k.Each (rule.StatementHas k.KeepsMbody) f.statements → trace 31 xs ≡ steps 31 f
+pub noted-wrong : (w : Place) (xs : Rows Place) (f : t.File Place) → AreValidTokens xs → k.Each (rule.StatementHas k.KeepsMbody) f.statements → trace 31 xs ≡ steps 31 f
     → IsFaultless (told None w (trace 31 xs) xs) ↔ NothingWrong f
 noted-wrong w xs f a h e = (
   λ g. (nothing-wrong f).1 ((each-noted w f h).0 (subst (λ l. Each IsFine (noted_nodes None w l)) e (fine-told None w (trace 31 xs) xs a g))),

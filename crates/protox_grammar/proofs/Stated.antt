@@ -17,7 +17,7 @@ use Rattle.protox_grammar.specs.Reader.{Reader, Refusal, head_in, mapped, star, 
 use Rattle.protox_grammar.specs.Rule.{on_sum}
 use Rattle.protox_grammar.specs.Steps.{ANode, APackage, AKeyword, ADeepBody, ADeeperBody, AnOpenBrace, ACloseBrace, Token, Note, Steps, star_trace, then_steps}
 use Rattle.protox_grammar.specs.declared.note.Noted.TheVariants.{Fault}
-use Rattle.protox_grammar.specs.Told.{Notes, is_invalid, first_behind, keyword_behind, package_notes, past, told, checked, span_of}
+use Rattle.protox_grammar.specs.Told.{Notes, is_invalid, first_behind, keyword_behind, package_notes, past, place_of, told, checked, span_of}
 use Rattle.protox_grammar.proofs.Shown.{Shown}
 use Rattle.protox_grammar.proofs.Shows.{Shows, either-shows, left-shows}
 use Rattle.protox_grammar.proofs.Takes.{bind_ok, ok_is}
@@ -68,10 +68,6 @@ module _ (some : t.Package Place) where
       still-none (first_behind None l) (keyword_behind w l) (none-behind ns _ both)
 
 -- ---- statements
-
--- the place of the first package statement, if there is one
-abbrev pub place_of : Option (t.Package Place) → Option Span
-place_of first = option_map (package_span span_of) first
 
 -- The notes are those of the steps after a first package statement at this place, or after none.
 -- `next` is the first one then. The notes lie in the source in which this place and the rows stand,

@@ -83,7 +83,7 @@ module _ {M N : Type 0} (f : M → N) where
 
   -- ---- the other rules without bodies
 
-  syntax-alike : IsAlike f r.syntax r.syntax Unnoted
+  pub syntax-alike : IsAlike f r.syntax r.syntax Unnoted
   unfolding r.syntax
   syntax-alike = named-alike f (seq-alike f (fixed-alike f _) (seq-alike f (fixed-alike f _) (seq-alike f (noted_strings-alike ASyntax ASyntax (λ x. refl)) (fixed-alike f _)))) _ _
 
@@ -298,3 +298,7 @@ module _ {M N : Type 0} (f : M → N) where
   -- so files whose bodies are read at most n deep are read alike, and the same is noted
   pub file_at-alike : (n : ℕ) → IsAlike f (b.file (b.mbody_at n)) (b.file (b.mbody_at n)) Unnoted
   file_at-alike n = file-alike (sealed-alike _ _ _ _ (unsealed-alike n))
+
+  -- so are statements
+  pub statement_at-alike : (n : ℕ) → IsAlike f (b.statement (b.mbody_at n)) (b.statement (b.mbody_at n)) Unnoted
+  statement_at-alike n = statement-alike (sealed-alike _ _ _ _ (unsealed-alike n))

@@ -1,6 +1,6 @@
 -- What the parser notes while it reads: the faults of checked nodes, and where an
 -- aggregate begins and ends. Each note says how many rows are left.
-use Rattle.std.specs.Prelude.{ℕ, suc, List, [], ◌∷◌, ◌++◌, length, Bool, true, false, if◌then◌else◌, Option, Some, None, Result, Ok, Err}
+use Rattle.std.specs.Prelude.{◌≡◌, ℕ, suc, List, [], ◌∷◌, ◌++◌, length, Bool, true, false, if◌then◌else◌, Option, Some, None, option_map, Result, Ok, Err}
 use Rattle.protox_fault.specs.Faults.{Span}
 use Rattle.protox_fault.specs.declared.error.ParseErrorKind.{ParseErrorKind}
 use Rattle.protox_fault.specs.declared.error.ParseErrorKind.TheVariants as fault
@@ -13,11 +13,22 @@ use Rattle.protox_ast.specs.Tree as t
 use Rattle.protox_grammar.specs.Reader.{Refusal, head_in}
 use Rattle.protox_grammar.specs.Steps.{Event, ANode, APackage, AKeyword, ADeepBody, ADeeperBody, AnOpenBrace, ACloseBrace, Token, Note, Steps}
 use Rattle.protox_grammar.specs.declared.note.Note as note_type
+use Rattle.protox_grammar.specs.declared.note.Noted.{Noted}
 use Rattle.protox_grammar.specs.declared.note.Noted.TheVariants.{Fault, TextFormat}
 
 -- Notes, in order.
 abbrev pub Notes : Type 0
 Notes = List note_type.Note
+
+-- What is noted is no fault.
+abbrev pub IsNoFault : Noted → Type 0
+IsNoFault (Fault f) = ⊥
+IsNoFault (TextFormat open_now) = Unit {0}
+
+-- No fault is noted.
+abbrev pub IsFaultless : Notes → Type 0
+IsFaultless [] = Unit {0}
+IsFaultless (n ∷ ns) = IsNoFault n.noted × IsFaultless ns
 
 -- ---- the faults of a node, in the order in which they are found
 
@@ -51,6 +62,11 @@ group_faults name span = unless_so (is_group_name name) (fault.InvalidGroupName 
 abbrev pub is_invalid : Shape → Bool
 is_invalid Invalid = true
 is_invalid _ = false
+
+-- All rows are valid tokens.
+abbrev pub AreValidTokens : Rows Place → Type 0
+AreValidTokens [] = Unit {0}
+AreValidTokens (r ∷ rs) = (is_invalid r.shape ≡ false) × AreValidTokens rs
 
 -- The note for a fault of a run of strings. The run ends only when the row after it is read. If
 -- that row is invalid, it is reported alone, and there is no note.
@@ -90,6 +106,10 @@ group_notes x xs = at_once (group_faults x.0 x.1) xs
 -- The span of a place.
 abbrev pub span_of : Place → Span
 span_of place = place.span
+
+-- The place of the first package statement, if there is one.
+abbrev pub place_of : Option (t.Package Place) → Option Span
+place_of first = option_map (package_span span_of) first
 
 -- The note of a second package statement.
 abbrev pub package_notes : Span → Span → Rows Place → Notes

@@ -10,8 +10,7 @@ use Rattle.protox_lexeme.specs.Table.{faults_of, in_front, invalid_faults, is_ga
 use Rattle.protox_ast.specs.Basics.{Each}
 use Rattle.protox_ast.specs.Fronts.{AreClean, AreCleanBehind}
 use Rattle.protox_ast.specs.Places.{placed_from}
-use Rattle.protox_grammar.specs.Told.{is_invalid}
-use Rattle.protox_grammar.proofs.FineNotes.{AreTokens}
+use Rattle.protox_grammar.specs.Told.{is_invalid, AreValidTokens}
 use Rattle.protox_syntax.proofs.Entries.{all-each, append-empty}
 use Rattle.protox_pass.specs.inner.Places.{IsFlawless, places}
 
@@ -20,7 +19,7 @@ use Rattle.protox_pass.specs.inner.Places.{IsFlawless, places}
 abbrev IsToken : Row Span → Type 0
 IsToken r = is_invalid r.shape ≡ false
 
-placed-tokens : (first : Bool) (rows : Rows Span) (gaps : List (List Shape)) → Each IsToken rows → AreTokens (placed_from first rows gaps)
+placed-tokens : (first : Bool) (rows : Rows Span) (gaps : List (List Shape)) → Each IsToken rows → AreValidTokens (placed_from first rows gaps)
 placed-tokens first [] gaps h = tt
 placed-tokens first (r ∷ rs) gaps h = (h.0, placed-tokens false rs _ h.1)
 
@@ -32,7 +31,7 @@ rows-valid (x ∷ xs) h =
       | inr row ↦ rw row (h.0.0, rows-valid xs h.1)
     ]
 
-pub tokens-of : (first : Bool) (xs : List Lexeme) → Each IsFlawless xs → AreTokens (places first xs)
+pub tokens-of : (first : Bool) (xs : List Lexeme) → Each IsFlawless xs → AreValidTokens (places first xs)
 tokens-of first xs h = placed-tokens first (rows_of xs) _ (rows-valid xs h)
 
 -- ---- clean lexemes

@@ -18,8 +18,7 @@ use Rattle.protox_ast.specs.Places.{Place, later_gaps, placed, placed_from}
 use Rattle.protox_ast.specs.Spelling.{◌⌢◌, sign, open_brace, close_brace}
 use Rattle.protox_ast.specs.Spells.{shapes}
 use Rattle.protox_ast.specs.Tree as tree
-use Rattle.protox_grammar.specs.Told.{is_invalid}
-use Rattle.protox_grammar.proofs.FineNotes.{AreTokens}
+use Rattle.protox_grammar.specs.Told.{is_invalid, AreValidTokens}
 use Rattle.protox_grammar.proofs.Parts.{each-all}
 use Rattle.protox_syntax.specs.Aggregates.{LexBack, AggregatesLexBack}
 use Rattle.protox_syntax.proofs.Entries.{all-each}
@@ -48,7 +47,7 @@ token-prints s (inl e) v = absurd (let no : true ≡ false = sym (ap is_invalid 
 token-prints s (inr p) v = p
 
 tokens-print : (first : Bool) (rows : Rows Span) (gaps : List (List Shape)) → Each (λ (r : Row Span). Prints r.shape) rows
-    → AreTokens (placed_from first rows gaps) → ArePrintable (shapes (placed_from first rows gaps))
+    → AreValidTokens (placed_from first rows gaps) → ArePrintable (shapes (placed_from first rows gaps))
 tokens-print first [] gaps h v = tt
 tokens-print first (r ∷ rs) gaps h v = (token-prints r.shape h.0 v.0, tokens-print false rs (later_gaps gaps) h.1 v.1)
 

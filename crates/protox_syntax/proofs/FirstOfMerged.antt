@@ -17,12 +17,12 @@ use Rattle.protox_grammar.specs.TagLaws.{placed_steps_by, placed_tokens}
 use Rattle.protox_grammar.specs.Noted.{trace}
 use Rattle.protox_grammar.specs.Reader.{Unexpected}
 use Rattle.protox_grammar.specs.Steps.{Steps, tokens, until}
-use Rattle.protox_grammar.specs.Told.{Notes, first_behind, is_invalid, keyword_behind, past, told, then_notes}
+use Rattle.protox_grammar.specs.Told.{Notes, first_behind, is_invalid, keyword_behind, past, told, then_notes, IsFaultless}
 use Rattle.protox_grammar.specs.declared.note.Noted.TheVariants.{Fault, TextFormat}
 use Rattle.protox_grammar.proofs.CheckedFirst.{FirstOf, IsCheckedFirst, checked-first, past-taken, taken-rows}
 use Rattle.protox_grammar.proofs.CleanFronts.{row-valid}
 use Rattle.protox_grammar.proofs.Falling.{AreAbove, told-in-order}
-use Rattle.protox_grammar.proofs.FineNotes.{IsFaultless, faultless-first}
+use Rattle.protox_grammar.proofs.FineNotes.{faultless-first}
 use Rattle.protox_grammar.proofs.FrontModes.{is_open_behind, mode-of-all, mode-of-front}
 use Rattle.protox_grammar.proofs.Main as main
 use Rattle.protox_grammar.proofs.NotedModes.{mode_at}

@@ -18,8 +18,7 @@ use Rattle.protox_ast.specs.declared.ast.File.{File}
 use Rattle.protox_grammar.specs.TagLaws.{placed_tokens}
 use Rattle.protox_grammar.specs.Reader.{Unexpected, Deep}
 use Rattle.protox_grammar.specs.Reads.{read}
-use Rattle.protox_grammar.specs.Told.{Notes}
-use Rattle.protox_grammar.proofs.FineNotes.{IsFaultless}
+use Rattle.protox_grammar.specs.Told.{Notes, IsFaultless}
 use Rattle.protox_grammar.proofs.Main as main
 use Rattle.protox_grammar.proofs.ModeFaults as mode
 use Rattle.protox_options.specs.inner.Options.{here}

@@ -37,3 +37,5 @@ pub mod TrueWords
 pub mod ReadRight
 pub mod RightFiles
 pub mod samples
+pub mod NextStops
+pub mod GoingOn

@@ -3,11 +3,10 @@
 use Rattle.std.proofs.Common.{◌≡◌, ◌≤◌, ◌<◌, ◌+◌, ◌-◌, ◌⊎◌, ℕ, zero, suc, List, [], ◌∷◌, ◌++◌, refl, sym, ap, subst, ◌∙◌, arith, inl, inr, append-nil}
 use Rattle.std.proofs.lemmas.Bool.{cases_lt}
 use Rattle.protox_fault.specs.declared.error.ParseErrorKind.{ParseErrorKind}
-use Rattle.protox_grammar.specs.Told.{Notes}
+use Rattle.protox_grammar.specs.Told.{Notes, IsNoFault, IsFaultless}
 use Rattle.protox_grammar.specs.declared.note.Note.{Note}
 use Rattle.protox_grammar.specs.declared.note.Noted.{Noted}
 use Rattle.protox_grammar.specs.declared.note.Noted.TheVariants.{Fault, TextFormat}
-use Rattle.protox_grammar.proofs.FineNotes.{IsNoFault, IsFaultless}
 use Rattle.protox_syntax.specs.inner.Merge.{merged_faults}
 use Rattle.protox_syntax.proofs.Merging.{Fall}
 use Rattle.protox_syntax.proofs.MergeParts.{DownTo, all_from, note_at, seen_faults, row-of-front, merged_faults-note, merged_faults-rows}

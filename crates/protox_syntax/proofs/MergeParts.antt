@@ -5,11 +5,10 @@ use Rattle.std.proofs.lemmas.Bool.{lt-ltb, le-ltb}
 use Rattle.std.specs.Prelude.{slice_index_or, nat_lt}
 use Rattle.protox_fault.specs.Faults.{faults_in}
 use Rattle.protox_fault.specs.declared.error.ParseErrorKind.{ParseErrorKind}
-use Rattle.protox_grammar.specs.Told.{Notes}
+use Rattle.protox_grammar.specs.Told.{Notes, IsNoFault, IsFaultless}
 use Rattle.protox_grammar.specs.declared.note.Note.{Note}
 use Rattle.protox_grammar.specs.declared.note.Noted.{Noted}
 use Rattle.protox_grammar.specs.declared.note.Noted.TheVariants.{Fault, TextFormat}
-use Rattle.protox_grammar.proofs.FineNotes.{IsNoFault, IsFaultless}
 use Rattle.protox_grammar.proofs.NotedModes.{mode_at, mode_of}
 use Rattle.protox_syntax.specs.inner.Merge.{Progress, progress, faults_of_rows, read_until, rows_to_read, with_noted, noted_in, merge_notes, beginning, merged_faults}
 use Rattle.protox_syntax.proofs.Merging.{Fall, unset}

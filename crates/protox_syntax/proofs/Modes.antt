@@ -28,9 +28,9 @@ use Rattle.protox_grammar.specs.Steps.{ANode, APackage, AKeyword, ADeepBody, ADe
 use Rattle.protox_grammar.specs.declared.note.Note as note_type
 use Rattle.protox_grammar.specs.declared.note.Noted.{Noted}
 use Rattle.protox_grammar.specs.declared.note.Noted.TheVariants.{Fault, TextFormat}
-use Rattle.protox_grammar.specs.Told.{Notes, at_once, behind, group_faults, ident_faults, is_invalid, node_notes, noted, run_note, path_faults, syntax_faults, text_faults, told}
+use Rattle.protox_grammar.specs.Told.{Notes, at_once, behind, group_faults, ident_faults, is_invalid, node_notes, noted, run_note, path_faults, syntax_faults, text_faults, told, AreValidTokens, IsFaultless, IsNoFault}
 use Rattle.protox_grammar.proofs.CleanModes.{clean-modes, in-none}
-use Rattle.protox_grammar.proofs.FineNotes.{AreTokens, IsFaultless, IsNoFault, faultless-first, faultless-last}
+use Rattle.protox_grammar.proofs.FineNotes.{faultless-first, faultless-last}
 use Rattle.protox_grammar.proofs.InsideLaws as insides
 use Rattle.protox_grammar.proofs.Main as main
 use Rattle.protox_grammar.proofs.TakenSteps.{none-deep, taken}
@@ -136,11 +136,11 @@ clean-valid : (all : List Lexeme) (n : ℕ) (xs : List Lexeme) → AreCleanBehin
 clean-valid all n [] h = tt
 clean-valid all n (x ∷ xs) h = valid-by x xs (is_gap x.shape) h.0.0 (clean-valid all _ xs h.1)
 
-pub valid-tokens : (first : Bool) (rows : Rows Span) (gaps : List (List Shape)) → AreValid rows → AreTokens (placed_from first rows gaps)
+pub valid-tokens : (first : Bool) (rows : Rows Span) (gaps : List (List Shape)) → AreValid rows → AreValidTokens (placed_from first rows gaps)
 valid-tokens first [] gaps h = tt
 valid-tokens first (r ∷ rs) gaps h = (h.0, valid-tokens false rs (later_gaps gaps) h.1)
 
-pub clean-tokens : (lexemes : List Lexeme) → AreClean lexemes → AreTokens (placed_tokens lexemes)
+pub clean-tokens : (lexemes : List Lexeme) → AreClean lexemes → AreValidTokens (placed_tokens lexemes)
 clean-tokens lexemes h = valid-tokens true (rows_of lexemes) (table_of lexemes).gaps (clean-valid lexemes 0 lexemes h)
 
 -- ---- the modes of rows
@@ -235,7 +235,7 @@ module _ (lexemes : List Lexeme) (f : tree.File Place) (spelled : Spells (placed
   unfolding bodies.file
   keeps = main.may-of here levels f spelled.1
 
-  pub wrong : AreTokens rows → IsFaultless (all_notes rows) ↔ NothingWrong f
+  pub wrong : AreValidTokens rows → IsFaultless (all_notes rows) ↔ NothingWrong f
   wrong a =
       let h = noted-wrong here rows f a keeps (taken lexemes f spelled deep).same in
       (λ g. h.0 (subst IsFaultless (sym (file-told rows)) g), λ g. subst IsFaultless (file-told rows) (h.1 g))

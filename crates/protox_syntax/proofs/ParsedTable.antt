@@ -15,9 +15,9 @@ use Rattle.protox_ast.specs.Keywords.{Each}
 use Rattle.protox_ast.specs.Places.{Place, placed}
 use Rattle.protox_ast.specs.Tree as tree
 use Rattle.protox_grammar.specs.Reader.{Unexpected, Deep}
-use Rattle.protox_grammar.specs.Told.{Notes, is_invalid, then_notes}
+use Rattle.protox_grammar.specs.Told.{Notes, is_invalid, then_notes, IsFaultless}
 use Rattle.protox_grammar.specs.declared.note.Noted.TheVariants.{TextFormat}
-use Rattle.protox_grammar.proofs.FineNotes.{IsFaultless, faultless-first}
+use Rattle.protox_grammar.proofs.FineNotes.{faultless-first}
 use Rattle.protox_grammar.proofs.Telling.{AllLie, both-lie}
 use Rattle.protox_rows.specs.inner.Notes.{AddsTo}
 use Rattle.protox_rows.specs.inner.Outcome.{Fails}

@@ -1,5 +1,5 @@
 -- Where no fault is noted, what was read is right.
-use Rattle.std.proofs.Common.{◌≡◌, Bool, true, false, List, [], ◌∷◌, ◌++◌, Option, None, option_map, Result, Ok, Err, refl, sym, ap, subst, ◌∙◌}
+use Rattle.std.proofs.Common.{◌≡◌, Bool, true, false, List, [], ◌∷◌, ◌++◌, Option, Some, None, option_map, Result, Ok, Err, refl, sym, ap, subst, ◌∙◌}
 use Rattle.std.specs.Prelude.{◌&&◌, ◌<◌, IfOk, length}
 use Rattle.std.specs.declared.alloc.AllocError.{AllocError}
 use Rattle.std.specs.List.{list_all}
@@ -14,35 +14,36 @@ use Rattle.protox_ast.specs.Tree as tree
 use Rattle.protox_ast.specs.declared.ast.Comments.{Comments}
 use Rattle.protox_ast.specs.declared.ast.Syntax.{Syntax}
 use Rattle.protox_grammar.specs.Bodies as bodies
-use Rattle.protox_grammar.specs.Class.{only}
+use Rattle.protox_grammar.specs.Class.{in_set, only}
 use Rattle.protox_grammar.specs.Noted.{noted_nodes}
+use Rattle.protox_grammar.specs.Reader.{head_in}
 use Rattle.protox_grammar.specs.Rule as rule
 use Rattle.protox_grammar.specs.Rules as r
-use Rattle.protox_grammar.specs.Told.{Notes, first_behind}
+use Rattle.protox_grammar.specs.Told.{Notes, first_behind, AreValidTokens, IsFaultless, IsNoFault, place_of}
 use Rattle.protox_grammar.specs.Token as token
 use Rattle.protox_grammar.proofs.Depths.{body-laws}
 use Rattle.protox_grammar.specs.declared.note.Note.{Note}
 use Rattle.protox_grammar.specs.declared.note.Noted.{Noted}
 use Rattle.protox_grammar.specs.declared.note.Noted.TheVariants.{Fault, TextFormat}
-use Rattle.protox_grammar.proofs.FineNotes.{AreTokens, IsFaultless, IsNoFault, fine-told}
+use Rattle.protox_grammar.proofs.FineNotes.{fine-told}
 use Rattle.protox_grammar.proofs.Forms.{optional-laws}
 use Rattle.protox_grammar.proofs.Kept as kept
 use Rattle.protox_grammar.proofs.Messages as messages
 use Rattle.protox_grammar.proofs.Parts as parts
-use Rattle.protox_grammar.proofs.Stated.{place_of}
+use Rattle.protox_grammar.proofs.Reading.{head-stops, true-false}
 use Rattle.protox_grammar.proofs.Takes.{bind_ok, ok_is}
 use Rattle.protox_options.specs.inner.Options.{here}
 use Rattle.protox_rows.specs.declared.refused.Refused.{Refused}
 use Rattle.protox_rows.specs.inner.Notes.{Adds}
 use Rattle.protox_rows.specs.inner.Outcome.{Gives}
 use Rattle.protox_syntax.proofs.Turns.{statement-eats}
-use Rattle.protox_syntax.specs.NextStatement.{IfRead, IsNextStatement, IsNextSyntax, is_no_fault}
+use Rattle.protox_syntax.specs.NextStatement.{BeginWithSyntax, IfRead, IsNextStatement, IsNextSyntax, is_no_fault}
 use Rattle.protox_syntax.specs.declared.next.Next.{Next}
 use Rattle.protox_syntax.specs.declared.next.Next.TheVariants as next
 use Rattle.protox_syntax.specs.declared.statement_types.Statement as statement_type
 use Rattle.protox_syntax.specs.inner.Statements.{levels, next_first, statement, statement_rule, statement_seen, syntax_if_any, syntax_seen}
 
-pub statement-next : (first : Option Span) (old new : Rows Place) (found : statement_type.Statement) → AreTokens old → statement.code old ≡ Ok (found, new) → IsFaultless (statement.notes first old) → IsNextStatement first old new found
+pub statement-next : (first : Option Span) (old new : Rows Place) (found : statement_type.Statement) → AreValidTokens old → statement.code old ≡ Ok (found, new) → IsFaultless (statement.notes first old) → IsNextStatement first old new found
 unfolding bodies.statement
 statement-next first old new found valid e f =
     let p = bind_ok (statement_rule.read old) (λ y. Ok (statement_seen y.0, y.1)) (found, new) (sym (statement.shows.same old) ∙ e) in
@@ -62,10 +63,14 @@ statement-next first old new found valid e f =
       };
     }
 
+absent-at : (o : Option (tree.Syntax Place)) (old rest : Rows Place) → old ≡ s.maybe s.syntax o ++ rest → rule.Closes r.syntax.ends (only token.syntax) o rest → o ≡ None → BeginWithSyntax old → ⊥
+absent-at (Some x) old rest is stops none begins = absurd cc
+absent-at None old rest is stops none begins = true-false (head_in (in_set (only token.syntax)) old) begins (ap (head_in (in_set (only token.syntax))) is ∙ head-stops (in_set (only token.syntax)) (only token.syntax) (λ s. refl) rest stops)
+
 abbrev syntax_rule : rule.Rule Place (Option (tree.Syntax Place))
 syntax_rule = rule.optional (only token.syntax) r.syntax
 
-pub syntax-next : (old new : Rows Place) (found : Option (Syntax × (Span × Comments))) → AreTokens old → syntax_if_any.code old ≡ Ok (found, new) → IsFaultless (syntax_if_any.notes old) → IsNextSyntax old new found
+pub syntax-next : (old new : Rows Place) (found : Option (Syntax × (Span × Comments))) → AreValidTokens old → syntax_if_any.code old ≡ Ok (found, new) → IsFaultless (syntax_if_any.notes old) → IsNextSyntax old new found
 unfolding r.syntax
 syntax-next old new found valid e f =
     let p = bind_ok (syntax_rule.read old) (λ y. Ok (option_map syntax_seen y.0, y.1)) (found, new) (sym (syntax_if_any.shows.same old) ∙ e) in
@@ -80,6 +85,7 @@ syntax-next old new found valid e f =
       fine = λ w. subst (λ t. Each IsFine (noted_nodes None w t)) traced
           (fine-told None w (syntax_rule.trace old) old valid (subst IsFaultless (sym (syntax_if_any.tells.says None w old)) f));
       no_package = ap (first_behind None) (sym traced) ∙ kept.syntax-first here None old p.0 p.1;
+      absent = absent-at p.0.0 old p.0.1 took.parts took.ends;
     }
 
 first-no-fault : (n : Noted) (b : Bool) → (is_no_fault n && b) ≡ true → IsNoFault n × (b ≡ true)
@@ -90,6 +96,14 @@ pub none_faulty : (notes : Notes) → list_all (λ (n : Note). is_no_fault n.not
 none_faulty [] h = tt
 none_faulty (n ∷ ns) h = let k = first-no-fault n.noted (list_all (λ (m : Note). is_no_fault m.noted) ns) h in (k.0, none_faulty ns k.1)
 
+some-fault : (n : Noted) (b : Bool) → (is_no_fault n && b) ≡ false → IsNoFault n → b ≡ false
+some-fault (Fault f) b h k = absurd k
+some-fault (TextFormat open_now) b h k = h
+
+pub some_faulty : (notes : Notes) → list_all (λ (n : Note). is_no_fault n.noted) notes ≡ false → IsFaultless notes → ⊥
+some_faulty [] h k = absurd cc
+some_faulty (n ∷ ns) h k = some_faulty ns (some-fault n.noted (list_all (λ (m : Note). is_no_fault m.noted) ns) h k.0) k.1
+
 -- ---- what the code answers
 
 module _ {T : Type 0} (P : T → Type 0) where
@@ -99,17 +113,17 @@ module _ {T : Type 0} (P : T → Type 0) where
   judged-by (Ok next.Ended) read notes h f = tt
   judged-by (Ok next.Wrong) read notes h f = tt
 
-given-ok : {X Y : Type 0} (view : X → Y) (read : Result X Refused) (x : X) (new : Rows Place) (r : _) → read ≡ Ok x → Gives view read new r → r ≡ Ok (view x, new)
+pub given-ok : {X Y : Type 0} (view : X → Y) (read : Result X Refused) (x : X) (new : Rows Place) (r : _) → read ≡ Ok x → Gives view read new r → r ≡ Ok (view x, new)
 given-ok view read x new r e h = subst (λ v. Gives view v new r) e h
 
-added-ok : {X : Type 0} (read : Result X Refused) (x : X) (start added new : Notes) → start ≡ [] → read ≡ Ok x → Adds read start added new → new ≡ added
+pub added-ok : {X : Type 0} (read : Result X Refused) (x : X) (start added new : Notes) → start ≡ [] → read ≡ Ok x → Adds read start added new → new ≡ added
 added-ok read x start added new none e h = subst (λ v. Adds v start added new) e h ∙ ap (λ l. l ++ added) none
 
-pub read-statement : (first : Option Span) (old new : Rows Place) (read : Result statement_type.Statement Refused) (start notes : Notes) (x : statement_type.Statement) → AreTokens old → start ≡ [] → Gives (λ x. x) read new (statement.code old) → Adds read start (statement.notes first old) notes
+pub read-statement : (first : Option Span) (old new : Rows Place) (read : Result statement_type.Statement Refused) (start notes : Notes) (x : statement_type.Statement) → AreValidTokens old → start ≡ [] → Gives (λ x. x) read new (statement.code old) → Adds read start (statement.notes first old) notes
     → read ≡ Ok x → IsFaultless notes → IsNextStatement first old new x
 read-statement first old new read start notes x valid none gives adds e fine = statement-next first old new x valid (given-ok (λ x. x) read x new (statement.code old) e gives) (subst IsFaultless (added-ok read x start (statement.notes first old) notes none e adds) fine)
 
-pub read-syntax : (old new : Rows Place) (read : Result (Option (Syntax × (Span × Comments))) Refused) (start notes : Notes) (x : Option (Syntax × (Span × Comments))) → AreTokens old → start ≡ [] → Gives (λ x. x) read new (syntax_if_any.code old) → Adds read start (syntax_if_any.notes old) notes
+pub read-syntax : (old new : Rows Place) (read : Result (Option (Syntax × (Span × Comments))) Refused) (start notes : Notes) (x : Option (Syntax × (Span × Comments))) → AreValidTokens old → start ≡ [] → Gives (λ x. x) read new (syntax_if_any.code old) → Adds read start (syntax_if_any.notes old) notes
     → read ≡ Ok x → IsFaultless notes → IsNextSyntax old new x
 read-syntax old new read start notes x valid none gives adds e fine = syntax-next old new x valid (given-ok (λ x. x) read x new (syntax_if_any.code old) e gives) (subst IsFaultless (added-ok read x start (syntax_if_any.notes old) notes none e adds) fine)
 

@@ -15,9 +15,9 @@ use Rattle.protox_grammar.specs.Reads.{read}
 use Rattle.protox_grammar.specs.Rule as rule
 use Rattle.protox_grammar.specs.Rules as r
 use Rattle.protox_grammar.specs.Steps.{ANode, APackage, AKeyword, ADeepBody, ADeeperBody, AnOpenBrace, ACloseBrace, Token, Note, Steps, has_deep, star_trace, then_steps, tokens}
-use Rattle.protox_grammar.specs.Told.{behind, node_notes, first_behind, keyword_behind, past, told, then_notes}
+use Rattle.protox_grammar.specs.Told.{behind, node_notes, first_behind, keyword_behind, past, told, then_notes, IsFaultless}
 use Rattle.protox_grammar.specs.Token as token
-use Rattle.protox_grammar.proofs.FineNotes.{IsFaultless, faultless-last}
+use Rattle.protox_grammar.proofs.FineNotes.{faultless-last}
 use Rattle.protox_grammar.proofs.Kept as kept
 use Rattle.protox_grammar.proofs.Main as main
 use Rattle.protox_grammar.proofs.NotedFiles.{file-marks}

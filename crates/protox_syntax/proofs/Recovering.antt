@@ -18,8 +18,7 @@ use Rattle.protox_ast.specs.Tree as tree
 use Rattle.protox_grammar.specs.Class.{among, in_set, only}
 use Rattle.protox_grammar.specs.Reader.{head_in}
 use Rattle.protox_grammar.specs.Steps.{ANode, APackage, AKeyword, ADeepBody, ADeeperBody, AnOpenBrace, ACloseBrace, Token, Note, Steps}
-use Rattle.protox_grammar.specs.Told.{Notes, at_once, behind, is_invalid, node_notes, noted, run_note, past, told, unless_so}
-use Rattle.protox_grammar.proofs.Stated.{place_of}
+use Rattle.protox_grammar.specs.Told.{Notes, at_once, behind, is_invalid, node_notes, noted, run_note, past, told, unless_so, place_of}
 use Rattle.protox_grammar.proofs.Telling.{AllLie, both-lie}
 use Rattle.protox_grammar.proofs.Takes.{bind_ok, ok_is}
 use Rattle.protox_options.specs.inner.Options.{here}

@@ -19,28 +19,19 @@ use Rattle.protox_grammar.specs.Noted.{noted_nodes, steps, trace}
 use Rattle.protox_grammar.specs.Reads.{read}
 use Rattle.protox_grammar.specs.Rules as r
 use Rattle.protox_grammar.specs.Steps.{Steps, steps_of_many}
-use Rattle.protox_grammar.specs.Told.{first_behind, keyword_behind}
-use Rattle.protox_grammar.proofs.FineNotes.{AreTokens, told-fine}
+use Rattle.protox_grammar.specs.Told.{first_behind, keyword_behind, AreValidTokens, place_of}
+use Rattle.protox_grammar.proofs.FineNotes.{told-fine}
 use Rattle.protox_grammar.proofs.Main as main
 use Rattle.protox_grammar.proofs.NotedWrong.{noted-wrong, read-traced}
-use Rattle.protox_grammar.proofs.Stated.{first-append, noted-append, place_of}
+use Rattle.protox_grammar.proofs.Stated.{first-append, noted-append}
 use Rattle.protox_options.specs.inner.Options.{here}
 use Rattle.protox_syntax.specs.NextStatement.{IsNextSyntax, IsRight, syntax_steps}
+use Rattle.protox_syntax.specs.inner.SoFar.{IsRightSoFar, begun}
 use Rattle.protox_syntax.specs.inner.Statements.{levels, next_first, statement_rule, statement_seen}
-
--- A syntax statement, or none, and no other statement yet.
-abbrev pub begun : Option (tree.Syntax Place) → tree.File Place
-begun x = record { syntax = x; statements = [] }
 
 -- The file with one more statement.
 abbrev pub and_statement : tree.File Place → tree.Statement Place → tree.File Place
 and_statement f x = record { syntax = f.syntax; statements = f.statements ++ x ∷ [] }
-
--- Nothing is wrong with the file so far. Its first package statement has this place.
-pub record IsRightSoFar (first : Option Span) (f : tree.File Place) : Type 0 where
-  pub fits : k.Each (bodies.StatementHas (bodies.FitsMbody levels)) f.statements
-  pub fine : Each IsFine (noted_nodes None here (steps levels f))
-  pub place : place_of (first_behind None (steps levels f)) ≡ first
 
 steps-begun : (x : Option (tree.Syntax Place)) → steps levels (begun x) ≡ syntax_steps x
 unfolding bodies.file
@@ -97,12 +88,12 @@ module _ (first : Option Span) (f : tree.File Place) (so_far : IsRightSoFar firs
       let b : (main.file_at here levels).read rows ≡ Ok (f, []) = subst (λ v. (main.file_at here levels).read v ≡ Ok (f, [])) (append-nil ((main.file_at here levels).spell f) ∙ main.spelling here levels f ∙ sym is) a in
       rw b refl
 
-  nothing-wrong : (rows : Rows Place) → AreTokens rows → rows ≡ s.spell f → NothingWrong f
+  nothing-wrong : (rows : Rows Place) → AreValidTokens rows → rows ≡ s.spell f → NothingWrong f
   nothing-wrong rows valid is =
       let traced = read-traced here levels rows f (is-read rows is) in
       (noted-wrong here rows f valid keeps-each traced).0 (told-fine None here (trace levels rows) rows (subst (λ l. Each IsFine (noted_nodes None here l)) (sym traced) so_far.fine))
 
-  pub accepted : (source : List ℕ) → Fits source → AreTokens (placed (table_of (cut 0 source))) → AreClean (cut 0 source) → placed (table_of (cut 0 source)) ≡ s.spell f → IsAccepted source f
+  pub accepted : (source : List ℕ) → Fits source → AreValidTokens (placed (table_of (cut 0 source))) → AreClean (cut 0 source) → placed (table_of (cut 0 source)) ≡ s.spell f → IsAccepted source f
   accepted source short valid clean is =
       let a = (main.accepts_iff here levels (placed (table_of (cut 0 source))) f).0 (is-read (placed (table_of (cut 0 source))) is) in
       record { fits = short; spells = a.0; clean = clean; levels = a.1; nothing_wrong = nothing-wrong (placed (table_of (cut 0 source))) valid is }

@@ -19,9 +19,8 @@ use Rattle.protox_grammar.specs.Reader.{Refusal}
 use Rattle.protox_grammar.specs.Rule.{Rule, optional}
 use Rattle.protox_grammar.specs.Rules as r
 use Rattle.protox_grammar.specs.Steps.{ANode, APackage, AKeyword, ADeepBody, ADeeperBody, AnOpenBrace, ACloseBrace, Token, Note, Steps, star_trace, then_steps, until}
-use Rattle.protox_grammar.specs.Told.{told}
+use Rattle.protox_grammar.specs.Told.{told, IsFaultless}
 use Rattle.protox_grammar.specs.Token as token
-use Rattle.protox_grammar.proofs.FineNotes.{IsFaultless}
 use Rattle.protox_grammar.proofs.FirstCheck.{FirstCheck, fault_note, first-check}
 use Rattle.protox_grammar.proofs.Forms.{optional-laws}
 use Rattle.protox_grammar.proofs.Holding.{Holds, holds-right}

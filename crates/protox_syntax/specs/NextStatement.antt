@@ -1,22 +1,25 @@
 -- What rows begin with, if nothing is wrong with it.
-use Rattle.std.specs.Prelude.{◌≡◌, ◌++◌, Bool, true, false, Option, None, option_map}
+use Rattle.std.specs.Prelude.{◌≡◌, ◌++◌, Bool, true, false, List, Option, None, option_map}
 use Rattle.protox_fault.specs.Faults.{Span}
-use Rattle.protox_lexeme.specs.Shapes.{Rows}
+use Rattle.protox_lexeme.specs.Shapes.{Rows, Shape}
 use Rattle.protox_ast.specs.inner.Fine.{IsFine}
 use Rattle.protox_ast.specs.Keywords.{Each}
 use Rattle.protox_ast.specs.Places.{Place}
 use Rattle.protox_ast.specs.Spelling as s
+use Rattle.protox_ast.specs.Spells.{shapes}
 use Rattle.protox_ast.specs.Tree as tree
 use Rattle.protox_ast.specs.declared.ast.Comments.{Comments}
 use Rattle.protox_ast.specs.declared.ast.Syntax.{Syntax}
 use Rattle.protox_grammar.specs.Bodies as bodies
+use Rattle.protox_grammar.specs.Class.{in_set, only}
 use Rattle.protox_grammar.specs.Noted.{noted_nodes}
+use Rattle.protox_grammar.specs.Reader.{head_in}
 use Rattle.protox_grammar.specs.Rules as r
 use Rattle.protox_grammar.specs.Steps.{Steps, steps_of_option}
-use Rattle.protox_grammar.specs.Told.{first_behind}
+use Rattle.protox_grammar.specs.Told.{first_behind, place_of}
+use Rattle.protox_grammar.specs.Token as token
 use Rattle.protox_grammar.specs.declared.note.Noted.{Noted}
 use Rattle.protox_grammar.specs.declared.note.Noted.TheVariants.{Fault, TextFormat}
-use Rattle.protox_grammar.proofs.Stated.{place_of}
 use Rattle.protox_syntax.specs.declared.next.Next.{Next}
 use Rattle.protox_syntax.specs.declared.next.Next.TheVariants as next
 use Rattle.protox_syntax.specs.declared.statement_types.Statement as statement_type
@@ -28,6 +31,18 @@ IfRead (next.Read x) P = P x
 IfRead next.Ended P = Unit {0}
 IfRead next.Wrong P = Unit {0}
 
+-- If the rows ended too soon, this holds.
+abbrev pub IfEnded : {T : Type 0} → Next T → Type 0 → Type 0
+IfEnded (next.Read x) P = Unit {0}
+IfEnded next.Ended P = P
+IfEnded next.Wrong P = Unit {0}
+
+-- If something was wrong, this holds.
+abbrev pub IfWrong : {T : Type 0} → Next T → Type 0 → Type 0
+IfWrong (next.Read x) P = Unit {0}
+IfWrong next.Ended P = Unit {0}
+IfWrong next.Wrong P = P
+
 -- Whether what is noted is no fault.
 abbrev pub is_no_fault : Noted → Bool
 is_no_fault (Fault f) = false
@@ -37,6 +52,18 @@ is_no_fault (TextFormat open_now) = true
 abbrev pub syntax_steps : Option (tree.Syntax Place) → Steps Place
 syntax_steps x = steps_of_option r.syntax.steps x
 
+-- The rows begin with the word `syntax`.
+abbrev pub BeginWithSyntax : Rows Place → Type 0
+BeginWithSyntax rows = head_in (in_set (only token.syntax)) rows ≡ true
+
+-- These tokens begin with those of a syntax statement with which nothing is wrong.
+pub record HaveRightSyntax (tokens : List Shape) : Type 0 where
+  pub it : tree.Syntax Place
+  pub behind : List Shape
+  pub tokens_are : tokens ≡ shapes (s.syntax it) ++ behind
+  pub keyword : Place
+  pub fine : Each IsFine (noted_nodes None keyword (r.syntax.steps it))
+
 -- The rows begin with a syntax statement, or with none, and its syntax is known.
 pub record IsNextSyntax (old new : Rows Place) (found : Option (Syntax × (Span × Comments))) : Type 0 where
   pub it : Option (tree.Syntax Place)
@@ -44,6 +71,7 @@ pub record IsNextSyntax (old new : Rows Place) (found : Option (Syntax × (Span 
   pub seen : found ≡ option_map syntax_seen it
   pub fine : (keyword : Place) → Each IsFine (noted_nodes None keyword (syntax_steps it))
   pub no_package : first_behind None (syntax_steps it) ≡ None
+  pub absent : it ≡ None → BeginWithSyntax old → ⊥
 
 -- The statement keeps the keyword rules, has messages of at most 31 levels, and none of its nodes
 -- has a fault, where `first` is the place of the first package statement before it.
@@ -58,3 +86,16 @@ pub record IsNextStatement (first : Option Span) (old new : Rows Place) (found :
   pub rows : old ≡ s.statement it ++ new
   pub seen : found ≡ statement_seen it
   pub right : IsRight first it
+
+-- These tokens begin with those of a statement that keeps the keyword rules, has messages of at most
+-- 31 levels, and none of its nodes has a fault, where `first` is the place of the first package
+-- statement before it.
+pub record HaveRightStatement (first : Option Span) (tokens : List Shape) : Type 0 where
+  pub it : tree.Statement Place
+  pub behind : List Shape
+  pub tokens_are : tokens ≡ shapes (s.statement it) ++ behind
+  pub fits : bodies.StatementHas (bodies.FitsMbody levels) it
+  pub before : Option (tree.Package Place)
+  pub place : place_of before ≡ first
+  pub keyword : Place
+  pub fine : Each IsFine (noted_nodes before keyword (statement_rule.steps it))

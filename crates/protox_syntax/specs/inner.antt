@@ -6,3 +6,5 @@ pub mod Recovery
 pub mod Leading
 pub mod ParsedTable
 pub mod Front
+pub mod SoFar
+pub mod NextRead

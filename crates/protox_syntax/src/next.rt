@@ -1,9 +1,12 @@
 //! Reads a file statement by statement, as long as nothing is wrong.
 
-ghost use Rattle.std.specs.Prelude.{◌≡◌, ◌<◌, Ok, true, length, IfOk};
+ghost use Rattle.std.specs.Prelude.{◌≡◌, ◌++◌, ◌<◌, List, Ok, true, length, IfOk};
 ghost use Rattle.std.specs.List.{list_all};
-ghost use Rattle.protox_grammar.proofs.FineNotes.{AreTokens, IsFaultless};
-ghost use Rattle.protox_syntax.specs.NextStatement.{IfRead, IsNextStatement, IsNextSyntax, is_no_fault};
+ghost use Rattle.protox_lexeme.specs.Shapes.{Shape};
+ghost use Rattle.protox_syntax.specs.NextStatement.{BeginWithSyntax, HaveRightStatement, HaveRightSyntax, IfEnded, IfRead, IfWrong, IsNextStatement, IsNextSyntax, is_no_fault};
+ghost use Rattle.protox_syntax.specs.inner.NextRead.{IsCutOff, IsFaulty};
+ghost use Rattle.protox_ast.specs.Spells.{shapes};
+ghost use Rattle.protox_grammar.specs.Told.{AreValidTokens, IsFaultless};
 
 use crate::statement_types::Statement;
 use crate::statements::{statement, syntax_if_any};
@@ -39,9 +42,11 @@ fn are_right(notes: &Vec<Note>) -> bool
 }
 
 // What was read, if no fault was noted.
-#[tactic(auto, using(crate::proofs::ReadRight::none_faulty))]
+#[tactic(auto, using(crate::proofs::ReadRight::none_faulty, crate::proofs::ReadRight::some_faulty))]
 fn judged<T: Drop>(read: Result<T, Refused>, notes: &Vec<Note>) -> Result<Next<T>, AllocError>
-    ensures { IfOk result (λ next. IfRead next (λ x. (read ≡ Ok x) × IsFaultless notes.now.items)) }
+    ensures read { IfOk result (λ next. IfRead next (λ x. (read ≡ Ok x) × IsFaultless notes.now.items)) }
+    ensures ended { IfOk result (λ next. IfEnded next (IsCutOff read)) }
+    ensures wrong { IfOk result (λ next. IfWrong next (IsFaulty notes.now.items read)) }
 {
     match read {
         Err(Refused::OutOfMemory) => Err(AllocError),
@@ -59,7 +64,12 @@ pub fn next_syntax(
     alloc: Global,
     rows: &mut Unread<'_, '_>,
 ) -> Result<Next<Option<(Syntax, (Span, Comments))>>, AllocError>
-    ensures { AreTokens rows.old → IfOk result (λ next. IfRead next (IsNextSyntax rows.old rows.new)) }
+    ensures read { AreValidTokens rows.old → IfOk result (λ next. IfRead next (IsNextSyntax rows.old rows.new)) }
+    // The rows end only within a syntax statement, and then they have no right one.
+    ensures ended { IfOk result (λ next. IfEnded next (BeginWithSyntax rows.old × (HaveRightSyntax (shapes rows.old) → ⊥))) }
+    // Something is wrong only with a syntax statement, and only if no right one begins there,
+    // whatever comes behind the rows.
+    ensures wrong { IfOk result (λ next. IfWrong next (BeginWithSyntax rows.old × ((more : List Shape) → HaveRightSyntax (shapes rows.old ++ more) → ⊥))) }
 {
     let mut notes = Vec::new(alloc);
     let read = syntax_if_any(alloc, &mut notes, rows);
@@ -75,7 +85,11 @@ pub fn next_statement(
     rows: &mut Unread<'_, '_>,
     first: &Option<Span>,
 ) -> Result<Next<Statement>, AllocError>
-    ensures read { AreTokens rows.old → IfOk result (λ next. IfRead next (IsNextStatement first.now rows.old rows.new)) }
+    ensures read { AreValidTokens rows.old → IfOk result (λ next. IfRead next (IsNextStatement first.now rows.old rows.new)) }
+    // The rows end only if no right statement begins there.
+    ensures ended { IfOk result (λ next. IfEnded next (HaveRightStatement first.now (shapes rows.old) → ⊥)) }
+    // Something is wrong only if no right statement begins there, whatever comes behind the rows.
+    ensures wrong { IfOk result (λ next. IfWrong next ((more : List Shape) → HaveRightStatement first.now (shapes rows.old ++ more) → ⊥)) }
     ensures fewer { IfOk result (λ next. IfRead next (λ found. length rows.new < length rows.old)) }
 {
     let mut notes = Vec::new(alloc);

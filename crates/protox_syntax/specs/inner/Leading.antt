@@ -6,8 +6,7 @@ use Rattle.protox_lexeme.specs.Shapes.{Row, Rows}
 use Rattle.protox_lexeme.specs.Table.{Table}
 use Rattle.protox_ast.specs.Places.{Place}
 use Rattle.protox_ast.specs.Tree as tree
-use Rattle.protox_grammar.specs.Told.{Notes}
-use Rattle.protox_grammar.proofs.Stated.{place_of}
+use Rattle.protox_grammar.specs.Told.{Notes, place_of}
 use Rattle.protox_rows.specs.inner.Outcome.{Fails}
 use Rattle.protox_rows.specs.declared.refused.Refused.{Refused}
 use Rattle.protox_rows.specs.declared.refused.Refused.TheVariants.{OutOfMemory, At, TooDeep}

@@ -4,14 +4,15 @@ use Rattle.protox_ast.specs.declared.ast.Syntax.{Syntax}
 use Rattle.protox_generate.specs.declared.draft.FileDraft.{FileDraft}
 use Rattle.protox_generate.specs.inner.Taken.{HasRoomFor, IsTaken}
 use Rattle.protox_lexeme.specs.Lexemes.{cut}
-use Rattle.protox_syntax.proofs.RightFiles.{IsRightSoFar, begun, right-begun}
+use Rattle.protox_syntax.proofs.RightFiles.{right-begun}
+use Rattle.protox_syntax.specs.inner.SoFar.{IsRightSoFar, begun}
 use Rattle.protox_syntax.specs.NextStatement.{IsNextSyntax}
 use Rattle.protox_pass.specs.inner.Held.{no_file}
 use Rattle.protox_pass.specs.inner.Reached.{IsBetween}
 
 -- no syntax statement, where nothing is left
 no-syntax : IsNextSyntax [] [] None
-no-syntax = record { it = None; rows = refl; seen = refl; fine = λ keyword. tt; no_package = refl }
+no-syntax = record { it = None; rows = refl; seen = refl; fine = λ keyword. tt; no_package = refl; absent = λ none begins. absurd cc }
 
 right : IsRightSoFar None (begun None)
 unfolding no-syntax

@@ -11,22 +11,24 @@ use Rattle.protox_ast.specs.Spelling as s
 use Rattle.protox_ast.specs.declared.ast.File.{File}
 use Rattle.protox_ast.specs.declared.ast.FileItem.{FileItem}
 use Rattle.protox_ast.specs.declared.ast.Syntax.{Syntax}
-use Rattle.protox_checks.proofs.FaultlessItems.{faultless_by_items}
+use Rattle.protox_checks.proofs.FaultlessItems.{faultless_by_items, head_of_faultless}
 use Rattle.protox_checks.specs.Checks.{nodes_faults}
 use Rattle.protox_checks.specs.Faults.{IsFaultless}
 use Rattle.protox_checks.specs.Nodes.{item_nodes}
 use Rattle.protox_descriptor.specs.declared.descriptor.FileDescriptorProto.{FileDescriptorProto}
+use Rattle.protox_grammar.proofs.Main as main
 use Rattle.protox_generate.specs.File.{file_descriptor}
 use Rattle.protox_generate.specs.declared.draft.FileDraft.{FileDraft}
 use Rattle.protox_generate.specs.inner.Taken.{IsTaken}
 use Rattle.protox_describe.specs.inner.Widths.{file_width}
 use Rattle.protox_locate.specs.inner.Bounds.{file_reach, file_weight}
+use Rattle.protox_options.specs.inner.Options.{here}
 use Rattle.protox_syntax.proofs.Reading.{built_file-is}
 use Rattle.protox_syntax.proofs.RightFiles.{accepted}
 use Rattle.protox_syntax.specs.inner.Statements.{first_place, statements_seen}
-use Rattle.protox_pass.specs.Found.{IsFound}
+use Rattle.protox_pass.specs.Found.{IsFound, IsSound}
 use Rattle.protox_pass.specs.declared.parts.Progress.{Progress}
-use Rattle.protox_pass.specs.inner.Reached.{IsAll, IsComplete, last_end}
+use Rattle.protox_pass.specs.inner.Reached.{IsAll, IsComplete, last_end, rows}
 use Rattle.protox_pass.proofs.Bounds.{file-bounds, front-stands}
 use Rattle.protox_pass.proofs.Flawless.{clean-of, tokens-of}
 
@@ -97,3 +99,10 @@ module _ (source : List ℕ) (u : IsUtf8 source) (head : File) (draft : FileDraf
 
   pub found-of : (name : List ℕ) (d : FileDescriptorProto) → IsFaultless head → d ≡ file_descriptor name source whole_file → IsFound name source d
   found-of name d h is = record { file = whole_file; of_source = file-of; faultless = faultless-of h; described = is }
+
+  -- the head of a sound source is faultless
+  pub sound-head : IsSound source → IsFaultless head
+  sound-head sound =
+      let same : a.f ≡ sound.of_source.0 = main.one_tree here (rows source) a.f sound.of_source.0 a.accepted.spells sound.of_source.1.spells in
+      let is : whole_file ≡ sound.file = a.whole ∙ ap (ast.file (length source)) same ∙ sym sound.of_source.2 in
+      subst IsFaultless (λ i. record head { items = sym a.head_alone i }) (head_of_faultless whole_file (subst IsFaultless (sym is) sound.faultless))

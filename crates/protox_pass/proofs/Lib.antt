@@ -9,3 +9,5 @@ pub mod Completing
 pub mod Cutting
 pub mod Beginning
 pub mod Answering
+pub mod Sound
+pub mod Going

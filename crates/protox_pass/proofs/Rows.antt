@@ -39,14 +39,14 @@ over-row : (first : Bool) (ys : List Shape) (x : Lexeme) (xs : List Lexeme) → 
     → places_behind first ys (x ∷ xs) ≡ placed_row first ys x xs ∷ places false xs
 over-row first ys x xs row = rw row refl
 
-row-over : (x : Lexeme) (xs : List Lexeme) → is_gap x.shape ≡ false → rows_of (x ∷ xs) ≡ row_of x ∷ rows_of xs
+pub row-over : (x : Lexeme) (xs : List Lexeme) → is_gap x.shape ≡ false → rows_of (x ∷ xs) ≡ row_of x ∷ rows_of xs
 row-over x xs row = rw row refl
 
 -- a row that comes first
 pub row-first : (first : Bool) (x : Lexeme) (xs : List Lexeme) → is_gap x.shape ≡ false → places first (x ∷ xs) ≡ record { shape = x.shape; at = place_of first (row_of x) [] (gaps_of xs) (rows_of xs) } ∷ places false xs
 row-first first x xs row = rw row refl
 
-gap-over : (x : Lexeme) (xs : List Lexeme) → is_gap x.shape ≡ true → rows_of (x ∷ xs) ≡ rows_of xs
+pub gap-over : (x : Lexeme) (xs : List Lexeme) → is_gap x.shape ≡ true → rows_of (x ∷ xs) ≡ rows_of xs
 gap-over x xs gap = rw gap refl
 
 -- ---- what comes behind the next row doesn't matter

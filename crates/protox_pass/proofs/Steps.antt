@@ -1,7 +1,8 @@
 -- One more statement of a part is read.
+use Rattle.std.specs.Prelude.{◌↔◌, IsTrue}
 use Rattle.std.specs.Str.{IsUtf8}
 use Rattle.std.proofs.lemmas.Bool.{false≢true}
-use Rattle.std.proofs.Common.{◌≡◌, ◌⊎◌, ℕ, length, nat_eq, not, inl, inr, Bool, true, false, List, [], ◌∷◌, ◌++◌, Option, option_map, refl, sym, ap, subst, ◌∙◌, append_assoc}
+use Rattle.std.proofs.Common.{◌≡◌, ◌⊎◌, ℕ, length, nat_eq, inl, inr, Bool, true, false, List, [], ◌∷◌, ◌++◌, Option, None, option_map, refl, sym, ap, subst, ◌∙◌, append_assoc}
 use Rattle.protox_fault.specs.Faults.{Span}
 use Rattle.protox_lexeme.specs.Shapes.{Row, Rows}
 use Rattle.protox_lexeme.specs.Table.{table_of}
@@ -14,7 +15,8 @@ use Rattle.protox_ast.specs.Tree as tree
 use Rattle.protox_ast.specs.declared.ast.File.{File}
 use Rattle.protox_ast.specs.declared.ast.Package as package_type
 use Rattle.protox_generate.specs.declared.draft.FileDraft.{FileDraft}
-use Rattle.protox_syntax.proofs.RightFiles.{IsRightSoFar, and_statement, right-more}
+use Rattle.protox_syntax.proofs.RightFiles.{and_statement, right-more}
+use Rattle.protox_syntax.specs.inner.SoFar.{IsRightSoFar}
 use Rattle.protox_syntax.proofs.Turns.{first-added}
 use Rattle.protox_syntax.specs.NextStatement.{IfRead, IsNextStatement, IsRight}
 use Rattle.protox_syntax.specs.declared.next.Next.{Next}
@@ -24,13 +26,13 @@ use Rattle.protox_syntax.specs.declared.statement_types.Statement.TheVariants as
 use Rattle.protox_syntax.specs.inner.ParsedTable.{syntax_or_default}
 use Rattle.protox_syntax.specs.inner.Statements.{add_statement, first_place, next_first, statement_seen, statements_seen, syntax_seen}
 use Rattle.protox_pass.specs.declared.statements.Part.{Part}
-use Rattle.protox_grammar.proofs.FineNotes.{AreTokens}
 use Rattle.protox_pass.specs.inner.Held.{CanTake, IsHeld}
 use Rattle.protox_pass.specs.inner.Places.{IsFlawless, places}
-use Rattle.protox_pass.specs.inner.Reached.{IsInPart, IsReached, rows}
+use Rattle.protox_pass.specs.inner.Reached.{IsBehindSyntax, IsInPart, IsReached, rows}
 use Rattle.protox_pass.proofs.Bounds.{can-take, seen-more, spell-more}
 use Rattle.protox_pass.proofs.Flawless.{tokens-of}
 use Rattle.protox_pass.proofs.Rows.{IsRead, read-rows, whole-is}
+use Rattle.protox_grammar.specs.Told.{AreValidTokens}
 
 -- ---- lists in parts
 
@@ -76,6 +78,18 @@ module _ (source : List ℕ) (part : Part) (left ahead : Rows Place) (head : Fil
     last = inr (refl, i.read ++ m.front, m.last, sym (append_assoc i.read m.front (m.last ∷ [])), m.row);
   }
 
+  -- the same behind the syntax statement
+  pub behind-further : (g : tree.File Place) (head_now : File) (draft_now : FileDraft) → s.spell g ≡ s.spell i.f ++ (r ∷ rs) → IsReached source g head_now draft_now → (g.syntax ≡ None → ⊥) → IsBehindSyntax source part ahead head_now draft_now
+  unfolding further
+  behind-further g head_now draft_now spelled reached some = record {
+    here = further g head_now draft_now spelled reached;
+    past = λ syntax statements begins. some syntax;
+  }
+
+pub never-none : {A : Type 0} (xs : List A) (x : A) → xs ++ x ∷ [] ≡ [] → ⊥
+never-none [] x e = absurd cc
+never-none (y ∷ ys) x e = absurd cc
+
 -- each statement has a row
 pub spelled-some : (x : tree.Statement Place) → (r : Row Place) × (rs : Rows Place) × (s.statement x ≡ r ∷ rs)
 spelled-some (tree.an_empty place) = (_, _, refl)
@@ -107,8 +121,17 @@ module _ (source : List ℕ) (part : Part) (left ahead : Rows Place) (head : Fil
         held = subst (λ st. IsHeld source (syntax_or_default (option_map syntax_seen i.f.syntax)) st head_now draft_now) added held;
       })
 
+  -- and it lies behind the syntax statement
+  pub behind-one : (head_now : File) (draft_now : FileDraft) → head_now.syntax_span ≡ head.syntax_span
+      → IsHeld source (syntax_or_default (option_map syntax_seen i.f.syntax)) (add_statement (statements_seen i.f.statements) found) head_now draft_now → IsBehindSyntax source part ahead head_now draft_now
+  unfolding one-further further
+  behind-one head_now draft_now kept held = record {
+    here = one-further head_now draft_now kept held;
+    past = λ syntax statements begins. never-none i.f.statements n.it statements;
+  }
+
   -- the rows of the source, with those of the statement
-  whole-now : (rest : Rows Place) × (rows source ≡ s.spell i.f ++ (s.statement n.it ++ rest))
+  pub whole-now : (rest : Rows Place) × (rows source ≡ s.spell i.f ++ (s.statement n.it ++ rest))
   whole-now =
       let some = spelled-some n.it in
       let read = m source part left ahead head draft i some.0 some.1 (n.rows ∙ ap (λ l. l ++ ahead) some.2) ends in
@@ -126,17 +149,21 @@ module _ (source : List ℕ) (part : Part) (left ahead : Rows Place) (head : Fil
       by (statement_of.Option x) seen = tt
 
 -- The rows that are left in a part are valid tokens.
-pub tokens-left : (source : List ℕ) (part : Part) (left : Rows Place) (head : File) (draft : FileDraft) (i : IsInPart source part left head draft) → AreTokens left
-tokens-left source part left head draft i = subst AreTokens (sym i.rows_are) (tokens-of i.first i.left (each-back IsFlawless i.read i.left i.flawless))
+pub tokens-left : (source : List ℕ) (part : Part) (left : Rows Place) (head : File) (draft : FileDraft) (i : IsInPart source part left head draft) → AreValidTokens left
+tokens-left source part left head draft i = subst AreValidTokens (sym i.rows_are) (tokens-of i.first i.left (each-back IsFlawless i.read i.left i.flawless))
+
+-- What isn't cut off has some row behind it, or the part ends with the source.
+pub not-cut : (ends : Bool) (ahead : Rows Place) (cut : Bool) → IsTrue cut ↔ ((ends ≡ false) × (ahead ≡ [])) → cut ≡ false → (ahead ≡ [] → ⊥) ⊎ (ends ≡ true)
+not-cut true ahead cut is h = inr refl
+not-cut false ahead cut is h = inl (λ none. false≢true (sym h ∙ is.1 (refl, none)))
 
 -- Some row is left.
-pub some-left : (left : Rows Place) (none : Bool) → none ≡ nat_eq (length left) 0 → not none ≡ true → left ≡ [] → ⊥
-some-left left true is h = absurd cc
-some-left left false is h = λ e. false≢true (is ∙ ap (λ l. nat_eq (length l) 0) e)
+pub some-left : (left : Rows Place) (none : Bool) → none ≡ nat_eq (length left) 0 → none ≡ false → left ≡ [] → ⊥
+some-left left none is h e = false≢true (sym h ∙ is ∙ ap (λ l. nat_eq (length l) 0) e)
 
 -- What was read next, where it was read.
-pub found-next : (head : File) (left again ahead : Rows Place) (first : Option Span) (read : Next Statement) (found : Statement) → again ≡ left → first ≡ place_in head → read ≡ next.Read found → AreTokens left
-    → (AreTokens again → IfRead read (IsNextStatement first again ahead)) → IsNextStatement (place_in head) left ahead found
+pub found-next : (head : File) (left again ahead : Rows Place) (first : Option Span) (read : Next Statement) (found : Statement) → again ≡ left → first ≡ place_in head → read ≡ next.Read found → AreValidTokens left
+    → (AreValidTokens again → IfRead read (IsNextStatement first again ahead)) → IsNextStatement (place_in head) left ahead found
 found-next head left again ahead first read found same its is valid given =
     subst (λ v. IfRead v (IsNextStatement (place_in head) left ahead)) is
-    (subst (λ v. IfRead read (IsNextStatement v left ahead)) its (subst (λ v. IfRead read (IsNextStatement first v ahead)) same (given (subst AreTokens (sym same) valid))))
+    (subst (λ v. IfRead read (IsNextStatement v left ahead)) its (subst (λ v. IfRead read (IsNextStatement first v ahead)) same (given (subst AreValidTokens (sym same) valid))))

@@ -1,5 +1,6 @@
 -- One more item is taken.
 use Rattle.std.proofs.Common.{◌≡◌, ◌+◌, ℕ, Bool, true, List, [], ◌∷◌, ◌++◌, Result, Ok, Err, IfOk, sym, subst, arith}
+use Rattle.std.specs.Prelude.{◌↔◌, IsTrue}
 use Rattle.std.specs.declared.alloc.AllocError.{AllocError}
 use Rattle.protox_ast.specs.declared.ast.File.{File}
 use Rattle.protox_ast.specs.declared.ast.FileItem.{FileItem}
@@ -42,7 +43,7 @@ module _ (head : File) (draft now : FileDraft) (item : FileItem) where
     room = λ more fits. room more (held.room (file_item_weight item + more) (let one = total-more file_item_weight st.items item in omega (arith, one, fits)));
   }
 
-  pub took : (statement : Statement) (r : Result Bool AllocError) → statement ≡ statement_of.Item item → IfOk r (λ right. right ≡ true → IsRightItem) → IfOk r (λ right. right ≡ true → TakesItem) → IfOk r (λ right. right ≡ true → LeavesRoom)
+  pub took : (statement : Statement) (r : Result Bool AllocError) → statement ≡ statement_of.Item item → IfOk r (λ right. IsTrue right ↔ IsRightItem) → IfOk r (λ right. right ≡ true → TakesItem) → IfOk r (λ right. right ≡ true → LeavesRoom)
       → IfOk r (λ right. right ≡ true → HoldsMore statement)
   took statement (Err e) is right taken room = tt
-  took statement (Ok b) is right taken room = λ e. subst HoldsMore (sym is) (held-more (right e) (taken e) (room e))
+  took statement (Ok b) is right taken room = λ e. subst HoldsMore (sym is) (held-more (right.0 e) (taken e) (room e))

@@ -1,6 +1,6 @@
 //! Reads a source part by part.
 
-ghost use Rattle.std.specs.Prelude.{◌≡◌, ◌≢◌, ◌≤◌, ◌++◌, ◌∷◌, ℕ, List, Some, None, true, false, drop, length, option_map, IfOk};
+ghost use Rattle.std.specs.Prelude.{◌≡◌, ◌≢◌, ◌<◌, ◌≤◌, ◌++◌, ◌∷◌, ℕ, List, Some, None, true, false, drop, length, option_map, IfOk};
 ghost use Rattle.protox_ast.specs.Accepted.{Fits};
 ghost use Rattle.protox_ast.specs.declared.ast.File as file_type;
 ghost use Rattle.protox_fault.specs.Faults.{Span, span_from};
@@ -10,9 +10,11 @@ ghost use Rattle.protox_lexeme.specs.Table.{is_gap, rows_of, table_of};
 ghost use Rattle.protox_syntax.specs.NextStatement.{IfRead};
 ghost use Rattle.protox_syntax.specs.declared.next.Next.TheVariants as next_of;
 ghost use Rattle.protox_pass.specs.inner.Held.{place_or, syntax_or};
-ghost use Rattle.protox_pass.specs.inner.Reached.{IsBetween, IsComplete, IsInPart, IsNoted, IsOpen, IsPartOf, IsTurn, last_end};
+ghost use Rattle.protox_pass.specs.Found.{IsSound};
+ghost use Rattle.protox_pass.specs.declared.parts.Turn.TheVariants as turns;
+ghost use Rattle.protox_pass.specs.inner.Reached.{IsBehindSyntax, IsBetween, IsComplete, IsInPart, IsNoted, IsOpen, IsPartOf, IsTurn, last_end, turn_at_end};
 
-use crate::statements::{Part, take_statements};
+use crate::statements::{Part, may_be_cut, take_statements};
 use protox_ast::ast::{Comments, File, Syntax};
 use protox_fault::error::Span;
 use protox_generate::draft::FileDraft;
@@ -85,18 +87,22 @@ fn take_syntax(
     rows: &mut Unread<'_, '_>,
     head: &mut File,
 ) -> Result<Next<()>, AllocError>
-    ensures read { (source : List ℕ) (draft : draft_type.FileDraft) (here : IsInPart source part.now rows.old head.old draft) → here.first ≡ true → IfOk result (λ next. IfRead next (λ found. IsInPart source part.now rows.new head.new draft)) }
+    ensures read { (source : List ℕ) (draft : draft_type.FileDraft) (here : IsInPart source part.now rows.old head.old draft) → here.first ≡ true → IfOk result (λ next. IfRead next (λ found. IsBehindSyntax source part.now rows.new head.new draft)) }
     ensures ended { IfOk result (λ next. next ≡ next_of.Ended → head.new ≡ head.old) }
+    ensures answers { (source : List ℕ) (draft : draft_type.FileDraft) (here : IsInPart source part.now rows.old head.old draft) → here.first ≡ true → IsSound source → IfOk result (λ next. (next ≢ next_of.Wrong) × (part.now.ends ≡ true → next ≢ next_of.Ended)) }
 {
     let mut ahead = rows.again();
     match next_syntax(alloc, &mut ahead)? {
-        Next::Read(found) if part.ends || !ahead.is_empty() => {
+        Next::Read(found) => {
+            if may_be_cut(part, &ahead) {
+                return Ok(Next::Ended);
+            }
             keep_syntax(head, found);
             *rows = ahead;
             Ok(Next::Read(()))
         }
+        Next::Ended => Ok(Next::Ended),
         Next::Wrong => Ok(Next::Wrong),
-        _ => Ok(Next::Ended),
     }
 }
 
@@ -111,9 +117,11 @@ fn take_rows<'t, 'a>(
     progress: &mut Progress,
 ) -> Result<Turn, AllocError>
     requires fits { Fits source.now }
-    requires ahead { IsInPart source.now part.now rest head.old draft.old }
+    requires ahead { IsBehindSyntax source.now part.now rest head.old draft.old }
     requires open { IsOpen source.now part.now.begins progress.old }
-    ensures { IfOk result (λ turn. IsTurn source.now turn progress.new head.new draft.new) }
+    ensures turn { IfOk result (λ turn. IsTurn source.now turn progress.new head.new draft.new) }
+    ensures ended { part.now.ends ≡ true → IfOk result (λ turn. turn ≢ turns.On) }
+    ensures answers { IsSound source.now → IfOk result (λ turn. turn ≢ turns.Wrong) }
 {
     let mut rows = rest;
     if !take_statements(alloc, source, part, &mut rows, head, draft)? {
@@ -130,6 +138,14 @@ fn take_rows<'t, 'a>(
     }
 }
 
+// How the reading of a part ends that has no whole statement. If no other part comes behind it,
+// something is wrong.
+fn turn_at_end(part: &Part<'_>) -> Turn
+    ensures { result ≡ turn_at_end part.now.ends }
+{
+    if part.ends { Turn::Wrong } else { Turn::On }
+}
+
 // Takes the first part of a source.
 fn take_first(
     alloc: Global,
@@ -144,12 +160,14 @@ fn take_first(
     requires part { IsPartOf (spec.cut 0 source.now) part.now }
     requires between { IsBetween source.now progress.old head.old draft.old }
     requires none { progress.old.last ≡ None }
-    ensures { IfOk result (λ turn. IsTurn source.now turn progress.new head.new draft.new) }
+    ensures turn { IfOk result (λ turn. IsTurn source.now turn progress.new head.new draft.new) }
+    ensures ended { part.now.ends ≡ true → IfOk result (λ turn. turn ≢ turns.On) }
+    ensures answers { IsSound source.now → IfOk result (λ turn. turn ≢ turns.Wrong) }
 {
     let mut rows = Unread::all(&part.table);
     match take_syntax(alloc, part, &mut rows, head)? {
         Next::Read(()) => take_rows(alloc, source, part, rows, head, draft, progress),
-        Next::Ended => Ok(Turn::On),
+        Next::Ended => Ok(turn_at_end(part)),
         Next::Wrong => Ok(Turn::Wrong),
     }
 }
@@ -168,49 +186,54 @@ fn take_later(
     requires part { (last : Span) → progress.old.last ≡ Some last → IsPartOf (spec.cut last.start (drop last.start source.now)) part.now }
     requires some { progress.old.last ≢ None }
     requires between { IsBetween source.now progress.old head.old draft.old }
-    ensures { IfOk result (λ turn. IsTurn source.now turn progress.new head.new draft.new) }
+    ensures turn { IfOk result (λ turn. IsTurn source.now turn progress.new head.new draft.new) }
+    ensures ended { part.now.ends ≡ true → IfOk result (λ turn. turn ≢ turns.On) }
+    ensures answers { IsSound source.now → IfOk result (λ turn. turn ≢ turns.Wrong) }
 {
     match Unread::all(&part.table).split() {
         Some((_, rows)) => take_rows(alloc, source, part, rows, head, draft, progress),
-        None => Ok(Turn::On),
+        None => Ok(turn_at_end(part)),
     }
 }
 
-// Cuts a part of a source, from the last token read on, and takes it.
+// Cuts a part of a source, from the last token read on, and takes it. The part goes to `until` at
+// least. Answers where it ends too.
 fn take_part(
     alloc: Global,
     source: &str,
-    size: usize,
+    until: usize,
     head: &mut File,
     draft: &mut FileDraft<'_>,
     progress: &mut Progress,
-) -> Result<Turn, AllocError>
+) -> Result<(Turn, usize), AllocError>
     requires fits { Fits source.now }
     requires between { IsBetween source.now progress.old head.old draft.old }
-    ensures { IfOk result (λ turn. IsTurn source.now turn progress.new head.new draft.new) }
+    ensures turn { IfOk result (λ taken. IsTurn source.now taken.0 progress.new head.new draft.new) }
+    ensures whole { length source.now ≤ until → IfOk result (λ taken. taken.0 ≢ turns.On) }
+    ensures answers { IsSound source.now → IfOk result (λ taken. taken.0 ≢ turns.Wrong) }
 {
     let from = match &progress.last {
         Some(last) => last.start,
         None => 0,
     };
     if !source.is_char_boundary(from) {
-        return Ok(Turn::Wrong);
+        return Ok((Turn::Wrong, until));
     }
-    let until = from.saturating_add(size).min(source.len());
-    let (table, end) = TokenTable::part(alloc, source, from, until)?;
+    let (table, end) = TokenTable::part(alloc, source, from, until.min(source.len()).max(from))?;
     if !table.is_faultless() {
-        return Ok(Turn::Wrong);
+        return Ok((Turn::Wrong, end));
     }
     let part = Part {
         table,
         begins: progress.last.is_none(),
         ends: source.len() <= end,
     };
-    if part.begins {
-        take_first(alloc, source, &part, head, draft, progress)
+    let turn = if part.begins {
+        take_first(alloc, source, &part, head, draft, progress)?
     } else {
-        take_later(alloc, source, &part, head, draft, progress)
-    }
+        take_later(alloc, source, &part, head, draft, progress)?
+    };
+    Ok((turn, end))
 }
 
 /// Where the last token ends that has been read; 0 before the first.
@@ -224,7 +247,9 @@ pub(crate) fn last_end(progress: &Progress) -> usize
 }
 
 // Takes a part that has at least one whole statement. A statement that is longer than a part takes
-// ever larger ones.
+// ever larger ones, and in the end the rest of the source. Each goes beyond the end of the one
+// before, which a long comment may have put far behind where it was to end: so the comment is not
+// cut at each size.
 fn take_enough(
     alloc: Global,
     source: &str,
@@ -234,9 +259,12 @@ fn take_enough(
 ) -> Result<Turn, AllocError>
     requires fits { Fits source.now }
     requires between { IsBetween source.now progress.old head.old draft.old }
-    ensures { IfOk result (λ turn. IsTurn source.now turn progress.new head.new draft.new) }
+    ensures turn { IfOk result (λ turn. IsTurn source.now turn progress.new head.new draft.new) }
+    ensures further { IfOk result (λ turn. turn ≡ turns.On → last_end progress.old.last < last_end progress.new.last) }
+    ensures answers { IsSound source.now → IfOk result (λ turn. turn ≢ turns.Wrong) }
 {
     let before = last_end(progress);
+    let mut end = before;
     for size in [
         PART,
         PART << 2,
@@ -246,14 +274,16 @@ fn take_enough(
         PART << 10,
         PART << 12,
         PART << 14,
-        PART << 16,
     ] {
-        let turn = take_part(alloc, source, size, head, draft, progress)?;
-        if !matches!(turn, Turn::On) || last_end(progress) != before {
+        let until = end.saturating_add(size);
+        let (turn, reached) = take_part(alloc, source, until, head, draft, progress)?;
+        if !matches!(turn, Turn::On) || before < last_end(progress) {
             return Ok(turn);
         }
+        end = reached;
     }
-    Ok(Turn::Wrong)
+    let (turn, _) = take_part(alloc, source, source.len(), head, draft, progress)?;
+    Ok(turn)
 }
 
 /// Takes all statements of a source. Answers false if something is wrong, or seems to be.
@@ -266,15 +296,15 @@ pub(crate) fn take_all(
 ) -> Result<bool, AllocError>
     requires fits { Fits source.now }
     requires between { IsBetween source.now progress.old head.old draft.old }
-    ensures { IfOk result (λ all. all ≡ true → IsComplete source.now progress.new head.new draft.new) }
+    ensures all { IfOk result (λ all. all ≡ true → IsComplete source.now progress.new head.new draft.new) }
+    ensures answers { IsSound source.now → IfOk result (λ all. all ≡ true) }
 {
-    // Each part has at least one byte more than the one before.
-    for _ in 0..=source.len() {
+    // Each turn but the last reads at least one token more.
+    'parts: loop {
         match take_enough(alloc, source, head, draft, progress)? {
             Turn::Done => return Ok(true),
             Turn::Wrong => return Ok(false),
             Turn::On => (),
         }
     }
-    Ok(false)
 }

@@ -1,6 +1,6 @@
 //! Takes the statements of a part of a source, one by one.
 
-ghost use Rattle.std.specs.Prelude.{◌≡◌, ◌≤◌, ◌+◌, ◌∷◌, ◌++◌, [], ℕ, List, true, length, IfOk, OnOk, option_map};
+ghost use Rattle.std.specs.Prelude.{◌≡◌, ◌↔◌, ◌≤◌, ◌+◌, ◌∷◌, ◌++◌, [], ℕ, List, false, true, length, IfOk, IsTrue, OnOk, option_map};
 ghost use Rattle.protox_ast.specs.Accepted.{Fits};
 ghost use Rattle.protox_ast.specs.declared.ast.FileItem as item_type;
 ghost use Rattle.protox_ast.specs.declared.ast.Syntax as syntax_type;
@@ -8,8 +8,9 @@ ghost use Rattle.protox_checks.specs.Checks.{nodes_faults};
 ghost use Rattle.protox_checks.specs.Nodes.{item_nodes};
 ghost use Rattle.protox_generate.specs.inner.Taken.{HasRoomFor, IsTaken};
 ghost use Rattle.protox_locate.specs.inner.Bounds.{file_item_weight};
-ghost use Rattle.protox_pass.specs.inner.Held.{CanTake, CanTakeItem, IsHeld};
-ghost use Rattle.protox_pass.specs.inner.Reached.{IsInPart};
+ghost use Rattle.protox_pass.specs.Found.{IsSound};
+ghost use Rattle.protox_pass.specs.inner.Held.{CanTake, CanTakeItem, IsHeld, IsRightStatement};
+ghost use Rattle.protox_pass.specs.inner.Reached.{IsBehindSyntax};
 ghost use Rattle.protox_syntax.specs.declared.statement_types.Statements as statements_type;
 ghost use Rattle.protox_syntax.specs.inner.Statements.{add_statement, or_package};
 
@@ -30,6 +31,14 @@ pub(crate) struct Part<'a> {
     pub table: TokenTable<'a>,
     pub begins: bool,
     pub ends: bool,
+}
+
+/// Whether what ends before these rows may be cut off there: the part may end within the comments
+/// behind it.
+pub(crate) fn may_be_cut(part: &Part<'_>, ahead: &Unread<'_, '_>) -> bool
+    ensures { IsTrue result ↔ ((part.now.ends ≡ false) × (ahead.now ≡ [])) }
+{
+    !part.ends && ahead.is_empty()
 }
 
 /// The place of the first package statement.
@@ -59,7 +68,7 @@ fn take_item(
     item: FileItem,
 ) -> Result<bool, AllocError>
     requires { CanTakeItem draft.old item }
-    ensures right { IfOk result (λ right. right ≡ true → nodes_faults head.now.syntax (item_nodes item) ≡ []) }
+    ensures right { IfOk result (λ right. IsTrue right ↔ (nodes_faults head.now.syntax (item_nodes item) ≡ [])) }
     ensures taken { IfOk result (λ right. right ≡ true → (source : List ℕ) (items : List item_type.FileItem) → IsTaken source head.now.syntax items draft.old → IsTaken source head.now.syntax (items ++ item ∷ []) draft.new) }
     ensures room { IfOk result (λ right. right ≡ true → (more : ℕ) → HasRoomFor draft.old (file_item_weight item + more) → HasRoomFor draft.new more) }
 {
@@ -80,6 +89,7 @@ fn take_statement(
     requires { CanTake draft.old statement }
     ensures held { IfOk result (λ right. right ≡ true → (source : List ℕ) (syntax : syntax_type.Syntax) (st : statements_type.Statements) → IsHeld source syntax st head.old draft.old → IsHeld source syntax (add_statement st statement) head.new draft.new) }
     ensures syntax_span { OnOk result (head.new.syntax_span ≡ head.old.syntax_span) }
+    ensures answers { IsRightStatement head.old.syntax statement → IfOk result (λ right. right ≡ true) }
 {
     match statement {
         Statement::Empty => (),
@@ -102,19 +112,23 @@ pub(crate) fn take_statements<'t, 'a>(
     draft: &mut FileDraft<'_>,
 ) -> Result<bool, AllocError>
     requires fits { Fits source.now }
-    requires ahead { IsInPart source.now part.now rows.old head.old draft.old }
-    ensures { IfOk result (λ right. right ≡ true → IsInPart source.now part.now rows.new head.new draft.new) }
+    requires ahead { IsBehindSyntax source.now part.now rows.old head.old draft.old }
+    ensures taken { IfOk result (λ right. right ≡ true → IsBehindSyntax source.now part.now rows.new head.new draft.new) }
+    ensures answers { IsSound source.now → IfOk result (λ right. (right ≡ true) × (part.now.ends ≡ true → rows.new ≡ [])) }
 {
     'statements: while !rows.is_empty() {
         let mut ahead = rows.again();
         match next_statement(alloc, &mut ahead, &first_place(head))? {
-            Next::Read(statement) if part.ends || !ahead.is_empty() => {
+            Next::Read(statement) => {
+                if may_be_cut(part, &ahead) {
+                    return Ok(true);
+                }
                 if !take_statement(alloc, head, draft, statement)? {
                     return Ok(false);
                 }
             }
+            Next::Ended => return Ok(true),
             Next::Wrong => return Ok(false),
-            _ => return Ok(true),
         }
         *rows = ahead;
     }

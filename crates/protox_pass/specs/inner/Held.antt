@@ -29,6 +29,11 @@ abbrev pub CanTake : FileDraft → Statement → Type 0
 CanTake draft (statement_of.Item item) = CanTakeItem draft item
 CanTake draft _ = Unit {0}
 
+-- Nothing is wrong with the statement's item, if it is one.
+abbrev pub IsRightStatement : Syntax → Statement → Type 0
+IsRightStatement syntax (statement_of.Item item) = nodes_faults syntax (item_nodes item) ≡ []
+IsRightStatement syntax _ = Unit {0}
+
 -- The head and the draft hold what these statements declare, and nothing is wrong with the items.
 pub record IsHeld (source : List ℕ) (syntax : Syntax) (statements : Statements) (head : File) (draft : FileDraft) : Type 0 where
   pub syntax_is : head.syntax ≡ syntax

@@ -17,9 +17,10 @@ use Rattle.protox_checks.specs.Checks.{nodes_faults}
 use Rattle.protox_checks.specs.Nodes.{item_nodes}
 use Rattle.protox_generate.specs.declared.draft.FileDraft.{FileDraft}
 use Rattle.protox_generate.specs.inner.Taken.{IsTaken}
+use Rattle.protox_syntax.specs.NextStatement.{BeginWithSyntax}
 use Rattle.protox_syntax.specs.inner.ParsedTable.{syntax_or_default, syntax_place}
 use Rattle.protox_syntax.specs.inner.Statements.{first_place, statements_seen, syntax_seen}
-use Rattle.protox_syntax.proofs.RightFiles.{IsRightSoFar, begun}
+use Rattle.protox_syntax.specs.inner.SoFar.{IsRightSoFar, begun}
 use Rattle.protox_pass.specs.declared.parts.Progress.{Progress}
 use Rattle.protox_pass.specs.declared.parts.Turn.{Turn}
 use Rattle.protox_pass.specs.declared.parts.Turn.TheVariants as turns
@@ -62,6 +63,12 @@ pub record IsInPart (source : List ℕ) (part : Part) (left_rows : Rows Place) (
   pub whole : rows source ≡ s.spell f ++ places first (left ++ behind)
   pub reached : IsReached source f head draft
   pub last : IsLast part.begins first read f
+
+-- Within a part of the source, behind the syntax statement or where it would stand. If nothing has been
+-- read, the rows that are left don't begin with one.
+pub record IsBehindSyntax (source : List ℕ) (part : Part) (left_rows : Rows Place) (head : File) (draft : FileDraft) : Type 0 where
+  pub here : IsInPart source part left_rows head draft
+  pub past : here.f.syntax ≡ None → here.f.statements ≡ [] → BeginWithSyntax left_rows → ⊥
 
 -- What has been noted of the rows that have been read: where the first begins, and where the last
 -- stands.
@@ -106,6 +113,11 @@ abbrev pub IsTurn : List ℕ → Turn → Progress → File → FileDraft → Ty
 IsTurn source turns.Done progress head draft = IsComplete source progress head draft
 IsTurn source turns.On progress head draft = IsBetween source progress head draft
 IsTurn source turns.Wrong progress head draft = Unit {0}
+
+-- how the reading of a part ends that has no whole statement
+abbrev pub turn_at_end : Bool → Turn
+turn_at_end true = turns.Wrong
+turn_at_end false = turns.On
 
 -- A part with these lexemes, behind which the others come.
 pub record IsPartOf (all : List Lexeme) (part : Part) : Type 0 where

@@ -1,7 +1,13 @@
-use Rattle.std.proofs.Common.{◌≡◌, ℕ, Some, None, drop, leb, length, refl, sym, subst, ap, ◌∙◌}
+use Rattle.std.proofs.Common.{◌≡◌, ℕ, Some, None, arith, drop, leb, length, refl, sym, subst, ap, ◌∙◌}
+use Rattle.std.proofs.lemmas.Str.{IsCharBoundary-from_drop}
+use Rattle.std.specs.Str.{IsCharBoundary}
 use Rattle.protox_fault.specs.Faults.{Span}
 use Rattle.protox_lexeme.specs.Lexemes.{cut}
+use Rattle.protox_ast.specs.Basics.{Each}
+use Rattle.protox_pass.specs.inner.Places.{IsFlawless}
 use Rattle.protox_pass.specs.inner.Reached.{IsPartOf}
+use Rattle.protox_pass.proofs.Going.{not-true}
+use Rattle.protox_pass.proofs.Sound.{flawless-from, flawless-sound, last-begins, none-faulty}
 use Rattle.protox_pass.proofs.Cutting.{none-some, part-of, some-same}
 use Rattle.protox_pass.proofs.parts.take_part.Goals as goal
 use Rattle.protox_pass.proofs.parts.take_part.Goals.{in-Some, in-None}
@@ -25,3 +31,26 @@ take_later-requires-clause-part c last is =
           subst (λ (from : ℕ). IsPartOf (cut from (drop from source)) (record { table = c.in_ok-table.table; begins = c.is_none.result; ends = leb (length source) c.in_ok-table.end })) (w.from-is ∙ ap (λ (s : Span). s.start) same) part
       | in-None w ↦ let e : None ≡ Some last = sym w.in-None.is ∙ is in absurd cc
     ]
+
+pub returns-then-not-is_char_boundary-clause-answers : goal.returns-then-not-is_char_boundary-clause-answers
+returns-then-not-is_char_boundary-clause-answers c sound =
+    let source = c.args.source.now in
+    let at : IsCharBoundary source c.match-progress.from = elim c.match-progress.branch [
+      | in-Some w ↦
+          subst (λ (from : ℕ). IsCharBoundary source from) (sym w.from-is)
+          (last-begins source c.utf8.source c.args.progress.now c.args.head.now c.args.draft.now c.requires.between w.in-Some.last w.in-Some.is)
+      | in-None w ↦ subst (λ (from : ℕ). IsCharBoundary source from) (sym w.from-is) (IsCharBoundary-from_drop source 0 (omega arith) c.utf8.source)
+    ] in
+    absurd (not-true c.is_char_boundary.result c.if-not-is_char_boundary.true (c.is_char_boundary.ensures.test.1 at))
+
+pub returns-then-not-is_faultless-clause-answers : goal.returns-then-not-is_faultless-clause-answers
+returns-then-not-is_faultless-clause-answers c sound =
+    let source = c.args.source.now in
+    let whole = flawless-sound source sound in
+    let flawless : Each IsFlawless (cut c.match-progress.from (drop c.match-progress.from source)) = elim c.match-progress.branch [
+      | in-Some w ↦
+          subst (λ (from : ℕ). Each IsFlawless (cut from (drop from source))) (sym w.from-is)
+          (flawless-from source c.utf8.source c.args.progress.now c.args.head.now c.args.draft.now c.requires.between whole w.in-Some.last w.in-Some.is)
+      | in-None w ↦ subst (λ (from : ℕ). Each IsFlawless (cut from (drop from source))) (sym w.from-is) whole
+    ] in
+    absurd (not-true c.is_faultless.result c.if-not-is_faultless.true (c.is_faultless.ensures.1 (none-faulty source c.match-progress.from c.in_ok-table.table c.in_ok-table.end c.in_ok-table.ensures.part flawless)))

@@ -13,9 +13,9 @@ take_all-requires-clause-between c =
     subst (λ (head : File). IsBetween source (record { start = length source; last = None }) head draft.draft) (sym c.no_file-head.ensures)
     (between-none source draft.draft draft.ensures.taken draft.ensures.room)
 
-pub returns : goal.returns
-returns c =
+pub returns-clause-all : goal.returns-clause-all
+returns-clause-all c =
     let source = c.args.source.now in
     let new = c.take_all.new in
     subst (λ (end : ℕ). IsAll source (record new.head { span = span_from new.progress.start end }) new.draft) (sym c.last_end.ensures)
-    (all-of source c.requires new.progress new.head new.draft (c.in_ok-take_all.ensures c.if-not-branch.false))
+    (all-of source c.requires new.progress new.head new.draft (c.in_ok-take_all.ensures.all c.if-not-branch.false))

@@ -247,12 +247,13 @@ pub(crate) fn last_end(progress: &Progress) -> usize
 }
 
 // Takes a part that has at least one whole statement. A statement that is longer than a part takes
-// ever larger ones, and in the end the rest of the source. Each goes beyond the end of the one
-// before, which a long comment may have put far behind where it was to end: so the comment is not
-// cut at each size.
+// ever larger ones, and in the end the rest of the source. Each goes beyond `end`, where the one
+// before ended: a long comment may have put that far behind where it was to end. So a comment that
+// is longer than a part is cut at most twice, unless the statement behind it takes more parts.
 fn take_enough(
     alloc: Global,
     source: &str,
+    end: &mut usize,
     head: &mut File,
     draft: &mut FileDraft<'_>,
     progress: &mut Progress,
@@ -264,7 +265,6 @@ fn take_enough(
     ensures answers { IsSound source.now → IfOk result (λ turn. turn ≢ turns.Wrong) }
 {
     let before = last_end(progress);
-    let mut end = before;
     for size in [
         PART,
         PART << 2,
@@ -275,12 +275,12 @@ fn take_enough(
         PART << 12,
         PART << 14,
     ] {
-        let until = end.saturating_add(size);
+        let until = (*end).max(before).saturating_add(size);
         let (turn, reached) = take_part(alloc, source, until, head, draft, progress)?;
+        *end = reached;
         if !matches!(turn, Turn::On) || before < last_end(progress) {
             return Ok(turn);
         }
-        end = reached;
     }
     let (turn, _) = take_part(alloc, source, source.len(), head, draft, progress)?;
     Ok(turn)
@@ -299,9 +299,10 @@ pub(crate) fn take_all(
     ensures all { IfOk result (λ all. all ≡ true → IsComplete source.now progress.new head.new draft.new) }
     ensures answers { IsSound source.now → IfOk result (λ all. all ≡ true) }
 {
+    let mut end = 0;
     // Each turn but the last reads at least one token more.
     'parts: loop {
-        match take_enough(alloc, source, head, draft, progress)? {
+        match take_enough(alloc, source, &mut end, head, draft, progress)? {
             Turn::Done => return Ok(true),
             Turn::Wrong => return Ok(false),
             Turn::On => (),

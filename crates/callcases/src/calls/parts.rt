@@ -1,5 +1,9 @@
 //! Calls of the parts that an answer is made of.
 
+ghost use Rattle.std.specs.Prelude.{◌≡◌, ◌≤◌, IfOk};
+ghost use Rattle.protox_describe.specs.inner.Widths.{file_width};
+ghost use Rattle.protox_locate.specs.inner.Bounds.{file_reach, file_weight};
+
 use protox_describe::file::describe_file;
 use protox_locate::file::locate_file;
 use protox_parse::ast::{Comments, Enum, File, FileItem, Ident, Syntax};
@@ -11,23 +15,25 @@ const NAME: &str = "e.proto";
 
 const SOURCE: &str = "enum E {}";
 
-// The enum of the source.
-fn item(alloc: Global) -> Result<FileItem, AllocError> {
+// The tree of the source.
+fn tree(alloc: Global) -> Result<File, AllocError>
+    ensures width { IfOk result (λ file. file_width file ≤ 2147483647) }
+    ensures weight { IfOk result (λ file. file_weight file ≤ 2147483647) }
+    ensures reach { IfOk result (λ file. file_reach file ≤ 2147483647) }
+{
     let name = Ident::new(String::from_str(alloc, "E")?, 5..6);
     let comments = Comments::new(alloc, Items::new(alloc), None, None)?;
-    Ok(FileItem::Enum(Enum {
+    let item = FileItem::Enum(Enum {
         name,
         options: Items::new(alloc),
         values: Items::new(alloc),
         reserved: Items::new(alloc),
         comments,
         span: 0..9,
-    }))
-}
-
-// The tree of the source, with these items.
-fn tree(alloc: Global, items: Items<FileItem>) -> File {
-    File {
+    });
+    let mut items = Items::new(alloc);
+    items.push(item)?;
+    Ok(File {
         span: 0..9,
         syntax: Syntax::Proto2,
         syntax_span: None,
@@ -35,21 +41,17 @@ fn tree(alloc: Global, items: Items<FileItem>) -> File {
         imports: Items::new(alloc),
         options: Items::new(alloc),
         items,
-    }
+    })
 }
 
 pub fn located(alloc: Global) -> Result<String, AllocError> {
-    let mut items = Items::new(alloc);
-    items.push(item(alloc)?)?;
-    let ast = tree(alloc, items);
+    let ast = tree(alloc)?;
     let info = locate_file(alloc, SOURCE, &ast)?;
     format!(in alloc; "{info:?}")
 }
 
 pub fn described(alloc: Global) -> Result<String, AllocError> {
-    let mut items = Items::new(alloc);
-    items.push(item(alloc)?)?;
-    let file = describe_file(alloc, NAME, tree(alloc, items))?;
+    let file = describe_file(alloc, NAME, tree(alloc)?)?;
     format!(in alloc; "{file:?}")
 }
 

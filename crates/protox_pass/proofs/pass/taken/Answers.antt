@@ -9,9 +9,9 @@ use Rattle.protox_pass.proofs.pass.taken.Goals as goal
 pub take_all-requires-clause-between : goal.take_all-requires-clause-between
 take_all-requires-clause-between c =
     let source = c.args.source.now in
-    let draft = c.in_ok-draft in
-    subst (λ (head : File). IsBetween source (record { start = length source; last = None }) head draft.draft) (sym c.no_file-head.ensures)
-    (between-none source draft.draft draft.ensures.taken draft.ensures.room)
+    let made = c.new-draft.ensures in
+    subst (λ (head : File). IsBetween source (record { start = length source; last = None }) head c.new-draft.result) (sym c.no_file-head.ensures)
+    (between-none source c.new-draft.result made.taken made.room)
 
 pub returns-clause-all : goal.returns-clause-all
 returns-clause-all c =

@@ -172,7 +172,7 @@ module _ (source : List ℕ) (part : Part) (left ahead : Rows Place) (head : Fil
         imports = held.imports;
         options = held.options;
         items = held.items;
-        taken = record { lines = held.taken.lines; located = held.taken.located; messages = held.taken.messages; enums = held.taken.enums; services = held.taken.services; extensions = held.taken.extensions };
+        taken = record { of_source = held.taken.of_source; located = held.taken.located; messages = held.taken.messages; enums = held.taken.enums; services = held.taken.services; extensions = held.taken.extensions };
         right = tt;
         room = held.room;
       }

@@ -26,6 +26,7 @@ import sys
 import tempfile
 
 sys.dont_write_bytecode = True
+from hostile import fields_of_extendee, ranges_with_options
 from make_proto import BLOCKS
 
 LIMIT = 1.1
@@ -89,18 +90,6 @@ def unclosed(size):
     return made('read')(size).replace('\n}\n', '\n', 1)
 
 
-def ranges(size):
-    """Each range of the statement has each option: the descriptor grows with the square of the source."""
-    count = size // 6
-    return f'message M {{ extensions {",".join(["1"] * count)} to 2 [{",".join(["a=1"] * count)}]; }}'
-
-
-def extendee(size):
-    """Each field of the statement has the extended name: the descriptor grows with the square too."""
-    count = size // 2
-    return f'extend {"A" * count} {{ {"optional a b=1;" * (count // 15)} }}'
-
-
 def tabs(size):
     """A fault in each line, which begins with tabs."""
     return 'message M {\n' + '\t\toptional int32 a = 0;\n' * (size // 24) + '}\n'
@@ -121,8 +110,8 @@ ACCEPTED = {
     'hash_last': made('read', back=HASH),
     'messages_of_66_kilobytes': messages_of_66_kilobytes,
     'escapes': many("option java_package = '", '\\x41', "';\n"),
-    'ranges': ranges,
-    'extendee': extendee,
+    'ranges': ranges_with_options,
+    'extendee': fields_of_extendee,
 }
 REFUSED = {
     **{f'{name}_first': made(kind, front='x ') for name, kind in KINDS.items()},
@@ -141,8 +130,8 @@ REFUSED = {
     'messages_of_66_kilobytes_last': behind(messages_of_66_kilobytes, 'x'),
     'escapes_last': behind(many("option java_package = '", '\\x41', "';\n"), 'x'),
     'dollar_and_newlines': many('$', '\n'),
-    'ranges_last': behind(ranges, 'x'),
-    'extendee_last': behind(extendee, 'x'),
+    'ranges_last': behind(ranges_with_options, 'x'),
+    'extendee_last': behind(fields_of_extendee, 'x'),
     'tabs': tabs,
 }
 SIZES = {

@@ -7,13 +7,13 @@ use Rattle.protox_ast.specs.Spelling as s
 use Rattle.protox_lexeme.specs.Shapes.{Shape, Mark, Row, Rows}
 use Rattle.protox_grammar.specs.Class.{Set, among, class, in_set, none, only, union}
 use Rattle.protox_grammar.specs.Reader as reader
-use Rattle.protox_grammar.specs.Reader.{Reader, Refusal, Unexpected, folded, fixed, seq}
+use Rattle.protox_grammar.specs.Reader.{Unexpected, folded, fixed, seq}
 use Rattle.protox_grammar.specs.Token as token
 use Rattle.protox_rows.specs.Expected.{named, allowed}
 use Rattle.protox_rows.specs.declared.expected.Expected.{Expected}
 use Rattle.protox_rows.specs.declared.expected.Expected.TheVariants as expected
 use Rattle.protox_rows.specs.inner.Words as rows
-use Rattle.protox_rows.specs.inner.Words.{Words, always, and_then}
+use Rattle.protox_rows.specs.inner.Words.{always, and_then}
 use Rattle.protox_rows.proofs.Exact.{Exact, Fits, mapped-exact, seq-exact}
 use Rattle.protox_rows.proofs.ExactForms.{choice-exact}
 use Rattle.protox_rows.proofs.ExactNames.{fullident-exact, mark-exact, or-none, strings-exact, word-exact}

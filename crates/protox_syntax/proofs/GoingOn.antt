@@ -1,9 +1,9 @@
 -- An accepted file goes on, where some of it has been read, with the rest of its statements.
-use Rattle.std.proofs.Common.{◌≡◌, ◌≤◌, ℕ, Bool, true, false, ◌&&◌, List, [], ◌∷◌, ◌++◌, Option, Some, None, Ok, refl, sym, ap, subst, ◌∙◌, append-nil, append_assoc, codes}
+use Rattle.std.proofs.Common.{◌≡◌, ◌≤◌, false, List, [], ◌∷◌, ◌++◌, Option, Some, None, Ok, refl, sym, ap, subst, ◌∙◌, append_assoc, codes}
 use Rattle.std.proofs.lemmas.List.{map-append}
 use Rattle.protox_fault.specs.Faults.{Span}
-use Rattle.protox_lexeme.specs.Shapes.{Row, Rows, Shape}
-use Rattle.protox_ast.proofs.SpansStand.{each-append, each-back, each-front}
+use Rattle.protox_lexeme.specs.Shapes.{Row, Rows}
+use Rattle.protox_ast.proofs.SpansStand.{each-back, each-front}
 use Rattle.protox_ast.specs.inner.Fine.{IsFine}
 use Rattle.protox_ast.specs.Checks.{NothingWrong}
 use Rattle.protox_ast.specs.KeywordWalk as k
@@ -20,9 +20,9 @@ use Rattle.protox_grammar.specs.Reader.{head_in}
 use Rattle.protox_grammar.specs.Reads.{read}
 use Rattle.protox_grammar.specs.Rule.{Stops}
 use Rattle.protox_grammar.specs.Rules as r
-use Rattle.protox_grammar.specs.Steps.{Steps, steps_of_many}
+use Rattle.protox_grammar.specs.Steps.{steps_of_many}
 use Rattle.protox_grammar.specs.Token as token
-use Rattle.protox_grammar.specs.Told.{AreValidTokens, first_behind, keyword_behind, place_of}
+use Rattle.protox_grammar.specs.Told.{AreValidTokens, first_behind, keyword_behind}
 use Rattle.protox_grammar.proofs.Depths.{body-laws}
 use Rattle.protox_grammar.proofs.FineNotes.{fine-told}
 use Rattle.protox_grammar.proofs.Forms.{Lawful, stops-none}

@@ -1,5 +1,5 @@
 -- A file that is read statement by statement: once all rows are read, the source is accepted.
-use Rattle.std.proofs.Common.{◌≡◌, ◌≤◌, ℕ, List, [], ◌∷◌, ◌++◌, length, Option, None, Ok, refl, sym, ap, subst, ◌∙◌, append-nil, append_assoc}
+use Rattle.std.proofs.Common.{◌≡◌, ℕ, List, [], ◌∷◌, ◌++◌, Option, None, Ok, refl, sym, ap, subst, ◌∙◌, append-nil, append_assoc}
 use Rattle.protox_fault.specs.Faults.{Span}
 use Rattle.protox_lexeme.specs.Lexemes.{cut}
 use Rattle.protox_lexeme.specs.Shapes.{Rows}
@@ -17,7 +17,6 @@ use Rattle.protox_ast.specs.Tree as tree
 use Rattle.protox_grammar.specs.Bodies as bodies
 use Rattle.protox_grammar.specs.Noted.{noted_nodes, steps, trace}
 use Rattle.protox_grammar.specs.Reads.{read}
-use Rattle.protox_grammar.specs.Rules as r
 use Rattle.protox_grammar.specs.Steps.{Steps, steps_of_many}
 use Rattle.protox_grammar.specs.Told.{first_behind, keyword_behind, AreValidTokens, place_of}
 use Rattle.protox_grammar.proofs.FineNotes.{told-fine}

@@ -1,13 +1,11 @@
 //! Parses a source into its syntax tree.
 
-ghost use Rattle.std.specs.Prelude.{◌≡◌, IfOk, IfErr, MatchResult, false, length};
+ghost use Rattle.std.specs.Prelude.{◌≡◌, IfOk, IfErr, MatchResult, length};
 ghost use Rattle.protox_ast.specs.Accepted.{Fits, IsAccepted, IsFileOf, FaultsLieIn, IsOutOfMemory};
 ghost use Rattle.protox_ast.specs.Ast as ast_of;
 ghost use Rattle.protox_ast.specs.Tree as tree;
-ghost use Rattle.protox_ast.specs.Places.{Place, placed};
+ghost use Rattle.protox_ast.specs.Places.{Place};
 ghost use Rattle.protox_grammar.specs.Grammar.{OneTree};
-ghost use Rattle.protox_grammar.specs.Reader.{head_in};
-ghost use Rattle.protox_grammar.specs.Told.{is_invalid};
 ghost use Rattle.protox_lexeme.specs.Lexemes.{cut};
 ghost use Rattle.protox_lexeme.specs.Table.{table_of};
 ghost use Rattle.protox_syntax.specs.Aggregates.{AggregatesLexBack};
@@ -28,26 +26,17 @@ use protox_lex::error::SyntaxFailure;
 use protox_lex::lex::TokenTable;
 use std::alloc::Global;
 
-// Cuts the source into a table and reads that, unless its first row is invalid.
-fn parse_valid(alloc: Global, source: &str) -> Result<File, SyntaxFailure>
-    requires fits { Fits source.now }
-    requires valid { head_in is_invalid (placed (table_of (cut 0 source.now))) ≡ false }
-    ensures { ParsesTable (table_of (cut 0 source.now)) (length source.now) result }
-{
-    let table = TokenTable::new(alloc, source)?;
-    parse_table(alloc, &table, source.len())
-}
-
 // The syntax tree of the source, or its faults. Nothing is read behind an invalid character at the
 // front, so a source that begins with one is not cut to its end.
 fn parse_source(alloc: Global, source: &str) -> Result<File, SyntaxFailure>
     requires { Fits source.now }
     ensures { ParsesTable (table_of (cut 0 source.now)) (length source.now) result }
 {
-    match faults_of_invalid_front(alloc, source)? {
-        Some(faults) => Err(SyntaxFailure::Faults(faults)),
-        None => parse_valid(alloc, source),
+    if let Some(faults) = faults_of_invalid_front(alloc, source)? {
+        return Err(SyntaxFailure::Faults(faults));
     }
+    let table = TokenTable::new(alloc, source)?;
+    parse_table(alloc, &table, source.len())
 }
 
 /// Parses a source into its syntax tree. The source must be at most 2,147,483,647 bytes. If it is

@@ -92,6 +92,22 @@ fn rows_left_at_first_note(notes: &Vec<Note>) -> usize
     }
 }
 
+// The first row is invalid: reading ends there.
+fn faults_of_invalid_start(
+    alloc: Global,
+    table: &TokenTable<'_>,
+    size: usize,
+) -> Result<File, SyntaxFailure>
+    requires table { IsTableOf size table.now }
+    requires invalid { head_in is_invalid (placed table.now) ≡ true }
+    ensures { ParsesTable table.now size result }
+{
+    let left = table.rows();
+    let total = left + 1;
+    let errors = merged_faults(alloc, table, total, Vec::new(alloc), left)?;
+    Err(SyntaxFailure::Faults(errors))
+}
+
 // A check of the syntax statement failed: reading ends there.
 fn faults_of_unknown_syntax(
     alloc: Global,
@@ -165,6 +181,16 @@ fn syntax_holds_no_body(table: &TokenTable<'_>, left: usize) -> Result<File, Syn
     unreachable!()
 }
 
+// Whether the first row is invalid.
+fn begins_invalid(rows: &Unread<'_, '_>) -> bool
+    ensures { result ≡ head_in is_invalid rows.now }
+{
+    match rows.first() {
+        Some(first) => first.token().is_err(),
+        None => false,
+    }
+}
+
 // All rows are read.
 fn file_or_faults(
     alloc: Global,
@@ -214,19 +240,21 @@ fn after_syntax(
     }
 }
 
-/// The file that the rows spell, or all its faults. The first row must not be invalid.
+/// The file that the rows spell, or all its faults.
 #[tactic(auto, unfolding(crate::specs::inner::Whole::whole, crate::specs::inner::Whole::all_notes, crate::specs::inner::Words::whole))]
 pub(crate) fn parse_table(
     alloc: Global,
     table: &TokenTable<'_>,
     size: usize,
 ) -> Result<File, SyntaxFailure>
-    requires table { IsTableOf size table.now }
-    requires valid { head_in is_invalid (placed table.now) ≡ false }
+    requires { IsTableOf size table.now }
     ensures { ParsesTable table.now size result }
 {
     let mut notes = Vec::new(alloc);
     let mut rows = Unread::all(table);
+    if begins_invalid(&rows) {
+        return faults_of_invalid_start(alloc, table, size);
+    }
     match syntax_if_any(alloc, &mut notes, &mut rows) {
         Err(Refused::OutOfMemory) => Err(SyntaxFailure::OutOfMemory),
         _ if !notes.is_empty() => faults_of_unknown_syntax(alloc, table, size, notes),

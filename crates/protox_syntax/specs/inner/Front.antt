@@ -1,24 +1,27 @@
--- What a source begins with, behind comments and newlines.
-use Rattle.std.specs.Prelude.{◌≡◌, ◌+◌, true, false, List, [], ◌++◌, length, Option, Some, None}
+-- What a source begins with.
+use Rattle.std.specs.Prelude.{◌≡◌, ℕ, ◌+◌, Bool, true, false, not, ◌&&◌, List, [], length, slice_index, nat_lt, Option, Some, None}
+use Rattle.std.specs.Option.{is_none}
 use Rattle.protox_fault.specs.declared.error.ParseErrorKind.{ParseErrorKind}
-use Rattle.protox_lexeme.specs.Lexemes.{Lexeme}
-use Rattle.protox_lexeme.specs.Shapes.{Invalid}
-use Rattle.protox_lexeme.specs.Table.{Table, is_gap, row_faults}
+use Rattle.protox_lexeme.specs.Lexemes.{cut}
+use Rattle.protox_lexeme.specs.Lexicon.{is_blank}
+use Rattle.protox_lexeme.specs.Scanning.{scan}
+use Rattle.protox_lexeme.specs.Table.{Table, table_of}
 use Rattle.protox_ast.specs.Places.{placed}
 use Rattle.protox_grammar.specs.Reader.{head_in}
 use Rattle.protox_grammar.specs.Told.{is_invalid}
-use Rattle.protox_syntax.specs.declared.front.Lead.{Lead}
-use Rattle.protox_syntax.specs.declared.front.Lead.TheVariants as lead
 use Rattle.protox_syntax.specs.inner.Merge.{merged_faults}
 
--- What is found of a lexeme: a comment or a newline, whose faults are added; a token; or an invalid
--- character, whose faults are added.
-abbrev pub IsLead : Lexeme → List ParseErrorKind → List ParseErrorKind → Lead → Type 0
-IsLead x old new (lead.Gap stop) = (is_gap x.shape ≡ true) × (stop ≡ x.stop) × (new ≡ old ++ x.faults)
-IsLead x old new lead.Token = (is_gap x.shape ≡ false) × (is_invalid x.shape ≡ false)
-IsLead x old new lead.Invalid = (x.shape ≡ Invalid) × (new ≡ old ++ row_faults x)
+-- Whether the source begins with an invalid character: there is a first byte, it is no blank, and no
+-- lexeme begins with it.
+abbrev pub starts_invalid : List ℕ → Bool
+starts_invalid source = nat_lt 0 (length source) && (not (is_blank (slice_index source 0)) && is_none (scan source))
 
--- The table begins with an invalid character, and these are the faults up to it; or it doesn't.
-abbrev pub IsFront : Table → Option (List ParseErrorKind) → Type 0
-IsFront t (Some errors) = (head_in is_invalid (placed t) ≡ true) × (errors ≡ merged_faults t.faults (length t.rows + 1) [] (length t.rows))
-IsFront t None = head_in is_invalid (placed t) ≡ false
+-- The first row is invalid, and these are the faults up to it.
+abbrev pub IsRefusedFirst : Table → List ParseErrorKind → Type 0
+IsRefusedFirst t errors = (head_in is_invalid (placed t) ≡ true) × (errors ≡ merged_faults t.faults (length t.rows + 1) [] (length t.rows))
+
+-- The source is refused at its first row, with these faults; or it doesn't begin with an invalid
+-- character.
+abbrev pub IsFront : List ℕ → Option (List ParseErrorKind) → Type 0
+IsFront source (Some errors) = IsRefusedFirst (table_of (cut 0 source)) errors
+IsFront source None = starts_invalid source ≡ false

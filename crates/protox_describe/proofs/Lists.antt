@@ -1,11 +1,10 @@
 -- Lists, one element at a time.
-use Rattle.std.proofs.Common.{◌≡◌, ℕ, ◌+◌, ◌<◌, ◌≤◌, max, Bool, true, false, List, [], ◌∷◌, ◌++◌, length, map, take, drop, get_or, refl, ap, sym, ◌∙◌, suc, zero, arith, append_assoc, append-nil, length-append, add-one}
+use Rattle.std.proofs.Common.{◌≡◌, ℕ, ◌+◌, ◌<◌, Bool, List, [], ◌∷◌, ◌++◌, length, map, take, drop, get_or, refl, ap, sym, ◌∙◌, suc, arith, append_assoc, append-nil, length-append, add-one}
 use Rattle.std.specs.Prelude.{if◌then◌else◌}
 use Rattle.std.specs.List.{flat_map}
-use Rattle.std.proofs.lemmas.List.{take_more, length-take-le}
-use Rattle.std.proofs.Math.ListN.{length-map}
+use Rattle.std.proofs.lemmas.List.{take_more}
 use Rattle.std.proofs.Math.Seq.{drop-cons}
-use Rattle.protox_describe.specs.Siblings.{count, each_after, greatest}
+use Rattle.protox_describe.specs.Siblings.{count, each_after}
 
 pub take_one_more : {A : Type 0} (xs : List A) (i : ℕ) (x : A) → i < length xs → x ≡ get_or xs i x → take (i + 1) xs ≡ take i xs ++ x ∷ []
 take_one_more xs i x h e = take_more xs i x h ∙ ap (λ y. take i xs ++ y ∷ []) (sym e)
@@ -52,9 +51,6 @@ pub length-flat-take_more : {A B C : Type 0} (f : B → List C) (g : A → B) (x
     → length (flat_map f (map g (take (i + 1) xs))) ≡ length (flat_map f (map g (take i xs))) + length (f (g x))
 length-flat-take_more f g xs i x h e = ap length (flat-take_more f g xs i x h e) ∙ length-append (flat_map f (map g (take i xs))) (f (g x))
 
-pub greatest-drop_more : {A : Type 0} (f : A → ℕ) (xs : List A) (i : ℕ) (x : A) → i < length xs → x ≡ get_or xs i x → greatest (map f (drop i xs)) ≡ max (f x) (greatest (map f (drop (i + 1) xs)))
-greatest-drop_more f xs i x h e = ap (λ l. greatest (map f l)) (drop_more xs i x h e)
-
 pub each_after-snoc : {A B : Type 0} (f : List A → A → List B) (before xs : List A) (y : A) → each_after f before (xs ++ y ∷ []) ≡ each_after f before xs ++ f (before ++ xs) y
 each_after-snoc f before [] y = rw append-nil (rw append-nil refl)
 each_after-snoc f before (x ∷ xs) y =
@@ -69,21 +65,3 @@ count-snoc test (x ∷ xs) y = omega (arith, count-snoc test xs y)
 pub count-take_more : {A B : Type 0} (test : B → Bool) (f : A → B) (xs : List A) (i : ℕ) (x : A) → i < length xs → x ≡ get_or xs i x
     → count test (map f (take (i + 1) xs)) ≡ count test (map f (take i xs)) + (if test (f x) then 1 else 0)
 count-take_more test f xs i x h e = ap (count test) (map-take_more f xs i x h e) ∙ count-snoc test (map f (take i xs)) (f x)
-
-count-at_most : {A : Type 0} (test : A → Bool) (xs : List A) → count test xs ≤ length xs
-count-at_most test [] = omega arith
-count-at_most test (x ∷ xs) =
-    let others = count-at_most test xs in
-    elim (test x) as (λ b. (if b then 1 else 0) + count test xs ≤ length (x ∷ xs)) [
-      | true ↦ omega (arith, others)
-      | false ↦ omega (arith, others)
-    ]
-
-pub count-within : {A B : Type 0} (test : B → Bool) (f : A → B) (xs : List A) (i : ℕ) → i ≤ length xs → count test (map f (take i xs)) ≤ i
-count-within test f xs i h = omega (arith, count-at_most test (map f (take i xs)), length-map (take i xs) f, length-take-le i xs h)
-
--- At most as many elements pass the test as are left.
-pub count-rest : {A B : Type 0} (test : B → Bool) (f : A → B) (xs : List A) (i : ℕ) → i ≤ length xs → count test (map f xs) + i ≤ count test (map f (take i xs)) + length xs
-count-rest test f xs zero h = omega (arith, count-at_most test (map f xs), length-map xs f)
-count-rest test f [] (suc i) h = omega (arith, h)
-count-rest test f (x ∷ xs) (suc i) h = omega (arith, count-rest test f xs i (omega (arith, h)))

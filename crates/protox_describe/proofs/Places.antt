@@ -1,5 +1,5 @@
 -- The indices of the elements that pass a test, one element at a time.
-use Rattle.std.proofs.Common.{◌≡◌, ℕ, ◌+◌, ◌<◌, ◌≤◌, List, [], ◌∷◌, ◌++◌, length, take, get_or, ap, sym, ◌∙◌, arith, Bool, true, false}
+use Rattle.std.proofs.Common.{◌≡◌, ℕ, ◌+◌, ◌<◌, ◌≤◌, List, [], ◌∷◌, ◌++◌, length, take, get_or, ap, ◌∙◌, arith, Bool, true, false}
 use Rattle.std.specs.Prelude.{pos, if◌then◌else◌}
 use Rattle.protox_describe.specs.Siblings.{places}
 use Rattle.protox_describe.proofs.Lists.{take_one_more}

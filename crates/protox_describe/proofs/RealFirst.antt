@@ -1,11 +1,10 @@
 -- The written oneofs of a message come first.
-use Rattle.std.proofs.Common.{◌≡◌, ℕ, ◌+◌, ◌<◌, ◌≤◌, Bool, true, false, List, [], ◌∷◌, ◌++◌, length, map, Option, Some, None, refl, ap, sym, ◌∙◌, subst, arith, length-append, append-nil, append_assoc}
+use Rattle.std.proofs.Common.{◌≡◌, ℕ, ◌+◌, ◌<◌, ◌≤◌, true, false, List, [], ◌∷◌, ◌++◌, length, map, Option, Some, None, refl, ap, sym, ◌∙◌, subst, arith, length-append, append-nil, append_assoc}
 use Rattle.std.specs.Prelude.{ℤ, pos, if◌then◌else◌}
 use Rattle.std.specs.List.{flat_map}
 use Rattle.std.proofs.lemmas.List.Folds.{flat_map-map}
 use Rattle.protox_ast.specs.Basics.{Each}
 use Rattle.protox_describe.specs.Siblings.{Given}
-use Rattle.protox_descriptor.specs.declared.descriptor.DescriptorProto.{DescriptorProto}
 use Rattle.protox_descriptor.specs.declared.descriptor.DescriptorProto.TheFolds.{fold-roll-DescriptorProto}
 use Rattle.protox_descriptor.specs.FieldDescriptorProto.{FieldDescriptorProto}
 use Rattle.protox_descriptor.specs.declared.descriptor.OneofDescriptorProto.{OneofDescriptorProto}

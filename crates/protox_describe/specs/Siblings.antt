@@ -1,6 +1,6 @@
 -- Lists of siblings: each element with those before it, how many pass a test, and at which indices;
--- the sum and the largest of numbers; and a statement about a value that may be absent.
-use Rattle.std.specs.Prelude.{ℕ, ◌+◌, max, Bool, if◌then◌else◌, List, [], ◌∷◌, ◌++◌, Option, Some, None, ℤ, pos}
+-- and a statement about a value that may be absent.
+use Rattle.std.specs.Prelude.{ℕ, ◌+◌, Bool, if◌then◌else◌, List, [], ◌∷◌, ◌++◌, Option, Some, None, ℤ, pos}
 
 -- the results for each element, given the elements before it
 abbrev pub each_after : {A B : Type 0} → (List A → A → List B) → List A → List A → List B
@@ -16,16 +16,6 @@ count test (x ∷ xs) = (if test x then 1 else 0) + count test xs
 abbrev pub places : {A : Type 0} → (A → Bool) → ℕ → List A → List ℤ
 places test i [] = []
 places test i (x ∷ xs) = if test x then pos i ∷ places test (i + 1) xs else places test (i + 1) xs
-
--- the sum of the numbers
-abbrev pub total : List ℕ → ℕ
-total [] = 0
-total (x ∷ xs) = x + total xs
-
--- the largest of the numbers; 0 if there is none
-abbrev pub greatest : List ℕ → ℕ
-greatest [] = 0
-greatest (x ∷ xs) = max x (greatest xs)
 
 -- P holds of the value, if there is one.
 abbrev pub Given : {A : Type 0} → (A → Type 0) → Option A → Type 0

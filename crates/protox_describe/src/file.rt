@@ -1,10 +1,8 @@
 //! The descriptor of a file: its head, and what each of its items adds.
 
-ghost use Rattle.std.specs.Prelude.{◌≡◌, ◌≤◌, ◌++◌, [], length, map, IfOk, OnOk};
+ghost use Rattle.std.specs.Prelude.{◌≡◌, ◌++◌, [], IfOk, OnOk};
 ghost use Rattle.std.specs.List.{flat_map};
 ghost use Rattle.protox_describe.specs.File.{item_messages, item_enums, item_services, item_extensions, file_proto};
-ghost use Rattle.protox_describe.specs.Siblings.{greatest};
-ghost use Rattle.protox_describe.specs.inner.Widths.{file_item_width, file_width};
 
 use crate::enums::enum_proto;
 use crate::head::{ImportLists, imports, package_name, syntax_name};
@@ -26,7 +24,6 @@ fn push_messages(
     item: &FileItem,
     found: &mut Items<DescriptorProto>,
 ) -> Result<(), AllocError>
-    requires { file_item_width item.now ≤ 2147483647 }
     ensures { OnOk result (found.new ≡ found.old ++ item_messages syntax item.now) }
 {
     match item {
@@ -121,17 +118,17 @@ impl ItemLists {
     }
 }
 
-/// Appends what an item of a file adds to each list. On `AllocError` (memory ran out) the lists may
-/// hold a part of it, so they are of no more use.
+/// Appends what an item of a file adds to each list. On `AllocError` the lists may hold a part of
+/// it, so they are of no more use.
 ///
-/// Needs that no message of the item has more items than an `i32` counts.
+/// `AllocError` if memory runs out, and also if the index of a oneof would be beyond 2,147,483,647,
+/// which no tree of a source within the limit needs.
 pub fn describe_item(
     alloc: Global,
     syntax: Syntax,
     item: &FileItem,
     lists: &mut ItemLists,
 ) -> Result<(), AllocError>
-    requires { file_item_width item.now ≤ 2147483647 }
     ensures messages { OnOk result (lists.new.message_type ≡ lists.old.message_type ++ item_messages syntax item.now) }
     ensures enums { OnOk result (lists.new.enum_type ≡ lists.old.enum_type ++ item_enums item.now) }
     ensures services { OnOk result (lists.new.service ≡ lists.old.service ++ item_services item.now) }
@@ -144,15 +141,14 @@ pub fn describe_item(
 }
 
 /// The descriptor of a file of this name, without its locations and without what its items add.
-/// `AllocError` if memory runs out.
 ///
-/// Needs that the file has no more imports than an `i32` counts.
+/// `AllocError` if memory runs out, and also if the index of an import would be beyond
+/// 2,147,483,647, which no tree of a source within the limit needs.
 pub fn describe_head(
     alloc: Global,
     name: &str,
     ast: &File,
 ) -> Result<FileDescriptorProto, AllocError>
-    requires { length ast.now.imports ≤ 2147483647 }
     ensures { IfOk result (λ file. file ≡ record (file_proto name.now ast.now) { message_type = []; enum_type = []; service = []; extension = [] }) }
 {
     let name = Text::copy(alloc, name)?;
@@ -187,7 +183,6 @@ fn describe_items(
     syntax: Syntax,
     items: Items<FileItem>,
 ) -> Result<ItemLists, AllocError>
-    requires { greatest (map file_item_width items) ≤ 2147483647 }
     ensures messages { IfOk result (λ lists. lists.message_type ≡ flat_map (item_messages syntax) items) }
     ensures enums { IfOk result (λ lists. lists.enum_type ≡ flat_map item_enums items) }
     ensures services { IfOk result (λ lists. lists.service ≡ flat_map item_services items) }
@@ -202,14 +197,13 @@ fn describe_items(
 
 /// The descriptor of a file of this name, without locations. It uses the tree up.
 ///
-/// Needs that no message of the file has more items, and the file no more imports, than an `i32`
-/// counts. `AllocError` if memory runs out.
+/// `AllocError` if memory runs out, and also if an index (of a oneof or of an import) would be
+/// beyond 2,147,483,647, which no tree of a source within the limit needs.
 pub fn describe_file(
     alloc: Global,
     name: &str,
     ast: File,
 ) -> Result<FileDescriptorProto, AllocError>
-    requires { file_width ast ≤ 2147483647 }
     ensures { IfOk result (λ file. file ≡ file_proto name.now ast) }
 {
     let file = describe_head(alloc, name, &ast)?;

@@ -1,6 +1,6 @@
 //! The syntax, the package and the imports of a file.
 
-ghost use Rattle.std.specs.Prelude.{◌≡◌, ◌≤◌, ◌++◌, ◌∷◌, [], pos, map, length, IfOk, OnOk, if◌then◌else◌};
+ghost use Rattle.std.specs.Prelude.{◌≡◌, ◌++◌, ◌∷◌, [], pos, map, IfOk, OnOk, if◌then◌else◌};
 ghost use Rattle.protox_ast.specs.declared.ast.Import as import_type;
 ghost use Rattle.protox_describe.specs.Head.{syntax_name as name_of_syntax, package_name as name_of_package, kind_is_public, kind_is_weak, is_public, is_weak};
 ghost use Rattle.protox_describe.specs.Siblings.{places};
@@ -61,11 +61,14 @@ fn is_weak(kind: &Option<(ImportKind, Span)>) -> bool
     }
 }
 
+// In the descriptor an index is an `i32`, so it is checked before it is made one.
 fn push_place(found: &mut Items<i32>, is_wanted: bool, place: usize) -> Result<(), AllocError>
-    requires { place ≤ 2147483647 }
     ensures { OnOk result (found.new ≡ found.old ++ (if is_wanted then pos place ∷ [] else [])) }
 {
     if is_wanted {
+        if place > 2147483647 {
+            return Err(AllocError);
+        }
         found.push(place as i32)
     } else {
         Ok(())
@@ -74,7 +77,6 @@ fn push_place(found: &mut Items<i32>, is_wanted: bool, place: usize) -> Result<(
 
 // The indices of the `public` imports.
 fn public_places(alloc: Global, imports: &[Import]) -> Result<Items<i32>, AllocError>
-    requires { length imports.now ≤ 2147483647 }
     ensures { IfOk result (λ found. found ≡ places is_public 0 imports.now) }
 {
     let mut found = Items::new(alloc);
@@ -86,7 +88,6 @@ fn public_places(alloc: Global, imports: &[Import]) -> Result<Items<i32>, AllocE
 
 // The indices of the `weak` imports.
 fn weak_places(alloc: Global, imports: &[Import]) -> Result<Items<i32>, AllocError>
-    requires { length imports.now ≤ 2147483647 }
     ensures { IfOk result (λ found. found ≡ places is_weak 0 imports.now) }
 {
     let mut found = Items::new(alloc);
@@ -106,7 +107,6 @@ pub(crate) struct ImportLists {
 
 /// The imported files, and the indices of the public and of the weak ones.
 pub(crate) fn imports(alloc: Global, imports: &[Import]) -> Result<ImportLists, AllocError>
-    requires { length imports.now ≤ 2147483647 }
     ensures files { IfOk result (λ made. made.dependency ≡ map (λ (statement : import_type.Import). statement.value) imports.now) }
     ensures public { IfOk result (λ made. made.public_dependency ≡ places is_public 0 imports.now) }
     ensures weak { IfOk result (λ made. made.weak_dependency ≡ places is_weak 0 imports.now) }

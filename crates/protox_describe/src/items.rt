@@ -1,6 +1,6 @@
 //! The lists that the items of a message fill: fields, extensions, enums and oneofs.
 
-ghost use Rattle.std.specs.Prelude.{◌≡◌, ◌≤◌, ◌+◌, ◌++◌, ◌∷◌, [], map, length, IfOk, OnOk, if◌then◌else◌};
+ghost use Rattle.std.specs.Prelude.{◌≡◌, ◌≤◌, ◌+◌, ◌++◌, ◌∷◌, [], pos, map, length, IfOk, OnOk, if◌then◌else◌};
 ghost use Rattle.std.specs.List.{flat_map};
 ghost use Rattle.protox_ast.specs.Steps.{of_extend, of_field, of_item, of_oneof};
 ghost use Rattle.protox_ast.specs.declared.ast.Syntax.{Syntax};
@@ -26,40 +26,18 @@ struct Places {
     made: usize,
 }
 
-fn places_after_field(syntax: Syntax, ast: &Field, places: Places) -> Places
-    requires { places.made ≤ 4294967296 }
-    ensures written { result.written ≡ places.written }
-    ensures made { result.made ≡ places.made + length (of_field (descriptor_steps syntax) ast.now).synthetic }
-    ensures one { result.made ≤ places.made + 1 }
+// Takes the index of the next oneof. In the descriptor it is an `i32`, so it is checked before it is
+// made one. The check also keeps the count in a `usize`.
+fn next_index(next: &mut usize) -> Result<i32, AllocError>
+    ensures value { IfOk result (λ index. index ≡ pos next.old) }
+    ensures counted { OnOk result (next.new ≡ next.old + 1) }
 {
-    if is_proto3_optional(syntax, &ast.label) {
-        Places {
-            written: places.written,
-            made: places.made + 1,
-        }
-    } else {
-        places
+    let index = *next;
+    if index > 2147483647 {
+        return Err(AllocError);
     }
-}
-
-// The same indices behind an item.
-fn places_after(syntax: Syntax, item: &MessageItem, places: Places) -> Places
-    requires written { places.written ≤ 4294967296 }
-    requires made { places.made ≤ 4294967296 }
-    ensures written { result.written ≡ places.written + (if is_oneof (of_item (descriptor_steps syntax) item.now) then 1 else 0) }
-    ensures made { result.made ≡ places.made + length (synthetic_of (of_item (descriptor_steps syntax) item.now)) }
-    ensures one { result.written + result.made ≤ places.written + places.made + 1 }
-{
-    match item {
-        MessageItem::Field(ast) => places_after_field(syntax, ast, places),
-        MessageItem::Oneof(_) => Places {
-            written: places.written + 1,
-            made: places.made,
-        },
-        MessageItem::Message(_) => places,
-        MessageItem::Enum(_) => places,
-        MessageItem::Extend(_) => places,
-    }
+    *next = index + 1;
+    Ok(index as i32)
 }
 
 fn oneofs_in(item: &MessageItem) -> usize
@@ -77,8 +55,7 @@ fn oneofs_in(item: &MessageItem) -> usize
 
 // How many oneofs are written.
 fn oneofs_among(items: &[MessageItem]) -> usize
-    ensures value { (syntax : Syntax) → result ≡ count is_oneof (map (of_item (descriptor_steps syntax)) items.now) }
-    ensures within { result ≤ length items.now }
+    ensures { (syntax : Syntax) → result ≡ count is_oneof (map (of_item (descriptor_steps syntax)) items.now) }
 {
     let mut oneofs = 0;
     for item in items {
@@ -98,15 +75,16 @@ fn fields_among(items: &[MessageItem]) -> usize {
     fields
 }
 
-// The index of the oneof that is made for a field, if one is made.
-fn synthetic_index(syntax: Syntax, ast: &Field, made: usize) -> Option<i32>
-    requires { made ≤ 2147483647 }
-    ensures { result ≡ synthetic_index made (of_field (descriptor_steps syntax) ast.now) }
+// Takes the index of the oneof that is made for a field, if one is made.
+fn synthetic_index(syntax: Syntax, ast: &Field, made: &mut usize) -> Result<Option<i32>, AllocError>
+    ensures value { IfOk result (λ index. index ≡ synthetic_index made.old (of_field (descriptor_steps syntax) ast.now)) }
+    ensures counted { OnOk result (made.new ≡ made.old + length (of_field (descriptor_steps syntax) ast.now).synthetic) }
 {
     if is_proto3_optional(syntax, &ast.label) {
-        Some(made as i32)
+        let index = next_index(made)?;
+        Ok(Some(index))
     } else {
-        None
+        Ok(None)
     }
 }
 
@@ -138,32 +116,27 @@ fn push_oneof_fields(
     Ok(())
 }
 
+// Appends the fields of an item, and counts its oneofs.
 fn push_fields(
     alloc: Global,
     syntax: Syntax,
     item: &MessageItem,
-    places: Places,
+    places: &mut Places,
     found: &mut Items<FieldDescriptorProto>,
 ) -> Result<(), AllocError>
-    requires written { places.written ≤ 2147483647 }
-    requires made { places.made ≤ 2147483647 }
-    ensures { OnOk result (found.new ≡ found.old ++ item_fields places.written places.made (of_item (descriptor_steps syntax) item.now)) }
+    ensures fields { OnOk result (found.new ≡ found.old ++ item_fields places.old.written places.old.made (of_item (descriptor_steps syntax) item.now)) }
+    ensures written { OnOk result (places.new.written ≡ places.old.written + (if is_oneof (of_item (descriptor_steps syntax) item.now) then 1 else 0)) }
+    ensures made { OnOk result (places.new.made ≡ places.old.made + length (synthetic_of (of_item (descriptor_steps syntax) item.now))) }
 {
     match item {
-        MessageItem::Field(ast) => push_field(
-            alloc,
-            syntax,
-            ast,
-            synthetic_index(syntax, ast, places.made),
-            found,
-        ),
-        MessageItem::Oneof(ast) => push_oneof_fields(
-            alloc,
-            syntax,
-            ast,
-            Some(places.written as i32),
-            found,
-        ),
+        MessageItem::Field(ast) => {
+            let index = synthetic_index(syntax, ast, &mut places.made)?;
+            push_field(alloc, syntax, ast, index, found)
+        }
+        MessageItem::Oneof(ast) => {
+            let index = next_index(&mut places.written)?;
+            push_oneof_fields(alloc, syntax, ast, Some(index), found)
+        }
         MessageItem::Message(_) => Ok(()),
         MessageItem::Enum(_) => Ok(()),
         MessageItem::Extend(_) => Ok(()),
@@ -176,7 +149,6 @@ pub(crate) fn fields(
     syntax: Syntax,
     items: &[MessageItem],
 ) -> Result<Items<FieldDescriptorProto>, AllocError>
-    requires { length items.now ≤ 2147483647 }
     ensures { IfOk result (λ fields. let all = map (of_item (descriptor_steps syntax)) items.now in fields ≡ each_after (fields_of (count is_oneof all)) [] all) }
 {
     let mut found = Items::with_capacity(alloc, fields_among(items))?;
@@ -185,8 +157,7 @@ pub(crate) fn fields(
         made: oneofs_among(items),
     };
     for item in items {
-        push_fields(alloc, syntax, item, places, &mut found)?;
-        places = places_after(syntax, item, places);
+        push_fields(alloc, syntax, item, &mut places, &mut found)?;
     }
     Ok(found)
 }

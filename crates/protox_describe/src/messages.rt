@@ -1,13 +1,12 @@
 //! The descriptors of messages, with those made for groups and for map entries.
 
-ghost use Rattle.std.specs.Prelude.{◌≡◌, ◌≤◌, ◌++◌, ◌∷◌, [], map, length, IfOk, OnOk};
+ghost use Rattle.std.specs.Prelude.{◌≡◌, ◌++◌, ◌∷◌, [], map, IfOk, OnOk};
 ghost use Rattle.std.specs.List.{flat_map};
 ghost use Rattle.protox_ast.specs.Steps.{of_message, of_body, of_item, of_field, of_oneof, of_extend};
 ghost use Rattle.protox_ast.specs.declared.ast.MessageBody.{out-MessageBody};
 ghost use Rattle.protox_describe.specs.Descriptor.{descriptor_steps, nested_of, parts};
 ghost use Rattle.protox_describe.specs.Fields.{message_proto, entry_name, entry_parts};
 ghost use Rattle.protox_describe.specs.inner.Pass.{with_nested};
-ghost use Rattle.protox_describe.specs.inner.Widths.{widths};
 
 use crate::fields::entry_message;
 use crate::items::{enums, extensions, fields, oneofs};
@@ -38,7 +37,6 @@ pub(crate) struct Unnested {
 }
 
 fn all_but_nested(alloc: Global, syntax: Syntax, ast: &MessageBody) -> Result<Unnested, AllocError>
-    requires { length (out-MessageBody ast.now).items ≤ 2147483647 }
     ensures { IfOk result (λ unnested. let all = map (of_item (descriptor_steps syntax)) (out-MessageBody ast.now).items in with_nested unnested (flat_map nested_of all) ≡ parts all (out-MessageBody ast.now).extensions (out-MessageBody ast.now).options (out-MessageBody ast.now).reserved) }
 {
     let greatest = greatest_number(ast.options.as_slice());
@@ -103,7 +101,6 @@ pub(crate) fn message_proto(
     syntax: Syntax,
     ast: &Message,
 ) -> Result<DescriptorProto, AllocError>
-    requires { of_message widths ast.now ≤ 2147483647 }
     ensures { IfOk result (λ message. message ≡ of_message (descriptor_steps syntax) ast.now) }
 {
     body_message(alloc, syntax, ast.name.value.as_str(), &ast.body)
@@ -117,7 +114,6 @@ fn body_message(
     name: &str,
     ast: &MessageBody,
 ) -> Result<DescriptorProto, AllocError>
-    requires { of_body widths ast.now ≤ 2147483647 }
     ensures { IfOk result (λ message. message ≡ message_proto name.now (of_body (descriptor_steps syntax) ast.now)) }
 {
     let nested = nested(alloc, syntax, ast)?;
@@ -131,7 +127,6 @@ fn nested(
     syntax: Syntax,
     ast: &MessageBody,
 ) -> Result<Items<DescriptorProto>, AllocError>
-    requires { of_body widths ast.now ≤ 2147483647 }
     ensures { IfOk result (λ found. found ≡ flat_map nested_of (map (of_item (descriptor_steps syntax)) (out-MessageBody ast.now).items)) }
 {
     let mut found = Items::new(alloc);
@@ -148,7 +143,6 @@ fn push_nested(
     item: &MessageItem,
     found: &mut Items<DescriptorProto>,
 ) -> Result<(), AllocError>
-    requires { of_item widths item.now ≤ 2147483647 }
     ensures { OnOk result (found.new ≡ found.old ++ nested_of (of_item (descriptor_steps syntax) item.now)) }
 {
     match item {
@@ -168,7 +162,6 @@ pub(crate) fn push_message(
     ast: &Message,
     found: &mut Items<DescriptorProto>,
 ) -> Result<(), AllocError>
-    requires { of_message widths ast.now ≤ 2147483647 }
     ensures { OnOk result (found.new ≡ found.old ++ of_message (descriptor_steps syntax) ast.now ∷ []) }
 {
     let made = message_proto(alloc, syntax, ast)?;
@@ -182,7 +175,6 @@ fn push_oneof_messages(
     ast: &Oneof,
     found: &mut Items<DescriptorProto>,
 ) -> Result<(), AllocError>
-    requires { of_oneof widths ast.now ≤ 2147483647 }
     ensures { OnOk result (found.new ≡ found.old ++ flat_map (λ gives. gives.nested) (of_oneof (descriptor_steps syntax) ast.now).fields) }
 {
     for part in ast.fields.as_slice() {
@@ -199,7 +191,6 @@ pub(crate) fn push_extend_messages(
     ast: &Extend,
     found: &mut Items<DescriptorProto>,
 ) -> Result<(), AllocError>
-    requires { of_extend widths ast.now ≤ 2147483647 }
     ensures { OnOk result (found.new ≡ found.old ++ flat_map (λ gives. gives.nested) (of_extend (descriptor_steps syntax) ast.now)) }
 {
     for part in ast.fields.as_slice() {
@@ -216,7 +207,6 @@ fn push_field_messages(
     ast: &Field,
     found: &mut Items<DescriptorProto>,
 ) -> Result<(), AllocError>
-    requires { of_field widths ast.now ≤ 2147483647 }
     ensures { OnOk result (found.new ≡ found.old ++ (of_field (descriptor_steps syntax) ast.now).nested) }
 {
     match &ast.kind {
@@ -246,7 +236,6 @@ fn push_group(
     ast: &MessageBody,
     found: &mut Items<DescriptorProto>,
 ) -> Result<(), AllocError>
-    requires { of_body widths ast.now ≤ 2147483647 }
     ensures { OnOk result (found.new ≡ found.old ++ message_proto name.now (of_body (descriptor_steps syntax) ast.now) ∷ []) }
 {
     let made = body_message(alloc, syntax, name, ast)?;

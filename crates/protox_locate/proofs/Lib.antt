@@ -1,6 +1,4 @@
 pub mod Draft
-pub mod Fits
-pub mod FitsParts
 pub mod InOrder
 pub mod Joined
 pub mod Left

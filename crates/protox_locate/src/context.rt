@@ -1,8 +1,7 @@
 //! The position in the tree while it is walked, and the locations so far.
 
-ghost use Rattle.std.specs.Prelude.{◌≡◌, ◌≤◌, ◌++◌, ◌∷◌, [], true, None, ℤ, pos, length, IfOk, OnOk, List};
+ghost use Rattle.std.specs.Prelude.{◌≡◌, ◌≤◌, ◌+◌, ◌++◌, ◌∷◌, [], true, None, ℤ, pos, length, IfOk, OnOk, List};
 ghost use Rattle.std.specs.Option.{option_copied};
-ghost use Rattle.protox_locate.specs.inner.Bounds.{reach};
 ghost use Rattle.protox_places.specs.Lines.{numbers_at};
 ghost use Rattle.protox_locate.specs.LocationWords.{bare, commented, part};
 ghost use Rattle.protox_locate.specs.inner.Walk.{Emits};
@@ -84,6 +83,40 @@ fn joined(alloc: Global, path: &[i32], tags: &[i32]) -> Result<Numbers, AllocErr
     }
 }
 
+/// An index as a number of a path. `AllocError` if it is beyond an `i32`. No source within the limit
+/// has so many siblings.
+#[inline(always)]
+pub(crate) fn index_number(index: usize) -> Result<i32, AllocError>
+    ensures number { IfOk result (λ number. number ≡ pos index) }
+    ensures counted { OnOk result (index ≤ 2147483647) }
+{
+    if index > 2147483647 {
+        return Err(AllocError);
+    }
+    Ok(index as i32)
+}
+
+/// The index behind that of a part that has no location. `AllocError` as for `index_number`.
+#[inline(always)]
+pub(crate) fn next_index(index: usize) -> Result<usize, AllocError>
+    ensures { IfOk result (λ next. next ≡ index + 1) }
+{
+    index_number(index)?;
+    Ok(index + 1)
+}
+
+// The numbers of a span, which is looked for in the line `near` first. `AllocError` if an offset is
+// beyond an `i32`. No source within the limit is so long.
+#[inline(always)]
+fn numbers_of(lines: &LineResolver, near: &mut usize, span: &Span) -> Result<Numbers, AllocError>
+    ensures { IfOk result (λ numbers. numbers ≡ numbers_at lines.now span.now) }
+{
+    if span.start > 2147483647 || span.end > 2147483647 {
+        return Err(AllocError);
+    }
+    Ok(lines.numbers_near(near, copied_span(span)))
+}
+
 // Whether there are no comments, as at most declarations.
 fn is_bare(comments: &Comments) -> bool
     ensures leading { result ≡ true → comments.now.leading_comment ≡ None }
@@ -120,11 +153,10 @@ impl Context {
         tags: &[i32],
         span: &Span,
     ) -> Result<(), AllocError>
-        requires { reach span.now ≤ 2147483647 }
         ensures { OnOk result (Emits self.old self.new (bare (numbers_at lines.now) (self.old.path ++ tags.now) span.now ∷ [])) }
     {
         let path = joined(alloc, self.path.as_slice(), tags)?;
-        let span = lines.numbers_near(&mut self.near, copied_span(span));
+        let span = numbers_of(lines, &mut self.near, span)?;
         self.locations.push(Location::bare(path, span))
     }
 
@@ -138,7 +170,6 @@ impl Context {
         span: &Span,
         comments: &Comments,
     ) -> Result<(), AllocError>
-        requires { reach span.now ≤ 2147483647 }
         ensures { OnOk result (Emits self.old self.new (commented (numbers_at lines.now) (self.old.path ++ tags.now) span.now comments.now ∷ [])) }
     {
         if is_bare(comments) {
@@ -148,19 +179,21 @@ impl Context {
         let trailing = copied_option(alloc, comments.trailing_comment())?;
         let detached = copied(alloc, comments.leading_detached_comments())?;
         let path = joined(alloc, self.path.as_slice(), tags)?;
-        let span = lines.numbers_near(&mut self.near, copied_span(span));
+        let span = numbers_of(lines, &mut self.near, span)?;
         let location = Location::commented(alloc, path, span, leading, trailing, detached)?;
         self.locations.push(location)
     }
 
-    /// Goes down to a child: its field number, and its index among its siblings.
+    /// Goes down to a child: its field number, and its index among its siblings. `AllocError` as for
+    /// `index_number`, and if memory runs out.
     pub fn enter(&mut self, tag: i32, index: usize) -> Result<(), AllocError>
-        requires { index ≤ 2147483647 }
         ensures path { OnOk result (self.new.path ≡ self.old.path ++ tag ∷ pos index ∷ []) }
         ensures locations { self.new.locations ≡ self.old.locations }
+        ensures counted { OnOk result (index ≤ 2147483647) }
     {
+        let number = index_number(index)?;
         self.path.push(tag)?;
-        self.path.push(index as i32)
+        self.path.push(number)
     }
 
     /// Goes back up from a child.

@@ -1,7 +1,6 @@
 //! The locations of an item of a file, one kind of parts after another.
 
-ghost use Rattle.std.specs.Prelude.{◌≡◌, ◌≤◌, ◌+◌, IfOk, OnOk};
-ghost use Rattle.protox_locate.specs.inner.Bounds.{file_item_reach, file_item_weight};
+ghost use Rattle.std.specs.Prelude.{◌≡◌, IfOk, OnOk};
 ghost use Rattle.protox_places.specs.Lines.{numbers_at};
 ghost use Rattle.protox_locate.specs.LocationWords.{each_at, part};
 ghost use Rattle.protox_locate.specs.Locations.{item_blocks, item_enums, item_extensions, item_messages, item_services};
@@ -27,10 +26,7 @@ pub(crate) fn messages_of(
     item: &FileItem,
     first: usize,
 ) -> Result<usize, AllocError>
-    requires room { first + file_item_weight item.now ≤ 2147483647 }
-    requires reach { file_item_reach item.now ≤ 2147483647 }
     ensures siblings { IfOk result (λ next. Numbers context.old context.new MESSAGE_TYPE first next (item_messages (numbers_at lines.now) item.now)) }
-    ensures within { IfOk result (λ next. next ≤ first + file_item_weight item.now) }
 {
     match item {
         FileItem::Message(ast) => {
@@ -63,10 +59,7 @@ pub(crate) fn enums_of(
     item: &FileItem,
     first: usize,
 ) -> Result<usize, AllocError>
-    requires room { first + file_item_weight item.now ≤ 2147483647 }
-    requires reach { file_item_reach item.now ≤ 2147483647 }
     ensures siblings { IfOk result (λ next. Numbers context.old context.new ENUM_TYPE first next (item_enums (numbers_at lines.now) item.now)) }
-    ensures within { IfOk result (λ next. next ≤ first + file_item_weight item.now) }
 {
     match item {
         FileItem::Enum(ast) => {
@@ -88,10 +81,7 @@ pub(crate) fn services_of(
     item: &FileItem,
     first: usize,
 ) -> Result<usize, AllocError>
-    requires room { first + file_item_weight item.now ≤ 2147483647 }
-    requires reach { file_item_reach item.now ≤ 2147483647 }
     ensures siblings { IfOk result (λ next. Numbers context.old context.new SERVICE first next (item_services (numbers_at lines.now) item.now)) }
-    ensures within { IfOk result (λ next. next ≤ first + file_item_weight item.now) }
 {
     match item {
         FileItem::Service(ast) => {
@@ -114,7 +104,6 @@ pub(crate) fn blocks_of(
     context: &mut Context,
     item: &FileItem,
 ) -> Result<(), AllocError>
-    requires { file_item_reach item.now ≤ 2147483647 }
     ensures { OnOk result (Emits context.old context.new (each_at (part context.old.path EXTENSION) (item_blocks (numbers_at lines.now) item.now))) }
 {
     match item {
@@ -137,10 +126,7 @@ pub(crate) fn extensions_of(
     item: &FileItem,
     first: usize,
 ) -> Result<usize, AllocError>
-    requires room { first + file_item_weight item.now ≤ 2147483647 }
-    requires reach { file_item_reach item.now ≤ 2147483647 }
     ensures siblings { IfOk result (λ next. Numbers context.old context.new EXTENSION first next (item_extensions (numbers_at lines.now) item.now)) }
-    ensures within { IfOk result (λ next. next ≤ first + file_item_weight item.now) }
 {
     match item {
         FileItem::Extend(ast) => { extensions_in(alloc, lines, context, EXTENSION, ast, first) }

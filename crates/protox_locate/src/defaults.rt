@@ -1,14 +1,13 @@
 //! The locations of a field's options: `default`, `json_name` and the others.
 
-ghost use Rattle.std.specs.Prelude.{◌≡◌, ◌≤◌, ◌∷◌, codes, find, length, map, OnOk, Some, [], false, not, ◌&&◌};
+ghost use Rattle.std.specs.Prelude.{◌≡◌, ◌∷◌, codes, find, map, OnOk, Some, false, not, ◌&&◌};
 ghost use Rattle.protox_ast.specs.Options.{default_of, has_name as is_called, json_name_of, options_left};
-ghost use Rattle.protox_locate.specs.inner.Bounds.{body_reach, greatest, list_reach, list_weight, reach};
 ghost use Rattle.protox_locate.specs.FieldLocations.{defaulted, json_named};
 ghost use Rattle.protox_places.specs.Lines.{numbers_at};
 ghost use Rattle.protox_locate.specs.LocationWords.{bare, option_body, option_list, part, siblings_at};
 ghost use Rattle.protox_locate.specs.inner.Walk.{Emits, left};
 
-use crate::context::Context;
+use crate::context::{Context, index_number};
 use protox_ast::ast::{Boxed, Opt, OptionBody, OptionList};
 use protox_descriptor::tag::UNINTERPRETED_OPTION;
 use protox_descriptor::tag::field::{DEFAULT_VALUE, JSON_NAME, OPTIONS};
@@ -29,7 +28,6 @@ pub(crate) fn locate_default(
     context: &mut Context,
     options: &Opt<Boxed<OptionList>>,
 ) -> Result<(), AllocError>
-    requires { list_reach options.now ≤ 2147483647 }
     ensures { OnOk result (Emits context.old context.new (defaulted (numbers_at lines.now) context.old.path (default_of options.now))) }
 {
     match options {
@@ -44,7 +42,6 @@ fn default_in(
     context: &mut Context,
     bodies: &[OptionBody],
 ) -> Result<(), AllocError>
-    requires { greatest (map body_reach bodies.now) ≤ 2147483647 }
     ensures { OnOk result (Emits context.old context.new (defaulted (numbers_at lines.now) context.old.path (find (is_called (codes "default")) bodies.now))) }
 {
     for body in bodies {
@@ -63,7 +60,6 @@ pub(crate) fn locate_json_name(
     context: &mut Context,
     options: &Opt<Boxed<OptionList>>,
 ) -> Result<(), AllocError>
-    requires { list_reach options.now ≤ 2147483647 }
     ensures { OnOk result (Emits context.old context.new (json_named (numbers_at lines.now) context.old.path (json_name_of options.now))) }
 {
     match options {
@@ -78,7 +74,6 @@ fn json_name_in(
     context: &mut Context,
     bodies: &[OptionBody],
 ) -> Result<(), AllocError>
-    requires { greatest (map body_reach bodies.now) ≤ 2147483647 }
     ensures { OnOk result (Emits context.old context.new (json_named (numbers_at lines.now) context.old.path (find (is_called (codes "json_name")) bodies.now))) }
 {
     for body in bodies {
@@ -95,7 +90,6 @@ fn add_json_name(
     context: &mut Context,
     body: &OptionBody,
 ) -> Result<(), AllocError>
-    requires { body_reach body.now ≤ 2147483647 }
     ensures { OnOk result (Emits context.old context.new (json_named (numbers_at lines.now) context.old.path (Some body.now))) }
 {
     let whole = body.span();
@@ -111,8 +105,6 @@ pub(crate) fn locate_others(
     context: &mut Context,
     options: &Opt<Boxed<OptionList>>,
 ) -> Result<(), AllocError>
-    requires room { list_weight options.now ≤ 2147483647 }
-    requires reach { list_reach options.now ≤ 2147483647 }
     ensures { OnOk result (Emits context.old context.new (option_list (numbers_at lines.now) (part context.old.path OPTIONS) options.now (options_left options.now))) }
 {
     match options {
@@ -127,9 +119,6 @@ fn locate_brackets(
     context: &mut Context,
     list: &OptionList,
 ) -> Result<(), AllocError>
-    requires room { length list.now.options ≤ 2147483647 }
-    requires span { reach list.now.span ≤ 2147483647 }
-    requires reach { greatest (map body_reach list.now.options) ≤ 2147483647 }
     ensures { OnOk result (Emits context.old context.new (bare (numbers_at lines.now) (part context.old.path OPTIONS) list.now.span ∷ siblings_at (part context.old.path OPTIONS) UNINTERPRETED_OPTION (map (option_body (numbers_at lines.now)) (left false false list.now.options)))) }
 {
     context.enter_part(OPTIONS)?;
@@ -146,8 +135,6 @@ fn number_others(
     context: &mut Context,
     bodies: &[OptionBody],
 ) -> Result<(), AllocError>
-    requires room { length bodies.now ≤ 2147483647 }
-    requires reach { greatest (map body_reach bodies.now) ≤ 2147483647 }
     ensures { OnOk result (Emits context.old context.new (siblings_at context.old.path UNINTERPRETED_OPTION (map (option_body (numbers_at lines.now)) (left false false bodies.now)))) }
 {
     let mut next: usize = 0;
@@ -159,7 +146,7 @@ fn number_others(
         } else if takes(json_name, body, "json_name") {
             json_name = true;
         } else {
-            let tags = [UNINTERPRETED_OPTION, next as i32];
+            let tags = [UNINTERPRETED_OPTION, index_number(next)?];
             let span = body.span();
             context.add(alloc, lines, &tags, &span)?;
             next += 1;

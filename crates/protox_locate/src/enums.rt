@@ -1,7 +1,6 @@
 //! The locations of enums.
 
 ghost use Rattle.std.specs.Prelude.{◌≡◌, ◌≤◌, map, OnOk};
-ghost use Rattle.protox_locate.specs.inner.Bounds.{enum_reach, enum_weight, greatest, total, value_reach, value_weight};
 ghost use Rattle.protox_locate.specs.EnumLocations.{enum_locations, enum_value_locations};
 ghost use Rattle.protox_places.specs.Lines.{numbers_at};
 ghost use Rattle.protox_locate.specs.LocationWords.{nth, siblings_at};
@@ -25,10 +24,8 @@ pub(crate) fn enum_at(
     ast: &Enum,
     at: usize,
 ) -> Result<(), AllocError>
-    requires at { at ≤ 2147483647 }
-    requires room { enum_weight ast.now ≤ 2147483647 }
-    requires reach { enum_reach ast.now ≤ 2147483647 }
-    ensures { OnOk result (Emits context.old context.new (enum_locations (numbers_at lines.now) ast.now (nth context.old.path tag at))) }
+    ensures located { OnOk result (Emits context.old context.new (enum_locations (numbers_at lines.now) ast.now (nth context.old.path tag at))) }
+    ensures counted { OnOk result (at ≤ 2147483647) }
 {
     context.enter(tag, at)?;
     locate_enum(alloc, lines, context, ast)?;
@@ -42,8 +39,6 @@ fn locate_enum(
     context: &mut Context,
     ast: &Enum,
 ) -> Result<(), AllocError>
-    requires room { enum_weight ast.now ≤ 2147483647 }
-    requires reach { enum_reach ast.now ≤ 2147483647 }
     ensures { OnOk result (Emits context.old context.new (enum_locations (numbers_at lines.now) ast.now context.old.path)) }
 {
     context.add_with(alloc, lines, &[], &ast.span, &ast.comments)?;
@@ -73,8 +68,6 @@ fn locate_values(
     context: &mut Context,
     values: &[EnumValue],
 ) -> Result<(), AllocError>
-    requires room { total (map value_weight values.now) ≤ 2147483647 }
-    requires reach { greatest (map value_reach values.now) ≤ 2147483647 }
     ensures { OnOk result (Emits context.old context.new (siblings_at context.old.path VALUE (map (enum_value_locations (numbers_at lines.now)) values.now))) }
 {
     let mut next: usize = 0;
@@ -93,8 +86,6 @@ fn locate_value(
     context: &mut Context,
     ast: &EnumValue,
 ) -> Result<(), AllocError>
-    requires room { value_weight ast.now ≤ 2147483647 }
-    requires reach { value_reach ast.now ≤ 2147483647 }
     ensures { OnOk result (Emits context.old context.new (enum_value_locations (numbers_at lines.now) ast.now context.old.path)) }
 {
     context.add_with(alloc, lines, &[], &ast.span, &ast.comments)?;

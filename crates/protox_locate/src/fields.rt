@@ -1,10 +1,8 @@
 //! The locations of fields.
 
-ghost use Rattle.std.specs.Prelude.{◌≡◌, ◌≤◌, ◌+◌, ◌++◌, ◌∷◌, [], map, IfOk, OnOk, None, Some};
-ghost use Rattle.protox_ast.specs.Names.{type_name_span};
+ghost use Rattle.std.specs.Prelude.{◌≡◌, ◌≤◌, ◌∷◌, [], map, IfOk, OnOk, None, Some};
 ghost use Rattle.protox_ast.specs.Steps.{of_extend, of_field, of_kind};
 ghost use Rattle.protox_ast.specs.declared.ast.Field.{out-Field};
-ghost use Rattle.protox_locate.specs.inner.Bounds.{greatest, place_reach, reach, reaches, total, weights};
 ghost use Rattle.protox_locate.specs.FieldLocations.{from_number, itself, label_locations, labelled, type_tag_of, typed};
 ghost use Rattle.protox_places.specs.Lines.{numbers_at};
 ghost use Rattle.protox_locate.specs.LocationWords.{bare, nth, part};
@@ -29,10 +27,7 @@ pub(crate) fn fields_in(
     fields: &[Field],
     first: usize,
 ) -> Result<usize, AllocError>
-    requires room { first + total (map (of_field weights) fields.now) ≤ 2147483647 }
-    requires reach { greatest (map (of_field reaches) fields.now) ≤ 2147483647 }
     ensures siblings { IfOk result (λ next. Numbers context.old context.new FIELD first next (map (λ f. f.own None) (map (of_field (location_steps (numbers_at lines.now))) fields.now))) }
-    ensures within { IfOk result (λ next. next ≤ first + total (map (of_field weights) fields.now)) }
 {
     let mut next = first;
     for field in fields {
@@ -50,11 +45,8 @@ pub(crate) fn locate_field(
     ast: &Field,
     at: usize,
 ) -> Result<(), AllocError>
-    requires at { at ≤ 2147483647 }
-    requires room { of_field weights ast.now ≤ 2147483647 }
-    requires reach { of_field reaches ast.now ≤ 2147483647 }
     ensures located { OnOk result (Emits context.old context.new ((of_field (location_steps (numbers_at lines.now)) ast.now).own None (nth context.old.path FIELD at))) }
-    ensures positive { 1 ≤ of_field weights ast.now }
+    ensures counted { OnOk result (at ≤ 2147483647) }
 {
     context.enter(FIELD, at)?;
     locate_front(alloc, lines, context, ast)?;
@@ -72,10 +64,7 @@ pub(crate) fn extensions_in(
     ast: &Extend,
     first: usize,
 ) -> Result<usize, AllocError>
-    requires room { first + of_extend weights ast.now ≤ 2147483647 }
-    requires reach { of_extend reaches ast.now ≤ 2147483647 }
     ensures siblings { IfOk result (λ next. Numbers context.old context.new tag first next (of_extend (location_steps (numbers_at lines.now)) ast.now).extensions) }
-    ensures within { IfOk result (λ next. next ≤ first + of_extend weights ast.now) }
 {
     let fields = ast.fields.as_slice();
     number_extensions(alloc, lines, context, tag, &ast.extendee, fields, first)
@@ -91,11 +80,7 @@ fn number_extensions(
     fields: &[Field],
     first: usize,
 ) -> Result<usize, AllocError>
-    requires room { first + total (map (of_field weights) fields.now) ≤ 2147483647 }
-    requires extendee { reach (type_name_span extendee.now) ≤ 2147483647 }
-    requires reach { greatest (map (of_field reaches) fields.now) ≤ 2147483647 }
     ensures siblings { IfOk result (λ next. Numbers context.old context.new tag first next (map (λ f. f.own (Some extendee.now)) (map (of_field (location_steps (numbers_at lines.now))) fields.now))) }
-    ensures within { IfOk result (λ next. next ≤ first + total (map (of_field weights) fields.now)) }
 {
     let mut next = first;
     for field in fields {
@@ -114,12 +99,8 @@ fn locate_extension(
     ast: &Field,
     at: usize,
 ) -> Result<(), AllocError>
-    requires at { at ≤ 2147483647 }
-    requires room { of_field weights ast.now ≤ 2147483647 }
-    requires extendee { reach (type_name_span extendee.now) ≤ 2147483647 }
-    requires reach { of_field reaches ast.now ≤ 2147483647 }
     ensures located { OnOk result (Emits context.old context.new ((of_field (location_steps (numbers_at lines.now)) ast.now).own (Some extendee.now) (nth context.old.path tag at))) }
-    ensures positive { 1 ≤ of_field weights ast.now }
+    ensures counted { OnOk result (at ≤ 2147483647) }
 {
     let extended = extendee.span();
     context.enter(tag, at)?;
@@ -137,8 +118,6 @@ fn locate_front(
     context: &mut Context,
     ast: &Field,
 ) -> Result<(), AllocError>
-    requires span { reach (out-Field ast.now).span ≤ 2147483647 }
-    requires name { reach (out-Field ast.now).name.span ≤ 2147483647 }
     ensures { OnOk result (Emits context.old context.new (itself (numbers_at lines.now) context.old.path (out-Field ast.now).span (out-Field ast.now).comments (of_kind (location_steps (numbers_at lines.now)) (out-Field ast.now).kind) ∷ bare (numbers_at lines.now) (part context.old.path NAME) (out-Field ast.now).name.span ∷ [])) }
 {
     locate_itself(alloc, lines, context, ast)?;
@@ -151,7 +130,6 @@ fn locate_itself(
     context: &mut Context,
     ast: &Field,
 ) -> Result<(), AllocError>
-    requires { reach (out-Field ast.now).span ≤ 2147483647 }
     ensures { OnOk result (Emits context.old context.new (itself (numbers_at lines.now) context.old.path (out-Field ast.now).span (out-Field ast.now).comments (of_kind (location_steps (numbers_at lines.now)) (out-Field ast.now).kind) ∷ [])) }
 {
     match &ast.kind {
@@ -168,8 +146,6 @@ fn locate_from_number(
     context: &mut Context,
     ast: &Field,
 ) -> Result<(), AllocError>
-    requires room { of_field weights ast.now ≤ 2147483647 }
-    requires reach { of_field reaches ast.now ≤ 2147483647 }
     ensures { OnOk result (Emits context.old context.new (from_number (numbers_at lines.now) context.old.path (out-Field ast.now).number (out-Field ast.now).label (out-Field ast.now).name (of_kind (location_steps (numbers_at lines.now)) (out-Field ast.now).kind) (out-Field ast.now).options)) }
 {
     context.add(alloc, lines, &[NUMBER], &ast.number.span)?;
@@ -186,7 +162,6 @@ fn locate_label(
     context: &mut Context,
     ast: &Field,
 ) -> Result<(), AllocError>
-    requires { place_reach (out-Field ast.now).label ≤ 2147483647 }
     ensures { OnOk result (Emits context.old context.new (labelled (numbers_at lines.now) context.old.path (out-Field ast.now).label (of_kind (location_steps (numbers_at lines.now)) (out-Field ast.now).kind))) }
 {
     match &ast.kind {
@@ -202,7 +177,6 @@ fn locate_label_word(
     context: &mut Context,
     ast: &Field,
 ) -> Result<(), AllocError>
-    requires { place_reach (out-Field ast.now).label ≤ 2147483647 }
     ensures { OnOk result (Emits context.old context.new (label_locations (numbers_at lines.now) context.old.path (out-Field ast.now).label)) }
 {
     match &ast.label {
@@ -217,8 +191,6 @@ fn locate_type(
     context: &mut Context,
     ast: &Field,
 ) -> Result<(), AllocError>
-    requires name { reach (out-Field ast.now).name.span ≤ 2147483647 }
-    requires kind { of_kind reaches (out-Field ast.now).kind ≤ 2147483647 }
     ensures { OnOk result (Emits context.old context.new (typed (numbers_at lines.now) context.old.path (out-Field ast.now).name (of_kind (location_steps (numbers_at lines.now)) (out-Field ast.now).kind))) }
 {
     match &ast.kind {

@@ -1,12 +1,11 @@
 //! The locations of a file: those in front of its items, each item's, and those behind the items.
 
-ghost use Rattle.std.specs.Prelude.{◌≡◌, ◌≤◌, ◌+◌, ◌∷◌, ◌++◌, ℕ, ℤ, List, [], length, map, IfOk, OnOk};
+ghost use Rattle.std.specs.Prelude.{◌≡◌, ◌≤◌, ◌∷◌, ◌++◌, ℤ, List, [], length, IfOk, OnOk};
 ghost use Rattle.protox_ast.specs.Siblings.{FileStands};
 ghost use Rattle.protox_ast.specs.declared.ast.File as file_type;
 ghost use Rattle.protox_ast.specs.declared.ast.FileItem as item_type;
 ghost use Rattle.protox_fault.specs.Faults as faults;
-ghost use Rattle.protox_locate.specs.inner.Bounds.{file_item_reach, file_item_weight, file_reach, file_weight, greatest, package_reach, syntax_reach, total};
-ghost use Rattle.protox_locate.specs.inner.Draft.{HasRoom, IsDraft, file_end, file_front};
+ghost use Rattle.protox_locate.specs.inner.Draft.{IsDraft, file_end, file_front};
 ghost use Rattle.protox_places.specs.Lines.{numbers_at, span_numbers};
 ghost use Rattle.protox_places.specs.Order.{AreByPath, InOrder, StartsBefore};
 ghost use Rattle.protox_locate.specs.Locations.{file_at, file_locations, package_locations, syntax_locations};
@@ -51,8 +50,6 @@ fn add_front(
     context: &mut Context,
     ast: &File,
 ) -> Result<(), AllocError>
-    requires imports { length ast.now.imports ≤ 2147483647 }
-    requires reach { file_reach ast.now ≤ 2147483647 }
     ensures { OnOk result (Emits context.old context.new (file_front (numbers_at lines.now) ast.now context.old.path)) }
 {
     context.add(alloc, lines, &[], &ast.span)?;
@@ -73,17 +70,15 @@ pub fn front_len(head: &File) -> usize
 }
 
 /// The locations that come before those of a file's items: those of the file itself, of its package
-/// and of its imports. `AllocError` if memory runs out.
+/// and of its imports. Lines and columns are from 0; columns count bytes.
 ///
-/// Lines and columns are from 0; columns count bytes. Needs that the numbers of paths and the
-/// offsets of spans fit an `i32`. They do for each tree that `parse_file` answers.
+/// `AllocError` if memory runs out, or if a path or a span would need a number beyond
+/// 2,147,483,647. No tree of a source within the limit does.
 pub fn locate_front(
     alloc: Global,
     lines: &LineResolver,
     ast: &File,
 ) -> Result<Items<Location>, AllocError>
-    requires imports { length ast.now.imports ≤ 2147483647 }
-    requires reach { file_reach ast.now ≤ 2147483647 }
     ensures { IfOk result (λ front. front ≡ file_front (numbers_at lines.now) ast.now []) }
 {
     let mut context = Context::new(alloc, 0);
@@ -109,7 +104,6 @@ impl LocationDraft {
     /// is room for `room` locations, if memory allows. `AllocError` if memory runs out.
     pub fn new(alloc: Global, reserved: usize, room: usize) -> Result<LocationDraft, AllocError>
         ensures located { IfOk result (λ draft. (numbers : faults.Span → List ℤ) → IsDraft numbers [] draft) }
-        ensures room { IfOk result (λ draft. (more : ℕ) → more ≤ 2147483647 → HasRoom draft more) }
     {
         let messages = begun(alloc, reserved, room)?;
         Ok(LocationDraft {
@@ -127,18 +121,15 @@ impl LocationDraft {
     }
 }
 
-/// Adds the locations of an item. On `AllocError` (memory ran out) the draft may hold a part of
-/// them, so it is of no more use. Needs what `locate_front` needs.
+/// Adds the locations of an item. `AllocError` as for `locate_front`. Then the draft may hold a part
+/// of them, so it is of no more use.
 pub fn locate_item(
     alloc: Global,
     lines: &LineResolver,
     draft: &mut LocationDraft,
     item: &FileItem,
 ) -> Result<(), AllocError>
-    requires room { HasRoom draft.old (file_item_weight item.now) }
-    requires reach { file_item_reach item.now ≤ 2147483647 }
     ensures located { OnOk result ((items : List item_type.FileItem) → IsDraft (numbers_at lines.now) items draft.old → IsDraft (numbers_at lines.now) (items ++ item.now ∷ []) draft.new) }
-    ensures room { OnOk result ((more : ℕ) → HasRoom draft.old (file_item_weight item.now + more) → HasRoom draft.new more) }
 {
     let message = messages_of(alloc, lines, &mut draft.messages, item, draft.next_message)?;
     let enum_ = enums_of(alloc, lines, &mut draft.enums, item, draft.next_enum)?;
@@ -164,9 +155,6 @@ fn add_end(
     context: &mut Context,
     ast: &File,
 ) -> Result<(), AllocError>
-    requires imports { length ast.now.imports ≤ 2147483647 }
-    requires options { length ast.now.options ≤ 2147483647 }
-    requires reach { file_reach ast.now ≤ 2147483647 }
     ensures { OnOk result (Emits context.old context.new (file_end (numbers_at lines.now) ast.now context.old.path)) }
 {
     let imports = ast.imports.as_slice();
@@ -177,16 +165,12 @@ fn add_end(
 }
 
 /// The locations that come behind those of a file's items: those of its options, of the words
-/// `public` and `weak`, and of its syntax. `AllocError` if memory runs out. Needs what
-/// `locate_front` needs.
+/// `public` and `weak`, and of its syntax. `AllocError` as for `locate_front`.
 pub fn locate_end(
     alloc: Global,
     lines: &LineResolver,
     ast: &File,
 ) -> Result<Items<Location>, AllocError>
-    requires imports { length ast.now.imports ≤ 2147483647 }
-    requires options { length ast.now.options ≤ 2147483647 }
-    requires reach { file_reach ast.now ≤ 2147483647 }
     ensures { IfOk result (λ end. end ≡ file_end (numbers_at lines.now) ast.now []) }
 {
     let mut context = Context::new(alloc, 0);
@@ -230,8 +214,6 @@ fn locate_items(
     draft: &mut LocationDraft,
     items: &[FileItem],
 ) -> Result<(), AllocError>
-    requires room { HasRoom draft.old (total (map file_item_weight items.now)) }
-    requires reach { greatest (map file_item_reach items.now) ≤ 2147483647 }
     ensures { OnOk result (IsDraft (numbers_at lines.now) [] draft.old → IsDraft (numbers_at lines.now) items.now draft.new) }
 {
     for item in items {
@@ -241,14 +223,13 @@ fn locate_items(
 }
 
 /// The locations of all parts of a file, in the order of their paths. `source` is the text that the
-/// tree was parsed from. `AllocError` if memory runs out.
+/// tree was parsed from. It must be at most 2,147,483,647 bytes. Lines and columns are from 0;
+/// columns count bytes.
 ///
-/// Lines and columns are from 0; columns count bytes. Needs that the numbers of paths and the
-/// offsets of spans fit an `i32`. They do for each tree that `parse_file` answers.
+/// `AllocError` if memory runs out, or if a path or a span would need a number beyond
+/// 2,147,483,647. No tree of a source within the limit does.
 pub fn locate_file(alloc: Global, source: &str, ast: &File) -> Result<SourceCodeInfo, AllocError>
     requires length { length source.now ≤ 2147483647 }
-    requires room { file_weight ast.now ≤ 2147483647 }
-    requires reach { file_reach ast.now ≤ 2147483647 }
     ensures located { IfOk result (λ info. info.location ≡ file_locations (span_numbers source.now) ast.now) }
     // They are in order if the tree's nodes stand in the source. Those of each accepted source do.
     ensures in_order { IfOk result (λ info. FileStands (length source.now) ast.now → InOrder StartsBefore info.location) }
@@ -269,7 +250,6 @@ fn locate_package(
     context: &mut Context,
     head: &Opt<Package>,
 ) -> Result<(), AllocError>
-    requires { package_reach head.now ≤ 2147483647 }
     ensures { OnOk result (Emits context.old context.new (package_locations (numbers_at lines.now) context.old.path head.now)) }
 {
     match head {
@@ -292,7 +272,6 @@ fn locate_syntax(
     context: &mut Context,
     syntax: &Opt<(Span, Comments)>,
 ) -> Result<(), AllocError>
-    requires { syntax_reach syntax.now ≤ 2147483647 }
     ensures { OnOk result (Emits context.old context.new (syntax_locations (numbers_at lines.now) context.old.path syntax.now)) }
 {
     match syntax {

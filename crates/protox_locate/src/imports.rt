@@ -1,14 +1,13 @@
 //! The locations of imports.
 
-ghost use Rattle.std.specs.Prelude.{◌≡◌, ◌≤◌, flat_map, length, map, OnOk};
+ghost use Rattle.std.specs.Prelude.{◌≡◌, flat_map, map, OnOk};
 ghost use Rattle.protox_ast.specs.declared.ast.Import as import_type;
-ghost use Rattle.protox_locate.specs.inner.Bounds.{greatest, import_reach};
 ghost use Rattle.protox_places.specs.Lines.{numbers_at};
 ghost use Rattle.protox_locate.specs.LocationWords.{siblings_at};
 ghost use Rattle.protox_locate.specs.Locations.{import_locations, public_words, weak_words};
 ghost use Rattle.protox_locate.specs.inner.Walk.{Emits};
 
-use crate::context::Context;
+use crate::context::{Context, index_number};
 use protox_ast::ast::{Import, ImportKind};
 use protox_descriptor::tag::file::{DEPENDENCY, PUBLIC_DEPENDENCY, WEAK_DEPENDENCY};
 use protox_places::lines::LineResolver;
@@ -22,13 +21,11 @@ pub(crate) fn locate_imports(
     context: &mut Context,
     imports: &[Import],
 ) -> Result<(), AllocError>
-    requires room { length imports.now ≤ 2147483647 }
-    requires reach { greatest (map import_reach imports.now) ≤ 2147483647 }
     ensures { OnOk result (Emits context.old context.new (siblings_at context.old.path DEPENDENCY (map (import_locations (numbers_at lines.now)) imports.now))) }
 {
     let mut next: usize = 0;
     for statement in imports {
-        let tags = [DEPENDENCY, next as i32];
+        let tags = [DEPENDENCY, index_number(next)?];
         context.add_with(alloc, lines, &tags, &statement.span, &statement.comments)?;
         next += 1;
     }
@@ -43,14 +40,13 @@ pub(crate) fn locate_public_words(
     context: &mut Context,
     imports: &[Import],
 ) -> Result<(), AllocError>
-    requires room { length imports.now ≤ 2147483647 }
-    requires reach { greatest (map import_reach imports.now) ≤ 2147483647 }
     ensures { OnOk result (Emits context.old context.new (siblings_at context.old.path PUBLIC_DEPENDENCY (flat_map (λ (statement : import_type.Import). public_words (numbers_at lines.now) statement.kind) imports.now))) }
 {
     let mut next: usize = 0;
     for statement in imports {
         if let Some((ImportKind::Public, span)) = &statement.kind {
-            context.add(alloc, lines, &[PUBLIC_DEPENDENCY, next as i32], span)?;
+            let tags = [PUBLIC_DEPENDENCY, index_number(next)?];
+            context.add(alloc, lines, &tags, span)?;
             next += 1;
         }
     }
@@ -65,14 +61,13 @@ pub(crate) fn locate_weak_words(
     context: &mut Context,
     imports: &[Import],
 ) -> Result<(), AllocError>
-    requires room { length imports.now ≤ 2147483647 }
-    requires reach { greatest (map import_reach imports.now) ≤ 2147483647 }
     ensures { OnOk result (Emits context.old context.new (siblings_at context.old.path WEAK_DEPENDENCY (flat_map (λ (statement : import_type.Import). weak_words (numbers_at lines.now) statement.kind) imports.now))) }
 {
     let mut next: usize = 0;
     for statement in imports {
         if let Some((ImportKind::Weak, span)) = &statement.kind {
-            context.add(alloc, lines, &[WEAK_DEPENDENCY, next as i32], span)?;
+            let tags = [WEAK_DEPENDENCY, index_number(next)?];
+            context.add(alloc, lines, &tags, span)?;
             next += 1;
         }
     }

@@ -1,8 +1,7 @@
 //! The locations of what is in a message, without its nested messages.
 
-ghost use Rattle.std.specs.Prelude.{◌≡◌, ◌≤◌, ◌+◌, flat_map, map, IfOk, OnOk};
+ghost use Rattle.std.specs.Prelude.{◌≡◌, ◌≤◌, flat_map, map, IfOk, OnOk};
 ghost use Rattle.protox_ast.specs.Steps.{of_item, of_oneof};
-ghost use Rattle.protox_locate.specs.inner.Bounds.{greatest, reaches, total, weights};
 ghost use Rattle.protox_places.specs.Lines.{numbers_at};
 ghost use Rattle.protox_locate.specs.LocationWords.{each_at, nth, part};
 ghost use Rattle.protox_locate.specs.Locations.{all_of, location_steps};
@@ -26,8 +25,6 @@ pub(crate) fn locate_fields(
     context: &mut Context,
     items: &[MessageItem],
 ) -> Result<(), AllocError>
-    requires room { total (map (of_item weights) items.now) ≤ 2147483647 }
-    requires reach { greatest (map (of_item reaches) items.now) ≤ 2147483647 }
     ensures { OnOk result (Emits context.old context.new (all_of (λ i. i.fields) context.old.path FIELD (map (of_item (location_steps (numbers_at lines.now))) items.now))) }
 {
     let mut next: usize = 0;
@@ -45,10 +42,7 @@ fn fields_of(
     item: &MessageItem,
     first: usize,
 ) -> Result<usize, AllocError>
-    requires room { first + of_item weights item.now ≤ 2147483647 }
-    requires reach { of_item reaches item.now ≤ 2147483647 }
     ensures siblings { IfOk result (λ next. Numbers context.old context.new FIELD first next (of_item (location_steps (numbers_at lines.now)) item.now).fields) }
-    ensures within { IfOk result (λ next. next ≤ first + of_item weights item.now) }
 {
     match item {
         MessageItem::Field(field) => {
@@ -72,8 +66,6 @@ pub(crate) fn locate_enums(
     context: &mut Context,
     items: &[MessageItem],
 ) -> Result<(), AllocError>
-    requires room { total (map (of_item weights) items.now) ≤ 2147483647 }
-    requires reach { greatest (map (of_item reaches) items.now) ≤ 2147483647 }
     ensures { OnOk result (Emits context.old context.new (all_of (λ i. i.enums) context.old.path ENUM_TYPE (map (of_item (location_steps (numbers_at lines.now))) items.now))) }
 {
     let mut next: usize = 0;
@@ -91,10 +83,7 @@ fn enums_of(
     item: &MessageItem,
     first: usize,
 ) -> Result<usize, AllocError>
-    requires room { first + of_item weights item.now ≤ 2147483647 }
-    requires reach { of_item reaches item.now ≤ 2147483647 }
     ensures siblings { IfOk result (λ next. Numbers context.old context.new ENUM_TYPE first next (of_item (location_steps (numbers_at lines.now)) item.now).enums) }
-    ensures within { IfOk result (λ next. next ≤ first + of_item weights item.now) }
 {
     match item {
         MessageItem::Enum(ast) => {
@@ -116,7 +105,6 @@ pub(crate) fn locate_blocks(
     context: &mut Context,
     items: &[MessageItem],
 ) -> Result<(), AllocError>
-    requires { greatest (map (of_item reaches) items.now) ≤ 2147483647 }
     ensures { OnOk result (Emits context.old context.new (each_at (part context.old.path EXTENSION) (flat_map (λ i. i.blocks) (map (of_item (location_steps (numbers_at lines.now))) items.now)))) }
 {
     for item in items {
@@ -135,8 +123,6 @@ pub(crate) fn locate_extensions(
     context: &mut Context,
     items: &[MessageItem],
 ) -> Result<(), AllocError>
-    requires room { total (map (of_item weights) items.now) ≤ 2147483647 }
-    requires reach { greatest (map (of_item reaches) items.now) ≤ 2147483647 }
     ensures { OnOk result (Emits context.old context.new (all_of (λ i. i.extensions) context.old.path EXTENSION (map (of_item (location_steps (numbers_at lines.now))) items.now))) }
 {
     let mut next: usize = 0;
@@ -154,10 +140,7 @@ fn extensions_of(
     item: &MessageItem,
     first: usize,
 ) -> Result<usize, AllocError>
-    requires room { first + of_item weights item.now ≤ 2147483647 }
-    requires reach { of_item reaches item.now ≤ 2147483647 }
     ensures siblings { IfOk result (λ next. Numbers context.old context.new EXTENSION first next (of_item (location_steps (numbers_at lines.now)) item.now).extensions) }
-    ensures within { IfOk result (λ next. next ≤ first + of_item weights item.now) }
 {
     match item {
         MessageItem::Extend(ast) => { extensions_in(alloc, lines, context, EXTENSION, ast, first) }
@@ -176,8 +159,6 @@ pub(crate) fn locate_oneofs(
     context: &mut Context,
     items: &[MessageItem],
 ) -> Result<(), AllocError>
-    requires room { total (map (of_item weights) items.now) ≤ 2147483647 }
-    requires reach { greatest (map (of_item reaches) items.now) ≤ 2147483647 }
     ensures { OnOk result (Emits context.old context.new (all_of (λ i. i.oneofs) context.old.path ONEOF_DECL (map (of_item (location_steps (numbers_at lines.now))) items.now))) }
 {
     let mut next: usize = 0;
@@ -197,10 +178,8 @@ fn locate_oneof(
     ast: &Oneof,
     at: usize,
 ) -> Result<(), AllocError>
-    requires at { at ≤ 2147483647 }
-    requires room { of_oneof weights ast.now ≤ 2147483647 }
-    requires reach { of_oneof reaches ast.now ≤ 2147483647 }
-    ensures { OnOk result (Emits context.old context.new ((of_oneof (location_steps (numbers_at lines.now)) ast.now).own (nth context.old.path ONEOF_DECL at))) }
+    ensures located { OnOk result (Emits context.old context.new ((of_oneof (location_steps (numbers_at lines.now)) ast.now).own (nth context.old.path ONEOF_DECL at))) }
+    ensures counted { OnOk result (at ≤ 2147483647) }
 {
     context.enter(ONEOF_DECL, at)?;
     context.add_with(alloc, lines, &[], &ast.span, &ast.comments)?;

@@ -1,14 +1,13 @@
 //! The locations of messages, one kind of part after another.
 
-ghost use Rattle.std.specs.Prelude.{◌≡◌, ◌≤◌, ◌+◌, map, IfOk, OnOk};
+ghost use Rattle.std.specs.Prelude.{◌≡◌, map, IfOk, OnOk};
 ghost use Rattle.protox_ast.specs.Steps.{of_body, of_field, of_item, of_message};
 ghost use Rattle.protox_ast.specs.declared.ast.MessageBody.{out-MessageBody};
-ghost use Rattle.protox_locate.specs.inner.Bounds.{greatest, reaches, total, weights};
 ghost use Rattle.protox_places.specs.Lines.{numbers_at};
 ghost use Rattle.protox_locate.specs.Locations.{all_of, from_blocks, location_steps, messages_of as all_messages};
 ghost use Rattle.protox_locate.specs.inner.Walk.{Emits, Numbers};
 
-use crate::context::Context;
+use crate::context::{Context, next_index};
 use crate::items::{locate_blocks, locate_enums, locate_extensions, locate_fields, locate_oneofs};
 use crate::options::locate_options;
 use crate::ranges::{locate_extension_ranges, locate_names, locate_ranges};
@@ -25,8 +24,6 @@ pub(crate) fn locate_message(
     context: &mut Context,
     ast: &Message,
 ) -> Result<(), AllocError>
-    requires room { of_message weights ast.now ≤ 2147483647 }
-    requires reach { of_message reaches ast.now ≤ 2147483647 }
     ensures { OnOk result (Emits context.old context.new (of_message (location_steps (numbers_at lines.now)) ast.now context.old.path)) }
 {
     context.add_with(alloc, lines, &[], &ast.span, &ast.comments)?;
@@ -41,8 +38,6 @@ fn locate_body(
     context: &mut Context,
     ast: &MessageBody,
 ) -> Result<(), AllocError>
-    requires room { of_body weights ast.now ≤ 2147483647 }
-    requires reach { of_body reaches ast.now ≤ 2147483647 }
     ensures { OnOk result (Emits context.old context.new (of_body (location_steps (numbers_at lines.now)) ast.now context.old.path)) }
 {
     let items = ast.items.as_slice();
@@ -60,8 +55,6 @@ fn locate_from_blocks(
     context: &mut Context,
     ast: &MessageBody,
 ) -> Result<(), AllocError>
-    requires room { of_body weights ast.now ≤ 2147483647 }
-    requires reach { of_body reaches ast.now ≤ 2147483647 }
     ensures { OnOk result (Emits context.old context.new (from_blocks (numbers_at lines.now) context.old.path (map (of_item (location_steps (numbers_at lines.now))) (out-MessageBody ast.now).items) (out-MessageBody ast.now).options (out-MessageBody ast.now).reserved)) }
 {
     let items = ast.items.as_slice();
@@ -94,8 +87,6 @@ fn locate_messages(
     context: &mut Context,
     items: &[MessageItem],
 ) -> Result<(), AllocError>
-    requires room { total (map (of_item weights) items.now) ≤ 2147483647 }
-    requires reach { greatest (map (of_item reaches) items.now) ≤ 2147483647 }
     ensures { OnOk result (Emits context.old context.new (all_of (λ i. i.messages) context.old.path NESTED_TYPE (map (of_item (location_steps (numbers_at lines.now))) items.now))) }
 {
     let mut next: usize = 0;
@@ -114,10 +105,7 @@ fn messages_of(
     item: &MessageItem,
     first: usize,
 ) -> Result<usize, AllocError>
-    requires room { first + of_item weights item.now ≤ 2147483647 }
-    requires reach { of_item reaches item.now ≤ 2147483647 }
     ensures siblings { IfOk result (λ next. Numbers context.old context.new NESTED_TYPE first next (of_item (location_steps (numbers_at lines.now)) item.now).messages) }
-    ensures within { IfOk result (λ next. next ≤ first + of_item weights item.now) }
 {
     match item {
         MessageItem::Field(ast) => message_of(alloc, lines, context, NESTED_TYPE, ast, first),
@@ -163,10 +151,7 @@ pub(crate) fn messages_in(
     fields: &[Field],
     first: usize,
 ) -> Result<usize, AllocError>
-    requires room { first + total (map (of_field weights) fields.now) ≤ 2147483647 }
-    requires reach { greatest (map (of_field reaches) fields.now) ≤ 2147483647 }
     ensures siblings { IfOk result (λ next. Numbers context.old context.new tag first next (all_messages (map (of_field (location_steps (numbers_at lines.now))) fields.now))) }
-    ensures within { IfOk result (λ next. next ≤ first + total (map (of_field weights) fields.now)) }
 {
     let mut next = first;
     for field in fields {
@@ -185,14 +170,11 @@ fn message_of(
     ast: &Field,
     first: usize,
 ) -> Result<usize, AllocError>
-    requires room { first + of_field weights ast.now ≤ 2147483647 }
-    requires reach { of_field reaches ast.now ≤ 2147483647 }
     ensures siblings { IfOk result (λ next. Numbers context.old context.new tag first next (of_field (location_steps (numbers_at lines.now)) ast.now).messages) }
-    ensures within { IfOk result (λ next. next ≤ first + of_field weights ast.now) }
 {
     match &ast.kind {
         FieldKind::Normal { .. } => Ok(first),
-        FieldKind::Map { .. } => Ok(first + 1),
+        FieldKind::Map { .. } => next_index(first),
         FieldKind::Group { body, .. } => {
             context.enter(tag, first)?;
             context.add_with(alloc, lines, &[], &ast.span, &ast.comments)?;

@@ -1,13 +1,12 @@
 //! The locations of options.
 
-ghost use Rattle.std.specs.Prelude.{◌≡◌, ◌≤◌, ◌∷◌, map, length, OnOk};
+ghost use Rattle.std.specs.Prelude.{◌≡◌, ◌∷◌, map, OnOk};
 ghost use Rattle.protox_ast.specs.Options.{listed};
-ghost use Rattle.protox_locate.specs.inner.Bounds.{body_reach, greatest, list_reach, list_weight, options_reach, reach};
 ghost use Rattle.protox_places.specs.Lines.{numbers_at};
 ghost use Rattle.protox_locate.specs.LocationWords.{bare, each_at, option_body, option_list, option_place, option_statement, option_statements, part, siblings_at};
 ghost use Rattle.protox_locate.specs.inner.Walk.{Emits};
 
-use crate::context::Context;
+use crate::context::{Context, index_number};
 use protox_ast::ast::{Boxed, Opt, Option as OptionStatement, OptionBody, OptionList};
 use protox_descriptor::tag::UNINTERPRETED_OPTION;
 use protox_places::lines::LineResolver;
@@ -22,8 +21,6 @@ pub(crate) fn locate_options(
     tag: i32,
     statements: &[OptionStatement],
 ) -> Result<(), AllocError>
-    requires room { length statements.now ≤ 2147483647 }
-    requires reach { options_reach statements.now ≤ 2147483647 }
     ensures { OnOk result (Emits context.old context.new (option_statements (numbers_at lines.now) (part context.old.path tag) statements.now)) }
 {
     add_statements(alloc, lines, context, tag, statements)?;
@@ -41,7 +38,6 @@ fn add_statements(
     tag: i32,
     statements: &[OptionStatement],
 ) -> Result<(), AllocError>
-    requires { options_reach statements.now ≤ 2147483647 }
     ensures { OnOk result (Emits context.old context.new (each_at (part context.old.path tag) (map (option_place (numbers_at lines.now)) statements.now))) }
 {
     for statement in statements {
@@ -57,13 +53,11 @@ fn number_statements(
     context: &mut Context,
     statements: &[OptionStatement],
 ) -> Result<(), AllocError>
-    requires room { length statements.now ≤ 2147483647 }
-    requires reach { options_reach statements.now ≤ 2147483647 }
     ensures { OnOk result (Emits context.old context.new (siblings_at context.old.path UNINTERPRETED_OPTION (map (option_statement (numbers_at lines.now)) statements.now))) }
 {
     let mut next: usize = 0;
     for statement in statements {
-        let tags = [UNINTERPRETED_OPTION, next as i32];
+        let tags = [UNINTERPRETED_OPTION, index_number(next)?];
         context.add_with(alloc, lines, &tags, &statement.span, &statement.comments)?;
         next += 1;
     }
@@ -79,8 +73,6 @@ pub(crate) fn locate_list(
     tag: i32,
     list: &Opt<Boxed<OptionList>>,
 ) -> Result<(), AllocError>
-    requires room { list_weight list.now ≤ 2147483647 }
-    requires reach { list_reach list.now ≤ 2147483647 }
     ensures { OnOk result (Emits context.old context.new (option_list (numbers_at lines.now) (part context.old.path tag) list.now (listed list.now))) }
 {
     match list {
@@ -96,9 +88,6 @@ fn locate_brackets(
     tag: i32,
     list: &OptionList,
 ) -> Result<(), AllocError>
-    requires room { length list.now.options ≤ 2147483647 }
-    requires span { reach list.now.span ≤ 2147483647 }
-    requires reach { greatest (map body_reach list.now.options) ≤ 2147483647 }
     ensures { OnOk result (Emits context.old context.new (bare (numbers_at lines.now) (part context.old.path tag) list.now.span ∷ siblings_at (part context.old.path tag) UNINTERPRETED_OPTION (map (option_body (numbers_at lines.now)) list.now.options))) }
 {
     context.enter_part(tag)?;
@@ -115,13 +104,11 @@ fn number_bodies(
     context: &mut Context,
     bodies: &[OptionBody],
 ) -> Result<(), AllocError>
-    requires room { length bodies.now ≤ 2147483647 }
-    requires reach { greatest (map body_reach bodies.now) ≤ 2147483647 }
     ensures { OnOk result (Emits context.old context.new (siblings_at context.old.path UNINTERPRETED_OPTION (map (option_body (numbers_at lines.now)) bodies.now))) }
 {
     let mut next: usize = 0;
     for body in bodies {
-        let tags = [UNINTERPRETED_OPTION, next as i32];
+        let tags = [UNINTERPRETED_OPTION, index_number(next)?];
         let span = body.span();
         context.add(alloc, lines, &tags, &span)?;
         next += 1;

@@ -1,16 +1,14 @@
 //! The locations of reserved statements and of extension ranges.
 
-ghost use Rattle.std.specs.Prelude.{◌≡◌, ◌≤◌, ◌+◌, ◌++◌, ◌∷◌, flat_map, map, length, IfOk, OnOk};
-ghost use Rattle.protox_ast.specs.Options.{listed};
+ghost use Rattle.std.specs.Prelude.{◌≡◌, ◌≤◌, flat_map, map, IfOk, OnOk};
 ghost use Rattle.protox_ast.specs.Ranges.{kind_names, kind_ranges};
 ghost use Rattle.protox_ast.specs.declared.ast.Extensions as extensions_type;
 ghost use Rattle.protox_ast.specs.declared.ast.Reserved as reserved_type;
-ghost use Rattle.protox_locate.specs.inner.Bounds.{extensions_reach, extensions_weight, greatest, kind_reach, kind_weight, list_reach, list_weight, name_reach, range_reach, reserved_reach, reserved_weight, total};
 ghost use Rattle.protox_places.specs.Lines.{numbers_at};
-ghost use Rattle.protox_locate.specs.LocationWords.{each_at, extension_range, extensions_statement, extensions_statements, name_statement, name_statements, nth, option_list, part, range_locations, range_statement, range_statements, reserved_name, siblings_at};
+ghost use Rattle.protox_locate.specs.LocationWords.{each_at, extension_range, extensions_statement, extensions_statements, name_statement, name_statements, nth, part, range_locations, range_statement, range_statements, reserved_name, siblings_at};
 ghost use Rattle.protox_locate.specs.inner.Walk.{Emits, Numbers};
 
-use crate::context::Context;
+use crate::context::{Context, index_number};
 use crate::options::locate_list;
 use protox_ast::ast::{Extensions, Ident, Reserved, ReservedKind, ReservedRange};
 use protox_descriptor::tag::message::EXTENSION_RANGE;
@@ -25,7 +23,6 @@ fn locate_range(
     context: &mut Context,
     range: &ReservedRange,
 ) -> Result<(), AllocError>
-    requires { range_reach range.now ≤ 2147483647 }
     ensures { OnOk result (Emits context.old context.new (range_locations (numbers_at lines.now) range.now context.old.path)) }
 {
     let whole = range.span();
@@ -45,8 +42,6 @@ pub(crate) fn locate_ranges(
     tag: i32,
     statements: &[Reserved],
 ) -> Result<(), AllocError>
-    requires room { total (map reserved_weight statements.now) ≤ 2147483647 }
-    requires reach { greatest (map reserved_reach statements.now) ≤ 2147483647 }
     ensures { OnOk result (Emits context.old context.new (range_statements (numbers_at lines.now) context.old.path tag statements.now)) }
 {
     add_range_statements(alloc, lines, context, tag, statements)?;
@@ -61,7 +56,6 @@ fn add_range_statements(
     tag: i32,
     statements: &[Reserved],
 ) -> Result<(), AllocError>
-    requires { greatest (map reserved_reach statements.now) ≤ 2147483647 }
     ensures { OnOk result (Emits context.old context.new (each_at (part context.old.path tag) (flat_map (λ (statement : reserved_type.Reserved). range_statement (numbers_at lines.now) statement statement.kind) statements.now))) }
 {
     for statement in statements {
@@ -80,8 +74,6 @@ fn number_ranges(
     tag: i32,
     statements: &[Reserved],
 ) -> Result<(), AllocError>
-    requires room { total (map reserved_weight statements.now) ≤ 2147483647 }
-    requires reach { greatest (map reserved_reach statements.now) ≤ 2147483647 }
     ensures { OnOk result (Emits context.old context.new (siblings_at context.old.path tag (flat_map (λ (statement : reserved_type.Reserved). map (range_locations (numbers_at lines.now)) (kind_ranges statement.kind)) statements.now))) }
 {
     let mut next: usize = 0;
@@ -99,10 +91,7 @@ fn ranges_of(
     kind: &ReservedKind,
     first: usize,
 ) -> Result<usize, AllocError>
-    requires room { first + kind_weight kind.now ≤ 2147483647 }
-    requires reach { kind_reach kind.now ≤ 2147483647 }
     ensures siblings { IfOk result (λ next. Numbers context.old context.new tag first next (map (range_locations (numbers_at lines.now)) (kind_ranges kind.now))) }
-    ensures within { IfOk result (λ next. next ≤ first + kind_weight kind.now) }
 {
     match kind {
         ReservedKind::Ranges(ranges) => {
@@ -121,10 +110,7 @@ fn ranges_in(
     ranges: &[ReservedRange],
     first: usize,
 ) -> Result<usize, AllocError>
-    requires room { first + length ranges.now ≤ 2147483647 }
-    requires reach { greatest (map range_reach ranges.now) ≤ 2147483647 }
     ensures siblings { IfOk result (λ next. Numbers context.old context.new tag first next (map (range_locations (numbers_at lines.now)) ranges.now)) }
-    ensures within { IfOk result (λ next. next ≤ first + length ranges.now) }
 {
     let mut next = first;
     for range in ranges {
@@ -144,8 +130,6 @@ pub(crate) fn locate_names(
     tag: i32,
     statements: &[Reserved],
 ) -> Result<(), AllocError>
-    requires room { total (map reserved_weight statements.now) ≤ 2147483647 }
-    requires reach { greatest (map reserved_reach statements.now) ≤ 2147483647 }
     ensures { OnOk result (Emits context.old context.new (name_statements (numbers_at lines.now) context.old.path tag statements.now)) }
 {
     add_name_statements(alloc, lines, context, tag, statements)?;
@@ -160,7 +144,6 @@ fn add_name_statements(
     tag: i32,
     statements: &[Reserved],
 ) -> Result<(), AllocError>
-    requires { greatest (map reserved_reach statements.now) ≤ 2147483647 }
     ensures { OnOk result (Emits context.old context.new (each_at (part context.old.path tag) (flat_map (λ (statement : reserved_type.Reserved). name_statement (numbers_at lines.now) statement statement.kind) statements.now))) }
 {
     for statement in statements {
@@ -179,8 +162,6 @@ fn number_names(
     tag: i32,
     statements: &[Reserved],
 ) -> Result<(), AllocError>
-    requires room { total (map reserved_weight statements.now) ≤ 2147483647 }
-    requires reach { greatest (map reserved_reach statements.now) ≤ 2147483647 }
     ensures { OnOk result (Emits context.old context.new (siblings_at context.old.path tag (flat_map (λ (statement : reserved_type.Reserved). map (reserved_name (numbers_at lines.now)) (kind_names statement.kind)) statements.now))) }
 {
     let mut next: usize = 0;
@@ -198,10 +179,7 @@ fn names_of(
     kind: &ReservedKind,
     first: usize,
 ) -> Result<usize, AllocError>
-    requires room { first + kind_weight kind.now ≤ 2147483647 }
-    requires reach { kind_reach kind.now ≤ 2147483647 }
     ensures siblings { IfOk result (λ next. Numbers context.old context.new tag first next (map (reserved_name (numbers_at lines.now)) (kind_names kind.now))) }
-    ensures within { IfOk result (λ next. next ≤ first + kind_weight kind.now) }
 {
     match kind {
         ReservedKind::Ranges(_) => Ok(first),
@@ -220,14 +198,12 @@ fn names_in(
     names: &[Ident],
     first: usize,
 ) -> Result<usize, AllocError>
-    requires room { first + length names.now ≤ 2147483647 }
-    requires reach { greatest (map name_reach names.now) ≤ 2147483647 }
     ensures siblings { IfOk result (λ next. Numbers context.old context.new tag first next (map (reserved_name (numbers_at lines.now)) names.now)) }
-    ensures within { IfOk result (λ next. next ≤ first + length names.now) }
 {
     let mut next = first;
     for name in names {
-        context.add(alloc, lines, &[tag, next as i32], &name.span)?;
+        let tags = [tag, index_number(next)?];
+        context.add(alloc, lines, &tags, &name.span)?;
         next += 1;
     }
     Ok(next)
@@ -242,8 +218,6 @@ pub(crate) fn locate_extension_ranges(
     context: &mut Context,
     statements: &[Extensions],
 ) -> Result<(), AllocError>
-    requires room { total (map extensions_weight statements.now) ≤ 2147483647 }
-    requires reach { greatest (map extensions_reach statements.now) ≤ 2147483647 }
     ensures { OnOk result (Emits context.old context.new (extensions_statements (numbers_at lines.now) context.old.path statements.now)) }
 {
     add_extensions(alloc, lines, context, statements)?;
@@ -257,7 +231,6 @@ fn add_extensions(
     context: &mut Context,
     statements: &[Extensions],
 ) -> Result<(), AllocError>
-    requires { greatest (map extensions_reach statements.now) ≤ 2147483647 }
     ensures { OnOk result (Emits context.old context.new (each_at (part context.old.path EXTENSION_RANGE) (map (extensions_statement (numbers_at lines.now)) statements.now))) }
 {
     for statement in statements {
@@ -274,8 +247,6 @@ fn number_extensions(
     context: &mut Context,
     statements: &[Extensions],
 ) -> Result<(), AllocError>
-    requires room { total (map extensions_weight statements.now) ≤ 2147483647 }
-    requires reach { greatest (map extensions_reach statements.now) ≤ 2147483647 }
     ensures { OnOk result (Emits context.old context.new (siblings_at context.old.path EXTENSION_RANGE (flat_map (λ (statement : extensions_type.Extensions). map (extension_range (numbers_at lines.now) statement) statement.ranges) statements.now))) }
 {
     let mut next: usize = 0;
@@ -293,10 +264,7 @@ fn extension_ranges_of(
     statement: &Extensions,
     first: usize,
 ) -> Result<usize, AllocError>
-    requires room { first + extensions_weight statement.now ≤ 2147483647 }
-    requires reach { extensions_reach statement.now ≤ 2147483647 }
     ensures siblings { IfOk result (λ next. Numbers context.old context.new EXTENSION_RANGE first next (map (extension_range (numbers_at lines.now) statement.now) statement.now.ranges)) }
-    ensures within { IfOk result (λ next. next ≤ first + extensions_weight statement.now) }
 {
     let mut next = first;
     for range in statement.ranges.as_slice() {
@@ -314,11 +282,8 @@ fn locate_extension_range(
     range: &ReservedRange,
     at: usize,
 ) -> Result<(), AllocError>
-    requires at { at ≤ 2147483647 }
-    requires range { range_reach range.now ≤ 2147483647 }
-    requires room { list_weight statement.now.options ≤ 2147483647 }
-    requires options { list_reach statement.now.options ≤ 2147483647 }
-    ensures { OnOk result (Emits context.old context.new (extension_range (numbers_at lines.now) statement.now range.now (nth context.old.path EXTENSION_RANGE at))) }
+    ensures located { OnOk result (Emits context.old context.new (extension_range (numbers_at lines.now) statement.now range.now (nth context.old.path EXTENSION_RANGE at))) }
+    ensures counted { OnOk result (at ≤ 2147483647) }
 {
     context.enter(EXTENSION_RANGE, at)?;
     locate_range(alloc, lines, context, range)?;

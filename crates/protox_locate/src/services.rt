@@ -1,7 +1,6 @@
 //! The locations of services.
 
-ghost use Rattle.std.specs.Prelude.{◌≡◌, ◌≤◌, map, OnOk};
-ghost use Rattle.protox_locate.specs.inner.Bounds.{greatest, method_reach, method_weight, service_reach, service_weight, span_reach, total};
+ghost use Rattle.std.specs.Prelude.{◌≡◌, map, OnOk};
 ghost use Rattle.protox_places.specs.Lines.{numbers_at};
 ghost use Rattle.protox_locate.specs.LocationWords.{part, siblings_at};
 ghost use Rattle.protox_locate.specs.ServiceLocations.{method_locations, service_locations, stream_locations};
@@ -23,8 +22,6 @@ pub(crate) fn locate_service(
     context: &mut Context,
     ast: &Service,
 ) -> Result<(), AllocError>
-    requires room { service_weight ast.now ≤ 2147483647 }
-    requires reach { service_reach ast.now ≤ 2147483647 }
     ensures { OnOk result (Emits context.old context.new (service_locations (numbers_at lines.now) ast.now context.old.path)) }
 {
     context.add_with(alloc, lines, &[], &ast.span, &ast.comments)?;
@@ -40,8 +37,6 @@ fn locate_methods(
     context: &mut Context,
     methods: &[Method],
 ) -> Result<(), AllocError>
-    requires room { total (map method_weight methods.now) ≤ 2147483647 }
-    requires reach { greatest (map method_reach methods.now) ≤ 2147483647 }
     ensures { OnOk result (Emits context.old context.new (siblings_at context.old.path METHOD (map (method_locations (numbers_at lines.now)) methods.now))) }
 {
     let mut next: usize = 0;
@@ -60,8 +55,6 @@ fn locate_method(
     context: &mut Context,
     ast: &Method,
 ) -> Result<(), AllocError>
-    requires room { method_weight ast.now ≤ 2147483647 }
-    requires reach { method_reach ast.now ≤ 2147483647 }
     ensures { OnOk result (Emits context.old context.new (method_locations (numbers_at lines.now) ast.now context.old.path)) }
 {
     let input = ast.input_ty.span();
@@ -100,7 +93,6 @@ fn locate_word(
     tag: i32,
     word: &Opt<Span>,
 ) -> Result<(), AllocError>
-    requires { span_reach word.now ≤ 2147483647 }
     ensures { OnOk result (Emits context.old context.new (stream_locations (numbers_at lines.now) (part context.old.path tag) word.now)) }
 {
     match word {

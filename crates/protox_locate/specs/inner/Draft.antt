@@ -1,6 +1,6 @@
 -- The locations of a file while its items are located one by one. There is a list for each kind of
 -- parts; at the end they stand one behind the other.
-use Rattle.std.specs.Prelude.{ℕ, ◌≡◌, ◌≤◌, ◌+◌, List, [], ◌∷◌, ◌++◌, length, map, flat_map, ℤ}
+use Rattle.std.specs.Prelude.{ℕ, ◌≡◌, List, [], ◌∷◌, ◌++◌, length, map, flat_map, ℤ}
 use Rattle.protox_ast.specs.declared.ast.File.{File}
 use Rattle.protox_ast.specs.declared.ast.FileItem.{FileItem}
 use Rattle.protox_ast.specs.declared.ast.Import.{Import}
@@ -50,10 +50,3 @@ module _ (numbers : Span → List ℤ) where
     pub services : AreSiblings draft.services draft.next_service tag.SERVICE [] (flat_map (item_services numbers) items)
     pub blocks : AreParts draft.blocks tag.EXTENSION (flat_map (item_blocks numbers) items)
     pub extensions : AreSiblings draft.extensions draft.next_extension tag.EXTENSION [] (flat_map (item_extensions numbers) items)
-
--- Of each kind, so many more parts have indices that fit an i32.
-pub record HasRoom (draft : LocationDraft) (more : ℕ) : Type 0 where
-  pub messages : draft.next_message + more ≤ 2147483647
-  pub enums : draft.next_enum + more ≤ 2147483647
-  pub services : draft.next_service + more ≤ 2147483647
-  pub extensions : draft.next_extension + more ≤ 2147483647

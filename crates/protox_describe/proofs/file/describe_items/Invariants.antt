@@ -1,9 +1,7 @@
-use Rattle.std.proofs.Common.{◌≡◌, ◌≤◌, ◌++◌, map}
+use Rattle.std.proofs.Common.{◌≡◌, ◌++◌}
 use Rattle.std.specs.List.{flat_map}
 use Rattle.std.specs.Vec.Iter.{into_iter_items}
 use Rattle.protox_describe.specs.File.{item_enums, item_extensions, item_messages, item_services}
-use Rattle.protox_describe.specs.Siblings.{greatest}
-use Rattle.protox_describe.specs.inner.Widths.{file_item_width}
 use Rattle.protox_describe.proofs.file.describe_items.Given as goal
 
 abbrev pub invariant-loop-item : goal.invariant-loop-item
@@ -12,5 +10,4 @@ invariant-loop-item l = record {
   enums : l.lists.enum_type ++ flat_map item_enums (into_iter_items l.item-iterator) ≡ flat_map item_enums l.fn.items;
   services : l.lists.service ++ flat_map item_services (into_iter_items l.item-iterator) ≡ flat_map item_services l.fn.items;
   extensions : l.lists.extension ++ flat_map (item_extensions l.syntax) (into_iter_items l.item-iterator) ≡ flat_map (item_extensions l.syntax) l.fn.items;
-  narrow : greatest (map file_item_width (into_iter_items l.item-iterator)) ≤ 2147483647;
 }

@@ -1,4 +1,4 @@
-use Rattle.std.proofs.Common.{◌≡◌, ◌<◌, ◌++◌, [], length, map, take, take_all, arith, ap, sym, ◌∙◌}
+use Rattle.std.proofs.Common.{◌<◌, [], length, arith}
 use Rattle.protox_ast.specs.Steps.{of_item}
 use Rattle.protox_describe.specs.Descriptor.{descriptor_steps, extensions_of}
 use Rattle.protox_describe.proofs.Lists.{more-flat}

@@ -1,4 +1,4 @@
-use Rattle.std.proofs.Common.{◌≡◌, ◌≤◌, ◌+◌, [], length, map, take}
+use Rattle.std.proofs.Common.{◌≡◌, ◌+◌, [], length, map, take}
 use Rattle.std.specs.List.{flat_map}
 use Rattle.protox_ast.specs.Steps.{of_item}
 use Rattle.protox_describe.specs.Descriptor.{descriptor_steps, fields_of, is_oneof, synthetic_of}
@@ -14,5 +14,4 @@ invariant-loop-item l =
       found : l.found ≡ each_after (fields_of all) [] done;
       written : l.places.written ≡ count is_oneof done;
       made : l.places.made ≡ all + length (flat_map synthetic_of done);
-      room : l.places.written + l.places.made ≤ all + l.item-index;
     }

@@ -1,6 +1,5 @@
-use Rattle.std.proofs.Common.{◌≡◌, ◌<◌, ◌++◌, [], length, map, take, take_all, arith, ap, sym, ◌∙◌}
+use Rattle.std.proofs.Common.{◌<◌, length, arith}
 use Rattle.protox_ast.specs.Steps.{of_item}
-use Rattle.std.specs.Prelude.{◌+◌, if◌then◌else◌}
 use Rattle.protox_describe.specs.Descriptor.{descriptor_steps, is_oneof}
 use Rattle.protox_describe.proofs.Lists.{count-take_more}
 use Rattle.protox_describe.proofs.items.oneofs_among.Goals as goal

@@ -1,4 +1,4 @@
-use Rattle.std.proofs.Common.{◌≡◌, ◌<◌, ◌∷◌, ◌++◌, [], length, map, take, take_all, arith, ap, sym, ◌∙◌}
+use Rattle.std.proofs.Common.{◌<◌, ◌∷◌, ◌++◌, [], length, map, take_all, arith, ap, sym, ◌∙◌}
 use Rattle.protox_ast.specs.Steps.{of_field}
 use Rattle.protox_ast.specs.declared.ast.Extend.{out-Extend}
 use Rattle.protox_ast.proofs.Levels.{extend-gives}

@@ -1,4 +1,4 @@
-use Rattle.std.proofs.Common.{◌≡◌, ◌<◌, ◌++◌, [], length, map, take, take_all, arith, ap, sym, ◌∙◌}
+use Rattle.std.proofs.Common.{◌<◌, ◌++◌, length, map, take_all, arith, ap, sym, ◌∙◌}
 use Rattle.protox_ast.specs.Steps.{of_field}
 use Rattle.protox_ast.proofs.Levels.{oneof-gives}
 use Rattle.protox_describe.specs.Descriptor.{descriptor_steps, in_oneof}

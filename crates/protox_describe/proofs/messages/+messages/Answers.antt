@@ -1,11 +1,10 @@
-use Rattle.std.proofs.Common.{◌≡◌, ◌<◌, ◌++◌, [], length, map, take, take_all, arith, ap, sym, ◌∙◌}
+use Rattle.std.proofs.Common.{◌<◌, ◌++◌, [], length, map, take_all, arith, ap, sym, ◌∙◌}
 use Rattle.std.specs.List.{flat_map}
 use Rattle.protox_ast.specs.Steps.{of_field, of_item}
 use Rattle.protox_ast.specs.declared.ast.Extend.{out-Extend}
 use Rattle.protox_ast.proofs.Levels.{extend-gives, oneof-gives}
-use Rattle.protox_describe.specs.Descriptor.{Gives, descriptor_steps, extending, nested_of}
-use Rattle.protox_describe.specs.inner.Widths.{widths}
-use Rattle.protox_describe.proofs.Lists.{greatest-drop_more, more-flat}
+use Rattle.protox_describe.specs.Descriptor.{Gives, descriptor_steps, nested_of}
+use Rattle.protox_describe.proofs.Lists.{more-flat}
 use Rattle.protox_describe.proofs.Oneofs.{extending-nested}
 use Rattle.protox_describe.proofs.messages.+messages.Goals as goal
 
@@ -15,11 +14,7 @@ nested-loop-item-preserved t c =
     let i = c.loop-item.item-index in
     let x = c.item-item.result in
     let lt : i < length items = omega arith in
-    let inv = c.loop-item.invariant in
-    record {
-      found = more-flat nested_of (of_item (descriptor_steps c.args.syntax)) items i x [] _ _ lt c.item-item.is inv.found c.in_ok-push_nested.ensures;
-      narrow = omega (arith, inv.narrow, greatest-drop_more (of_item widths) items i x lt c.item-item.is);
-    }
+    more-flat nested_of (of_item (descriptor_steps c.args.syntax)) items i x [] _ _ lt c.item-item.is c.loop-item.invariant c.in_ok-push_nested.ensures
 
 pub push_oneof_messages-loop-part-preserved : goal.push_oneof_messages-loop-part-preserved
 push_oneof_messages-loop-part-preserved t c =
@@ -27,17 +22,13 @@ push_oneof_messages-loop-part-preserved t c =
     let i = c.loop-part.part-index in
     let x = c.part-item.result in
     let lt : i < length items = omega arith in
-    let inv = c.loop-part.invariant in
-    record {
-      found = more-flat (λ (gives : Gives). gives.nested) (of_field (descriptor_steps c.args.syntax)) items i x c.args.found.now _ _ lt c.part-item.is inv.found c.in_ok-push_field_messages.ensures;
-      narrow = omega (arith, inv.narrow, greatest-drop_more (of_field widths) items i x lt c.part-item.is);
-    }
+    more-flat (λ (gives : Gives). gives.nested) (of_field (descriptor_steps c.args.syntax)) items i x c.args.found.now _ _ lt c.part-item.is c.loop-part.invariant c.in_ok-push_field_messages.ensures
 
 pub push_oneof_messages-returns : goal.push_oneof_messages-returns
 push_oneof_messages-returns t c =
     let steps = descriptor_steps c.args.syntax in
     let all = take_all c.loop-part.part-index c.as_slice-part-items.result.now (omega arith) ∙ c.as_slice-part-items.ensures in
-    c.loop-part.invariant.found ∙ ap (λ l. c.args.found.now ++ flat_map (λ (gives : Gives). gives.nested) (map (of_field steps) l)) all
+    c.loop-part.invariant ∙ ap (λ l. c.args.found.now ++ flat_map (λ (gives : Gives). gives.nested) (map (of_field steps) l)) all
     ∙ ap (λ o. c.args.found.now ++ flat_map (λ (gives : Gives). gives.nested) o.fields) (sym (oneof-gives steps c.args.ast.now))
 
 pub push_extend_messages-loop-part-preserved : goal.push_extend_messages-loop-part-preserved
@@ -46,16 +37,12 @@ push_extend_messages-loop-part-preserved t c =
     let i = c.loop-part.part-index in
     let x = c.part-item.result in
     let lt : i < length items = omega arith in
-    let inv = c.loop-part.invariant in
-    record {
-      found = more-flat (λ (gives : Gives). gives.nested) (of_field (descriptor_steps c.args.syntax)) items i x c.args.found.now _ _ lt c.part-item.is inv.found c.in_ok-push_field_messages.ensures;
-      narrow = omega (arith, inv.narrow, greatest-drop_more (of_field widths) items i x lt c.part-item.is);
-    }
+    more-flat (λ (gives : Gives). gives.nested) (of_field (descriptor_steps c.args.syntax)) items i x c.args.found.now _ _ lt c.part-item.is c.loop-part.invariant c.in_ok-push_field_messages.ensures
 
 pub push_extend_messages-returns : goal.push_extend_messages-returns
 push_extend_messages-returns t c =
     let steps = descriptor_steps c.args.syntax in
     let all = take_all c.loop-part.part-index c.as_slice-part-items.result.now (omega arith) ∙ c.as_slice-part-items.ensures in
-    c.loop-part.invariant.found ∙ ap (λ l. c.args.found.now ++ flat_map (λ (gives : Gives). gives.nested) (map (of_field steps) l)) all
+    c.loop-part.invariant ∙ ap (λ l. c.args.found.now ++ flat_map (λ (gives : Gives). gives.nested) (map (of_field steps) l)) all
     ∙ ap (λ l. c.args.found.now ++ l)
     (sym (ap (flat_map (λ (gives : Gives). gives.nested)) (extend-gives steps c.args.ast.now) ∙ extending-nested (out-Extend c.args.ast.now).extendee (map (of_field steps) (out-Extend c.args.ast.now).fields)))

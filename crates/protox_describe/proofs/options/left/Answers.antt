@@ -1,4 +1,4 @@
-use Rattle.std.proofs.Common.{◌≡◌, ◌+◌, ◌<◌, ◌++◌, ◌∷◌, [], Bool, true, false, length, map, drop, arith, rules, inl, inr, sym, ap, ◌∙◌}
+use Rattle.std.proofs.Common.{◌≡◌, ◌+◌, ◌<◌, ◌++◌, ◌∷◌, [], true, false, length, map, drop, arith, rules, inl, inr, ap, ◌∙◌}
 use Rattle.std.specs.Prelude.{codes, ◌⊎◌}
 use Rattle.protox_ast.specs.Options.{has_name, uninterpreted}
 use Rattle.protox_describe.proofs.Left.{left, left-default, left-json_name, left-other, dropped, kept}

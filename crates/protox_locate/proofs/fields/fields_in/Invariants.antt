@@ -1,8 +1,7 @@
-use Rattle.std.proofs.Common.{◌≤◌, ◌+◌, map, drop}
+use Rattle.std.proofs.Common.{map, drop}
 use Rattle.std.specs.Prelude.{None}
 use Rattle.protox_ast.specs.Steps.{of_field}
 use Rattle.protox_descriptor.specs.declared.tag.message.TheConstants.{FIELD}
-use Rattle.protox_locate.specs.inner.Bounds.{greatest, reaches, total, weights}
 use Rattle.protox_places.specs.Lines.{numbers_at}
 use Rattle.protox_locate.specs.FieldLocations.{OfField}
 use Rattle.protox_locate.specs.Locations.{location_steps}
@@ -10,8 +9,5 @@ use Rattle.protox_locate.specs.inner.Walk.{ToCome}
 use Rattle.protox_locate.proofs.fields.fields_in.Given as goal
 
 abbrev pub invariant-loop-field : goal.invariant-loop-field
-invariant-loop-field l = record {
-  located : ToCome l.initial.context l.context FIELD l.first l.next (map (λ (f : OfField). f.own None) (map (of_field (location_steps (numbers_at l.lines))) l.fields)) (map (λ (f : OfField). f.own None) (map (of_field (location_steps (numbers_at l.lines))) (drop l.field-index l.fields)));
-  room : l.next + total (map (of_field weights) (drop l.field-index l.fields)) ≤ l.first + total (map (of_field weights) l.fields);
-  reach : greatest (map (of_field reaches) (drop l.field-index l.fields)) ≤ 2147483647;
-}
+invariant-loop-field l =
+    ToCome l.initial.context l.context FIELD l.first l.next (map (λ (f : OfField). f.own None) (map (of_field (location_steps (numbers_at l.lines))) l.fields)) (map (λ (f : OfField). f.own None) (map (of_field (location_steps (numbers_at l.lines))) (drop l.field-index l.fields)))

@@ -1,20 +1,13 @@
-use Rattle.std.proofs.Common.{◌≤◌, List, map, ap, sym, subst, ◌∙◌, arith}
+use Rattle.std.proofs.Common.{List, ap, sym, subst, ◌∙◌}
 use Rattle.protox_ast.specs.declared.ast.FileItem.{FileItem}
 use Rattle.protox_places.specs.Lines.{numbers_at}
 use Rattle.protox_locate.specs.Locations.{file_locations}
-use Rattle.protox_locate.specs.inner.Bounds.{file_item_weight, total}
 use Rattle.protox_locate.specs.inner.Draft.{IsDraft}
 use Rattle.protox_places.specs.Order.{InOrder, StartsBefore}
 use Rattle.protox_locate.proofs.InOrder.{in-order}
 use Rattle.protox_places.proofs.LineFacts.{numbers-are}
 use Rattle.protox_places.proofs.SortedPaths.{sorted-by-path}
 use Rattle.protox_locate.proofs.file.locate_file.Goals as goal
-
-pub locate_items-requires-clause-room : goal.locate_items-requires-clause-room
-locate_items-requires-clause-room c =
-    let room = c.requires.room in
-    let fits : total (map file_item_weight c.args.ast.now.items) ≤ 2147483647 = omega (arith, room) in
-    c.in_ok-draft.ensures.room _ (subst (λ (l : List FileItem). total (map file_item_weight l) ≤ 2147483647) (sym c.as_slice.ensures) fits)
 
 pub returns-clause-located : goal.returns-clause-located
 returns-clause-located c =

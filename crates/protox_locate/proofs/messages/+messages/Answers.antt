@@ -14,7 +14,7 @@ use Rattle.protox_locate.specs.LocationWords.{Part, extensions_statements}
 use Rattle.protox_locate.specs.Locations.{OfItem, all_of, from_blocks, location_steps}
 use Rattle.protox_locate.specs.inner.Walk.{Emits}
 use Rattle.protox_locate.specs.declared.context.Context.{Context}
-use Rattle.protox_locate.proofs.Numbered.{first_then_ok, some_more, walk}
+use Rattle.protox_locate.proofs.Numbered.{first_then_ok, some_more}
 use Rattle.protox_locate.proofs.messages.+messages.Goals as goal
 
 module _ (n : Span → List ℤ) (items : List OfItem) (extensions : List Extensions) (options : List OptionStatement) (reserved : List Reserved) where
@@ -68,8 +68,4 @@ locate_body-returns t c =
 pub locate_messages-loop-item-preserved : goal.locate_messages-loop-item-preserved
 locate_messages-loop-item-preserved t c =
     let lt : c.loop-item.item-index < length c.args.items.now = omega arith in
-    record {
-      located = some_more _ _ _ _ _ _ _ _ _ c.args.items.now _ _ _ c.loop-item.invariant.located c.in_ok-next.ensures.siblings c.item-item.is lt;
-      room = grind (arith, walk);
-      reach = grind (arith, walk);
-    }
+    some_more _ _ _ _ _ _ _ _ _ c.args.items.now _ _ _ c.loop-item.invariant c.in_ok-next.ensures.siblings c.item-item.is lt

@@ -1,13 +1,10 @@
-use Rattle.std.proofs.Common.{◌≤◌, map, flat_map, drop}
+use Rattle.std.proofs.Common.{flat_map, drop}
 use Rattle.protox_ast.specs.declared.ast.Reserved.{Reserved}
-use Rattle.protox_locate.specs.inner.Bounds.{greatest, reserved_reach}
 use Rattle.protox_places.specs.Lines.{numbers_at}
 use Rattle.protox_locate.specs.LocationWords.{name_statement}
 use Rattle.protox_locate.specs.inner.Walk.{ToAdd}
 use Rattle.protox_locate.proofs.ranges.add_name_statements.Given as goal
 
 abbrev pub invariant-loop-statement : goal.invariant-loop-statement
-invariant-loop-statement l = record {
-  added : ToAdd l.initial.context l.context l.tag (flat_map (λ (statement : Reserved). name_statement (numbers_at l.lines) statement statement.kind) l.statements) (flat_map (λ (statement : Reserved). name_statement (numbers_at l.lines) statement statement.kind) (drop l.statement-index l.statements));
-  reach : greatest (map reserved_reach (drop l.statement-index l.statements)) ≤ 2147483647;
-}
+invariant-loop-statement l =
+    ToAdd l.initial.context l.context l.tag (flat_map (λ (statement : Reserved). name_statement (numbers_at l.lines) statement statement.kind) l.statements) (flat_map (λ (statement : Reserved). name_statement (numbers_at l.lines) statement statement.kind) (drop l.statement-index l.statements))

@@ -1,13 +1,9 @@
-use Rattle.std.proofs.Common.{◌≤◌, ◌+◌, length, map, drop}
-use Rattle.protox_locate.specs.inner.Bounds.{greatest, name_reach}
+use Rattle.std.proofs.Common.{map, drop}
 use Rattle.protox_places.specs.Lines.{numbers_at}
 use Rattle.protox_locate.specs.LocationWords.{reserved_name}
 use Rattle.protox_locate.specs.inner.Walk.{ToCome}
 use Rattle.protox_locate.proofs.ranges.names_in.Given as goal
 
 abbrev pub invariant-loop-name : goal.invariant-loop-name
-invariant-loop-name l = record {
-  located : ToCome l.initial.context l.context l.tag l.first l.next (map (reserved_name (numbers_at l.lines)) l.names) (map (reserved_name (numbers_at l.lines)) (drop l.name-index l.names));
-  room : l.next + length (drop l.name-index l.names) ≤ l.first + length l.names;
-  reach : greatest (map name_reach (drop l.name-index l.names)) ≤ 2147483647;
-}
+invariant-loop-name l =
+    ToCome l.initial.context l.context l.tag l.first l.next (map (reserved_name (numbers_at l.lines)) l.names) (map (reserved_name (numbers_at l.lines)) (drop l.name-index l.names))

@@ -1,5 +1,4 @@
 pub mod Items
-pub mod Wide
 pub mod Standing
 pub mod Outcomes
 pub mod samples

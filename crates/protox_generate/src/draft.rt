@@ -1,14 +1,12 @@
 //! A file whose items are located and described one by one.
 
-ghost use Rattle.std.specs.Prelude.{◌≡◌, ◌≤◌, ◌+◌, ◌∷◌, ◌++◌, ℕ, ℤ, List, [], Some, length, IfOk, OnOk};
+ghost use Rattle.std.specs.Prelude.{◌≡◌, ◌≤◌, ◌∷◌, ◌++◌, ℕ, ℤ, List, [], Some, length, IfOk, OnOk};
 ghost use Rattle.protox_ast.specs.declared.ast.FileItem as item_type;
 ghost use Rattle.protox_ast.specs.declared.ast.Syntax as syntax_type;
-ghost use Rattle.protox_describe.specs.inner.Widths.{file_item_width};
 ghost use Rattle.protox_fault.specs.Faults as faults;
 ghost use Rattle.protox_generate.specs.File.{file_descriptor};
-ghost use Rattle.protox_generate.specs.inner.Taken.{ArePlaced, HasPlacesFor, HasRoomFor, IsTaken};
-ghost use Rattle.protox_locate.specs.inner.Bounds.{file_item_reach, file_item_weight, file_reach};
-ghost use Rattle.protox_locate.specs.inner.Draft.{HasRoom, IsDraft};
+ghost use Rattle.protox_generate.specs.inner.Taken.{ArePlaced, IsTaken};
+ghost use Rattle.protox_locate.specs.inner.Draft.{IsDraft};
 ghost use Rattle.protox_places.specs.Lines.{numbers_at, starts};
 
 use crate::short_source::ShortSource;
@@ -58,7 +56,6 @@ impl ItemPlaces {
         requires { length source.now ≤ 2147483647 }
         ensures lines { IfOk result (λ places. places.lines ≡ starts 0 source.now) }
         ensures located { IfOk result (λ places. (numbers : faults.Span → List ℤ) → IsDraft numbers [] places.locations) }
-        ensures room { IfOk result (λ places. (more : ℕ) → more ≤ 2147483647 → HasRoom places.locations more) }
     {
         Ok(ItemPlaces {
             lines: LineResolver::new(alloc, source)?,
@@ -67,11 +64,8 @@ impl ItemPlaces {
     }
 
     fn locate(&mut self, alloc: Global, item: &FileItem) -> Result<(), AllocError>
-        requires room { HasRoom self.old.locations (file_item_weight item.now) }
-        requires reach { file_item_reach item.now ≤ 2147483647 }
         ensures lines { self.new.lines ≡ self.old.lines }
         ensures located { OnOk result ((items : List item_type.FileItem) → IsDraft (numbers_at self.old.lines) items self.old.locations → IsDraft (numbers_at self.old.lines) (items ++ item.now ∷ []) self.new.locations) }
-        ensures room { OnOk result ((more : ℕ) → HasRoom self.old.locations (file_item_weight item.now + more) → HasRoom self.new.locations more) }
     {
         locate_item(alloc, &self.lines, &mut self.locations, item)
     }
@@ -86,10 +80,7 @@ fn locate(
     item: &FileItem,
 ) -> Result<(), AllocError>
     requires fits { length source.now ≤ 2147483647 }
-    requires room { HasPlacesFor places.old (file_item_weight item.now) }
-    requires reach { file_item_reach item.now ≤ 2147483647 }
     ensures located { OnOk result ((items : List item_type.FileItem) → ArePlaced source.now items places.old → ArePlaced source.now (items ++ item.now ∷ []) places.new) }
-    ensures room { OnOk result ((more : ℕ) → HasPlacesFor places.old (file_item_weight item.now + more) → HasPlacesFor places.new more) }
 {
     match places {
         Some(known) => known.locate(alloc, item),
@@ -130,9 +121,8 @@ impl<'a> FileDraft<'a> {
     /// Needs that the source has at most 2,147,483,647 bytes.
     pub fn new(alloc: Global, source: &'a str) -> FileDraft<'a>
         requires { length source.now ≤ 2147483647 }
-        // The draft has no item, and there is room for as many parts as an i32 counts.
+        // The draft has no item.
         ensures taken { (syntax : syntax_type.Syntax) → IsTaken source.now syntax [] result }
-        ensures room { (more : ℕ) → more ≤ 2147483647 → HasRoomFor result more }
     {
         FileDraft {
             source: ShortSource::new(source),
@@ -142,35 +132,29 @@ impl<'a> FileDraft<'a> {
     }
 
     /// Describes and locates an item. Then it is dropped, so that its memory can serve what comes
-    /// next. On `AllocError` (memory ran out) the draft may hold a part of the item, so it is of no
-    /// more use.
+    /// next. On `AllocError` (memory ran out, or a number of a path or of a place would be beyond an
+    /// `i32`, as in no tree of a source within the limit) the draft may hold a part of the item, so
+    /// it is of no more use.
     ///
     /// `head` says the syntax. What it has in front of its items is best known here, but may be
     /// known only at the end. The first item also makes the table of lines, and room for the
     /// locations of a source of the usual kind, if memory allows.
     pub fn take(&mut self, alloc: Global, head: &File, item: FileItem) -> Result<(), AllocError>
-        requires room { HasRoomFor self.old (file_item_weight item) }
-        requires reach { file_item_reach item ≤ 2147483647 }
-        requires width { file_item_width item ≤ 2147483647 }
-        // The item is the next one of the draft, and room for what comes behind it is left.
+        // The item is the next one of the draft.
         ensures taken { OnOk result ((source : List ℕ) (items : List item_type.FileItem) → IsTaken source head.now.syntax items self.old → IsTaken source head.now.syntax (items ++ item ∷ []) self.new) }
-        ensures room { OnOk result ((more : ℕ) → HasRoomFor self.old (file_item_weight item + more) → HasRoomFor self.new more) }
     {
         describe_item(alloc, head.syntax, &item, &mut self.lists)?;
         locate(alloc, self.source.text, &mut self.places, head, &item)
     }
 
     /// The descriptor of the file of this name that has this head and the items taken. Items of
-    /// `head` itself don't count. `AllocError` if memory runs out.
+    /// `head` itself don't count. `AllocError` as for `take`.
     pub fn finish(
         self,
         alloc: Global,
         name: &str,
         head: &File,
     ) -> Result<FileDescriptorProto, AllocError>
-        requires imports { length head.now.imports ≤ 2147483647 }
-        requires options { length head.now.options ≤ 2147483647 }
-        requires reach { file_reach head.now ≤ 2147483647 }
         ensures { IfOk result (λ file. (source : List ℕ) (items : List item_type.FileItem) → IsTaken source head.now.syntax items self.entry → file ≡ file_descriptor name.now source (record head.now { items = items })) }
     {
         let FileDraft {

@@ -1,18 +1,15 @@
 //! The descriptor of a file, from its syntax tree.
 
-ghost use Rattle.std.specs.Prelude.{◌≡◌, ◌≤◌, ℕ, List, [], length, map, IfErr, IfOk, OnOk};
+ghost use Rattle.std.specs.Prelude.{◌≡◌, ◌≤◌, ℕ, List, [], length, IfErr, IfOk, OnOk};
 ghost use Rattle.protox_ast.specs.Accepted.{FaultsLieIn, IsFileOf};
 ghost use Rattle.protox_ast.specs.Siblings.{FileStands};
 ghost use Rattle.protox_checks.specs.Faults.{AreWrong, HaveAll, IsFaultless};
 ghost use Rattle.protox_describe.specs.Oneofs.{HasRealFirst};
-ghost use Rattle.protox_describe.specs.Siblings.{greatest as widest};
-ghost use Rattle.protox_describe.specs.inner.Widths.{file_item_width, file_width};
 ghost use Rattle.protox_generate.specs.Commented.{AreCommentedOnce};
 ghost use Rattle.protox_generate.specs.File.{file_descriptor, AreLocated, AreListedAll, AreSorted};
 ghost use Rattle.protox_generate.specs.NamePaths.{HasPlaces};
 ghost use Rattle.protox_generate.specs.Names.{HasNames};
-ghost use Rattle.protox_generate.specs.inner.Taken.{HasRoomFor, IsTaken};
-ghost use Rattle.protox_locate.specs.inner.Bounds.{file_item_reach, file_item_weight, file_reach, file_weight, greatest, total};
+ghost use Rattle.protox_generate.specs.inner.Taken.{IsTaken};
 
 use crate::draft::FileDraft;
 use protox_ast::ast::{File, FileItem};
@@ -30,9 +27,6 @@ fn take_items(
     head: &File,
     items: Items<FileItem>,
 ) -> Result<(), AllocError>
-    requires room { HasRoomFor draft.old (total (map file_item_weight items)) }
-    requires reach { greatest (map file_item_reach items) ≤ 2147483647 }
-    requires width { widest (map file_item_width items) ≤ 2147483647 }
     ensures { OnOk result ((source : List ℕ) → IsTaken source head.now.syntax [] draft.old → IsTaken source head.now.syntax items draft.new) }
 {
     for item in items.into_vec() {
@@ -41,8 +35,7 @@ fn take_items(
     Ok(())
 }
 
-// Builds the descriptor. Needs that the tree's spans lie in the source, and that spans and counts
-// fit an i32.
+// Builds the descriptor. Needs that the tree's spans lie in the source.
 fn described(
     alloc: Global,
     ast: File,
@@ -50,9 +43,6 @@ fn described(
     source: &str,
 ) -> Result<FileDescriptorProto, AllocError>
     requires length { length source.now ≤ 2147483647 }
-    requires width { file_width ast ≤ 2147483647 }
-    requires room { file_weight ast ≤ 2147483647 }
-    requires reach { file_reach ast ≤ 2147483647 }
     requires stands { FileStands (length source.now) ast }
     ensures found { IfOk result (λ file. file ≡ file_descriptor name.now source.now ast) }
     ensures located { IfOk result AreLocated }

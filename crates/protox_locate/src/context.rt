@@ -83,8 +83,8 @@ fn joined(alloc: Global, path: &[i32], tags: &[i32]) -> Result<Numbers, AllocErr
     }
 }
 
-/// An index as a number of a path. `AllocError` if it is beyond an `i32`. No source within the limit
-/// has so many siblings.
+/// An index as a number of a path. `AllocError` if it is beyond an `i32`. No source within the
+/// limit has so many siblings.
 #[inline(always)]
 pub(crate) fn index_number(index: usize) -> Result<i32, AllocError>
     ensures number { IfOk result (λ number. number ≡ pos index) }
@@ -184,8 +184,8 @@ impl Context {
         self.locations.push(location)
     }
 
-    /// Goes down to a child: its field number, and its index among its siblings. `AllocError` as for
-    /// `index_number`, and if memory runs out.
+    /// Goes down to a child: its field number, and its index among its siblings. `AllocError` as
+    /// for `index_number`, and if memory runs out.
     pub fn enter(&mut self, tag: i32, index: usize) -> Result<(), AllocError>
         ensures path { OnOk result (self.new.path ≡ self.old.path ++ tag ∷ pos index ∷ []) }
         ensures locations { self.new.locations ≡ self.old.locations }

@@ -1,6 +1,6 @@
 //! The locations of an item of a file, one kind of parts after another.
 
-ghost use Rattle.std.specs.Prelude.{◌≡◌, IfOk, OnOk};
+ghost use Rattle.std.specs.Prelude.{IfOk, OnOk};
 ghost use Rattle.protox_places.specs.Lines.{numbers_at};
 ghost use Rattle.protox_locate.specs.LocationWords.{each_at, part};
 ghost use Rattle.protox_locate.specs.Locations.{item_blocks, item_enums, item_extensions, item_messages, item_services};

@@ -1,6 +1,6 @@
 //! The locations of enums.
 
-ghost use Rattle.std.specs.Prelude.{◌≡◌, ◌≤◌, map, OnOk};
+ghost use Rattle.std.specs.Prelude.{◌≤◌, map, OnOk};
 ghost use Rattle.protox_locate.specs.EnumLocations.{enum_locations, enum_value_locations};
 ghost use Rattle.protox_places.specs.Lines.{numbers_at};
 ghost use Rattle.protox_locate.specs.LocationWords.{nth, siblings_at};

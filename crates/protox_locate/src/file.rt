@@ -121,8 +121,8 @@ impl LocationDraft {
     }
 }
 
-/// Adds the locations of an item. `AllocError` as for `locate_front`. Then the draft may hold a part
-/// of them, so it is of no more use.
+/// Adds the locations of an item. `AllocError` as for `locate_front`. Then the draft may hold a
+/// part of them, so it is of no more use.
 pub fn locate_item(
     alloc: Global,
     lines: &LineResolver,

@@ -1,6 +1,6 @@
 //! The locations of imports.
 
-ghost use Rattle.std.specs.Prelude.{◌≡◌, flat_map, map, OnOk};
+ghost use Rattle.std.specs.Prelude.{flat_map, map, OnOk};
 ghost use Rattle.protox_ast.specs.declared.ast.Import as import_type;
 ghost use Rattle.protox_places.specs.Lines.{numbers_at};
 ghost use Rattle.protox_locate.specs.LocationWords.{siblings_at};

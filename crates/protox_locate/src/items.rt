@@ -1,6 +1,6 @@
 //! The locations of what is in a message, without its nested messages.
 
-ghost use Rattle.std.specs.Prelude.{◌≡◌, ◌≤◌, flat_map, map, IfOk, OnOk};
+ghost use Rattle.std.specs.Prelude.{◌≤◌, flat_map, map, IfOk, OnOk};
 ghost use Rattle.protox_ast.specs.Steps.{of_item, of_oneof};
 ghost use Rattle.protox_places.specs.Lines.{numbers_at};
 ghost use Rattle.protox_locate.specs.LocationWords.{each_at, nth, part};

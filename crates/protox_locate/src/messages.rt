@@ -1,6 +1,6 @@
 //! The locations of messages, one kind of part after another.
 
-ghost use Rattle.std.specs.Prelude.{◌≡◌, map, IfOk, OnOk};
+ghost use Rattle.std.specs.Prelude.{map, IfOk, OnOk};
 ghost use Rattle.protox_ast.specs.Steps.{of_body, of_field, of_item, of_message};
 ghost use Rattle.protox_ast.specs.declared.ast.MessageBody.{out-MessageBody};
 ghost use Rattle.protox_places.specs.Lines.{numbers_at};

@@ -1,6 +1,6 @@
 //! The locations of options.
 
-ghost use Rattle.std.specs.Prelude.{◌≡◌, ◌∷◌, map, OnOk};
+ghost use Rattle.std.specs.Prelude.{◌∷◌, map, OnOk};
 ghost use Rattle.protox_ast.specs.Options.{listed};
 ghost use Rattle.protox_places.specs.Lines.{numbers_at};
 ghost use Rattle.protox_locate.specs.LocationWords.{bare, each_at, option_body, option_list, option_place, option_statement, option_statements, part, siblings_at};

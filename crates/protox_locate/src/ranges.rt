@@ -1,6 +1,6 @@
 //! The locations of reserved statements and of extension ranges.
 
-ghost use Rattle.std.specs.Prelude.{◌≡◌, ◌≤◌, flat_map, map, IfOk, OnOk};
+ghost use Rattle.std.specs.Prelude.{◌≤◌, flat_map, map, IfOk, OnOk};
 ghost use Rattle.protox_ast.specs.Ranges.{kind_names, kind_ranges};
 ghost use Rattle.protox_ast.specs.declared.ast.Extensions as extensions_type;
 ghost use Rattle.protox_ast.specs.declared.ast.Reserved as reserved_type;

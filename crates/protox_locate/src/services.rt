@@ -1,6 +1,6 @@
 //! The locations of services.
 
-ghost use Rattle.std.specs.Prelude.{◌≡◌, map, OnOk};
+ghost use Rattle.std.specs.Prelude.{map, OnOk};
 ghost use Rattle.protox_places.specs.Lines.{numbers_at};
 ghost use Rattle.protox_locate.specs.LocationWords.{part, siblings_at};
 ghost use Rattle.protox_locate.specs.ServiceLocations.{method_locations, service_locations, stream_locations};

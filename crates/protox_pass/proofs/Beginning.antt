@@ -1,8 +1,8 @@
 -- A pass before the first part.
-use Rattle.std.proofs.Common.{◌≤◌, ℕ, List, [], length, None, true, refl, inl, arith}
+use Rattle.std.proofs.Common.{ℕ, List, [], length, None, true, refl, inl}
 use Rattle.protox_ast.specs.declared.ast.Syntax.{Syntax}
 use Rattle.protox_generate.specs.declared.draft.FileDraft.{FileDraft}
-use Rattle.protox_generate.specs.inner.Taken.{HasRoomFor, IsTaken}
+use Rattle.protox_generate.specs.inner.Taken.{IsTaken}
 use Rattle.protox_lexeme.specs.Lexemes.{cut}
 use Rattle.protox_syntax.proofs.RightFiles.{right-begun}
 use Rattle.protox_syntax.specs.inner.SoFar.{IsRightSoFar, begun}
@@ -18,8 +18,8 @@ right : IsRightSoFar None (begun None)
 unfolding no-syntax
 right = right-begun [] [] None no-syntax
 
-pub between-none : (source : List ℕ) (draft : FileDraft) → ((syntax : Syntax) → IsTaken source syntax [] draft) → ((more : ℕ) → more ≤ 2147483647 → HasRoomFor draft more) → IsBetween source (record { start = length source; last = None }) no_file draft
-between-none source draft taken room = record {
+pub between-none : (source : List ℕ) (draft : FileDraft) → ((syntax : Syntax) → IsTaken source syntax [] draft) → IsBetween source (record { start = length source; last = None }) no_file draft
+between-none source draft taken = record {
   f = begun None;
   first = true;
   read = [];
@@ -38,7 +38,6 @@ between-none source draft taken room = record {
       items = refl;
       taken = taken _;
       right = tt;
-      room = λ more h. room more (omega (arith, h));
     };
   };
   noted = inl (refl, refl, refl, refl, refl);

@@ -1,15 +1,12 @@
 -- Once all rows are read, the source is accepted, and its descriptor is that of its syntax tree.
-use Rattle.std.proofs.Common.{◌≡◌, ◌≤◌, ℕ, List, [], length, true, sym, ap, subst, ◌∙◌, append-nil, arith}
-use Rattle.std.specs.Str.{IsUtf8}
+use Rattle.std.proofs.Common.{◌≡◌, ℕ, List, [], length, true, sym, ap, subst, ◌∙◌}
 use Rattle.protox_fault.specs.Faults.{span_from}
 use Rattle.protox_lexeme.specs.Lexemes.{cut}
 use Rattle.protox_ast.specs.Accepted.{Fits, IsAccepted, IsFileOf}
 use Rattle.protox_ast.specs.Ast as ast
 use Rattle.protox_ast.specs.AstParts.{rows_span}
 use Rattle.protox_ast.specs.Basics.{Each}
-use Rattle.protox_ast.specs.Spelling as s
 use Rattle.protox_ast.specs.declared.ast.File.{File}
-use Rattle.protox_ast.specs.declared.ast.FileItem.{FileItem}
 use Rattle.protox_ast.specs.declared.ast.Syntax.{Syntax}
 use Rattle.protox_checks.proofs.FaultlessItems.{faultless_by_items, head_of_faultless}
 use Rattle.protox_checks.specs.Checks.{nodes_faults}
@@ -20,8 +17,6 @@ use Rattle.protox_grammar.proofs.Main as main
 use Rattle.protox_generate.specs.File.{file_descriptor}
 use Rattle.protox_generate.specs.declared.draft.FileDraft.{FileDraft}
 use Rattle.protox_generate.specs.inner.Taken.{IsTaken}
-use Rattle.protox_describe.specs.inner.Widths.{file_width}
-use Rattle.protox_locate.specs.inner.Bounds.{file_reach, file_weight}
 use Rattle.protox_options.specs.inner.Options.{here}
 use Rattle.protox_syntax.proofs.Reading.{built_file-is}
 use Rattle.protox_syntax.proofs.RightFiles.{accepted}
@@ -29,7 +24,6 @@ use Rattle.protox_syntax.specs.inner.Statements.{first_place, statements_seen}
 use Rattle.protox_pass.specs.Found.{IsFound, IsSound}
 use Rattle.protox_pass.specs.declared.parts.Progress.{Progress}
 use Rattle.protox_pass.specs.inner.Reached.{IsAll, IsComplete, last_end, rows}
-use Rattle.protox_pass.proofs.Bounds.{file-bounds, front-stands}
 use Rattle.protox_pass.proofs.Flawless.{clean-of, tokens-of}
 
 -- the head with its span
@@ -68,7 +62,7 @@ module _ (source : List ℕ) (short : Fits source) (progress : Progress) (head :
 
 -- ---- the descriptor
 
-module _ (source : List ℕ) (u : IsUtf8 source) (head : File) (draft : FileDraft) (a : IsAll source head draft) where
+module _ (source : List ℕ) (head : File) (draft : FileDraft) (a : IsAll source head draft) where
   abbrev pub whole_file : File
   whole_file = record head { items = a.items }
 
@@ -77,25 +71,6 @@ module _ (source : List ℕ) (u : IsUtf8 source) (head : File) (draft : FileDraf
 
   pub faultless-of : IsFaultless head → IsFaultless whole_file
   faultless-of h = faultless_by_items whole_file a.right (subst IsFaultless (λ i. record head { items = a.head_alone i }) h)
-
-  -- the largest numbers of the whole file
-  abbrev AreSmall : File → Type 0
-  AreSmall file = (file_width file ≤ length source) × (file_weight file ≤ length source) × (file_reach file ≤ length source)
-
-  bounds : AreSmall whole_file
-  bounds = subst AreSmall (sym a.whole) (file-bounds (length source) a.f (front-stands source a.f [] u (a.accepted.spells.0 ∙ sym (append-nil (s.spell a.f)))))
-
-  pub few-imports : length head.imports ≤ 2147483647
-  few-imports = let b = bounds.0 in let short = a.accepted.fits in omega (arith, b, short)
-
-  pub few-options : length head.options ≤ 2147483647
-  few-options = let b = bounds.1 in let short = a.accepted.fits in omega (arith, b, short)
-
-  pub reach-fits : file_reach head ≤ 2147483647
-  reach-fits =
-      let b = bounds.2 in
-      let short = a.accepted.fits in
-      subst (λ (l : List FileItem). file_reach (record head { items = l }) ≤ 2147483647) (sym a.head_alone) (omega (arith, b, short))
 
   pub found-of : (name : List ℕ) (d : FileDescriptorProto) → IsFaultless head → d ≡ file_descriptor name source whole_file → IsFound name source d
   found-of name d h is = record { file = whole_file; of_source = file-of; faultless = faultless-of h; described = is }

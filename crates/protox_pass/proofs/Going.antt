@@ -46,7 +46,7 @@ use Rattle.protox_pass.specs.declared.statements.Part.{Part}
 use Rattle.protox_pass.specs.inner.Held.{IsRightStatement}
 use Rattle.protox_pass.specs.inner.Places.{places}
 use Rattle.protox_pass.specs.inner.Reached.{IsBetween, IsInPart, IsLast, IsTurn, rows, turn_at_end}
-use Rattle.protox_pass.proofs.Bounds.{spell-more}
+use Rattle.protox_pass.proofs.OneMore.{spell-more}
 use Rattle.protox_pass.proofs.Flawless.{tokens-of}
 use Rattle.protox_pass.proofs.Rows.{gap-over, row-over}
 use Rattle.protox_pass.proofs.Sound.{flawless-sound}

@@ -1,6 +1,6 @@
 pub mod Rows
 pub mod Flawless
-pub mod Bounds
+pub mod OneMore
 pub mod Taking
 pub mod Steps
 pub mod Opening

@@ -174,7 +174,6 @@ module _ (source : List ℕ) (part : Part) (left ahead : Rows Place) (head : Fil
         items = held.items;
         taken = record { of_source = held.taken.of_source; located = held.taken.located; messages = held.taken.messages; enums = held.taken.enums; services = held.taken.services; extensions = held.taken.extensions };
         right = tt;
-        room = held.room;
       }
 
   opened-some : (x : tree.Syntax Place) → left ≡ s.syntax x ++ ahead → IsRightSoFar None (begun (Some x)) → IsBehindSyntax source part ahead (with_syntax head (Some (syntax_seen x))) draft

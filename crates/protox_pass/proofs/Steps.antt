@@ -1,12 +1,10 @@
 -- One more statement of a part is read.
 use Rattle.std.specs.Prelude.{◌↔◌, IsTrue}
-use Rattle.std.specs.Str.{IsUtf8}
 use Rattle.std.proofs.lemmas.Bool.{false≢true}
 use Rattle.std.proofs.Common.{◌≡◌, ◌⊎◌, ℕ, length, nat_eq, inl, inr, Bool, true, false, List, [], ◌∷◌, ◌++◌, Option, None, option_map, refl, sym, ap, subst, ◌∙◌, append_assoc}
 use Rattle.protox_fault.specs.Faults.{Span}
 use Rattle.protox_lexeme.specs.Shapes.{Row, Rows}
 use Rattle.protox_lexeme.specs.Table.{table_of}
-use Rattle.protox_ast.specs.Accepted.{Fits}
 use Rattle.protox_ast.proofs.SpansStand.{each-back}
 use Rattle.protox_ast.specs.Basics.{Each}
 use Rattle.protox_ast.specs.Places.{Place}
@@ -22,14 +20,13 @@ use Rattle.protox_syntax.specs.NextStatement.{IfRead, IsNextStatement, IsRight}
 use Rattle.protox_syntax.specs.declared.next.Next.{Next}
 use Rattle.protox_syntax.specs.declared.next.Next.TheVariants as next
 use Rattle.protox_syntax.specs.declared.statement_types.Statement.{Statement}
-use Rattle.protox_syntax.specs.declared.statement_types.Statement.TheVariants as statement_of
 use Rattle.protox_syntax.specs.inner.ParsedTable.{syntax_or_default}
 use Rattle.protox_syntax.specs.inner.Statements.{add_statement, first_place, next_first, statement_seen, statements_seen, syntax_seen}
 use Rattle.protox_pass.specs.declared.statements.Part.{Part}
-use Rattle.protox_pass.specs.inner.Held.{CanTake, IsHeld}
+use Rattle.protox_pass.specs.inner.Held.{IsHeld}
 use Rattle.protox_pass.specs.inner.Places.{IsFlawless, places}
 use Rattle.protox_pass.specs.inner.Reached.{IsBehindSyntax, IsInPart, IsReached, rows}
-use Rattle.protox_pass.proofs.Bounds.{can-take, seen-more, spell-more}
+use Rattle.protox_pass.proofs.OneMore.{seen-more, spell-more}
 use Rattle.protox_pass.proofs.Flawless.{tokens-of}
 use Rattle.protox_pass.proofs.Rows.{IsRead, read-rows, whole-is}
 use Rattle.protox_grammar.specs.Told.{AreValidTokens}
@@ -137,16 +134,6 @@ module _ (source : List ℕ) (part : Part) (left ahead : Rows Place) (head : Fil
       let read = m source part left ahead head draft i some.0 some.1 (n.rows ∙ ap (λ l. l ++ ahead) some.2) ends in
       let rest = places false (read.back ++ i.behind) in
       (rest, i.whole ∙ ap (λ l. s.spell i.f ++ l) (whole-is i.first i.left i.behind (some.0 ∷ some.1) ahead read) ∙ ap (λ l. s.spell i.f ++ (l ++ rest)) (sym some.2))
-
-  pub takes : IsUtf8 source → Fits source → CanTake draft found
-  takes u short = by found n.seen
-    where
-      by : (st : Statement) → st ≡ statement_seen n.it → CanTake draft st
-      by (statement_of.Item item) seen = can-take source u short i.f n.it whole-now.0 whole-now.1 item head draft (sym seen) i.reached
-      by statement_of.Empty seen = tt
-      by (statement_of.Import x) seen = tt
-      by (statement_of.Package x) seen = tt
-      by (statement_of.Option x) seen = tt
 
 -- The rows that are left in a part are valid tokens.
 pub tokens-left : (source : List ℕ) (part : Part) (left : Rows Place) (head : File) (draft : FileDraft) (i : IsInPart source part left head draft) → AreValidTokens left

@@ -1,6 +1,6 @@
 //! Reads a source part by part.
 
-ghost use Rattle.std.specs.Prelude.{◌≡◌, ◌≢◌, ◌<◌, ◌≤◌, ◌++◌, ◌∷◌, ℕ, List, Some, None, true, false, drop, length, option_map, IfOk};
+ghost use Rattle.std.specs.Prelude.{◌≡◌, ◌≢◌, ◌<◌, ◌≤◌, ◌++◌, ◌∷◌, ℕ, List, Some, None, true, false, drop, length, IfOk};
 ghost use Rattle.protox_ast.specs.Accepted.{Fits};
 ghost use Rattle.protox_ast.specs.declared.ast.File as file_type;
 ghost use Rattle.protox_fault.specs.Faults.{Span, span_from};

@@ -1,15 +1,14 @@
 //! Takes the statements of a part of a source, one by one.
 
-ghost use Rattle.std.specs.Prelude.{◌≡◌, ◌↔◌, ◌≤◌, ◌+◌, ◌∷◌, ◌++◌, [], ℕ, List, false, true, length, IfOk, IsTrue, OnOk, option_map};
+ghost use Rattle.std.specs.Prelude.{◌≡◌, ◌↔◌, ◌∷◌, ◌++◌, [], ℕ, List, false, true, IfOk, IsTrue, OnOk, option_map};
 ghost use Rattle.protox_ast.specs.Accepted.{Fits};
 ghost use Rattle.protox_ast.specs.declared.ast.FileItem as item_type;
 ghost use Rattle.protox_ast.specs.declared.ast.Syntax as syntax_type;
 ghost use Rattle.protox_checks.specs.Checks.{nodes_faults};
 ghost use Rattle.protox_checks.specs.Nodes.{item_nodes};
-ghost use Rattle.protox_generate.specs.inner.Taken.{HasRoomFor, IsTaken};
-ghost use Rattle.protox_locate.specs.inner.Bounds.{file_item_weight};
+ghost use Rattle.protox_generate.specs.inner.Taken.{IsTaken};
 ghost use Rattle.protox_pass.specs.Found.{IsSound};
-ghost use Rattle.protox_pass.specs.inner.Held.{CanTake, CanTakeItem, IsHeld, IsRightStatement};
+ghost use Rattle.protox_pass.specs.inner.Held.{IsHeld, IsRightStatement};
 ghost use Rattle.protox_pass.specs.inner.Reached.{IsBehindSyntax};
 ghost use Rattle.protox_syntax.specs.declared.statement_types.Statements as statements_type;
 ghost use Rattle.protox_syntax.specs.inner.Statements.{add_statement, or_package};
@@ -67,10 +66,8 @@ fn take_item(
     draft: &mut FileDraft<'_>,
     item: FileItem,
 ) -> Result<bool, AllocError>
-    requires { CanTakeItem draft.old item }
     ensures right { IfOk result (λ right. IsTrue right ↔ (nodes_faults head.now.syntax (item_nodes item) ≡ [])) }
     ensures taken { IfOk result (λ right. right ≡ true → (source : List ℕ) (items : List item_type.FileItem) → IsTaken source head.now.syntax items draft.old → IsTaken source head.now.syntax (items ++ item ∷ []) draft.new) }
-    ensures room { IfOk result (λ right. right ≡ true → (more : ℕ) → HasRoomFor draft.old (file_item_weight item + more) → HasRoomFor draft.new more) }
 {
     if !item_is_right(alloc, head.syntax, &item)? {
         return Ok(false);
@@ -86,7 +83,6 @@ fn take_statement(
     draft: &mut FileDraft<'_>,
     statement: Statement,
 ) -> Result<bool, AllocError>
-    requires { CanTake draft.old statement }
     ensures held { IfOk result (λ right. right ≡ true → (source : List ℕ) (syntax : syntax_type.Syntax) (st : statements_type.Statements) → IsHeld source syntax st head.old draft.old → IsHeld source syntax (add_statement st statement) head.new draft.new) }
     ensures syntax_span { OnOk result (head.new.syntax_span ≡ head.old.syntax_span) }
     ensures answers { IsRightStatement head.old.syntax statement → IfOk result (λ right. right ≡ true) }

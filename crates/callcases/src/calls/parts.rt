@@ -1,9 +1,5 @@
 //! Calls of the parts that an answer is made of.
 
-ghost use Rattle.std.specs.Prelude.{◌≡◌, ◌≤◌, IfOk};
-ghost use Rattle.protox_describe.specs.inner.Widths.{file_width};
-ghost use Rattle.protox_locate.specs.inner.Bounds.{file_reach, file_weight};
-
 use protox_describe::file::describe_file;
 use protox_locate::file::locate_file;
 use protox_parse::ast::{Comments, Enum, File, FileItem, Ident, Syntax};
@@ -16,11 +12,7 @@ const NAME: &str = "e.proto";
 const SOURCE: &str = "enum E {}";
 
 // The tree of the source.
-fn tree(alloc: Global) -> Result<File, AllocError>
-    ensures width { IfOk result (λ file. file_width file ≤ 2147483647) }
-    ensures weight { IfOk result (λ file. file_weight file ≤ 2147483647) }
-    ensures reach { IfOk result (λ file. file_reach file ≤ 2147483647) }
-{
+fn tree(alloc: Global) -> Result<File, AllocError> {
     let name = Ident::new(String::from_str(alloc, "E")?, 5..6);
     let comments = Comments::new(alloc, Items::new(alloc), None, None)?;
     let item = FileItem::Enum(Enum {

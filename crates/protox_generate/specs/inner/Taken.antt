@@ -1,11 +1,11 @@
 -- What has been made of the items of a file that were taken, one by one.
-use Rattle.std.specs.Prelude.{ℕ, ◌≡◌, ◌≤◌, List, [], flat_map, Option, Some, None}
+use Rattle.std.specs.Prelude.{ℕ, ◌≡◌, List, [], flat_map, Option, Some, None}
 use Rattle.protox_ast.specs.declared.ast.FileItem.{FileItem}
 use Rattle.protox_ast.specs.declared.ast.Syntax.{Syntax}
 use Rattle.protox_describe.specs.File.{item_enums, item_extensions, item_messages, item_services}
 use Rattle.protox_generate.specs.declared.draft.FileDraft.{FileDraft}
 use Rattle.protox_generate.specs.declared.draft.ItemPlaces.{ItemPlaces}
-use Rattle.protox_locate.specs.inner.Draft.{HasRoom, IsDraft}
+use Rattle.protox_locate.specs.inner.Draft.{IsDraft}
 use Rattle.protox_places.specs.Lines.{numbers_at, starts}
 
 -- These items of a file with this source have been located. Before the first one nothing is known of
@@ -13,15 +13,6 @@ use Rattle.protox_places.specs.Lines.{numbers_at, starts}
 abbrev pub ArePlaced : List ℕ → List FileItem → Option ItemPlaces → Type 0
 ArePlaced source items None = items ≡ []
 ArePlaced source items (Some places) = (places.lines ≡ starts 0 source) × IsDraft (numbers_at places.lines) items places.locations
-
--- Of each kind, so many more parts have indices that fit an i32.
-abbrev pub HasPlacesFor : Option ItemPlaces → ℕ → Type 0
-HasPlacesFor None more = more ≤ 2147483647
-HasPlacesFor (Some places) more = HasRoom places.locations more
-
--- The draft can take items with so many more parts of each kind.
-abbrev pub HasRoomFor : FileDraft → ℕ → Type 0
-HasRoomFor draft more = HasPlacesFor draft.places more
 
 -- These items of a file with this source and syntax have been located and described.
 pub record IsTaken (source : List ℕ) (syntax : Syntax) (items : List FileItem) (draft : FileDraft) : Type 0 where

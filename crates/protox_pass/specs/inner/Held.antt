@@ -1,33 +1,19 @@
 -- What the statements of a file declare, as a pass holds it: in the head of the file, and in the draft
 -- of its items.
-use Rattle.std.specs.Prelude.{◌≡◌, ◌≤◌, ◌+◌, ℕ, List, [], map, Option, Some, None}
+use Rattle.std.specs.Prelude.{◌≡◌, ℕ, List, [], Option, Some, None}
 use Rattle.protox_fault.specs.Faults.{Span, span_from}
 use Rattle.protox_ast.specs.Basics.{Each}
 use Rattle.protox_ast.specs.declared.ast.Comments.{Comments}
 use Rattle.protox_ast.specs.declared.ast.File.{File}
-use Rattle.protox_ast.specs.declared.ast.FileItem.{FileItem}
 use Rattle.protox_ast.specs.declared.ast.Syntax.{Syntax}
 use Rattle.protox_ast.specs.declared.ast.Syntax.TheVariants.{Proto2}
 use Rattle.protox_checks.specs.Checks.{nodes_faults}
 use Rattle.protox_checks.specs.Nodes.{item_nodes}
-use Rattle.protox_describe.specs.inner.Widths.{file_item_width}
 use Rattle.protox_generate.specs.declared.draft.FileDraft.{FileDraft}
-use Rattle.protox_generate.specs.inner.Taken.{HasRoomFor, IsTaken}
-use Rattle.protox_locate.specs.inner.Bounds.{file_item_reach, file_item_weight, total}
+use Rattle.protox_generate.specs.inner.Taken.{IsTaken}
 use Rattle.protox_syntax.specs.declared.statement_types.Statement.{Statement}
 use Rattle.protox_syntax.specs.declared.statement_types.Statement.TheVariants as statement_of
 use Rattle.protox_syntax.specs.declared.statement_types.Statements.{Statements}
-
--- The draft can take the item.
-pub record CanTakeItem (draft : FileDraft) (item : FileItem) : Type 0 where
-  pub room : HasRoomFor draft (file_item_weight item)
-  pub reach : file_item_reach item ≤ 2147483647
-  pub width : file_item_width item ≤ 2147483647
-
--- The draft can take the statement's item, if it is one.
-abbrev pub CanTake : FileDraft → Statement → Type 0
-CanTake draft (statement_of.Item item) = CanTakeItem draft item
-CanTake draft _ = Unit {0}
 
 -- Nothing is wrong with the statement's item, if it is one.
 abbrev pub IsRightStatement : Syntax → Statement → Type 0
@@ -43,7 +29,6 @@ pub record IsHeld (source : List ℕ) (syntax : Syntax) (statements : Statements
   pub items : head.items ≡ []
   pub taken : IsTaken source syntax statements.items draft
   pub right : Each (λ item. nodes_faults syntax (item_nodes item) ≡ []) statements.items
-  pub room : (more : ℕ) → total (map file_item_weight statements.items) + more ≤ 2147483647 → HasRoomFor draft more
 
 -- the syntax that is found, or else the other one
 abbrev pub syntax_or : Syntax → Option (Syntax × (Span × Comments)) → Syntax

@@ -8,7 +8,7 @@ use Rattle.protox_generate.proofs.Outcomes.{none-found, empty-none, some-found}
 use Rattle.protox_generate.proofs.NamedFiles.{answer-named}
 use Rattle.protox_generate.proofs.PlacedFiles.{answer-placed}
 use Rattle.protox_generate.proofs.RealOneofs.{answer-first}
-use Rattle.protox_generate.proofs.Standing.{file-stands, width-fits, weight-fits, reach-fits}
+use Rattle.protox_generate.proofs.Standing.{file-stands}
 use Rattle.protox_generate.proofs.generate.generate_file.Goals as goal
 
 pub returns-then-not-is_empty-clause-all : goal.returns-then-not-is_empty-clause-all
@@ -21,15 +21,6 @@ returns-then-not-is_empty-clause-lie c =
       subst (λ l. l ≡ [] → ⊥) (sym c.into_vec.ensures) (some-found c.in_ok-faults.faults c.is_empty.result c.is_empty.ensures c.if-not-is_empty.true),
       subst (Each (LiesIn n)) (sym c.into_vec.ensures) (listed-lie n c.args.ast c.in_ok-faults.faults (file-stands c.args.source.now c.args.ast c.utf8.source c.requires) c.in_ok-faults.ensures.in_order),
     )
-
-pub described-requires-clause-width : goal.described-requires-clause-width
-described-requires-clause-width c = width-fits c.args.source.now c.args.ast c.utf8.source c.requires
-
-pub described-requires-clause-room : goal.described-requires-clause-room
-described-requires-clause-room c = weight-fits c.args.source.now c.args.ast c.utf8.source c.requires
-
-pub described-requires-clause-reach : goal.described-requires-clause-reach
-described-requires-clause-reach c = reach-fits c.args.source.now c.args.ast c.utf8.source c.requires
 
 pub described-requires-clause-stands : goal.described-requires-clause-stands
 described-requires-clause-stands c = file-stands c.args.source.now c.args.ast c.utf8.source c.requires

@@ -11,7 +11,7 @@ take_all-requires-clause-between c =
     let source = c.args.source.now in
     let made = c.new-draft.ensures in
     subst (λ (head : File). IsBetween source (record { start = length source; last = None }) head c.new-draft.result) (sym c.no_file-head.ensures)
-    (between-none source c.new-draft.result made.taken made.room)
+    (between-none source c.new-draft.result made.taken)
 
 pub returns-clause-all : goal.returns-clause-all
 returns-clause-all c =

@@ -1,19 +1,7 @@
 use Rattle.std.proofs.Common.{refl}
 use Rattle.protox_pass.proofs.Going.{ended-next, more, not-true, right-ended, right-item, right-left, wrong-next}
-use Rattle.protox_pass.proofs.Steps.{behind-one, found-next, not-cut, some-left, takes, tokens-left}
+use Rattle.protox_pass.proofs.Steps.{behind-one, found-next, not-cut, some-left, tokens-left}
 use Rattle.protox_pass.proofs.statements.take_statements.Goals as goal
-
-pub take_statement-requires : goal.take_statement-requires
-take_statement-requires c =
-    let i = c.statements.invariant.here in
-    let head = c.statements.head in
-    let source = c.args.source.now in
-    let part = c.args.part.now in
-    let ahead = c.next_statement.new.rows in
-    let valid = tokens-left source part c.statements.rows head c.statements.draft i in
-    let n = found-next head c.statements.rows c.again-ahead.result ahead c.first_place.result c.in_ok-statement.field-0 c.in-Read.statement c.again-ahead.ensures c.first_place.ensures c.in-Read.is valid c.in_ok-statement.ensures.read in
-    let ends = not-cut part.ends ahead c.may_be_cut.result c.may_be_cut.ensures c.if-may_be_cut.false in
-    takes source part c.statements.rows ahead head c.statements.draft i c.in-Read.statement n ends c.utf8.source c.requires.fits
 
 pub statements-preserved : goal.statements-preserved
 statements-preserved c =

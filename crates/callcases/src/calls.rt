@@ -40,6 +40,24 @@ fn gaps(alloc: Global) -> Result<String, AllocError> {
     format!(in alloc; "{comment:?}")
 }
 
+// How many rows a part of a source has, and where it ends.
+fn rows_and_end(
+    part: Result<(TokenTable<'_>, usize), AllocError>,
+) -> Result<(usize, usize), AllocError> {
+    let (table, end) = part?;
+    Ok((table.rows(), end))
+}
+
+// Parts of a source up to a place in its comment. The comment ends 11 bytes behind it, with the
+// blank that follows.
+fn table_parts(alloc: Global) -> Result<String, AllocError> {
+    let source = "a /* one two */ b c";
+    let part = rows_and_end(TokenTable::part(alloc, source, 0, 5))?;
+    let rest = rows_and_end(TokenTable::part_or_rest(alloc, source, 0, 5, 10))?;
+    let near = rows_and_end(TokenTable::part_or_rest(alloc, source, 0, 5, 11))?;
+    format!(in alloc; "{part:?} {rest:?} {near:?}")
+}
+
 // A line with the call and its answer.
 fn write_answer<W: Write>(
     out: &mut W,
@@ -105,6 +123,7 @@ fn write_answers<W: Write>(alloc: Global, out: &mut W) -> io::Result<()> {
 fn write_tokens<W: Write>(alloc: Global, out: &mut W) -> io::Result<()> {
     write_answer(out, "tables", tables(alloc))?;
     write_answer(out, "gaps", gaps(alloc))?;
+    write_answer(out, "parts", table_parts(alloc))?;
     write_answer(out, "keywords", keywords(alloc))?;
     write_answer(out, "comments", comments_stay(alloc))?;
     write_answer(out, "lexer", lexer_stays(alloc))

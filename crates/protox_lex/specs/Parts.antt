@@ -1,5 +1,5 @@
 -- A part of a source: some of its lexemes, one after another.
-use Rattle.std.specs.Prelude.{ℕ, ◌≡◌, ◌<◌, ◌-◌, ◌++◌, ◌∷◌, ◌⊎◌, List, [], length, take, drop}
+use Rattle.std.specs.Prelude.{ℕ, ◌≡◌, ◌<◌, ◌≤◌, ◌+◌, ◌-◌, ◌++◌, ◌∷◌, ◌⊎◌, List, [], length, take, drop}
 use Rattle.std.specs.List.{All}
 use Rattle.protox_lexeme.specs.Lexemes.{Lexeme, cut}
 use Rattle.protox_lexeme.specs.Table.{Table, table_of}
@@ -28,3 +28,10 @@ pub record IsReach (source : List ℕ) (from until end : ℕ) : Type 0 where
   pub ends : EndsAt source from lexemes end
   pub before : All (λ x. x.stop < until) (take (length lexemes - 1) lexemes)
   pub stops : (end ≡ end_of from lexemes) ⊎ ((end ≡ length source) × (cut from (drop from source) ≡ lexemes))
+
+-- The part reaches the other place, and its last lexeme goes at most `long` bytes beyond. Or that
+-- lexeme would go further, and the part goes on to the end of the source.
+abbrev pub IsReachOrRest : List ℕ → ℕ → ℕ → ℕ → ℕ → Type 0
+IsReachOrRest source from until long end =
+    (IsReach source from until end × (end ≤ until + long))
+    ⊎ ((mid : ℕ) × IsReach source from until mid × (until + long < mid) × IsReach source from (length source) end)

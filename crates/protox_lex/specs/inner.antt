@@ -1,3 +1,4 @@
 pub mod Sharing
 pub mod RowList
 pub mod Grouping
+pub mod Stretches

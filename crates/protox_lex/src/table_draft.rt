@@ -9,7 +9,8 @@ ghost use Rattle.protox_lexeme.specs.Scanning as scanned;
 ghost use Rattle.protox_lexeme.specs.Shapes.{Mark, Newline};
 ghost use Rattle.protox_lexeme.specs.Table.{is_gap, table_of, invalid_faults};
 ghost use Rattle.protox_lex.specs.inner.Sharing.{and_row};
-ghost use Rattle.protox_lex.specs.Parts.{EndsAt, IsReach};
+ghost use Rattle.protox_lex.specs.Parts.{EndsAt, IsReach, IsReachOrRest};
+ghost use Rattle.protox_lex.specs.inner.Stretches.{IsStretch};
 ghost use Rattle.protox_lex.specs.TableView.{finished, ended_table};
 ghost use Rattle.protox_lexeme.specs.Tokens.{shape_of, shape_of_result, borrowed_of_result, holds_none};
 
@@ -222,10 +223,23 @@ impl<'a> TableDraft<'a> {
     }
 }
 
-// Cuts the lexemes that stand between `from` and `until`, with the whole of the last one. The last
+// A draft without a lexeme, with room for those of a part of `len` bytes.
+fn begun_draft<'a>(alloc: Global, len: usize) -> Result<TableDraft<'a>, AllocError>
+    ensures { IfOk result (λ draft. (xs : List spec.Lexeme) → finished draft xs ≡ table_of xs) }
+{
+    let room = len.min(AT_ONCE) / BYTES_A_ROW;
+    Ok(TableDraft {
+        rows: SharedRows::new(alloc, room)?,
+        gaps: SharedGaps::new(alloc, room)?,
+        faults: LateGroups::new(alloc),
+    })
+}
+
+// Adds the lexemes that stand between `from` and `until`, with the whole of the last one. The last
 // gap has not ended. Answers where the lexemes end.
 fn draft<'a>(
     alloc: Global,
+    begun: TableDraft<'a>,
     source: &'a str,
     from: usize,
     until: usize,
@@ -233,16 +247,11 @@ fn draft<'a>(
     requires fits { until ≤ length source.now }
     requires order { from ≤ until }
     requires boundary { IsCharBoundary source.now from }
-    ensures table { IfOk result (λ part. (xs : List spec.Lexeme) × (finished part.0 [] ≡ table_of xs) × EndsAt source.entry.now from xs part.1) }
-    ensures reach { IfOk result (λ part. IsReach source.entry.now from until part.1) }
+    ensures table { IfOk result (λ part. (xs : List spec.Lexeme) × ((more : List spec.Lexeme) → finished part.0 more ≡ finished begun.entry (xs ++ more)) × IsStretch source.entry.now from until xs part.1) }
     ensures past { IfOk result (λ part. until ≤ part.1) }
+    ensures boundary { IfOk result (λ part. IsCharBoundary source.entry.now part.1) }
 {
-    let room = (until - from).min(AT_ONCE) / BYTES_A_ROW;
-    let mut draft = TableDraft {
-        rows: SharedRows::new(alloc, room)?,
-        gaps: SharedGaps::new(alloc, room)?,
-        faults: LateGroups::new(alloc),
-    };
+    let mut draft = begun;
     let mut at = from;
     'lexemes: while at < until {
         let (blanks, text) = skip_blanks(&source[at..]);
@@ -254,23 +263,53 @@ fn draft<'a>(
     Ok((draft, at))
 }
 
+// The draft of the lexemes that stand between `from` and `until`, with the whole of the last one.
+// If that one ends more than `long` bytes behind `until`, then of all lexemes from `from` on. The
+// last gap has not ended. Answers where the lexemes end.
+fn draft_or_rest<'a>(
+    alloc: Global,
+    source: &'a str,
+    from: usize,
+    until: usize,
+    long: usize,
+) -> Result<(TableDraft<'a>, usize), AllocError>
+    requires fits { until ≤ length source.now }
+    requires order { from ≤ until }
+    requires boundary { IsCharBoundary source.now from }
+    ensures table { IfOk result (λ part. (xs : List spec.Lexeme) × (finished part.0 [] ≡ table_of xs) × EndsAt source.entry.now from xs part.1) }
+    ensures reach { IfOk result (λ part. IsReachOrRest source.entry.now from until long part.1) }
+    // No lexeme ends behind the source.
+    ensures near { length source.entry.now ≤ until + long → IfOk result (λ part. IsReach source.entry.now from until part.1) }
+    ensures past { IfOk result (λ part. until ≤ part.1) }
+{
+    let begun = begun_draft(alloc, until - from)?;
+    let (part, end) = draft(alloc, begun, source, from, until)?;
+    let beyond = end - until;
+    if beyond <= long {
+        return Ok((part, end));
+    }
+    draft(alloc, part, source, end, source.len())
+}
+
 /// The table of the lexemes that stand between `from` and `until`, with the whole of the last one.
-/// Its last gap has ended, and room that it doesn't take is given back. Answers where the lexemes
-/// end.
+/// If that one ends more than `long` bytes behind `until`, then of all lexemes from `from` on. Its
+/// last gap has ended, and room that it doesn't take is given back. Answers where the lexemes end.
 pub(crate) fn ended_draft<'a>(
     alloc: Global,
     source: &'a str,
     from: usize,
     until: usize,
+    long: usize,
 ) -> Result<(TableDraft<'a>, usize), AllocError>
     requires fits { until ≤ length source.now }
     requires order { from ≤ until }
     requires boundary { IsCharBoundary source.now from }
     ensures table { IfOk result (λ part. (xs : List spec.Lexeme) × (ended_table part.0 ≡ table_of xs) × EndsAt source.entry.now from xs part.1) }
-    ensures reach { IfOk result (λ part. IsReach source.entry.now from until part.1) }
+    ensures reach { IfOk result (λ part. IsReachOrRest source.entry.now from until long part.1) }
+    ensures near { length source.entry.now ≤ until + long → IfOk result (λ part. IsReach source.entry.now from until part.1) }
     ensures past { IfOk result (λ part. until ≤ part.1) }
 {
-    let (mut draft, end) = draft(alloc, source, from, until)?;
+    let (mut draft, end) = draft_or_rest(alloc, source, from, until, long)?;
     draft.end_gap()?;
     draft.rows.shrink_to_fit();
     draft.gaps.shrink_to_fit();

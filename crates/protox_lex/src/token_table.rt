@@ -8,7 +8,7 @@ ghost use Rattle.protox_lexeme.specs.Lexemes as spec;
 ghost use Rattle.protox_lexeme.specs.Table.{table_of};
 ghost use Rattle.protox_lexeme.specs.TokenClass.{class};
 ghost use Rattle.std.specs.Str.{IsCharBoundary};
-ghost use Rattle.protox_lex.specs.Parts.{IsPart, IsReach};
+ghost use Rattle.protox_lex.specs.Parts.{IsPart, IsReach, IsReachOrRest};
 ghost use Rattle.protox_lex.specs.TableView.{shape_of_lent, borrowed_of_lent, shapes_of_lent};
 ghost use Rattle.protox_lexeme.specs.Tokens.{shape_of};
 
@@ -75,7 +75,42 @@ impl<'a> TokenTable<'a> {
         ensures reach { IfOk result (λ part. IsReach source.entry.now from until part.1) }
         ensures past { IfOk result (λ part. until ≤ part.1) }
     {
-        let (TableDraft { rows, gaps, faults }, end) = ended_draft(alloc, source, from, until)?;
+        let (TableDraft { rows, gaps, faults }, end) = ended_draft(
+            alloc,
+            source,
+            from,
+            until,
+            source.len(),
+        )?;
+        Ok((TokenTable { rows, gaps, faults }, end))
+    }
+
+    /// The table of a part of a source, and where the part ends, as `part` gives them. But if the
+    /// last lexeme ends more than `long` bytes behind `until`, all lexemes up to the end of the source
+    /// come with it. So the caller who then wants the whole rest doesn't cut a long comment twice. Or
+    /// `AllocError` if memory runs out.
+    ///
+    /// As in `part`, both places are byte offsets in the source, and a lexeme begins at `from`, or a
+    /// blank.
+    #[tactic(auto, using(crate::proofs::Tables::gaps_held))]
+    pub fn part_or_rest(
+        alloc: Global,
+        source: &'a str,
+        from: usize,
+        until: usize,
+        long: usize,
+    ) -> Result<(TokenTable<'a>, usize), AllocError>
+        requires fits { until ≤ length source.now }
+        requires order { from ≤ until }
+        requires boundary { IsCharBoundary source.now from }
+        ensures part { IfOk result (λ part. IsPart source.entry.now from part.0 part.1) }
+        // The part ends as `part` ends it, or at the end of the source.
+        ensures reach { IfOk result (λ part. IsReachOrRest source.entry.now from until long part.1) }
+        ensures past { IfOk result (λ part. until ≤ part.1) }
+    {
+        let (TableDraft { rows, gaps, faults }, end) = ended_draft(
+            alloc, source, from, until, long,
+        )?;
         Ok((TokenTable { rows, gaps, faults }, end))
     }
 

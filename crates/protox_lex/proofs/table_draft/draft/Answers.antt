@@ -1,20 +1,20 @@
 use Rattle.std.proofs.Common.{◌≡◌, ◌<◌, ◌≤◌, ◌+◌, ◌++◌, ◌∷◌, [], length, drop, ap, sym, refl, ◌∙◌, length-drop, subst, inl, inr, append-nil, append_assoc, arith}
 use Rattle.std.proofs.lemmas.Bool.{eqb-true, eqb-false}
 use Rattle.std.proofs.lemmas.List.Elements.{All-nil, All-push}
+use Rattle.std.proofs.lemmas.Str.{IsCharBoundary-end}
 use Rattle.std.specs.List.{All}
 use Rattle.protox_lexeme.specs.Lexemes as spec
-use Rattle.protox_lexeme.specs.Table.{table_of}
 use Rattle.protox_lex.specs.TableView.{finished}
 use Rattle.protox_lexeme.proofs.Cut.{cut_none}
 use Rattle.protox_lexeme.proofs.Step.{step_boundary, step_cut}
-use Rattle.protox_lex.proofs.Tables.{all_but_more, end_of_more, ends_with, finished_start}
+use Rattle.protox_lex.proofs.Tables.{all_but_more, end_of_more, ends_with}
 use Rattle.protox_lex.proofs.table_draft.draft.Goals as goal
 
 pub lexemes-init : goal.lexemes-init
 lexemes-init c = record {
   boundary = c.requires.boundary;
   lexemes = [];
-  whole = λ rest. finished_start record { rows = c.in_ok-new.field-0; gaps = c.in_ok-new-2.field-0; faults = c.new-3.result } rest c.in_ok-new.ensures c.in_ok-new-2.ensures c.new-3.ensures;
+  whole = λ rest. refl;
   ends = refl;
   stopped = All-nil (λ x. x.stop ≤ c.args.from);
   before = All-nil (λ x. x.stop < c.args.until);
@@ -40,7 +40,7 @@ lexemes-preserved c =
     record {
       boundary = step_boundary source rest text at n start stop i.boundary.0 c.range_from.ensures.value (omega (arith, s.lens)) (s.rest ∙ ap (λ k. drop k rest) (sym s.len)) refl read.within.0 read.boundary;
       lexemes = i.lexemes ++ x ∷ [];
-      whole = λ more. read.value more ∙ i.whole (x ∷ more) ∙ ap table_of (sym (append_assoc i.lexemes (x ∷ []) more));
+      whole = λ more. read.value more ∙ i.whole (x ∷ more) ∙ ap (finished c.args.begun) (sym (append_assoc i.lexemes (x ∷ []) more));
       ends = i.ends ∙ ap (λ xs. i.lexemes ++ xs) turn ∙ sym (append_assoc i.lexemes (x ∷ []) (spec.cut stop (drop stop source)));
       stopped = All-push (λ y. y.stop ≤ stop) i.lexemes x (λ k d h. let earlier = i.stopped k d h in omega (arith, earlier, read.within.0)) (omega (arith, read.stop));
       before = subst (All (λ y. y.stop < c.args.until)) (sym (all_but_more i.lexemes x)) (λ k d h. let earlier = i.stopped k d h in omega (arith, earlier, c.lexemes-test));
@@ -54,28 +54,21 @@ returns-then-is_empty-clause-table c =
     let i = c.lexemes.invariant in
     let s = c.skip_blanks-blanks.ensures in
     let nothing = eqb-true (length c.skip_blanks-blanks.result.1.now) 0 (sym c.is_empty.ensures ∙ c.if-is_empty.true) in
-    let none = ap (spec.cut at) (sym c.range_from.ensures.value) ∙ cut_none at c.range_from.result.now (omega (arith, s.len, s.lens)) in
-    (i.lexemes, i.whole [] ∙ ap table_of (append-nil i.lexemes), ends_with source c.args.from at i.lexemes i.ends none)
+    let none = ap (spec.cut at) (sym c.range_from.ensures.value) ∙ cut_none at c.range_from.result.now (omega (arith, s.len, s.lens)) in (
+      i.lexemes,
+      i.whole,
+      record {
+        ends = ends_with source c.args.from at i.lexemes i.ends none;
+        stopped = λ k d h. let earlier = i.stopped k d h in omega (arith, earlier, i.boundary.0);
+        before = i.before;
+        stops = inr (refl, i.ends ∙ ap (λ ys. i.lexemes ++ ys) none ∙ append-nil i.lexemes);
+      },
+    )
 
-pub returns-then-is_empty-clause-reach : goal.returns-then-is_empty-clause-reach
-returns-then-is_empty-clause-reach c =
-    let at = c.lexemes.at in
-    let source = c.args.source.now in
-    let i = c.lexemes.invariant in
-    let s = c.skip_blanks-blanks.ensures in
-    let nothing = eqb-true (length c.skip_blanks-blanks.result.1.now) 0 (sym c.is_empty.ensures ∙ c.if-is_empty.true) in
-    let none = ap (spec.cut at) (sym c.range_from.ensures.value) ∙ cut_none at c.range_from.result.now (omega (arith, s.len, s.lens)) in
-    record {
-      lexemes = i.lexemes;
-      ends = ends_with source c.args.from at i.lexemes i.ends none;
-      before = i.before;
-      stops = inr (refl, i.ends ∙ ap (λ ys. i.lexemes ++ ys) none ∙ append-nil i.lexemes);
-    }
-
-pub returns-clause-reach : goal.returns-clause-reach
-returns-clause-reach c =
-    let i = c.lexemes.invariant in
-    record { lexemes = i.lexemes; ends = i.ends; before = i.before; stops = inl i.stops }
+pub returns-then-is_empty-clause-boundary : goal.returns-then-is_empty-clause-boundary
+returns-then-is_empty-clause-boundary c = IsCharBoundary-end c.args.source.now
 
 pub returns-clause-table : goal.returns-clause-table
-returns-clause-table c = let i = c.lexemes.invariant in (i.lexemes, i.whole [] ∙ ap table_of (append-nil i.lexemes), i.ends)
+returns-clause-table c =
+    let i = c.lexemes.invariant in
+    (i.lexemes, i.whole, record { ends = i.ends; stopped = i.stopped; before = i.before; stops = inl i.stops })

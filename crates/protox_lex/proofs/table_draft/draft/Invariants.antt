@@ -2,7 +2,6 @@ use Rattle.std.proofs.Common.{◌≡◌, ◌<◌, ◌≤◌, ◌-◌, ◌++◌, 
 use Rattle.std.specs.List.{All}
 use Rattle.std.specs.Str.{IsCharBoundary}
 use Rattle.protox_lexeme.specs.Lexemes.{Lexeme}
-use Rattle.protox_lexeme.specs.Table.{table_of}
 use Rattle.protox_lex.specs.Parts.{EndsAt, end_of}
 use Rattle.protox_lex.specs.TableView.{finished}
 use Rattle.protox_lex.proofs.table_draft.draft.Given as goal
@@ -11,7 +10,7 @@ abbrev pub invariant-lexemes : goal.invariant-lexemes
 invariant-lexemes l = record {
   boundary : IsCharBoundary l.source l.at;
   lexemes : List Lexeme;
-  whole : (rest : List Lexeme) → finished l.draft rest ≡ table_of (lexemes ++ rest);
+  whole : (rest : List Lexeme) → finished l.draft rest ≡ finished l.fn.begun (lexemes ++ rest);
   ends : EndsAt l.source l.from lexemes l.at;
   stopped : All (λ x. x.stop ≤ l.at) lexemes;
   before : All (λ x. x.stop < l.until) (take (length lexemes - 1) lexemes);

@@ -28,3 +28,4 @@ pub mod InGaps
 pub mod RowsAround
 pub mod Ordered
 pub mod CommentedOnce
+pub mod Repeating

@@ -3,3 +3,4 @@ pub mod NamePaths
 pub mod Names
 pub mod Commented
 pub mod inner
+pub mod Repeats

@@ -3,4 +3,5 @@
 
 pub mod draft;
 pub mod generate;
+pub mod repeats;
 mod short_source;

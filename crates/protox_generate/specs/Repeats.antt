@@ -1,5 +1,5 @@
--- Which declarations have a descriptor that may be much longer than their text: it repeats a part of
--- the text many times.
+-- Which declarations have a descriptor that may be much longer than their text: it repeats a part
+-- of the text many times.
 use Rattle.std.specs.Prelude.{ℕ, ◌-◌, Bool, false, ◌||◌, ◌&&◌, nat_lt, List, length, Option, Some, None}
 use Rattle.std.specs.List.{list_any}
 use Rattle.protox_ast.specs.Names.{type_name_span}
@@ -23,13 +23,13 @@ abbrev pub list_len : Option OptionList → ℕ
 list_len None = 0
 list_len (Some list) = span_len list.span
 
--- An `extensions` statement has more than 8 ranges, and options of more than 64 bytes. The descriptor
--- has the options once for each range.
+-- An `extensions` statement has more than 8 ranges, and options of more than 64 bytes. The
+-- descriptor has the options once for each range.
 abbrev pub repeats_options : Extensions → Bool
 repeats_options statement = nat_lt 8 (length statement.ranges) && nat_lt 64 (list_len statement.options)
 
--- More than 64 fields extend a message, and its name takes more than 64 bytes. The descriptor has the
--- name once for each field.
+-- More than 64 fields extend a message, and its name takes more than 64 bytes. The descriptor has
+-- the name once for each field.
 abbrev pub repeats_extendee : TypeName → ℕ → Bool
 repeats_extendee extendee fields = nat_lt 64 fields && nat_lt 64 (span_len (type_name_span extendee))
 
@@ -57,8 +57,8 @@ item_step (MessageItem-F.Oneof oneof) = oneof
 item_step (MessageItem-F.Enum enum) = false
 item_step (MessageItem-F.Extend extend) = extend
 
--- A message repeats much if an `extensions` statement of it does, or a part in it. An `extend` block
--- does if it repeats its extendee, or if a part in it repeats much.
+-- A message repeats much if an `extensions` statement of it does, or a part in it. An `extend`
+-- block does if it repeats its extendee, or if a part in it repeats much.
 abbrev pub repeat_steps : Steps Bool Bool Bool Bool Bool Bool Bool
 repeat_steps = record {
   kind = kind_step;

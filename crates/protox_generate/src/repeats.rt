@@ -147,8 +147,8 @@ fn in_kind(kind: &FieldKind) -> bool
 }
 
 /// Whether what the descriptor says of this declaration may be much longer than the declaration
-/// itself. An `extensions` statement with many ranges has its options repeated for each of them, and
-/// an `extend` block with many fields the name that it extends for each of them.
+/// itself. The descriptor repeats the options of an `extensions` statement for each of its ranges,
+/// and the name that an `extend` block extends for each of its fields.
 pub fn repeats_much(item: &FileItem) -> bool
     ensures { result ≡ spec.repeats_much item.now }
 {

@@ -86,12 +86,12 @@ impl<'a> TokenTable<'a> {
     }
 
     /// The table of a part of a source, and where the part ends, as `part` gives them. But if the
-    /// last lexeme ends more than `long` bytes behind `until`, all lexemes up to the end of the source
-    /// come with it. So the caller who then wants the whole rest doesn't cut a long comment twice. Or
-    /// `AllocError` if memory runs out.
+    /// last lexeme ends more than `long` bytes behind `until`, all lexemes up to the end of the
+    /// source come with it. So a caller who then wants the whole rest doesn't cut a long comment
+    /// twice. Or `AllocError` if memory runs out.
     ///
-    /// As in `part`, both places are byte offsets in the source, and a lexeme begins at `from`, or a
-    /// blank.
+    /// As in `part`, both places are byte offsets in the source, and a lexeme begins at `from`, or
+    /// a blank.
     #[tactic(auto, using(crate::proofs::Tables::gaps_held))]
     pub fn part_or_rest(
         alloc: Global,

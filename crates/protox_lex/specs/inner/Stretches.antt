@@ -4,8 +4,8 @@ use Rattle.std.specs.List.{All}
 use Rattle.protox_lexeme.specs.Lexemes.{Lexeme, cut}
 use Rattle.protox_lex.specs.Parts.{EndsAt, end_of}
 
--- From one place on there are these lexemes, just as many as it takes to reach the other place. They
--- end where the last of them stops; or at the end of the source, if no lexeme is left.
+-- From one place on there are these lexemes, just as many as it takes to reach the other place.
+-- They end where the last of them stops; or at the end of the source, if no lexeme is left.
 pub record IsStretch (source : List ℕ) (from until : ℕ) (lexemes : List Lexeme) (end : ℕ) : Type 0 where
   pub ends : EndsAt source from lexemes end
   pub stopped : All (λ x. x.stop ≤ end) lexemes

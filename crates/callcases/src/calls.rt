@@ -48,13 +48,32 @@ fn rows_and_end(
     Ok((table.rows(), end))
 }
 
+// The first part of a source, up to a place.
+fn part_of(
+    alloc: Global,
+    source: &str,
+    until: usize,
+) -> Result<(TokenTable<'_>, usize), AllocError> {
+    TokenTable::part(alloc, source, 0, until.min(source.len()))
+}
+
+// The same, or the whole source where the last lexeme ends more than `long` bytes behind the place.
+fn part_or_rest(
+    alloc: Global,
+    source: &str,
+    until: usize,
+    long: usize,
+) -> Result<(TokenTable<'_>, usize), AllocError> {
+    TokenTable::part_or_rest(alloc, source, 0, until.min(source.len()), long)
+}
+
 // Parts of a source up to a place in its comment. The comment ends 11 bytes behind it, with the
 // blank that follows.
 fn table_parts(alloc: Global) -> Result<String, AllocError> {
     let source = "a /* one two */ b c";
-    let part = rows_and_end(TokenTable::part(alloc, source, 0, 5))?;
-    let rest = rows_and_end(TokenTable::part_or_rest(alloc, source, 0, 5, 10))?;
-    let near = rows_and_end(TokenTable::part_or_rest(alloc, source, 0, 5, 11))?;
+    let part = rows_and_end(part_of(alloc, source, 5))?;
+    let rest = rows_and_end(part_or_rest(alloc, source, 5, 10))?;
+    let near = rows_and_end(part_or_rest(alloc, source, 5, 11))?;
     format!(in alloc; "{part:?} {rest:?} {near:?}")
 }
 
@@ -132,7 +151,7 @@ fn write_tokens<W: Write>(alloc: Global, out: &mut W) -> io::Result<()> {
 fn write_parts<W: Write>(alloc: Global, out: &mut W) -> io::Result<()> {
     write_answer(out, "located", parts::located(alloc))?;
     write_answer(out, "described", parts::described(alloc))?;
-    write_answer(out, "translated", parts::translated(alloc))
+    write_answer(out, "read", parts::read(alloc))
 }
 
 /// Writes a line for each call.

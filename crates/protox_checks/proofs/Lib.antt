@@ -1,8 +1,8 @@
 pub mod Adding
 pub mod DefaultLaw
 pub mod FaultLaw
-pub mod FaultlessItems
 pub mod FaultsLie
+pub mod ItemFaults
 pub mod Left
 pub mod ListedFaults
 pub mod Membership

@@ -9,6 +9,7 @@ use Rattle.protox_ast.specs.Checks.{is_text}
 use Rattle.protox_ast.specs.declared.ast.FieldLabel.{FieldLabel}
 use Rattle.protox_ast.specs.declared.ast.FieldLabel.TheVariants as label
 use Rattle.protox_ast.specs.declared.ast.File.{File}
+use Rattle.protox_ast.specs.declared.ast.FileItem.{FileItem}
 use Rattle.protox_ast.specs.declared.ast.Int.{Int}
 use Rattle.protox_ast.specs.declared.ast.OptionBody.{OptionBody}
 use Rattle.protox_ast.specs.declared.ast.OptionValue.{OptionValue}
@@ -18,7 +19,7 @@ use Rattle.protox_ast.specs.declared.ast.Syntax.TheVariants.{Proto2, Proto3}
 use Rattle.protox_ast.specs.declared.ast.Ty.{Ty}
 use Rattle.protox_checks.specs.Faults.{placed, settled}
 use Rattle.protox_checks.specs.FieldFaults.{Scope, InMessage, InOneof, InExtend, KindNode, Normal, Group, Map, FieldNode, may_be_key, is_map, is_group, is_repeated}
-use Rattle.protox_checks.specs.Nodes.{Node, AMessageNumber, AnEnumNumber, AField, AJsonName, AnOption, AnEmptyOneof, file_nodes}
+use Rattle.protox_checks.specs.Nodes.{Node, AMessageNumber, AnEnumNumber, AField, AJsonName, AnOption, AnEmptyOneof, file_nodes, item_nodes}
 use Rattle.protox_ast.specs.FieldNumbers.{in_message_range}
 use Rattle.protox_ast.specs.Spans.{body_span}
 use Rattle.protox_checks.specs.ValueFaults.{invalid_type, out_of_range}
@@ -152,3 +153,11 @@ file_faults file = nodes_faults file.syntax (file_nodes file)
 -- memory.
 abbrev pub AreListed : File → List ParseErrorKind → Type 0
 AreListed file found = map settled found ≡ file_faults file
+
+-- The list is exactly the faults of an item in a file of this syntax, in the same sense.
+abbrev pub AreListedOfItem : Syntax → FileItem → List ParseErrorKind → Type 0
+AreListedOfItem syntax item found = map settled found ≡ nodes_faults syntax (item_nodes item)
+
+-- The list is exactly the faults of these items, one item behind another, in the same sense.
+abbrev pub AreListedOfItems : Syntax → List FileItem → List ParseErrorKind → Type 0
+AreListedOfItems syntax items found = map settled found ≡ nodes_faults syntax (flat_map item_nodes items)

@@ -1,8 +1,8 @@
 //! The checks of a whole file.
 
-ghost use Rattle.std.specs.Prelude.{◌≡◌, ◌↔◌, [], IfOk, IsTrue, OnOk};
+ghost use Rattle.std.specs.Prelude.{IfOk, OnOk};
 ghost use Rattle.std.specs.List.{flat_map};
-ghost use Rattle.protox_checks.specs.Checks.{AreListed, nodes_faults};
+ghost use Rattle.protox_checks.specs.Checks.{AreListed, AreListedOfItem};
 ghost use Rattle.protox_checks.specs.Faults.{EachIsWrong, HasEachWrong};
 ghost use Rattle.protox_checks.specs.Nodes.{file_nodes, item_nodes};
 ghost use Rattle.protox_checks.specs.inner.Walk.{AddsIn};
@@ -16,7 +16,7 @@ use protox_descriptor::values::Items;
 use protox_fault::error::ParseErrorKind;
 use std::alloc::{AllocError, Global};
 
-fn check_item(syntax: Syntax, item: &FileItem, errors: &mut Found) -> Result<(), AllocError>
+fn add_item(syntax: Syntax, item: &FileItem, errors: &mut Found) -> Result<(), AllocError>
     ensures { OnOk result (AddsIn syntax errors.old errors.new (item_nodes item.now)) }
 {
     match item {
@@ -31,7 +31,7 @@ fn check_items(syntax: Syntax, items: &[FileItem], errors: &mut Found) -> Result
     ensures { OnOk result (AddsIn syntax errors.old errors.new (flat_map item_nodes items.now)) }
 {
     for item in items {
-        check_item(syntax, item, errors)?;
+        add_item(syntax, item, errors)?;
     }
     Ok(())
 }
@@ -43,13 +43,21 @@ fn check_whole(ast: &File, errors: &mut Found) -> Result<(), AllocError>
     check_statements(ast.options.as_slice(), errors)
 }
 
-/// Whether nothing is wrong with an item of a file in this syntax. `AllocError` if memory runs out.
-pub fn item_is_right(alloc: Global, syntax: Syntax, item: &FileItem) -> Result<bool, AllocError>
-    ensures { IfOk result (λ right. IsTrue right ↔ (nodes_faults syntax (item_nodes item.now) ≡ [])) }
+/// Checks an item of a file in this syntax. Answers its faults in the order in which they are
+/// found; none if the item is right. `AllocError` if memory runs out.
+///
+/// The faults of a file are those of its items, one item behind another, and then those that
+/// `check_file` finds in the rest: in the file without its items.
+pub fn check_item(
+    alloc: Global,
+    syntax: Syntax,
+    item: &FileItem,
+) -> Result<Items<ParseErrorKind>, AllocError>
+    ensures { IfOk result (AreListedOfItem syntax item.now) }
 {
     let mut errors = Found::new(alloc);
-    check_item(syntax, item, &mut errors)?;
-    Ok(errors.into_items().is_empty())
+    add_item(syntax, item, &mut errors)?;
+    Ok(errors.into_items())
 }
 
 /// Checks the syntax tree of a file. Answers its faults in the order in which they are found; none

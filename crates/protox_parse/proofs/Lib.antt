@@ -1,3 +1,5 @@
 pub mod Translating
 pub mod Truths
 pub mod AnswerLaws
+pub mod Making
+pub mod Answering

@@ -1,16 +1,29 @@
 -- What is said of the translation of a syntax tree is said of the tree that it is of.
-use Rattle.std.proofs.Common.{◌≡◌, ℕ, List, [], ◌∷◌, Result, Ok, Err, IfOk, MatchResult, refl, ap, sym, subst, ◌∙◌}
+use Rattle.std.proofs.Common.{◌≡◌, ℕ, List, [], ◌∷◌, length, Result, Ok, Err, IfOk, MatchResult, refl, ap, sym, subst, ◌∙◌}
 use Rattle.std.specs.Prelude.{◌≢◌}
-use Rattle.protox_ast.specs.Accepted.{IsFileOf}
+use Rattle.protox_ast.specs.Accepted.{IsAccepted, IsFileOf}
+use Rattle.protox_ast.specs.Ast as ast
 use Rattle.protox_ast.specs.Keywords.{Each}
+use Rattle.protox_ast.specs.Places.{Place}
+use Rattle.protox_ast.specs.Tree as t
 use Rattle.protox_ast.specs.declared.ast.File.{File}
 use Rattle.protox_descriptor.specs.declared.descriptor.FileDescriptorProto.{FileDescriptorProto}
+use Rattle.protox_checks.specs.Checks.{AreListed}
 use Rattle.protox_checks.specs.Faults.{IsFaultless, Wrong}
-use Rattle.protox_generate.specs.File.{file_descriptor}
+use Rattle.protox_generate.specs.File.{AreListedAll, file_descriptor}
 use Rattle.protox_fault.specs.declared.error.ParseErrorKind.{ParseErrorKind}
+use Rattle.protox_fault.specs.declared.error.SyntaxFailure.{SyntaxFailure}
+use Rattle.protox_fault.specs.declared.error.SyntaxFailure.TheVariants as failure
 use Rattle.protox_parse.specs.Failures.{IsOutOfMemory}
+use Rattle.protox_parse.specs.FaultLists.{AreListedOf, HasFaultsOf}
 use Rattle.protox_parse.specs.Files.{IsTranslation}
 use Rattle.protox_parse.specs.declared.failure.ParseFailure.{ParseFailure}
+use Rattle.protox_parse.specs.declared.failure.ParseFailure.TheVariants.{Refused, OutOfMemory}
+use Rattle.protox_syntax.proofs.Accepts.{one-accepted}
+
+-- the file of a source is that of each tree with which it is accepted
+pub same_file : (source : List ℕ) (file : File) (f : t.File Place) → IsFileOf source file → IsAccepted source f → file ≡ ast.file (length source) f
+same_file source file f is accepted = is.2 ∙ ap (ast.file (length source)) (one-accepted source is.0 f is.1 accepted)
 
 abbrev Translated : List ℕ → List ℕ → File → FileDescriptorProto → Type 0
 Translated name source file d = IsFaultless file × (d ≡ file_descriptor name source file)
@@ -31,3 +44,9 @@ only name source file same (Ok d) its is none ok h = found name source file (Ok 
 pub none-wrong : (file : File) (faults : List ParseErrorKind) → faults ≢ [] → Each (Wrong file) faults → IsFaultless file → ⊥
 none-wrong file [] some each none = some refl
 none-wrong file (wrong ∷ more) some each none = none wrong each.0
+
+-- A refusal that has the faults of a failure has those of the file.
+pub has_listed : (file : File) (e : SyntaxFailure) (r : ParseFailure) → HasFaultsOf e r → AreListedAll file e → AreListedOf file r
+has_listed file e OutOfMemory same h = tt
+has_listed file failure.OutOfMemory (Refused x) same h = absurd same
+has_listed file (failure.Faults v) (Refused x) same h = subst (AreListed file) (sym same) h

@@ -11,9 +11,7 @@ use Rattle.protox_ast.specs.Basics.{Each, first_of}
 use Rattle.protox_ast.specs.FaultList.{AreFaultsOf, StandIn}
 use Rattle.protox_ast.specs.FirstFault.{IsFirstFault}
 use Rattle.protox_ast.specs.declared.ast.File.{File}
-use Rattle.protox_checks.specs.Checks.{AreListed}
 use Rattle.protox_checks.specs.Faults.{Wrong}
-use Rattle.protox_generate.specs.File.{AreListedAll}
 use Rattle.protox_descriptor.specs.declared.descriptor.FileDescriptorProto.{FileDescriptorProto}
 use Rattle.protox_checks.proofs.PlainFaults.{all-plain, plain-stand}
 use Rattle.protox_parse.specs.Failures.{AreWrongOf, IsOutOfMemory, IsRefusalOf}
@@ -37,11 +35,6 @@ if-more P Q None h k = tt
 if-more P Q (Some x) h k = h x k
 
 -- ---- all faults of a syntax tree
-
-pub has-listed : (file : File) (e : SyntaxFailure) (r : ParseFailure) → HasFaultsOf e r → AreListedAll file e → AreListedOf file r
-has-listed file e OutOfMemory same h = tt
-has-listed file failure.OutOfMemory (Refused x) same h = absurd same
-has-listed file (failure.Faults v) (Refused x) same h = subst (AreListed file) (sym same) h
 
 -- Where memory ran out there is no list.
 pub none-listed : (file : File) (e : ParseFailure) → IsOutOfMemory e → AreListedOf file e

@@ -5,3 +5,4 @@ pub mod Files
 pub mod FirstFault
 pub mod Truth
 pub mod FaultLists
+pub mod inner

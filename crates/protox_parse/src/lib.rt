@@ -2,8 +2,8 @@
 //! descriptor with locations, or what is wrong with the text.
 #![tactic(auto)]
 
-ghost use Rattle.std.specs.Prelude.{◌≡◌, ◌≤◌, ◌↔◌, IsTrue, IfOk, IfErr, MatchResult, length};
-ghost use Rattle.protox_ast.specs.Accepted.{Fits, IsAccepted, IsFileOf};
+ghost use Rattle.std.specs.Prelude.{◌≡◌, ◌≤◌, ◌↔◌, [], IsTrue, IfOk, IfErr, MatchResult, length};
+ghost use Rattle.protox_ast.specs.Accepted.{Fits, IsAccepted};
 ghost use Rattle.protox_ast.specs.Ast as ast_of;
 ghost use Rattle.protox_ast.specs.Tree as tree;
 ghost use Rattle.protox_checks.specs.Faults.{IsFaultless};
@@ -13,13 +13,17 @@ ghost use Rattle.protox_generate.specs.File.{file_descriptor, AreLocated, AreSor
 ghost use Rattle.protox_generate.specs.NamePaths.{HasPlaces};
 ghost use Rattle.protox_generate.specs.Names.{HasNames};
 ghost use Rattle.protox_ast.specs.Places.{Place};
+ghost use Rattle.protox_ast.specs.declared.ast.File as file_type;
+ghost use Rattle.protox_ast.specs.declared.ast.Syntax as syntax_type;
 ghost use Rattle.protox_parse.specs.Failures.{AreWrongOf, IsOutOfMemory, IsRefusalOf};
 ghost use Rattle.protox_parse.specs.FaultLists.{AreAllFound, AreLexicalAlone, AreListedOf, AreStanding, ExpectsTruly, NoCheckIsLost};
 ghost use Rattle.protox_parse.specs.Files.{IsFile, IsTranslation};
 ghost use Rattle.protox_parse.specs.FirstFault.{BeginsWithFirst};
+ghost use Rattle.protox_parse.specs.inner.Made.{IsRead, IsSoFar};
 
 mod failure;
 pub mod laws;
+mod translate;
 
 pub use failure::{ParseError, ParseFailure};
 use failure::{refused, too_large};
@@ -27,15 +31,15 @@ pub use protox_ast::ast;
 use protox_descriptor::descriptor::FileDescriptorProto;
 pub use protox_descriptor::{case, descriptor, tag, values};
 pub use protox_generate::generate;
-use protox_generate::generate::generate_file;
 pub use protox_lex::error::ParseErrorKind;
 use protox_lex::error::SyntaxFailure;
 pub use protox_lex::{comments, error, lex};
 pub use protox_places::find::locate;
 pub use protox_places::{faults, find};
 pub use protox_syntax::parse as syntax;
-use protox_syntax::parse::parse_file;
+use protox_syntax::parse::read_source;
 use std::alloc::Global;
+use translate::Translation;
 
 /// Whether a source of `len` bytes is within the limit of 2,147,483,647 bytes.
 pub fn source_fits(len: usize) -> bool
@@ -44,12 +48,19 @@ pub fn source_fits(len: usize) -> bool
     len <= 2147483647
 }
 
-// The syntax tree of the source; or the faults that the parser finds, or that memory ran out.
+// Reads the source, and makes what can be made of its items. Answers the syntax tree without its
+// items; or the faults that the parser finds, or that memory ran out.
 #[tactic(auto, using(crate::proofs::Truths::reading))]
-fn read(alloc: Global, name: &str, source: &str) -> Result<ast::File, ParseFailure>
-    requires { Fits source.now }
-    ensures found { IfOk result (IsFileOf source.now) }
-    ensures only { (f : tree.File Place) → IsAccepted source.now f → MatchResult result (λ file. file ≡ ast_of.file (length source.now) f) IsOutOfMemory }
+fn read(
+    alloc: Global,
+    name: &str,
+    source: &str,
+    made: &mut Translation<'_>,
+) -> Result<ast::File, ParseFailure>
+    requires fits { Fits source.now }
+    requires none { (syntax : syntax_type.Syntax) → IsSoFar source.now syntax [] made.old }
+    ensures found { IfOk result (λ head. (file : file_type.File) × IsRead source.now file head made.new) }
+    ensures only { (f : tree.File Place) → IsAccepted source.now f → MatchResult result (λ head. head ≡ record (ast_of.file (length source.now) f) { items = [] }) IsOutOfMemory }
     ensures refused { IfErr result (IsRefusalOf name.now source.now) }
     ensures first { IfErr result (BeginsWithFirst source.now) }
     ensures stands { IfErr result (AreStanding source.now) }
@@ -58,24 +69,25 @@ fn read(alloc: Global, name: &str, source: &str) -> Result<ast::File, ParseFailu
     ensures no_check_lost { IfErr result (NoCheckIsLost source.now) }
     ensures words { IfErr result (ExpectsTruly source.now) }
 {
-    match parse_file(alloc, source) {
-        Ok(file) => Ok(file),
+    match read_source(alloc, source, made) {
+        Ok(head) => Ok(head),
         Err(SyntaxFailure::Faults(faults)) => Err(refused(alloc, name, source, faults)),
         Err(SyntaxFailure::OutOfMemory) => Err(ParseFailure::OutOfMemory),
     }
 }
 
-// The descriptor of this syntax tree; or the faults that the generator's checks find, or that
-// memory ran out.
+// The descriptor of the file with this head and the items read; or the faults that the generator's
+// checks find, or that memory ran out.
 fn translated(
     alloc: Global,
-    file: ast::File,
+    head: ast::File,
+    made: Translation<'_>,
     name: &str,
     source: &str,
 ) -> Result<FileDescriptorProto, ParseFailure>
-    requires { IsFileOf source.now file }
-    ensures found { IfOk result (λ d. IsFaultless file × (d ≡ file_descriptor name.now source.now file)) }
-    ensures only { IsFaultless file → MatchResult result (λ d. d ≡ file_descriptor name.now source.now file) IsOutOfMemory }
+    requires { (file : file_type.File) × IsRead source.now file head made }
+    ensures found { (file : file_type.File) → IsRead source.now file head made.entry → IfOk result (λ d. IsFaultless file × (d ≡ file_descriptor name.now source.now file)) }
+    ensures only { (file : file_type.File) → IsRead source.now file head made.entry → IsFaultless file → MatchResult result (λ d. d ≡ file_descriptor name.now source.now file) IsOutOfMemory }
     ensures located { IfOk result AreLocated }
     ensures sorted { IfOk result AreSorted }
     ensures oneofs { IfOk result HasRealFirst }
@@ -83,10 +95,10 @@ fn translated(
     ensures placed { IfOk result HasPlaces }
     ensures commented_once { IfOk result (AreCommentedOnce source.now) }
     ensures refused { IfErr result (IsRefusalOf name.now source.now) }
-    ensures wrong { IfErr result (AreWrongOf file) }
-    ensures checked { IfErr result (AreListedOf file) }
+    ensures wrong { (file : file_type.File) → IsRead source.now file head made.entry → IfErr result (AreWrongOf file) }
+    ensures checked { (file : file_type.File) → IsRead source.now file head made.entry → IfErr result (AreListedOf file) }
 {
-    match generate_file(alloc, file, name, source) {
+    match made.finish(alloc, name, &head) {
         Ok(descriptor) => Ok(descriptor),
         Err(SyntaxFailure::Faults(found)) => Err(refused(alloc, name, source, found)),
         Err(SyntaxFailure::OutOfMemory) => Err(ParseFailure::OutOfMemory),
@@ -145,8 +157,9 @@ pub fn parse(alloc: Global, name: &str, source: &str) -> Result<FileDescriptorPr
     if !source_fits(source.len()) {
         return Err(too_large(alloc, name));
     }
-    match read(alloc, name, source) {
-        Ok(file) => translated(alloc, file, name, source),
+    let mut made = Translation::new(alloc, source);
+    match read(alloc, name, source, &mut made) {
+        Ok(head) => translated(alloc, head, made, name, source),
         Err(failure) => Err(failure),
     }
 }

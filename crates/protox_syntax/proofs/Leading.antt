@@ -26,10 +26,9 @@ use Rattle.protox_rows.specs.inner.Outcome.{Fails}
 use Rattle.protox_rows.specs.declared.refused.Refused.{Refused}
 use Rattle.protox_rows.specs.declared.refused.Refused.TheVariants.{OutOfMemory, At, TooDeep}
 use Rattle.protox_syntax.specs.AllFaults.{Progress, after_statement, along, beginning, behind_block, faults_of_table, from_statement, in_mode, last, nowhere, read, refused, statements}
-use Rattle.protox_syntax.specs.inner.Leading.{Alike, Ends, IsRefusedAt, IsStoppedAt, Leads, found_with_notes, rest_of}
+use Rattle.protox_syntax.specs.inner.Leading.{Alike, Ends, Leads, found_with_notes, rest_of}
 use Rattle.protox_syntax.specs.inner.Recovery.{AreLast, AreRefusalNotes, at_most, last_rows, next_rows, plain_note, refusal_notes}
 use Rattle.protox_syntax.specs.inner.Statements.{levels, next_first, statement, statement_rule, statement_seen}
-use Rattle.protox_syntax.specs.declared.statement_types.StatementStart.{StatementStart}
 use Rattle.protox_syntax.specs.declared.statement_types.Statement as statement_type
 use Rattle.protox_syntax.proofs.Along.{along-found_with_notes, found_with_notes-append}
 use Rattle.protox_syntax.proofs.Alike.{alike-found_with_notes, alike-read, alike-refused}
@@ -197,23 +196,3 @@ pub leads-behind : (t : Table) (notes : Notes) (q : Option Span) (xs : Rows Plac
     → new ≡ (notes ++ statement.notes q xs) ++ at_refusal → Leads t new q (next_rows t e most)
 leads-behind t notes q [] e at_refusal new most some v is fails h added = absurd (some refl)
 leads-behind t notes q (r ∷ rs) e at_refusal new most some v is fails h added = leads-refused t notes q r rs v e at_refusal new most (omega (arith, is)) fails h added
-
--- a statement is refused, and the loop ends
-stopped-at : (t : Table) (notes new : Notes) (start : StatementStart) (e : Refused) (xs : Rows Place) → eqb (length xs) 0 ≡ false → start.left ≡ length xs → Leads t notes start.first xs → new ≡ notes ++ statement.notes start.first xs → Fails e (statement.code xs) → IsStoppedAt t new start e
-stopped-at t notes new start e [] some left v added fails = absurd cc
-stopped-at t notes new start e (r ∷ rs) some left v added fails = record { row = r; rows = rs; before = notes; counted = left; leads = v; notes_are = added; fails = fails }
-
-pub refused-at : (t : Table) (notes new : Notes) (start : StatementStart) (e : Refused) (rows : Rows Place) → eqb (length rows) 0 ≡ false → start.left ≡ length rows → Leads t notes start.first rows → AddsTo e notes (statement.notes start.first rows) new → Fails e (statement.code rows) → IsRefusedAt t new start e
-refused-at t notes new start OutOfMemory rows some left v added fails = tt
-refused-at t notes new start (At n expected) rows some left v added fails = stopped-at t notes new start (At n expected) rows some left v added fails
-refused-at t notes new start (TooDeep n) rows some left v added fails = stopped-at t notes new start (TooDeep n) rows some left v added fails
-
--- reading goes on behind it
-again-at : (t : Table) (notes new : Notes) (start : StatementStart) (e : Refused) (own : Notes) (most : ℕ) → IsStoppedAt t notes start e → AreRefusalNotes t.rows e own → new ≡ notes ++ own → most ≡ start.left - 1 → Leads t new start.first (next_rows t e most)
-again-at t notes new start e own most v h added is =
-    leads-refused t v.before start.first v.row v.rows v.leads e own new most (omega (arith, is, v.counted)) v.fails h (added ∙ ap (λ n. n ++ own) v.notes_are)
-
-pub leads-again : (t : Table) (notes new : Notes) (start : StatementStart) (e : Refused) (at_refusal : Notes) (most : ℕ) → IsRefusedAt t notes start e → AreRefusalNotes t.rows e at_refusal → new ≡ notes ++ at_refusal → most ≡ start.left - 1 → Leads t new start.first (next_rows t e most)
-leads-again t notes new start OutOfMemory at_refusal most v h added is = absurd h
-leads-again t notes new start (At left expected) at_refusal most v h added is = again-at t notes new start (At left expected) at_refusal most v h added is
-leads-again t notes new start (TooDeep left) at_refusal most v h added is = again-at t notes new start (TooDeep left) at_refusal most v h added is

@@ -1,7 +1,6 @@
 -- Where no fault is noted, what was read is right.
-use Rattle.std.proofs.Common.{◌≡◌, Bool, true, false, [], ◌∷◌, ◌++◌, Option, Some, None, option_map, Result, Ok, Err, refl, sym, ap, subst, ◌∙◌}
-use Rattle.std.specs.Prelude.{◌&&◌, ◌<◌, IfOk, length}
-use Rattle.std.specs.declared.alloc.AllocError.{AllocError}
+use Rattle.std.proofs.Common.{◌≡◌, Bool, true, false, List, [], ◌∷◌, ◌++◌, drop, Option, Some, None, option_map, Result, Ok, Err, refl, sym, ap, subst, ◌∙◌}
+use Rattle.std.specs.Prelude.{◌&&◌, length}
 use Rattle.std.specs.List.{list_all}
 use Rattle.protox_fault.specs.Faults.{Span}
 use Rattle.protox_lexeme.specs.Shapes.{Rows}
@@ -36,10 +35,7 @@ use Rattle.protox_options.specs.inner.Options.{here}
 use Rattle.protox_rows.specs.declared.refused.Refused.{Refused}
 use Rattle.protox_rows.specs.inner.Notes.{Adds}
 use Rattle.protox_rows.specs.inner.Outcome.{Gives}
-use Rattle.protox_syntax.proofs.Turns.{statement-eats}
-use Rattle.protox_syntax.specs.NextStatement.{BeginWithSyntax, IfRead, IsNextStatement, IsNextSyntax, is_no_fault}
-use Rattle.protox_syntax.specs.declared.next.Next.{Next}
-use Rattle.protox_syntax.specs.declared.next.Next.TheVariants as next
+use Rattle.protox_syntax.specs.NextStatement.{BeginWithSyntax, IsNextStatement, IsNextSyntax, is_no_fault}
 use Rattle.protox_syntax.specs.declared.statement_types.Statement as statement_type
 use Rattle.protox_syntax.specs.inner.Statements.{levels, next_first, statement, statement_rule, statement_seen, syntax_if_any, syntax_seen}
 
@@ -106,26 +102,12 @@ some_faulty (n ∷ ns) h k = some_faulty ns (some-fault n.noted (list_all (λ (m
 
 -- ---- what the code answers
 
-module _ {T : Type 0} (P : T → Type 0) where
-  pub judged-by : (result : Result (Next T) AllocError) (read : Result T Refused) (notes : Notes) → IfOk result (λ next. IfRead next (λ x. (read ≡ Ok x) × IsFaultless notes)) → ((x : T) → read ≡ Ok x → IsFaultless notes → P x) → IfOk result (λ next. IfRead next P)
-  judged-by (Err e) read notes h f = tt
-  judged-by (Ok (next.Read x)) read notes h f = f x h.0 h.1
-  judged-by (Ok next.Ended) read notes h f = tt
-  judged-by (Ok next.Wrong) read notes h f = tt
-
 pub given-ok : {X Y : Type 0} (view : X → Y) (read : Result X Refused) (x : X) (new : Rows Place) (r : _) → read ≡ Ok x → Gives view read new r → r ≡ Ok (view x, new)
 given-ok view read x new r e h = subst (λ v. Gives view v new r) e h
 
-pub added-ok : {X : Type 0} (read : Result X Refused) (x : X) (start added new : Notes) → start ≡ [] → read ≡ Ok x → Adds read start added new → new ≡ added
-added-ok read x start added new none e h = subst (λ v. Adds v start added new) e h ∙ ap (λ l. l ++ added) none
+pub added-ok : {X : Type 0} (read : Result X Refused) (x : X) (start added new : Notes) → read ≡ Ok x → Adds read start added new → new ≡ start ++ added
+added-ok read x start added new e h = subst (λ v. Adds v start added new) e h
 
-pub read-statement : (first : Option Span) (old new : Rows Place) (read : Result statement_type.Statement Refused) (start notes : Notes) (x : statement_type.Statement) → AreValidTokens old → start ≡ [] → Gives (λ x. x) read new (statement.code old) → Adds read start (statement.notes first old) notes
-    → read ≡ Ok x → IsFaultless notes → IsNextStatement first old new x
-read-statement first old new read start notes x valid none gives adds e fine = statement-next first old new x valid (given-ok (λ x. x) read x new (statement.code old) e gives) (subst IsFaultless (added-ok read x start (statement.notes first old) notes none e adds) fine)
-
-pub read-syntax : (old new : Rows Place) (read : Result (Option (Syntax × (Span × Comments))) Refused) (start notes : Notes) (x : Option (Syntax × (Span × Comments))) → AreValidTokens old → start ≡ [] → Gives (λ x. x) read new (syntax_if_any.code old) → Adds read start (syntax_if_any.notes old) notes
-    → read ≡ Ok x → IsFaultless notes → IsNextSyntax old new x
-read-syntax old new read start notes x valid none gives adds e fine = syntax-next old new x valid (given-ok (λ x. x) read x new (syntax_if_any.code old) e gives) (subst IsFaultless (added-ok read x start (syntax_if_any.notes old) notes none e adds) fine)
-
-pub read-fewer : (old new : Rows Place) (read : Result statement_type.Statement Refused) (x : statement_type.Statement) → Gives (λ x. x) read new (statement.code old) → read ≡ Ok x → length new < length old
-read-fewer old new read x gives e = statement-eats old (x, new) (given-ok (λ x. x) read x new (statement.code old) e gives)
+pub drop-all : {A : Type 0} (xs ys : List A) → drop (length xs) (xs ++ ys) ≡ ys
+drop-all [] ys = refl
+drop-all (x ∷ xs) ys = drop-all xs ys

@@ -32,7 +32,7 @@ use Rattle.protox_syntax.specs.inner.Statements.{levels, next_first, statement_r
 abbrev pub and_statement : tree.File Place → tree.Statement Place → tree.File Place
 and_statement f x = record { syntax = f.syntax; statements = f.statements ++ x ∷ [] }
 
-steps-begun : (x : Option (tree.Syntax Place)) → steps levels (begun x) ≡ syntax_steps x
+pub steps-begun : (x : Option (tree.Syntax Place)) → steps levels (begun x) ≡ syntax_steps x
 unfolding bodies.file
 steps-begun x = append-nil (syntax_steps x)
 
@@ -47,7 +47,7 @@ many-more : {A : Type 0} (f : A → Steps Place) (xs : List A) (x : A) → steps
 many-more f [] x = append-nil (f x)
 many-more f (y ∷ ys) x = ap (λ l. f y ++ l) (many-more f ys x) ∙ sym (append_assoc (f y) (steps_of_many f ys) (f x))
 
-steps-more : (f : tree.File Place) (x : tree.Statement Place) → steps levels (and_statement f x) ≡ steps levels f ++ statement_rule.steps x
+pub steps-more : (f : tree.File Place) (x : tree.Statement Place) → steps levels (and_statement f x) ≡ steps levels f ++ statement_rule.steps x
 unfolding bodies.file
 steps-more f x = ap (λ l. syntax_steps f.syntax ++ l) (many-more statement_rule.steps f.statements x) ∙ sym (append_assoc (syntax_steps f.syntax) (steps_of_many statement_rule.steps f.statements) (statement_rule.steps x))
 
@@ -65,34 +65,3 @@ right-more first f x so_far right =
           (each-append IsFine (noted_nodes None here (steps levels f)) (noted_nodes before keyword (statement_rule.steps x)) so_far.fine (right.fine before keyword so_far.place));
       place = ap (λ l. place_of (first_behind None l)) (steps-more f x) ∙ ap place_of (first-append None (steps levels f) (statement_rule.steps x)) ∙ right.next before so_far.place;
     }
-
--- ---- all rows are read
-
-module _ (first : Option Span) (f : tree.File Place) (so_far : IsRightSoFar first f) where
-  may : (main.file_at here levels).may f
-  unfolding bodies.file
-  may = (main.laws here levels).read.within f so_far.fits
-
-  keeps : k.KeepsKeywords f
-  keeps = main.of-may here levels f may
-
-  keeps-each : k.Each (bodies.StatementHas k.KeepsMbody) f.statements
-  unfolding bodies.file
-  keeps-each = may
-
-  is-read : (rows : Rows Place) → rows ≡ s.spell f → read levels rows ≡ Ok f
-  unfolding read bodies.file
-  is-read rows is =
-      let a = (main.laws here levels).read.again f [] so_far.fits (main.ends-of here levels f keeps) in
-      let b : (main.file_at here levels).read rows ≡ Ok (f, []) = subst (λ v. (main.file_at here levels).read v ≡ Ok (f, [])) (append-nil ((main.file_at here levels).spell f) ∙ main.spelling here levels f ∙ sym is) a in
-      rw b refl
-
-  nothing-wrong : (rows : Rows Place) → AreValidTokens rows → rows ≡ s.spell f → NothingWrong f
-  nothing-wrong rows valid is =
-      let traced = read-traced here levels rows f (is-read rows is) in
-      (noted-wrong here rows f valid keeps-each traced).0 (told-fine None here (trace levels rows) rows (subst (λ l. Each IsFine (noted_nodes None here l)) (sym traced) so_far.fine))
-
-  pub accepted : (source : List ℕ) → Fits source → AreValidTokens (placed (table_of (cut 0 source))) → AreClean (cut 0 source) → placed (table_of (cut 0 source)) ≡ s.spell f → IsAccepted source f
-  accepted source short valid clean is =
-      let a = (main.accepts_iff here levels (placed (table_of (cut 0 source))) f).0 (is-read (placed (table_of (cut 0 source))) is) in
-      record { fits = short; spells = a.0; clean = clean; levels = a.1; nothing_wrong = nothing-wrong (placed (table_of (cut 0 source))) valid is }

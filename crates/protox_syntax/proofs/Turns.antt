@@ -18,10 +18,9 @@ use Rattle.protox_rows.specs.inner.Notes.{AddsTo}
 use Rattle.protox_rows.specs.inner.Outcome.{Fails}
 use Rattle.protox_rows.specs.declared.refused.Refused.{Refused}
 use Rattle.protox_rows.specs.declared.refused.Refused.TheVariants.{OutOfMemory, At, TooDeep}
-use Rattle.protox_syntax.specs.inner.Statements.{levels, statement, add_statement, first_place, next_first, notes_behind, or_package}
+use Rattle.protox_syntax.specs.inner.Statements.{Statements, levels, statement, add_statement, first_place, next_first, notes_behind, or_package}
 use Rattle.protox_syntax.specs.declared.statement_types.Statement as statement_type
 use Rattle.protox_syntax.specs.declared.statement_types.Statement.TheVariants as statement_of
-use Rattle.protox_syntax.specs.declared.statement_types.Statements.{Statements}
 
 pub statement-eats : Consumes statement.code
 statement-eats = shows-eats (messages.statement-laws here k.KeepsMbody (bodies.FitsMbody levels) (bodies.unsealed levels).read (bodies.unsealed levels).steps (bodies.unsealed levels).trace (body-laws here levels)) statement.shows

@@ -9,4 +9,5 @@ pub mod FoundFaults
 pub mod LostChecks
 pub mod OptionsBack
 pub mod NextStatement
+pub mod TakenItems
 pub mod inner

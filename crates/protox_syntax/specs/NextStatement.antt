@@ -20,28 +20,8 @@ use Rattle.protox_grammar.specs.Told.{first_behind, place_of}
 use Rattle.protox_grammar.specs.Token as token
 use Rattle.protox_grammar.specs.declared.note.Noted.{Noted}
 use Rattle.protox_grammar.specs.declared.note.Noted.TheVariants.{Fault, TextFormat}
-use Rattle.protox_syntax.specs.declared.next.Next.{Next}
-use Rattle.protox_syntax.specs.declared.next.Next.TheVariants as next
 use Rattle.protox_syntax.specs.declared.statement_types.Statement as statement_type
 use Rattle.protox_syntax.specs.inner.Statements.{levels, next_first, statement_rule, statement_seen, syntax_seen}
-
--- If something was read, this holds for it.
-abbrev pub IfRead : {T : Type 0} → Next T → (T → Type 0) → Type 0
-IfRead (next.Read x) P = P x
-IfRead next.Ended P = Unit {0}
-IfRead next.Wrong P = Unit {0}
-
--- If the rows ended too soon, this holds.
-abbrev pub IfEnded : {T : Type 0} → Next T → Type 0 → Type 0
-IfEnded (next.Read x) P = Unit {0}
-IfEnded next.Ended P = P
-IfEnded next.Wrong P = Unit {0}
-
--- If something was wrong, this holds.
-abbrev pub IfWrong : {T : Type 0} → Next T → Type 0 → Type 0
-IfWrong (next.Read x) P = Unit {0}
-IfWrong next.Ended P = Unit {0}
-IfWrong next.Wrong P = P
 
 -- Whether what is noted is no fault.
 abbrev pub is_no_fault : Noted → Bool
@@ -55,14 +35,6 @@ syntax_steps x = steps_of_option r.syntax.steps x
 -- The rows begin with the word `syntax`.
 abbrev pub BeginWithSyntax : Rows Place → Type 0
 BeginWithSyntax rows = head_in (in_set (only token.syntax)) rows ≡ true
-
--- These tokens begin with those of a syntax statement with which nothing is wrong.
-pub record HaveRightSyntax (tokens : List Shape) : Type 0 where
-  pub it : tree.Syntax Place
-  pub behind : List Shape
-  pub tokens_are : tokens ≡ shapes (s.syntax it) ++ behind
-  pub keyword : Place
-  pub fine : Each IsFine (noted_nodes None keyword (r.syntax.steps it))
 
 -- The rows begin with a syntax statement, or with none, and its syntax is known.
 pub record IsNextSyntax (old new : Rows Place) (found : Option (Syntax × (Span × Comments))) : Type 0 where
@@ -86,16 +58,3 @@ pub record IsNextStatement (first : Option Span) (old new : Rows Place) (found :
   pub rows : old ≡ s.statement it ++ new
   pub seen : found ≡ statement_seen it
   pub right : IsRight first it
-
--- These tokens begin with those of a statement that keeps the keyword rules, has messages of at most
--- 31 levels, and none of its nodes has a fault, where `first` is the place of the first package
--- statement before it.
-pub record HaveRightStatement (first : Option Span) (tokens : List Shape) : Type 0 where
-  pub it : tree.Statement Place
-  pub behind : List Shape
-  pub tokens_are : tokens ≡ shapes (s.statement it) ++ behind
-  pub fits : bodies.StatementHas (bodies.FitsMbody levels) it
-  pub before : Option (tree.Package Place)
-  pub place : place_of before ≡ first
-  pub keyword : Place
-  pub fine : Each IsFine (noted_nodes before keyword (statement_rule.steps it))

@@ -7,4 +7,7 @@ pub mod Leading
 pub mod ParsedTable
 pub mod Front
 pub mod SoFar
-pub mod NextRead
+pub mod Parts
+pub mod SomeRead
+pub mod OnWay
+pub mod ReadInto

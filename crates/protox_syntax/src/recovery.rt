@@ -1,21 +1,15 @@
-//! Reads on behind a statement that is refused, so that later faults are reported too.
+//! Where reading goes on behind a statement that is refused, so that later faults are reported too.
 
-ghost use Rattle.std.specs.Prelude.{◌≡◌, ◌≢◌, ◌<◌, ◌++◌, [], OnOk, length};
+ghost use Rattle.std.specs.Prelude.{◌≡◌, ◌++◌, OnOk};
 ghost use Rattle.protox_grammar.specs.Told.{Notes};
-ghost use Rattle.protox_syntax.specs.inner.Recovery.{AreLast, AreLater, AreRefusalNotes, LiesToo, Recovers, at_most, behind_block, from_statement, last_rows, next_rows, plain_note, refusal_notes};
-ghost use Rattle.protox_syntax.specs.inner.Leading.{Ends, IsRefusedAt, Leads};
-ghost use Rattle.protox_syntax.specs.inner.Statements.{next_first};
+ghost use Rattle.protox_syntax.specs.inner.Recovery.{AreRefusalNotes, at_most, behind_block, from_statement, last_rows, next_rows, plain_note, refusal_notes};
 
 use crate::fault_list::refusal;
-use crate::statement_types::{Statement, StatementStart};
-use crate::statements::statement;
 use protox_grammar::note::{Note, Noted};
-use protox_lex::error::Span;
 use protox_lex::lex::TokenTable;
 use protox_rows::class::{
     ENUM, EXTEND, IMPORT, LEFT_BRACE, MESSAGE, OPTION, PACKAGE, RIGHT_BRACE, SERVICE, sees_any,
 };
-use protox_rows::leaf::copied;
 use protox_rows::refused::Refused;
 use protox_rows::rows::Unread;
 use std::alloc::{AllocError, Global};
@@ -81,8 +75,12 @@ fn behind_last<'t, 'a>(table: &'t TokenTable<'a>, count: usize) -> Unread<'t, 'a
     rows
 }
 
-// The rows at which reading goes on behind a refused statement; at most `most` of them.
-fn next_rows<'t, 'a>(table: &'t TokenTable<'a>, refused: &Refused, most: usize) -> Unread<'t, 'a>
+/// The rows at which reading goes on behind a refused statement; at most `most` of them.
+pub(crate) fn next_rows<'t, 'a>(
+    table: &'t TokenTable<'a>,
+    refused: &Refused,
+    most: usize,
+) -> Unread<'t, 'a>
     ensures { result ≡ next_rows table.now refused.now most }
 {
     match refused {
@@ -124,8 +122,8 @@ fn add_refusal_note(
     add_plain(notes, left)
 }
 
-// Notes the refusal itself. A body that is too deep has been noted while it was read.
-fn add_refused(
+/// Notes the refusal of a statement. A body that is too deep has been noted while it was read.
+pub(crate) fn add_refused(
     alloc: Global,
     table: &TokenTable<'_>,
     notes: &mut Vec<Note>,
@@ -140,65 +138,4 @@ fn add_refused(
         }
         Refused::TooDeep { left } => add_plain(notes, left.saturating_sub(1)),
     }
-}
-
-// Remembers where the first package statement stands.
-fn keep_first(first: &mut Option<Span>, statement: &Statement)
-    ensures { first.new ≡ next_first first.old statement.now }
-{
-    if let Statement::Package(package) = statement {
-        if first.is_none() {
-            *first = Some(copied(&package.span));
-        }
-    }
-}
-
-// Reads one more statement, or skips to the next one if it is refused.
-fn read_one<'t, 'a>(
-    alloc: Global,
-    table: &'t TokenTable<'a>,
-    notes: &mut Vec<Note>,
-    rows: &mut Unread<'t, 'a>,
-    first: &mut Option<Span>,
-) -> Result<(), AllocError>
-    requires rows { AreLast table.now rows.old }
-    requires some { rows.old ≢ [] }
-    ensures added { OnOk result ((more : Notes) × (notes.new.items ≡ notes.old.items ++ more) × AreLater table.now first.old more) }
-    ensures left { OnOk result (AreLast table.now rows.new) }
-    ensures fewer { OnOk result (length rows.new < length rows.old) }
-    ensures first { OnOk result (LiesToo table.now first.old first.new) }
-    ensures leads { OnOk result (Leads table.now notes.old.items first.old rows.old → Leads table.now notes.new.items first.new rows.new) }
-{
-    let most = rows.len() - 1;
-    match statement(alloc, notes, rows, first) {
-        Ok(statement) => {
-            keep_first(first, &statement);
-            Ok(())
-        }
-        Err(refused) => {
-            add_refused(alloc, table, notes, &refused)?;
-            *rows = next_rows(table, &refused, most);
-            Ok(())
-        }
-    }
-}
-
-/// Notes the refusal of a statement, and the faults of those behind it.
-pub(crate) fn recover(
-    alloc: Global,
-    table: &TokenTable<'_>,
-    notes: &mut Vec<Note>,
-    refused: &Refused,
-    start: StatementStart,
-) -> Result<(), AllocError>
-    ensures notes { OnOk result (Recovers table.now refused.now start.first notes.old.items notes.new.items) }
-    ensures leads { OnOk result (IsRefusedAt table.now notes.old.items start refused.now → Ends table.now notes.new.items) }
-{
-    add_refused(alloc, table, notes, refused)?;
-    let mut rows = next_rows(table, refused, start.left.saturating_sub(1));
-    let mut first = start.first;
-    'more: while !rows.is_empty() {
-        read_one(alloc, table, notes, &mut rows, &mut first)?;
-    }
-    Ok(())
 }

@@ -1,7 +1,6 @@
 //! Reads the syntax statement and the other statements of a file.
 
-ghost use Rattle.std.specs.Prelude.{◌≡◌, ◌++◌, [], None, OnOk, IfErr, IfOk, MatchResult, option_map};
-ghost use Rattle.protox_lexeme.specs.Table.{Table};
+ghost use Rattle.std.specs.Prelude.{◌≡◌, ◌++◌, OnOk, IfOk};
 ghost use Rattle.protox_ast.specs.Ast.{syntax_of, text_of};
 ghost use Rattle.protox_grammar.specs.Told.{import_notes};
 ghost use Rattle.protox_rows.specs.inner.Outcome.{Gives};
@@ -10,17 +9,15 @@ ghost use Rattle.protox_syntax.specs.inner.Words as said;
 ghost use Rattle.protox_rows.specs.declared.expected.Expected.TheVariants as expect;
 ghost use Rattle.protox_rows.specs.inner.Words as row_said;
 ghost use Rattle.protox_rows.specs.inner.Notes.{Adds};
-ghost use Rattle.protox_syntax.specs.inner.Leading.{Ends, IsRefusedAt, Leads};
-ghost use Rattle.protox_syntax.specs.inner.Recovery.{FirstLies};
 ghost use Rattle.protox_syntax.specs.inner.Statements as rule;
 
 use crate::checks::{check_package, check_path, check_syntax};
-use crate::statement_types::{Statement, StatementStart, Statements};
+use crate::statement_types::Statement;
 use protox_ast::ast::{Comments, FileItem, FullIdent, Import, ImportKind, Package, Syntax};
 use protox_blocks::enums::enum_;
 use protox_blocks::services::service;
 use protox_bodies::bodies::{extend, message};
-use protox_descriptor::values::{Items, Text};
+use protox_descriptor::values::Text;
 use protox_grammar::note::Note;
 use protox_lex::error::Span;
 use protox_options::options::option;
@@ -29,7 +26,7 @@ use protox_rows::class::{
     ENUM, EXTEND, IMPORT, MESSAGE, OPTION, PACKAGE, PUBLIC, SEMICOLON, SYNTAX, WEAK, sees, sees_any,
 };
 use protox_rows::expected::Expected;
-use protox_rows::leaf::{copied, expect_mark, expect_word};
+use protox_rows::leaf::{expect_mark, expect_word};
 use protox_rows::names::fullident;
 use protox_rows::refused::Refused;
 use protox_rows::rows::{Unread, comments_between, span_between};
@@ -307,67 +304,4 @@ pub(crate) fn statement(
         return package_statement(alloc, notes, rows, first);
     }
     declared(alloc, notes, rows)
-}
-
-// The place of the first package statement.
-fn first_place(file: &Statements) -> Option<Span>
-    ensures { result ≡ rule.first_place file.now }
-{
-    match &file.first {
-        Some(package) => Some(copied(&package.span)),
-        None => None,
-    }
-}
-
-fn add_statement(file: &mut Statements, statement: Statement) -> Result<(), AllocError>
-    ensures { OnOk result (file.new ≡ rule.add_statement file.old statement) }
-{
-    match statement {
-        Statement::Empty => Ok(()),
-        Statement::Import(import) => file.imports.push(import),
-        Statement::Package(package) => {
-            keep_first_package(file, package);
-            Ok(())
-        }
-        Statement::Option(option) => file.options.push(option),
-        Statement::Item(item) => file.items.push(item),
-    }
-}
-
-// Keeps the first package.
-fn keep_first_package(file: &mut Statements, found: Package)
-    ensures { file.new ≡ record file.old { first = rule.or_package file.old.first found } }
-{
-    if file.first.is_none() {
-        file.first = Some(found);
-    }
-}
-
-/// statement* , up to the end or to a statement that is refused. Keeps where the last one begins.
-#[tactic(auto, unfolding(crate::specs::inner::Statements::statements_at, crate::specs::inner::Words::statements))]
-pub(crate) fn statements(
-    alloc: Global,
-    notes: &mut Vec<Note>,
-    rows: &mut Unread<'_, '_>,
-    start: &mut StatementStart,
-) -> Result<Statements, Refused>
-    ensures read { Gives (λ x. x) result [] (rule.statements_at rows.old) }
-    ensures notes { Adds result notes.old.items (rule.notes_behind None rows.old) notes.new.items }
-    ensures first { IfErr result (λ refused. FirstLies rows.old start.new.first) }
-    ensures leads { (t : Table) → Leads t notes.old.items None rows.old → MatchResult result (λ found. Ends t notes.new.items) (IsRefusedAt t notes.new.items start.new) }
-    ensures words { Says result (said.statements rows.old) }
-{
-    let mut file = Statements {
-        first: None,
-        imports: Items::new(alloc),
-        options: Items::new(alloc),
-        items: Items::new(alloc),
-    };
-    'more: while !rows.is_empty() {
-        start.left = rows.len();
-        start.first = first_place(&file);
-        let statement = statement(alloc, notes, rows, &start.first)?;
-        add_statement(&mut file, statement)?;
-    }
-    Ok(file)
 }

@@ -3,8 +3,9 @@
 use protox_describe::file::describe_file;
 use protox_locate::file::locate_file;
 use protox_parse::ast::{Comments, Enum, File, FileItem, Ident, Syntax};
+use protox_parse::error::{ParseErrorKind, SyntaxFailure};
+use protox_parse::syntax::read_source;
 use protox_parse::values::Items;
-use protox_pass::pass::translate;
 use std::alloc::{AllocError, Global};
 
 const NAME: &str = "e.proto";
@@ -47,9 +48,25 @@ pub fn described(alloc: Global) -> Result<String, AllocError> {
     format!(in alloc; "{file:?}")
 }
 
-// What one pass finds of the source, and of one that is refused.
-pub fn translated(alloc: Global) -> Result<String, AllocError> {
-    let found = translate(alloc, NAME, SOURCE)?;
-    let refused = translate(alloc, NAME, "enum {}")?;
-    format!(in alloc; "{found:?} {refused:?}")
+// What is wrong with an enum that has no name.
+fn faults(alloc: Global, items: &mut Items<FileItem>) -> Result<Vec<ParseErrorKind>, AllocError> {
+    match read_source(alloc, "enum {}", items) {
+        Err(SyntaxFailure::Faults(faults)) => Ok(faults),
+        Err(SyntaxFailure::OutOfMemory) => Err(AllocError),
+        Ok(_) => Ok(Vec::new(alloc)),
+    }
+}
+
+// The head of the source, and its items in a list; and what is wrong with another source.
+pub fn read(alloc: Global) -> Result<String, AllocError> {
+    let mut items = Items::new(alloc);
+    let Ok(head) = read_source(alloc, SOURCE, &mut items) else {
+        return Err(AllocError);
+    };
+    let faults = faults(alloc, &mut items)?;
+    let count = items.len();
+    format!(in alloc;
+        "{count} items, {:?}, {:?}; {faults:?}",
+        head.syntax, head.span
+    )
 }

@@ -3,41 +3,44 @@ use Rattle.std.proofs.lemmas.Bool.{false≢true}
 use Rattle.std.specs.Prelude.{IsTrue, length}
 use Rattle.protox_ast.specs.Accepted.{Fits}
 use Rattle.protox_ast.specs.Ast as ast_of
-use Rattle.protox_parse.proofs.Translating.{found, only}
+use Rattle.protox_parse.proofs.Translating.{found, only, same_file}
 use Rattle.protox_parse.proofs.Truths as truths
 use Rattle.protox_parse.specs.FaultLists.{AreListedOf}
 use Rattle.protox_parse.proofs.parse.Goals as goal
 
 pub returns-in-Ok-clause-found : goal.returns-in-Ok-clause-found
-returns-in-Ok-clause-found c = found c.args.name.now c.args.source.now c.in-Ok.file c.translated.result c.in-Ok.ensures.found c.translated.ensures.found
+returns-in-Ok-clause-found c = let r = c.in-Ok.ensures.found in found c.args.name.now c.args.source.now r.0 c.translated.result r.1.of_source (c.translated.ensures.found r.0 r.1)
 
 pub returns-in-Ok-clause-only : goal.returns-in-Ok-clause-only
 returns-in-Ok-clause-only c is =
-    only c.args.name.now c.args.source.now c.in-Ok.file _ c.translated.result c.in-Ok.ensures.found (c.in-Ok.ensures.only is.0 is.1) is.2 c.translated.ensures.found c.translated.ensures.only
+    let r = c.in-Ok.ensures.found in
+    only c.args.name.now c.args.source.now r.0 _ c.translated.result r.1.of_source (same_file c.args.source.now r.0 is.0 r.1.of_source is.1) is.2 (c.translated.ensures.found r.0 r.1) (c.translated.ensures.only r.0 r.1)
 
 pub returns-in-Err-clause-only : goal.returns-in-Err-clause-only
 returns-in-Err-clause-only c is = c.in-Err.ensures.only is.0 is.1
 
 pub returns-in-Ok-clause-first : goal.returns-in-Ok-clause-first
-returns-in-Ok-clause-first c = truths.made-first c.args.source.now c.in-Ok.file c.in-Ok.ensures.found c.translated.result c.translated.ensures.wrong
+returns-in-Ok-clause-first c = let r = c.in-Ok.ensures.found in truths.made-first c.args.source.now r.0 r.1.of_source c.translated.result (c.translated.ensures.wrong r.0 r.1)
 
 pub returns-in-Ok-clause-stands : goal.returns-in-Ok-clause-stands
-returns-in-Ok-clause-stands c = truths.made-stand c.args.source.now c.in-Ok.file c.translated.result c.translated.ensures.wrong
+returns-in-Ok-clause-stands c = let r = c.in-Ok.ensures.found in truths.made-stand c.args.source.now r.0 c.translated.result (c.translated.ensures.wrong r.0 r.1)
 
 pub returns-in-Ok-clause-lexical : goal.returns-in-Ok-clause-lexical
-returns-in-Ok-clause-lexical c = truths.made-lexical c.args.source.now c.in-Ok.file c.in-Ok.ensures.found c.translated.result
+returns-in-Ok-clause-lexical c = let r = c.in-Ok.ensures.found in truths.made-lexical c.args.source.now r.0 r.1.of_source c.translated.result
 
 pub returns-in-Ok-clause-all_found : goal.returns-in-Ok-clause-all_found
-returns-in-Ok-clause-all_found c = truths.made-all c.args.source.now c.in-Ok.file c.in-Ok.ensures.found c.translated.result
+returns-in-Ok-clause-all_found c = let r = c.in-Ok.ensures.found in truths.made-all c.args.source.now r.0 r.1.of_source c.translated.result
 
 pub returns-in-Ok-clause-no_check_lost : goal.returns-in-Ok-clause-no_check_lost
-returns-in-Ok-clause-no_check_lost c = truths.made-lost c.args.source.now c.in-Ok.file c.in-Ok.ensures.found c.translated.result
+returns-in-Ok-clause-no_check_lost c = let r = c.in-Ok.ensures.found in truths.made-lost c.args.source.now r.0 r.1.of_source c.translated.result
 
 pub returns-in-Ok-clause-words : goal.returns-in-Ok-clause-words
-returns-in-Ok-clause-words c = truths.made-words c.args.source.now c.in-Ok.file c.in-Ok.ensures.found c.translated.result
+returns-in-Ok-clause-words c = let r = c.in-Ok.ensures.found in truths.made-words c.args.source.now r.0 r.1.of_source c.translated.result
 
 pub returns-in-Ok-clause-checked : goal.returns-in-Ok-clause-checked
-returns-in-Ok-clause-checked c f accepted = subst (λ v. IfErr c.translated.result (AreListedOf v)) (c.in-Ok.ensures.only f accepted) c.translated.ensures.checked
+returns-in-Ok-clause-checked c f accepted =
+    let r = c.in-Ok.ensures.found in
+    subst (λ v. IfErr c.translated.result (AreListedOf v)) (same_file c.args.source.now r.0 f r.1.of_source accepted) (c.translated.ensures.checked r.0 r.1)
 
 pub returns-in-Err-clause-checked : goal.returns-in-Err-clause-checked
 returns-in-Err-clause-checked c f accepted = truths.none-listed (ast_of.file (length c.args.source.now) f) _ (c.in-Err.ensures.only f accepted)

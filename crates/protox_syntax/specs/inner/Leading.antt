@@ -2,19 +2,14 @@
 use Rattle.std.specs.Prelude.{◌≡◌, suc, ◌+◌, ◌∷◌, ◌++◌, List, length, map, Option}
 use Rattle.protox_fault.specs.Faults.{Span}
 use Rattle.protox_fault.specs.declared.error.ParseErrorKind.{ParseErrorKind}
-use Rattle.protox_lexeme.specs.Shapes.{Row, Rows}
+use Rattle.protox_lexeme.specs.Shapes.{Rows}
 use Rattle.protox_lexeme.specs.Table.{Table}
 use Rattle.protox_ast.specs.Places.{Place}
 use Rattle.protox_ast.specs.Tree as tree
 use Rattle.protox_grammar.specs.Told.{Notes, place_of}
-use Rattle.protox_rows.specs.inner.Outcome.{Fails}
-use Rattle.protox_rows.specs.declared.refused.Refused.{Refused}
-use Rattle.protox_rows.specs.declared.refused.Refused.TheVariants.{OutOfMemory, At, TooDeep}
 use Rattle.protox_syntax.specs.AllFaults.{Progress, beginning, faults_of_table, read, statements, unworded}
 use Rattle.protox_syntax.specs.inner.Recovery.{AreLast}
-use Rattle.protox_syntax.specs.inner.Statements.{statement}
 use Rattle.protox_syntax.specs.inner.Merge.{merge_notes}
-use Rattle.protox_syntax.specs.declared.statement_types.StatementStart.{StatementStart}
 
 -- the list so far, with these notes merged among the rows
 abbrev pub found_with_notes : Table → Notes → Progress → Progress
@@ -41,19 +36,3 @@ pub record Leads (t : Table) (notes : Notes) (first : Option Span) (rows : Rows 
 -- With these notes all rows are read, and the list is complete.
 abbrev pub Ends : Table → Notes → Type 0
 Ends t notes = (found : Progress) × Alike (found_with_notes t notes beginning) found × ((read t 0 found).errors ≡ faults_of_table t)
-
--- A statement that begins here is refused. The notes lead to it and then hold its own.
-pub record IsStoppedAt (t : Table) (notes : Notes) (start : StatementStart) (refused : Refused) : Type 0 where
-  pub row : Row Place
-  pub rows : Rows Place
-  pub before : Notes
-  pub counted : start.left ≡ suc (length rows)
-  pub leads : Leads t before start.first (row ∷ rows)
-  pub notes_are : notes ≡ before ++ statement.notes start.first (row ∷ rows)
-  pub fails : Fails refused (statement.code (row ∷ rows))
-
--- The same for each refusal but want of memory.
-abbrev pub IsRefusedAt : Table → Notes → StatementStart → Refused → Type 0
-IsRefusedAt t notes start OutOfMemory = Unit {0}
-IsRefusedAt t notes start (At left expected) = IsStoppedAt t notes start (At left expected)
-IsRefusedAt t notes start (TooDeep left) = IsStoppedAt t notes start (TooDeep left)

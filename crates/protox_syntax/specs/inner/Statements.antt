@@ -38,7 +38,6 @@ use Rattle.protox_blocks.specs.inner.Services.{service}
 use Rattle.protox_bodies.specs.inner.Bodies as messages
 use Rattle.protox_syntax.specs.declared.statement_types.Statement as statement_type
 use Rattle.protox_syntax.specs.declared.statement_types.Statement.TheVariants as statement_of
-use Rattle.protox_syntax.specs.declared.statement_types.Statements.{Statements}
 
 -- ---- the syntax statement
 
@@ -214,6 +213,13 @@ statement = stated_renamed bodies.to_statement statement_seen form-is
 
 -- ---- what statements add to a file
 
+-- What the statements of a file declare. Only the first package is kept.
+pub record Statements : Type 0 where
+  pub first : Option package_type.Package
+  pub imports : List import_type.Import
+  pub options : List option_type.Option
+  pub items : List item_type.FileItem
+
 -- the first of two package statements
 abbrev pub or_package : Option package_type.Package → package_type.Package → Option package_type.Package
 or_package None x = Some x
@@ -257,7 +263,8 @@ item-added : (f : Statements) (y : item_type.FileItem) (xs : List (tree.Statemen
     ≡ statements_of (or_later f.first (filter_map ast.packaged xs)) (f.imports ++ filter_map ast.imported xs) (f.options ++ filter_map ast.file_option xs) (f.items ++ y ∷ ys)
 item-added f y xs ys = ap (statements_of (or_later f.first (filter_map ast.packaged xs)) (f.imports ++ filter_map ast.imported xs) (f.options ++ filter_map ast.file_option xs)) (append_assoc f.items (y ∷ []) ys)
 
-added : (f : Statements) (x : tree.Statement Place) (xs : List (tree.Statement Place)) → then_statements (add_statement f (statement_seen x)) xs ≡ then_statements f (x ∷ xs)
+-- One more statement in front adds what it declares.
+pub added : (f : Statements) (x : tree.Statement Place) (xs : List (tree.Statement Place)) → then_statements (add_statement f (statement_seen x)) xs ≡ then_statements f (x ∷ xs)
 added f (tree.an_empty m) xs = refl
 added f (tree.an_import x) xs = ap (λ v. statements_of (or_later f.first (filter_map ast.packaged xs)) v (f.options ++ filter_map ast.file_option xs) (f.items ++ filter_map ast.file_element xs)) (append_assoc f.imports (ast.«import» x ∷ []) (filter_map ast.imported xs))
 added f (tree.a_package x) xs = ap (λ v. statements_of v (f.imports ++ filter_map ast.imported xs) (f.options ++ filter_map ast.file_option xs) (f.items ++ filter_map ast.file_element xs)) (later-more f.first (ast.«package» x) (filter_map ast.packaged xs))

@@ -8,8 +8,7 @@ use Rattle.protox_ast.specs.declared.ast.Comments.{Comments}
 use Rattle.protox_ast.specs.declared.ast.Syntax.{Syntax}
 use Rattle.protox_grammar.specs.Reader.{Reader, seq}
 use Rattle.protox_grammar.specs.Told.{Notes, then_notes}
-use Rattle.protox_syntax.specs.declared.statement_types.Statements.{Statements}
-use Rattle.protox_syntax.specs.inner.Statements.{syntax_if_any, syntax_seen, statements_at, statements_seen, notes_behind}
+use Rattle.protox_syntax.specs.inner.Statements.{Statements, syntax_if_any, syntax_seen, statements_at, statements_seen, notes_behind}
 
 -- the syntax statement, and what the statements declare
 abbrev pub Whole : Type 0

@@ -1,51 +1,32 @@
+use Rattle.std.proofs.Common.{◌≡◌, [], refl, sym, ap, subst, ◌∙◌}
+use Rattle.protox_ast.specs.Accepted.{IsFileOf}
+use Rattle.protox_ast.specs.declared.ast.File.{File}
 use Rattle.protox_grammar.proofs.Main as main
 use Rattle.protox_options.specs.inner.Options.{here}
-use Rattle.protox_syntax.proofs.Accepts.{parsed-found, parsed-only}
 use Rattle.protox_syntax.proofs.Aggregates.{aggregates-lex-back}
-use Rattle.protox_syntax.proofs.FaultsStand.{parsed-stands-result}
-use Rattle.protox_syntax.proofs.ParsedTableFirst.{parsed-first, parsed-found-all}
-use Rattle.protox_syntax.proofs.TrueWords.{parsed-words}
-use Rattle.protox_syntax.proofs.LexicalAlone.{parsed-result}
-use Rattle.protox_syntax.proofs.NoCheckLost.{parsed-none-lost}
+use Rattle.protox_syntax.proofs.Answering.{listed-file, listed-only}
 use Rattle.protox_syntax.proofs.parse.parse_file.Goals as goal
 
-pub returns-clause-found : goal.returns-clause-found
-returns-clause-found c =
-    parsed-found c.args.source.now c.requires c.parse_source.result c.parse_source.ensures
+pub returns-in-Ok-clause-found : goal.returns-in-Ok-clause-found
+returns-in-Ok-clause-found c = listed-file c.args.source.now c.in-Ok.file c.new-items.result c.read_source.new.to c.new-items.ensures c.in-Ok.ensures.taken
 
-pub returns-clause-only : goal.returns-clause-only
-returns-clause-only c =
-    parsed-only c.args.source.now c.parse_source.result c.parse_source.ensures
+pub returns-in-Ok-clause-only : goal.returns-in-Ok-clause-only
+returns-in-Ok-clause-only c f accepted = listed-only c.args.source.now c.in-Ok.file c.new-items.result c.read_source.new.to c.new-items.ensures c.in-Ok.ensures.taken f accepted
 
-pub returns-clause-lexical : goal.returns-clause-lexical
-returns-clause-lexical c =
-    parsed-result c.args.source.now c.parse_source.result c.parse_source.ensures
+pub returns-in-Ok-clause-one_tree : goal.returns-in-Ok-clause-one_tree
+returns-in-Ok-clause-one_tree c = main.one_tree tt
 
-pub returns-clause-first : goal.returns-clause-first
-returns-clause-first c =
-    parsed-first c.args.source.now c.parse_source.result c.parse_source.ensures
+pub returns-in-Ok-clause-one_placed_tree : goal.returns-in-Ok-clause-one_placed_tree
+returns-in-Ok-clause-one_placed_tree c = main.one_tree here
 
-pub returns-clause-words : goal.returns-clause-words
-returns-clause-words c =
-    parsed-words c.args.source.now c.parse_source.result c.parse_source.ensures
+pub returns-in-Ok-clause-lexes_back : goal.returns-in-Ok-clause-lexes_back
+returns-in-Ok-clause-lexes_back c = aggregates-lex-back c.args.source.now c.utf8.source
 
-pub returns-clause-stands : goal.returns-clause-stands
-returns-clause-stands c =
-    parsed-stands-result c.args.source.now c.parse_source.result c.parse_source.ensures
+pub returns-in-Err-clause-one_tree : goal.returns-in-Err-clause-one_tree
+returns-in-Err-clause-one_tree c = main.one_tree tt
 
-pub returns-clause-all_found : goal.returns-clause-all_found
-returns-clause-all_found c =
-    parsed-found-all c.args.source.now c.parse_source.result c.parse_source.ensures
+pub returns-in-Err-clause-one_placed_tree : goal.returns-in-Err-clause-one_placed_tree
+returns-in-Err-clause-one_placed_tree c = main.one_tree here
 
-pub returns-clause-no_check_lost : goal.returns-clause-no_check_lost
-returns-clause-no_check_lost c =
-    parsed-none-lost c.args.source.now c.parse_source.result c.parse_source.ensures
-
-pub returns-clause-one_tree : goal.returns-clause-one_tree
-returns-clause-one_tree c = main.one_tree tt
-
-pub returns-clause-one_placed_tree : goal.returns-clause-one_placed_tree
-returns-clause-one_placed_tree c = main.one_tree here
-
-pub returns-clause-lexes_back : goal.returns-clause-lexes_back
-returns-clause-lexes_back c = aggregates-lex-back c.args.source.now c.utf8.source
+pub returns-in-Err-clause-lexes_back : goal.returns-in-Err-clause-lexes_back
+returns-in-Err-clause-lexes_back c = aggregates-lex-back c.args.source.now c.utf8.source

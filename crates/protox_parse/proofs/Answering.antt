@@ -1,0 +1,43 @@
+-- The descriptor of a source's file has the laws of a descriptor.
+use Rattle.std.proofs.Common.{◌≡◌, ℕ, List, sym, subst}
+use Rattle.std.specs.Str.{IsUtf8}
+use Rattle.protox_ast.specs.Accepted.{IsFileOf}
+use Rattle.protox_ast.specs.declared.ast.File.{File}
+use Rattle.protox_checks.specs.Faults.{IsFaultless}
+use Rattle.protox_descriptor.specs.declared.descriptor.FileDescriptorProto.{FileDescriptorProto}
+use Rattle.protox_describe.specs.Oneofs.{HasRealFirst}
+use Rattle.protox_generate.proofs.CommentedOnce.{answer-commented}
+use Rattle.protox_generate.proofs.NamedFiles.{answer-named}
+use Rattle.protox_generate.proofs.PlacedFiles.{answer-placed}
+use Rattle.protox_generate.proofs.RealOneofs.{answer-first}
+use Rattle.protox_generate.proofs.Standing.{file-stands}
+use Rattle.protox_generate.specs.Commented.{AreCommentedOnce}
+use Rattle.protox_generate.specs.File.{AreLocated, AreSorted, file_descriptor}
+use Rattle.protox_generate.specs.NamePaths.{HasPlaces}
+use Rattle.protox_generate.specs.Names.{HasNames}
+use Rattle.protox_locate.proofs.InOrder.{in-order}
+use Rattle.protox_locate.specs.Locations.{file_locations}
+use Rattle.protox_places.proofs.SortedPaths.{sorted-by-path}
+use Rattle.protox_places.specs.Lines.{span_numbers}
+use Rattle.protox_places.specs.Order.{StartsBefore}
+
+module _ (name source : List ℕ) (u : IsUtf8 source) (file : File) (of_source : IsFileOf source file) (d : FileDescriptorProto) (is : d ≡ file_descriptor name source file) where
+  pub located : AreLocated d
+  unfolding file_descriptor
+  located = subst AreLocated (sym is) (in-order source _ file (file-stands source file u of_source))
+
+  pub sorted : AreSorted d
+  unfolding file_descriptor
+  sorted = subst AreSorted (sym is) (sorted-by-path StartsBefore (file_locations (span_numbers source) file) (in-order source _ file (file-stands source file u of_source)))
+
+  pub oneofs : IsFaultless file → HasRealFirst d
+  oneofs faultless = answer-first name source file d faultless is
+
+  pub named : HasNames source d
+  named = answer-named name source file d u of_source is
+
+  pub in_places : HasPlaces d
+  in_places = answer-placed name source file d is
+
+  pub commented_once : AreCommentedOnce source d
+  commented_once = answer-commented name source file d u of_source is

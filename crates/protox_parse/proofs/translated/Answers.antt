@@ -1,0 +1,68 @@
+use Rattle.std.proofs.Common.{length, subst}
+use Rattle.protox_checks.proofs.FaultsLie.{listed-lie}
+use Rattle.protox_checks.specs.Faults.{AreWrong}
+use Rattle.protox_fault.specs.declared.error.SyntaxFailure.TheVariants.{Faults}
+use Rattle.protox_generate.proofs.Standing.{file-stands}
+use Rattle.protox_generate.specs.File.{AreListedAll}
+use Rattle.protox_parse.proofs.Answering as answers
+use Rattle.protox_parse.proofs.Translating.{has_listed}
+use Rattle.protox_parse.proofs.translated.Goals as goal
+
+pub refused-requires : goal.refused-requires
+refused-requires c =
+    let file = c.requires.0 in
+    let read = c.requires.1 in
+    let source = c.args.source.now in
+    let stands = file-stands source file c.utf8.source read.of_source in
+    let wrong = subst (AreWrong file) c.in-Err-Faults.field-0-is (c.in-Err-Faults.ensures.wrong source file read) in
+    let listed = subst (AreListedAll file) c.in-Err-Faults.field-0-is (c.in-Err-Faults.ensures.in_order source file read) in
+    (read.of_source.1.fits, wrong.0, listed-lie (length source) file c.in-Err-Faults.found.items stands listed)
+
+pub returns-in-Ok-clause-found : goal.returns-in-Ok-clause-found
+returns-in-Ok-clause-found c = λ file read. c.in-Ok.ensures.found c.args.source.now file read
+
+pub returns-in-Err-Faults-clause-only : goal.returns-in-Err-Faults-clause-only
+returns-in-Err-Faults-clause-only c = λ file read none. c.refused.ensures.none file (subst (AreWrong file) c.in-Err-Faults.field-0-is (c.in-Err-Faults.ensures.wrong c.args.source.now file read)) none
+
+pub returns-in-Err-Faults-clause-wrong : goal.returns-in-Err-Faults-clause-wrong
+returns-in-Err-Faults-clause-wrong c = λ file read. c.refused.ensures.wrong file (subst (AreWrong file) c.in-Err-Faults.field-0-is (c.in-Err-Faults.ensures.wrong c.args.source.now file read))
+
+pub returns-in-Err-Faults-clause-checked : goal.returns-in-Err-Faults-clause-checked
+returns-in-Err-Faults-clause-checked c = λ file read.
+    has_listed file (Faults c.in-Err-Faults.found) c.refused.result c.refused.ensures.same (subst (AreListedAll file) c.in-Err-Faults.field-0-is (c.in-Err-Faults.ensures.in_order c.args.source.now file read))
+
+pub returns-in-Ok-clause-located : goal.returns-in-Ok-clause-located
+returns-in-Ok-clause-located c =
+    let r = c.requires in
+    let h = c.in-Ok.ensures.found c.args.source.now r.0 r.1 in
+    answers.located c.args.name.now c.args.source.now c.utf8.source r.0 r.1.of_source c.in-Ok.descriptor h.1
+
+pub returns-in-Ok-clause-sorted : goal.returns-in-Ok-clause-sorted
+returns-in-Ok-clause-sorted c =
+    let r = c.requires in
+    let h = c.in-Ok.ensures.found c.args.source.now r.0 r.1 in
+    answers.sorted c.args.name.now c.args.source.now c.utf8.source r.0 r.1.of_source c.in-Ok.descriptor h.1
+
+pub returns-in-Ok-clause-oneofs : goal.returns-in-Ok-clause-oneofs
+returns-in-Ok-clause-oneofs c =
+    let r = c.requires in
+    let h = c.in-Ok.ensures.found c.args.source.now r.0 r.1 in
+    answers.oneofs c.args.name.now c.args.source.now c.utf8.source r.0 r.1.of_source c.in-Ok.descriptor h.1 h.0
+
+pub returns-in-Ok-clause-named : goal.returns-in-Ok-clause-named
+returns-in-Ok-clause-named c =
+    let r = c.requires in
+    let h = c.in-Ok.ensures.found c.args.source.now r.0 r.1 in
+    answers.named c.args.name.now c.args.source.now c.utf8.source r.0 r.1.of_source c.in-Ok.descriptor h.1
+
+pub returns-in-Ok-clause-placed : goal.returns-in-Ok-clause-placed
+returns-in-Ok-clause-placed c =
+    let r = c.requires in
+    let h = c.in-Ok.ensures.found c.args.source.now r.0 r.1 in
+    answers.in_places c.args.name.now c.args.source.now c.utf8.source r.0 r.1.of_source c.in-Ok.descriptor h.1
+
+pub returns-in-Ok-clause-commented_once : goal.returns-in-Ok-clause-commented_once
+returns-in-Ok-clause-commented_once c =
+    let r = c.requires in
+    let h = c.in-Ok.ensures.found c.args.source.now r.0 r.1 in
+    answers.commented_once c.args.name.now c.args.source.now c.utf8.source r.0 r.1.of_source c.in-Ok.descriptor h.1

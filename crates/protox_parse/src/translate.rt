@@ -1,0 +1,155 @@
+//! What is made of the items of a source, while it is read.
+
+ghost use Rattle.std.specs.Prelude.{◌≡◌, ◌++◌, ◌∷◌, [], ℕ, List, IfErr, IfOk, OnOk};
+ghost use Rattle.protox_ast.specs.Accepted.{Fits};
+ghost use Rattle.protox_ast.specs.declared.ast.File as file_type;
+ghost use Rattle.protox_ast.specs.declared.ast.FileItem as item_type;
+ghost use Rattle.protox_ast.specs.declared.ast.Syntax as syntax_type;
+ghost use Rattle.protox_checks.specs.Checks.{AreListed, AreListedOfItem};
+ghost use Rattle.protox_checks.specs.Faults.{AreWrong, IsFaultless};
+ghost use Rattle.protox_generate.specs.File.{AreListedAll, file_descriptor};
+ghost use Rattle.protox_generate.specs.inner.Taken.{IsTaken};
+ghost use Rattle.protox_parse.specs.inner.Made.{AddsListed, AreInHand, IsRead, IsSoFar, TakesNext};
+
+use protox_ast::ast::{File, FileItem, Syntax};
+use protox_checks::checks::{check_file, check_item};
+use protox_descriptor::descriptor::FileDescriptorProto;
+use protox_descriptor::values::Items;
+use protox_generate::draft::FileDraft;
+use protox_generate::repeats::repeats_much;
+use protox_lex::error::{ParseErrorKind, SyntaxFailure};
+use protox_syntax::taking::TakesItems;
+use std::alloc::{AllocError, Global};
+
+/// What is made of the items of a source, while it is read: their faults, or what describes them.
+#[derive(Drop)]
+pub(crate) struct Translation<'a> {
+    draft: FileDraft<'a>,
+    faults: Vec<ParseErrorKind>,
+    // Items that are described only at the end: one whose description may be much longer than
+    // itself, and all behind it.
+    kept: Items<FileItem>,
+}
+
+// Adds the faults of an item.
+fn add_faults(
+    alloc: Global,
+    syntax: Syntax,
+    item: &FileItem,
+    faults: &mut Vec<ParseErrorKind>,
+) -> Result<(), AllocError>
+    ensures { OnOk result (AddsListed (AreListedOfItem syntax item.now) faults.old.items faults.new.items) }
+{
+    let mut of_item = check_item(alloc, syntax, item)?.into_vec();
+    faults.append(&mut of_item)
+}
+
+// Describes an item, or keeps it for the end.
+fn describe(
+    alloc: Global,
+    head: &File,
+    item: FileItem,
+    draft: &mut FileDraft<'_>,
+    kept: &mut Items<FileItem>,
+) -> Result<(), AllocError>
+    ensures { OnOk result ((source : List ℕ) (items : List item_type.FileItem) → AreInHand source head.now.syntax items draft.old kept.old → AreInHand source head.now.syntax (items ++ item ∷ []) draft.new kept.new) }
+{
+    if kept.is_empty() && !repeats_much(&item) {
+        draft.take(alloc, head, item)
+    } else {
+        kept.push(item)
+    }
+}
+
+impl TakesItems for Translation<'_> {
+    ghost takes = { TakesNext };
+
+    fn take(&mut self, alloc: Global, head: &File, item: FileItem) -> Result<(), AllocError> {
+        add_faults(alloc, head.syntax, &item, &mut self.faults)?;
+        if !self.faults.is_empty() {
+            // A file with a fault gets no descriptor.
+            return Ok(());
+        }
+        describe(alloc, head, item, &mut self.draft, &mut self.kept)
+    }
+}
+
+// Adds the faults of a file without its items.
+fn add_faults_of_head(
+    alloc: Global,
+    head: &File,
+    faults: &mut Vec<ParseErrorKind>,
+) -> Result<(), AllocError>
+    ensures { OnOk result (AddsListed (AreListed head.now) faults.old.items faults.new.items) }
+{
+    let mut of_head = check_file(alloc, head)?.into_vec();
+    faults.append(&mut of_head)
+}
+
+fn take_kept(
+    alloc: Global,
+    head: &File,
+    draft: &mut FileDraft<'_>,
+    kept: Items<FileItem>,
+) -> Result<(), AllocError>
+    ensures { OnOk result ((source : List ℕ) (items : List item_type.FileItem) → AreInHand source head.now.syntax items draft.old kept → IsTaken source head.now.syntax items draft.new) }
+{
+    for item in kept.into_vec() {
+        draft.take(alloc, head, item)?;
+    }
+    Ok(())
+}
+
+// The descriptor of a file whose items are taken or kept.
+fn described(
+    alloc: Global,
+    name: &str,
+    head: &File,
+    draft: FileDraft<'_>,
+    kept: Items<FileItem>,
+) -> Result<FileDescriptorProto, AllocError>
+    ensures { IfOk result (λ d. (source : List ℕ) (items : List item_type.FileItem) → AreInHand source head.now.syntax items draft.entry kept → d ≡ file_descriptor name.now source (record head.now { items = items })) }
+{
+    let mut whole = draft;
+    take_kept(alloc, head, &mut whole, kept)?;
+    whole.finish(alloc, name, head)
+}
+
+impl<'a> Translation<'a> {
+    /// No item yet. It takes no memory; what is made later takes it from `alloc`.
+    pub fn new(alloc: Global, source: &'a str) -> Translation<'a>
+        requires { Fits source.now }
+        ensures { (syntax : syntax_type.Syntax) → IsSoFar source.now syntax [] result }
+    {
+        Translation {
+            draft: FileDraft::new(alloc, source),
+            faults: Vec::new(alloc),
+            kept: Items::new(alloc),
+        }
+    }
+
+    /// The descriptor of the file of this name that has this head and the items taken; or the
+    /// faults of the items and then those of the head, if there are any; or memory ran out.
+    pub fn finish(
+        self,
+        alloc: Global,
+        name: &str,
+        head: &File,
+    ) -> Result<FileDescriptorProto, SyntaxFailure>
+        ensures found { IfOk result (λ d. (source : List ℕ) (file : file_type.File) → IsRead source file head.now self.entry → IsFaultless file × (d ≡ file_descriptor name.now source file)) }
+        ensures wrong { IfErr result (λ e. (source : List ℕ) (file : file_type.File) → IsRead source file head.now self.entry → AreWrong file e) }
+        ensures in_order { IfErr result (λ e. (source : List ℕ) (file : file_type.File) → IsRead source file head.now self.entry → AreListedAll file e) }
+    {
+        let Translation {
+            draft,
+            faults,
+            kept,
+        } = self;
+        let mut all = faults;
+        add_faults_of_head(alloc, head, &mut all)?;
+        if !all.is_empty() {
+            return Err(SyntaxFailure::Faults(all));
+        }
+        Ok(described(alloc, name, head, draft, kept)?)
+    }
+}

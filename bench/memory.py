@@ -22,12 +22,12 @@ from make_proto import BLOCKS
 BYTES = 10_000_000
 # The bytes of memory that a byte of the source may take.
 BOUNDS = {
-    'read': 17.0,
-    'notes': 10.0,
+    'read': 14.0,
+    'notes': 8.5,
     'whole': 20.0,
-    'messages': 54.0,
-    'enums': 46.0,
-    'imports': 30.0,
+    'messages': 22.0,
+    'enums': 22.0,
+    'imports': 27.0,
 }
 
 HEAD = 'syntax = "proto3";\n\nimport "google/type/latlng.proto";\n'

@@ -1,5 +1,5 @@
 -- The last part of a source: how it begins, and what it gives when it is read.
-use Rattle.std.proofs.Common.{◌≡◌, ◌≤◌, ◌+◌, inl, inr, ◌⊎◌, ℕ, suc, Bool, true, false, List, [], ◌∷◌, ◌++◌, length, Option, Some, None, option_map, Ok, refl, sym, ap, subst, ◌∙◌, append-nil, append_assoc, arith}
+use Rattle.std.proofs.Common.{◌≡◌, ◌≤◌, ◌+◌, inl, inr, ℕ, suc, Bool, true, false, List, [], ◌∷◌, ◌++◌, length, Option, Some, None, option_map, Ok, refl, sym, ap, subst, ◌∙◌, append-nil, append_assoc, arith}
 use Rattle.std.proofs.lemmas.Bool.{cases_Bool}
 use Rattle.std.proofs.lemmas.List.{length-append}
 use Rattle.std.specs.Prelude.{slice_index_or}
@@ -49,7 +49,7 @@ use Rattle.protox_syntax.specs.declared.parts.Part.{Part}
 use Rattle.protox_syntax.specs.declared.parts.Progress.{Progress}
 use Rattle.protox_syntax.specs.inner.Leading.{Leads}
 use Rattle.protox_syntax.specs.inner.Merge.{merged_faults}
-use Rattle.protox_syntax.specs.inner.OnWay.{IsBehindRefusal, IsOnWay, IsUnrefused, table_in}
+use Rattle.protox_syntax.specs.inner.OnWay.{IsBehindRefusal, IsOnWay, IsReadTo, IsUnrefused, table_in}
 use Rattle.protox_syntax.specs.inner.ParsedTable.{AreAllOf, IsTableOf, IsWhole, RefusesTable, bare_span, built_file, syntax_or_default, syntax_place, total_of}
 use Rattle.protox_syntax.specs.inner.Parts.{IsAllButSpan, IsBetween, IsFlawless, IsHeld, IsPartOf, IsReached, lexemes_from, place_in, places, rows, span_to_end, with_syntax}
 use Rattle.protox_syntax.specs.inner.Recovery.{AreLast}
@@ -91,14 +91,14 @@ module _ (source : List ℕ) (part : Table) (is : part ≡ table_in source) (gon
   unfolding said.whole
   said-now = rw read refl
 
-  pub front-on : IsOnWay source part rest [] gone now
+  pub front-on : IsOnWay source part false rest [] gone now
   front-on = record {
     before = [];
     merged = λ more left. ap (λ (p : Table). merged_faults p.faults (total_of p) more left) (sym is);
     fewer = (let same = ap (λ (p : Table). length p.rows) is in omega (arith, same));
     leads = subst (λ q. Leads t [] q rest) (sym place-now) (leads-start t valid syntax rest none read);
     last = subst (λ (p : Table). AreLast p rest) (sym is) (behind-syntax (placed t) rest syntax read);
-    so_far = inl (record {
+    read_to = record {
       syntax = syntax;
       statements = no_statements;
       whole_is = whole-now;
@@ -107,7 +107,7 @@ module _ (source : List ℕ) (part : Table) (is : part ≡ table_in source) (gon
       syntax_span = span-now syntax;
       held = held-now syntax;
       lies = λ low size st. tt;
-    });
+    };
   }
 
 -- ---- the rest of a source
@@ -177,7 +177,7 @@ module _ (source : List ℕ) (part : Part) (progress : Progress) (gone : List Fi
         (λ i below. ap (λ (v : Table). slice_index_or v.faults i []) both ∙ entries-none (k.front ++ k.last ∷ []) between.left k.flawless i (omega (arith, below, long)))
         (before (table_in source) between.f) more l (length left) b.faultless b.above b.closed (omega (arith, many, part-many))
 
-    pub rest-on : IsOnWay source part.table left [] gone head
+    pub rest-on : IsOnWay source part.table false left [] gone head
     rest-on =
         let reached = between.reached in
         let syntax = option_map syntax_seen between.f.syntax in
@@ -188,7 +188,7 @@ module _ (source : List ℕ) (part : Part) (progress : Progress) (gone : List Fi
           fewer = omega (arith, many);
           leads = subst (λ n. Leads (table_in source) n (place_in head) left) (sym (append-nil (before (table_in source) between.f))) (subst (λ q. Leads (table_in source) (before (table_in source) between.f) q left) (sym place) b.leads);
           last = (r ∷ [], rest);
-          so_far = inl (record {
+          read_to = record {
             syntax = syntax;
             statements = statements_seen between.f.statements;
             whole_is = b.whole_is;
@@ -197,7 +197,7 @@ module _ (source : List ℕ) (part : Part) (progress : Progress) (gone : List Fi
             syntax_span = reached.syntax_span;
             held = reached.held;
             lies = lies-behind (table_in source) between.f first left between.reached.right whole-is;
-          });
+          };
         }
 
     -- the span from the first token of the source to the last
@@ -218,7 +218,7 @@ module _ (source : List ℕ) (part : Part) (progress : Progress) (gone : List Fi
 
 -- ---- all rows are read
 
-module _ (source : List ℕ) (u : IsUtf8 source) (short : Fits source) (part : Table) (notes : Notes) (gone : List FileItem) (head : File) (w : IsOnWay source part [] notes gone head) (total : ℕ) (errors : List ParseErrorKind) (is : total ≡ total_of part) (merged : errors ≡ merged_faults part.faults total notes 0) where
+module _ (source : List ℕ) (u : IsUtf8 source) (short : Fits source) (part : Table) (refused : Bool) (notes : Notes) (gone : List FileItem) (head : File) (w : IsOnWay source part refused [] notes gone head) (total : ℕ) (errors : List ParseErrorKind) (is : total ≡ total_of part) (merged : errors ≡ merged_faults part.faults total notes 0) where
   tab : IsTableOf (length source) (table_in source)
   tab = (source, u, refl, refl, short)
 
@@ -244,20 +244,20 @@ module _ (source : List ℕ) (u : IsUtf8 source) (short : Fits source) (part : T
       refused_statement-parsed (table_in source) (length source) tab b.refused b.first (all_notes (placed (table_in source))) (w.before ++ notes) (total_of (table_in source)) errors refl b.fails b.says (adds-none b.refused) b.lies b.recovers all-merged
 
   pub end-faulty : (errors ≡ [] → ⊥) → (v : Vec ParseErrorKind) → v.items ≡ errors → RefusesTable (table_in source) (length source) (Faults v)
-  end-faulty some v same = by w.so_far
+  end-faulty some v same = by refused w.read_to
     where
-      by : IsUnrefused source [] (w.before ++ notes) gone head ⊎ IsBehindRefusal source (w.before ++ notes) head → RefusesTable (table_in source) (length source) (Faults v)
-      by (inl q) =
+      by : (refused : Bool) → IsReadTo refused source [] (w.before ++ notes) gone head → RefusesTable (table_in source) (length source) (Faults v)
+      by false q =
           let j = faulty-parsed (table_in source) (length source) tab (q.syntax, q.statements) (w.before ++ notes) (total_of (table_in source)) errors refl (read-all q) (noted-all q) all-merged some in
           rw same (j.0, j.1, j.2, j.3, all-found)
-      by (inr b) = let j = refused-so b in rw same (j.0, j.1, j.2, j.3, all-found)
+      by true b = let j = refused-so b in rw same (j.0, j.1, j.2, j.3, all-found)
 
   pub end-right : errors ≡ [] → IsAllButSpan source gone head
-  end-right none = by w.so_far
+  end-right none = by refused w.read_to
     where
-      by : IsUnrefused source [] (w.before ++ notes) gone head ⊎ IsBehindRefusal source (w.before ++ notes) head → IsAllButSpan source gone head
-      by (inr b) = absurd ((refused-so b).0 none)
-      by (inl q) =
+      by : (refused : Bool) → IsReadTo refused source [] (w.before ++ notes) gone head → IsAllButSpan source gone head
+      by true b = absurd ((refused-so b).0 none)
+      by false q =
           let xs = rows source in
           let found = whole-read xs (q.syntax, q.statements) [] (read-all q) in
           let held = q.held in (

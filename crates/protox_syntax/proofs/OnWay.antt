@@ -1,5 +1,5 @@
 -- One turn in the last part of a source: a statement is read, or it is refused.
-use Rattle.std.proofs.Common.{◌≡◌, ◌≤◌, ◌-◌, ◌⊎◌, inl, inr, ℕ, true, List, [], ◌∷◌, ◌++◌, length, Option, Some, Ok, refl, sym, ap, subst, ◌∙◌, append-nil, append_assoc, arith}
+use Rattle.std.proofs.Common.{◌≡◌, ◌≤◌, ◌-◌, ℕ, Bool, true, false, List, [], ◌∷◌, ◌++◌, length, Option, Some, Ok, refl, sym, ap, subst, ◌∙◌, append-nil, append_assoc, arith}
 use Rattle.protox_fault.specs.Faults.{Span}
 use Rattle.protox_lexeme.specs.Shapes.{Rows}
 use Rattle.protox_lexeme.specs.Table.{Table}
@@ -25,7 +25,7 @@ use Rattle.protox_syntax.proofs.Shift.{fails-within, next-same, refusal-same}
 use Rattle.protox_syntax.proofs.Turns.{first-added, last-notes, more-notes, statement-eats}
 use Rattle.protox_syntax.specs.declared.statement_types.Statement as statement_type
 use Rattle.protox_syntax.specs.inner.Leading.{Leads}
-use Rattle.protox_syntax.specs.inner.OnWay.{IsBehindRefusal, IsOnWay, IsUnrefused, table_in}
+use Rattle.protox_syntax.specs.inner.OnWay.{IsBehindRefusal, IsOnWay, IsReadTo, IsUnrefused, table_in}
 use Rattle.protox_syntax.specs.inner.ParsedTable.{syntax_or_default}
 use Rattle.protox_syntax.specs.inner.Parts.{place_in, with_statement}
 use Rattle.protox_syntax.specs.inner.Recovery.{AreRefusalNotes, FirstLies, LiesToo, next_rows}
@@ -37,7 +37,7 @@ some-head : (xs : Rows Place) → (xs ≡ [] → ⊥) → head_in (in_set all) x
 some-head [] some = absurd (some refl)
 some-head (x ∷ xs) some = refl
 
-module _ (source : List ℕ) (part : Table) (rows : Rows Place) (notes : Notes) (gone : List FileItem) (head : File) (w : IsOnWay source part rows notes gone head) (some : rows ≡ [] → ⊥) where
+module _ (source : List ℕ) (part : Table) (refused : Bool) (rows : Rows Place) (notes : Notes) (gone : List FileItem) (head : File) (w : IsOnWay source part refused rows notes gone head) (some : rows ≡ [] → ⊥) where
   abbrev t : Table
   t = table_in source
 
@@ -50,8 +50,8 @@ module _ (source : List ℕ) (part : Table) (rows : Rows Place) (notes : Notes) 
     all-added : w.before ++ new ≡ (w.before ++ notes) ++ statement.notes (place_in head) rows
     all-added = ap (λ n. w.before ++ n) added ∙ sym (append_assoc w.before notes (statement.notes (place_in head) rows))
 
-    leads-on : Leads t (w.before ++ new) (place_in (with_statement head x)) ahead
-    leads-on = subst (λ q. Leads t (w.before ++ new) q ahead) (sym (place-with head x)) (leads-more t (w.before ++ notes) (place_in head) rows ahead x (w.before ++ new) w.leads read all-added)
+    leads-on : Leads t (w.before ++ new) (next_first (place_in head) x) ahead
+    leads-on = leads-more t (w.before ++ notes) (place_in head) rows ahead x (w.before ++ new) w.leads read all-added
 
     unrefused-on : IsUnrefused source rows (w.before ++ notes) gone head → IsUnrefused source ahead (w.before ++ new) gone (with_statement head x)
     unfolding said.statements
@@ -69,30 +69,38 @@ module _ (source : List ℕ) (part : Table) (rows : Rows Place) (notes : Notes) 
           lies = subst (FirstLies (placed t)) (sym (first-added st x)) (further-lies (placed t) rows ahead (first_place st) x w.leads.last u.lies read);
         }
 
-    refused-on : IsBehindRefusal source (w.before ++ notes) head → IsBehindRefusal source (w.before ++ new) (with_statement head x)
-    refused-on b = record {
+    -- It is kept where none has been refused; `now` is the head with it.
+    pub read-on : refused ≡ false → (now : File) → now ≡ with_statement head x → IsOnWay source part refused ahead new gone now
+    read-on none now is = subst (λ (h : File). IsOnWay source part refused ahead new gone h) (sym is) (record {
+      before = w.before;
+      merged = w.merged;
+      fewer = w.fewer;
+      leads = subst (λ q. Leads t (w.before ++ new) q ahead) (sym (place-with head x)) leads-on;
+      last = last-behind part (place_in head) rows w.last ahead x read;
+      read_to = subst (λ v. IsReadTo v source ahead (w.before ++ new) gone (with_statement head x)) (sym none) (unrefused-on (subst (λ v. IsReadTo v source rows (w.before ++ notes) gone head) none w.read_to));
+    })
+
+    refused-on : IsBehindRefusal source (w.before ++ notes) head → (now : File) → place_in now ≡ next_first (place_in head) x → IsBehindRefusal source (w.before ++ new) now
+    refused-on b now is = record {
       refused = b.refused;
       first = b.first;
       fails = b.fails;
       says = b.says;
       recovers = recovers-more t b.refused b.first (all_notes (placed t)) (place_in head) (w.before ++ notes) (statement.notes (place_in head) rows) (w.before ++ new) b.recovers b.now_lies all-added (statement-later t (place_in head) rows w.leads.last);
       lies = b.lies;
-      now_lies = subst (LiesToo t b.first) (sym (place-with head x)) (lies-further t b.first (place_in head) (next_first (place_in head) x) b.now_lies (first-stays t (place_in head) rows w.leads.last ahead x read));
+      now_lies = subst (LiesToo t b.first) (sym is) (lies-further t b.first (place_in head) (next_first (place_in head) x) b.now_lies (first-stays t (place_in head) rows w.leads.last ahead x read));
     }
 
-    pub read-on : IsOnWay source part ahead new gone (with_statement head x)
-    read-on = record {
+    -- Behind a refusal only the place of the first package counts.
+    pub passed-on : refused ≡ true → (now : File) → place_in now ≡ next_first (place_in head) x → IsOnWay source part refused ahead new gone now
+    passed-on behind now is = record {
       before = w.before;
       merged = w.merged;
       fewer = w.fewer;
-      leads = leads-on;
+      leads = subst (λ q. Leads t (w.before ++ new) q ahead) (sym is) leads-on;
       last = last-behind part (place_in head) rows w.last ahead x read;
-      so_far = by w.so_far;
+      read_to = subst (λ v. IsReadTo v source ahead (w.before ++ new) gone now) (sym behind) (refused-on (subst (λ v. IsReadTo v source rows (w.before ++ notes) gone head) behind w.read_to) now is);
     }
-      where
-        by : IsUnrefused source rows (w.before ++ notes) gone head ⊎ IsBehindRefusal source (w.before ++ notes) head → IsUnrefused source ahead (w.before ++ new) gone (with_statement head x) ⊎ IsBehindRefusal source (w.before ++ new) (with_statement head x)
-        by (inl u) = inl (unrefused-on u)
-        by (inr b) = inr (refused-on b)
 
   -- ---- a statement is refused
 
@@ -157,16 +165,16 @@ module _ (source : List ℕ) (part : Table) (rows : Rows Place) (notes : Notes) 
           now_lies = b.now_lies;
         }
 
-    pub refused-past : IsOnWay source part (next_rows part e most) new gone head
+    pub refused-past : IsOnWay source part true (next_rows part e most) new gone head
     refused-past = record {
       before = w.before;
       merged = w.merged;
       fewer = w.fewer;
       leads = leads-past;
       last = next-last part e most;
-      so_far = by w.so_far;
+      read_to = by refused w.read_to;
     }
       where
-        by : IsUnrefused source rows (w.before ++ notes) gone head ⊎ IsBehindRefusal source (w.before ++ notes) head → IsUnrefused source (next_rows part e most) (w.before ++ new) gone head ⊎ IsBehindRefusal source (w.before ++ new) head
-        by (inl u) = inr (refused-first u)
-        by (inr b) = inr (refused-again b)
+        by : (v : Bool) → IsReadTo v source rows (w.before ++ notes) gone head → IsBehindRefusal source (w.before ++ new) head
+        by false u = refused-first u
+        by true b = refused-again b

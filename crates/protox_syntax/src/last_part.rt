@@ -124,7 +124,7 @@ fn read_front<'t, 'a>(
 ) -> Result<Unread<'t, 'a>, SyntaxFailure>
     requires fits { Fits source.now }
     requires table { part.now.table ≡ table_in source.now }
-    ensures on { IfOk result (λ rows. (gone : List item_type.FileItem) → IsReached (begun None) gone head.old → IsOnWay source.now part.now.table rows [] gone head.new) }
+    ensures on { IfOk result (λ rows. (gone : List item_type.FileItem) → IsReached (begun None) gone head.old → IsOnWay source.now part.now.table false rows [] gone head.new) }
     ensures refused { IfErr result (RefusesTable (table_in source.now) (length source.now)) }
 {
     let size = source.len();
@@ -166,8 +166,8 @@ fn read_to_end<'t, 'a>(
 ) -> Result<(), SyntaxFailure>
     requires fits { Fits source.now }
     requires ends { part.now.ends ≡ true }
-    requires on { (gone : List item_type.FileItem) × IsOnWay source.now part.now.table rest [] gone head.old }
-    ensures read { OnOk result ((gone : List item_type.FileItem) → IsOnWay source.now part.now.table rest.entry [] gone head.old → IsAllButSpan source.now gone head.new) }
+    requires on { (gone : List item_type.FileItem) × IsOnWay source.now part.now.table false rest [] gone head.old }
+    ensures read { OnOk result ((gone : List item_type.FileItem) → IsOnWay source.now part.now.table false rest.entry [] gone head.old → IsAllButSpan source.now gone head.new) }
     ensures syntax { OnOk result (head.new.syntax ≡ head.old.syntax) }
     ensures refused { IfErr result (RefusesTable (table_in source.now) (length source.now)) }
 {
@@ -196,7 +196,7 @@ fn last_rows<'t, 'a>(
     requires begins { part.now.begins ≡ is_none progress.now.last }
     requires part { IsPartOf (lexemes_from source.now progress.now.last) part.now }
     requires between { (gone : List item_type.FileItem) × IsBetween source.now progress.now gone head.old }
-    ensures on { IfOk result (λ rows. (gone : List item_type.FileItem) → IsBetween source.now progress.now gone head.old → IsOnWay source.now part.now.table rows [] gone head.new) }
+    ensures on { IfOk result (λ rows. (gone : List item_type.FileItem) → IsBetween source.now progress.now gone head.old → IsOnWay source.now part.now.table false rows [] gone head.new) }
     ensures syntax { OnOk result (progress.now.last ≢ None → head.new.syntax ≡ head.old.syntax) }
     ensures refused { IfErr result (RefusesTable (table_in source.now) (length source.now)) }
 {

@@ -1,6 +1,6 @@
 //! Reads the statements of a part, one by one.
 
-ghost use Rattle.std.specs.Prelude.{◌≡◌, ◌≢◌, ◌<◌, ◌++◌, [], List, true, false, length, OnOk, IfOk};
+ghost use Rattle.std.specs.Prelude.{◌≡◌, ◌≢◌, ◌<◌, ◌++◌, [], Bool, List, true, false, length, OnOk, IfOk};
 ghost use Rattle.std.specs.List.{list_all};
 ghost use Rattle.protox_ast.specs.declared.ast.FileItem as item_type;
 ghost use Rattle.protox_grammar.specs.Told.{AreValidTokens};
@@ -9,7 +9,7 @@ ghost use Rattle.protox_syntax.specs.declared.statement_loop.Going.TheVariants a
 ghost use Rattle.protox_syntax.specs.inner.OnWay.{IsOnWay};
 ghost use Rattle.protox_syntax.specs.inner.Parts.{place_in, with_statement};
 ghost use Rattle.protox_syntax.specs.inner.SomeRead.{AreRead, IsOneRead};
-ghost use Rattle.protox_syntax.specs.inner.Statements.{or_package};
+ghost use Rattle.protox_syntax.specs.inner.Statements.{next_first, or_package};
 
 use crate::parts::Part;
 use crate::recovery::{add_refused, next_rows};
@@ -81,6 +81,16 @@ fn add_statement(head: &mut File, statement: Statement) -> Result<(), AllocError
     }
 }
 
+// Behind a refusal no tree is made. Only the first package counts: a second one is a fault.
+fn keep_package(head: &mut File, statement: Statement)
+    ensures place { place_in head.new ≡ next_first (place_in head.old) statement }
+    ensures syntax { head.new.syntax ≡ head.old.syntax }
+{
+    if let Statement::Package(package) = statement {
+        keep_first_package(head, package);
+    }
+}
+
 // Reads one more statement of the last part of a source. If it is refused, that is noted, and
 // reading goes on at the next one.
 fn read_last_one<'t, 'a>(
@@ -90,18 +100,26 @@ fn read_last_one<'t, 'a>(
     notes: &mut Vec<Note>,
     rows: &mut Unread<'t, 'a>,
     head: &mut File,
+    refused: &mut bool,
 ) -> Result<(), AllocError>
     requires some { rows.old ≢ [] }
     ensures fewer { OnOk result (length rows.new < length rows.old) }
     ensures syntax { OnOk result (head.new.syntax ≡ head.old.syntax) }
-    ensures on { OnOk result ((gone : List item_type.FileItem) → IsOnWay source.now part.now.table rows.old notes.old.items gone head.old → IsOnWay source.now part.now.table rows.new notes.new.items gone head.new) }
+    ensures on { OnOk result ((gone : List item_type.FileItem) → IsOnWay source.now part.now.table refused.old rows.old notes.old.items gone head.old → IsOnWay source.now part.now.table refused.new rows.new notes.new.items gone head.new) }
 {
     let most = rows.len() - 1;
     match statement(alloc, notes, rows, &first_place(head)) {
-        Ok(statement) => add_statement(head, statement),
-        Err(refused) => {
-            add_refused(alloc, &part.table, notes, &refused)?;
-            *rows = next_rows(&part.table, &refused, most);
+        Ok(statement) => {
+            if *refused {
+                keep_package(head, statement);
+                return Ok(());
+            }
+            add_statement(head, statement)
+        }
+        Err(found) => {
+            add_refused(alloc, &part.table, notes, &found)?;
+            *rows = next_rows(&part.table, &found, most);
+            *refused = true;
             Ok(())
         }
     }
@@ -147,17 +165,18 @@ fn read_one<'t, 'a>(
     notes: &mut Vec<Note>,
     rows: &mut Unread<'t, 'a>,
     head: &mut File,
+    refused: &mut bool,
 ) -> Result<Going, AllocError>
     requires some { rows.old ≢ [] }
     ensures one { part.now.ends ≡ false → AreValidTokens rows.old → IfOk result (λ going. going ≡ goings.On → IsOneRead rows.old rows.new head.old head.new) }
     ensures stays { part.now.ends ≡ false → IfOk result (λ going. going ≢ goings.On → (rows.new ≡ rows.old) × (head.new ≡ head.old)) }
     ensures goes { part.now.ends ≡ true → IfOk result (λ going. going ≡ goings.On) }
-    ensures on { part.now.ends ≡ true → OnOk result ((gone : List item_type.FileItem) → IsOnWay source.now part.now.table rows.old notes.old.items gone head.old → IsOnWay source.now part.now.table rows.new notes.new.items gone head.new) }
+    ensures on { part.now.ends ≡ true → OnOk result ((gone : List item_type.FileItem) → IsOnWay source.now part.now.table refused.old rows.old notes.old.items gone head.old → IsOnWay source.now part.now.table refused.new rows.new notes.new.items gone head.new) }
     ensures fewer { IfOk result (λ going. going ≡ goings.On → length rows.new < length rows.old) }
     ensures syntax { OnOk result (head.new.syntax ≡ head.old.syntax) }
 {
     if part.ends {
-        read_last_one(alloc, source, part, notes, rows, head)?;
+        read_last_one(alloc, source, part, notes, rows, head, refused)?;
         return Ok(Going::On);
     }
     read_some_one(alloc, notes, rows, head)
@@ -175,12 +194,13 @@ pub(crate) fn read_statements<'t, 'a>(
     head: &mut File,
 ) -> Result<Going, AllocError>
     ensures some { part.now.ends ≡ false → AreValidTokens rows.old → OnOk result (AreRead rows.old rows.new head.old head.new) }
-    ensures on { part.now.ends ≡ true → OnOk result ((gone : List item_type.FileItem) → IsOnWay source.now part.now.table rows.old notes.old.items gone head.old → IsOnWay source.now part.now.table rows.new notes.new.items gone head.new) }
+    ensures on { part.now.ends ≡ true → OnOk result ((gone : List item_type.FileItem) → IsOnWay source.now part.now.table false rows.old notes.old.items gone head.old → (refused : Bool) × IsOnWay source.now part.now.table refused rows.new notes.new.items gone head.new) }
     ensures all { part.now.ends ≡ true → OnOk result (rows.new ≡ []) }
     ensures syntax { OnOk result (head.new.syntax ≡ head.old.syntax) }
 {
+    let mut refused = false;
     'statements: while !rows.is_empty() {
-        match read_one(alloc, source, part, notes, rows, head)? {
+        match read_one(alloc, source, part, notes, rows, head, &mut refused)? {
             Going::On => (),
             Going::Cut => return Ok(Going::Cut),
             Going::Odd => return Ok(Going::Odd),

@@ -1,5 +1,5 @@
 -- How far the last part of a source has been read.
-use Rattle.std.specs.Prelude.{◌≡◌, ◌≤◌, ◌⊎◌, ℕ, List, [], ◌++◌, length, Option, Some, None, option_map, Ok}
+use Rattle.std.specs.Prelude.{◌≡◌, ◌≤◌, ℕ, Bool, true, false, List, [], ◌++◌, length, Option, Some, None, option_map, Ok}
 use Rattle.protox_fault.specs.Faults.{Span}
 use Rattle.protox_lexeme.specs.Lexemes.{cut}
 use Rattle.protox_lexeme.specs.Shapes.{Rows}
@@ -50,12 +50,17 @@ pub record IsBehindRefusal (source : List ℕ) (noted : Notes) (head : File) : T
   pub lies : FirstLies (placed (table_in source)) first
   pub now_lies : LiesToo (table_in source) first (place_in head)
 
+-- How far the source has been read; `refused` says whether a statement has been refused.
+abbrev pub IsReadTo : Bool → List ℕ → Rows Place → Notes → List FileItem → File → Type 0
+IsReadTo false source rows noted gone head = IsUnrefused source rows noted gone head
+IsReadTo true source rows noted gone head = IsBehindRefusal source noted head
+
 -- These rows are left of the last part of a source, of which `part` is the table. With the notes
 -- before the part these notes lead to them; but those before it don't matter for the faults.
-pub record IsOnWay (source : List ℕ) (part : Table) (rows : Rows Place) (notes : Notes) (gone : List FileItem) (head : File) : Type 0 where
+pub record IsOnWay (source : List ℕ) (part : Table) (refused : Bool) (rows : Rows Place) (notes : Notes) (gone : List FileItem) (head : File) : Type 0 where
   pub before : Notes
   pub merged : (more : Notes) (left : ℕ) → merged_faults (table_in source).faults (total_of (table_in source)) (before ++ more) left ≡ merged_faults part.faults (total_of part) more left
   pub fewer : length part.rows ≤ length (table_in source).rows
   pub leads : Leads (table_in source) (before ++ notes) (place_in head) rows
   pub last : AreLast part rows
-  pub so_far : IsUnrefused source rows (before ++ notes) gone head ⊎ IsBehindRefusal source (before ++ notes) head
+  pub read_to : IsReadTo refused source rows (before ++ notes) gone head

@@ -33,7 +33,7 @@ returns-clause-on c gone reached =
     let added = added-ok c.syntax_if_any.result syntax c.new-notes.result.items ((rule.syntax_if_any).notes rows) notes is c.syntax_if_any.ensures.notes in
     let none : (rule.syntax_if_any).notes (placed part) ≡ [] =
     ap (rule.syntax_if_any).notes (sym c.all-rows.ensures) ∙ ap (λ l. l ++ (rule.syntax_if_any).notes rows) (sym c.new-notes.ensures.items) ∙ sym added ∙ vec-empty notes c.syntax_if_any.new.notes.len c.is_empty.result c.syntax_if_any.new.notes.ok.0 c.is_empty.ensures c.if-not-is_empty.false in
-    subst (λ (h : File). IsOnWay c.args.source.now part rest [] gone h) (sym c.keep_syntax.ensures)
+    subst (λ (h : File). IsOnWay c.args.source.now part false rest [] gone h) (sym c.keep_syntax.ensures)
     (front-on c.args.source.now part c.requires.table gone c.args.head.now reached rest syntax
     (subst (λ (t : Table). head_in is_invalid (placed t) ≡ false) c.requires.table valid)
     (subst (λ (t : Table). (rule.syntax_if_any).code (placed t) ≡ Ok (syntax, rest)) c.requires.table read)

@@ -40,16 +40,19 @@ returns-in-Odd-clause-some c more valid =
     subst (λ l. AreRead c.args.rows.now l c.args.head.now c.read_one.new.head) (sym stays.0) (subst (λ (h : File). AreRead c.args.rows.now c.statements.rows c.args.head.now h) (sym stays.1) (c.statements.invariant.some more valid))
 
 pub returns-in-Cut-clause-on : goal.returns-in-Cut-clause-on
-returns-in-Cut-clause-on c ends gone w = c.in_ok-read_one.ensures.on ends gone (c.statements.invariant.on ends gone w)
+returns-in-Cut-clause-on c ends gone w = (_, c.in_ok-read_one.ensures.on ends gone (c.statements.invariant.on ends gone w))
 
 pub returns-in-Odd-clause-on : goal.returns-in-Odd-clause-on
-returns-in-Odd-clause-on c ends gone w = c.in_ok-read_one.ensures.on ends gone (c.statements.invariant.on ends gone w)
+returns-in-Odd-clause-on c ends gone w = (_, c.in_ok-read_one.ensures.on ends gone (c.statements.invariant.on ends gone w))
 
 pub returns-in-Cut-clause-all : goal.returns-in-Cut-clause-all
 returns-in-Cut-clause-all c ends = let clash = sym c.in-Cut.is ∙ c.in_ok-read_one.ensures.goes ends in absurd cc
 
 pub returns-in-Odd-clause-all : goal.returns-in-Odd-clause-all
 returns-in-Odd-clause-all c ends = let clash = sym c.in-Odd.is ∙ c.in_ok-read_one.ensures.goes ends in absurd cc
+
+pub returns-clause-on : goal.returns-clause-on
+returns-clause-on c ends gone w = (_, c.statements.invariant.on ends gone w)
 
 pub returns-clause-all : goal.returns-clause-all
 returns-clause-all c ends = all_read c.statements.rows (sym c.is_empty.ensures ∙ c.statements-test.false)

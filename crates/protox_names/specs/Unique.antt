@@ -1,0 +1,40 @@
+-- Names join and split in one way only.
+use Rattle.std.specs.Prelude.{◌≡◌, ◌≢◌, ◌<◌, ℕ, true, List, [], ◌∷◌, ◌++◌, length}
+use Rattle.std.specs.List.{AllPass}
+use Rattle.protox_names.specs.Names.{is_identifier, is_one_part, joined, parts, scopes, within}
+
+-- Joined by dots, the parts of a name are the name.
+abbrev pub PartsMakeTheName : Type 0
+PartsMakeTheName = (name : List ℕ) → joined (parts name) ≡ name
+
+-- Pieces without dots, at least one of them, are the parts of the name that they make.
+abbrev pub PiecesAreTheParts : Type 0
+PiecesAreTheParts = (pieces : List (List ℕ)) → 0 < length pieces → AllPass is_one_part pieces → parts (joined pieces) ≡ pieces
+
+-- In a named scope, a name has the parts of the scope, and then its own.
+abbrev pub ScopeComesFirst : Type 0
+ScopeComesFirst = (scope name : List ℕ) → scope ≢ [] → parts (within scope name) ≡ parts scope ++ parts name
+
+-- In one scope, different names have different full names.
+abbrev pub NamesDiffer : Type 0
+NamesDiffer = (scope first second : List ℕ) → within scope first ≡ within scope second → first ≡ second
+
+-- A full name that ends in a name without dots tells the scope and the name.
+abbrev pub FullNamesDiffer : Type 0
+FullNamesDiffer = (one other first second : List ℕ) → is_one_part first ≡ true → is_one_part second ≡ true → within one first ≡ within other second → (one ≡ other) × (first ≡ second)
+
+-- Around what has a name without dots in a scope, there is this scope, and what is around it.
+abbrev pub ScopesGoOutwards : Type 0
+ScopesGoOutwards = (scope name : List ℕ) → scope ≢ [] → is_one_part name ≡ true → scopes (within scope name) ≡ scope ∷ scopes scope
+
+-- Around what has a name without dots in the nameless scope, there is no other.
+abbrev pub ScopesEnd : Type 0
+ScopesEnd = (name : List ℕ) → is_one_part name ≡ true → scopes name ≡ []
+
+-- An identifier has no dot.
+abbrev pub IdentifiersAreOnePart : Type 0
+IdentifiersAreOnePart = (name : List ℕ) → is_identifier name ≡ true → is_one_part name ≡ true
+
+-- What has a name in a scope that has a name in another one: the two names make one.
+abbrev pub ScopesNest : Type 0
+ScopesNest = (scope name member : List ℕ) → name ≢ [] → within (within scope name) member ≡ within scope (within name member)

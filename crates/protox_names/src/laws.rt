@@ -1,0 +1,32 @@
+//! Laws of names. They are for proofs: none of these functions does anything.
+
+ghost use Rattle.protox_names.specs.Unique.{FullNamesDiffer, IdentifiersAreOnePart, NamesDiffer, PartsMakeTheName, PiecesAreTheParts, ScopeComesFirst, ScopesEnd, ScopesGoOutwards, ScopesNest};
+
+/// A name has one list of parts, and parts without dots make one name.
+#[tactic(auto, using(crate::proofs::Joining::unique))]
+pub fn names_join_and_split()
+    ensures name { PartsMakeTheName }
+    ensures pieces { PiecesAreTheParts }
+    ensures scope { ScopeComesFirst }
+{}
+
+/// A full name tells the scope and the name, unless the name has a dot.
+#[tactic(auto, using(crate::proofs::Joining::unique))]
+pub fn full_names_differ()
+    ensures in_one_scope { NamesDiffer }
+    ensures in_all_scopes { FullNamesDiffer }
+    ensures nested { ScopesNest }
+{}
+
+/// The scopes around what has a full name are the one that it stands in, and those around that.
+#[tactic(auto, using(crate::proofs::Joining::unique))]
+pub fn scopes_go_outwards()
+    ensures outwards { ScopesGoOutwards }
+    ensures ends { ScopesEnd }
+{}
+
+/// An identifier has no dot.
+#[tactic(auto, using(crate::proofs::Joining::unique))]
+pub fn identifiers_are_one_part()
+    ensures { IdentifiersAreOnePart }
+{}

@@ -1,0 +1,4 @@
+//! Names of protobuf: texts with dots between their parts.
+#![tactic(auto)]
+
+pub mod laws;

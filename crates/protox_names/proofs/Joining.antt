@@ -1,12 +1,12 @@
 -- Names join and split in one way only.
-use Rattle.std.proofs.Common.{◌≡◌, ◌≢◌, ◌<◌, ◌==◌, ◌||◌, ◌&&◌, ℕ, Bool, true, false, not, cond, List, [], ◌∷◌, ◌++◌, length, map, refl, sym, ap, subst, ◌∙◌, arith}
-use Rattle.std.specs.List.{All, AllPass, join_with_byte, list_all, list_any, onto_first, slice_split}
+use Rattle.std.proofs.Common.{◌≡◌, ◌==◌, ◌||◌, ◌&&◌, ℕ, Bool, true, false, not, cond, List, [], ◌∷◌, ◌++◌, length, map, refl, sym, ap, ◌∙◌, arith}
+use Rattle.std.specs.List.{All, AllPass, list_all, list_any, onto_first}
 use Rattle.std.proofs.lemmas.Bool.{true≢false}
 use Rattle.std.proofs.lemmas.Bool.Decides.{nat_tests}
 use Rattle.std.proofs.lemmas.List.{append_assoc, append_cancel_left}
 use Rattle.std.proofs.lemmas.List.Elements.{All-cons, All-head, All-nil, All-tail}
 use Rattle.std.proofs.lemmas.List.Splits.{join_with_byte-slice_split, slice_split_at, slice_split_none}
-use Rattle.protox_names.specs.Names.{is_dot, is_identifier, is_identifier_byte, is_one_part, joined, parts, scopes, within}
+use Rattle.protox_names.specs.Names.{is_dot, is_identifier_byte, is_one_part, joined, parts, scopes, within}
 use Rattle.protox_names.specs.Unique.{FullNamesDiffer, IdentifiersAreOnePart, NamesDiffer, PartsMakeTheName, PiecesAreTheParts, ScopeComesFirst, ScopesEnd, ScopesGoOutwards, ScopesNest}
 
 neither : (a b : Bool) → not (a || b) ≡ true → (a ≡ false) × (not b ≡ true)

@@ -1,1 +1,3 @@
 pub mod Joining
+pub mod Found
+pub mod Pieces

@@ -1,13 +1,14 @@
 -- Names join and split in one way only.
 use Rattle.std.proofs.Common.{◌≡◌, ◌==◌, ◌||◌, ◌&&◌, ℕ, Bool, true, false, not, cond, List, [], ◌∷◌, ◌++◌, length, map, refl, sym, ap, ◌∙◌, arith}
-use Rattle.std.specs.List.{All, AllPass, list_all, list_any, onto_first}
+use Rattle.std.specs.List.{All, AllPass, list_all, list_any, onto_first, position_or_len}
 use Rattle.std.proofs.lemmas.Bool.{true≢false}
 use Rattle.std.proofs.lemmas.Bool.Decides.{nat_tests}
-use Rattle.std.proofs.lemmas.List.{append_assoc, append_cancel_left}
+use Rattle.std.proofs.lemmas.List.{append_assoc, append_cancel_left, take_all}
 use Rattle.std.proofs.lemmas.List.Elements.{All-cons, All-head, All-nil, All-tail}
+use Rattle.std.proofs.lemmas.List.Sums.{position_or_len_is}
 use Rattle.std.proofs.lemmas.List.Splits.{join_with_byte-slice_split, slice_split_at, slice_split_none}
 use Rattle.protox_names.specs.Names.{is_dot, is_identifier_byte, is_one_part, joined, parts, scopes, within}
-use Rattle.protox_names.specs.Unique.{FullNamesDiffer, IdentifiersAreOnePart, NamesDiffer, PartsMakeTheName, PiecesAreTheParts, ScopeComesFirst, ScopesEnd, ScopesGoOutwards, ScopesNest}
+use Rattle.protox_names.specs.Unique.{FullNamesDiffer, IdentifiersAreOnePart, NamesDiffer, OnePartIsTheFront, PartsMakeTheName, PiecesAreTheParts, ScopeComesFirst, ScopesEnd, ScopesGoOutwards, ScopesNest}
 
 neither : (a b : Bool) → not (a || b) ≡ true → (a ≡ false) × (not b ≡ true)
 neither true b h = absurd (true≢false (sym h))
@@ -71,6 +72,12 @@ parts_at_dot (byte ∷ before) after =
 pub parts_within : ScopeComesFirst
 parts_within [] name named = absurd (named refl)
 parts_within (byte ∷ scope) name named = parts_at_dot (byte ∷ scope) name
+
+pub front_of_one_part : OnePartIsTheFront
+front_of_one_part name h =
+    let none = no_dots name h in
+    let all : position_or_len is_dot name ≡ length name = position_or_len_is is_dot name (length name) 0 (omega arith) (λ k below. none k 0 below) (λ past. absurd (omega arith)) in
+    take_all (position_or_len is_dot name) name (omega (arith, all))
 
 -- ---- scopes
 
@@ -145,4 +152,4 @@ none_is_dot (byte ∷ rest) h =
 pub identifiers_are_one_part : IdentifiersAreOnePart
 identifiers_are_one_part name h = none_is_dot name (both_hold (not (length name == 0)) (list_all is_identifier_byte name) h).1
 
-pub ruleset unique = (name_of_parts, parts_of_joined, parts_within, scopes_of_one_part, scopes_within, within_differs, full_names_differ, within_nests, identifiers_are_one_part)
+pub ruleset unique = (name_of_parts, parts_of_joined, front_of_one_part, parts_within, scopes_of_one_part, scopes_within, within_differs, full_names_differ, within_nests, identifiers_are_one_part)

@@ -1,7 +1,7 @@
 -- Names join and split in one way only.
 use Rattle.std.specs.Prelude.{◌≡◌, ◌≢◌, ◌<◌, ℕ, true, List, [], ◌∷◌, ◌++◌, length}
 use Rattle.std.specs.List.{AllPass}
-use Rattle.protox_names.specs.Names.{is_identifier, is_one_part, joined, parts, scopes, within}
+use Rattle.protox_names.specs.Names.{front, is_identifier, is_one_part, joined, parts, scopes, within}
 
 -- Joined by dots, the parts of a name are the name.
 abbrev pub PartsMakeTheName : Type 0
@@ -30,6 +30,10 @@ ScopesGoOutwards = (scope name : List ℕ) → scope ≢ [] → is_one_part name
 -- Around what has a name without dots in the nameless scope, there is no other.
 abbrev pub ScopesEnd : Type 0
 ScopesEnd = (name : List ℕ) → is_one_part name ≡ true → scopes name ≡ []
+
+-- A name without dots is its own first part.
+abbrev pub OnePartIsTheFront : Type 0
+OnePartIsTheFront = (name : List ℕ) → is_one_part name ≡ true → front name ≡ name
 
 -- An identifier has no dot.
 abbrev pub IdentifiersAreOnePart : Type 0

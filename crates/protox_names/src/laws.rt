@@ -1,6 +1,6 @@
 //! Laws of names. They are for proofs: none of these functions does anything.
 
-ghost use Rattle.protox_names.specs.Unique.{FullNamesDiffer, IdentifiersAreOnePart, NamesDiffer, PartsMakeTheName, PiecesAreTheParts, ScopeComesFirst, ScopesEnd, ScopesGoOutwards, ScopesNest};
+ghost use Rattle.protox_names.specs.Unique.{FullNamesDiffer, IdentifiersAreOnePart, NamesDiffer, OnePartIsTheFront, PartsMakeTheName, PiecesAreTheParts, ScopeComesFirst, ScopesEnd, ScopesGoOutwards, ScopesNest};
 
 /// A name has one list of parts, and parts without dots make one name.
 #[tactic(auto, using(crate::proofs::Joining::unique))]
@@ -8,6 +8,7 @@ pub fn names_join_and_split()
     ensures name { PartsMakeTheName }
     ensures pieces { PiecesAreTheParts }
     ensures scope { ScopeComesFirst }
+    ensures alone { OnePartIsTheFront }
 {}
 
 /// A full name tells the scope and the name, unless the name has a dot.

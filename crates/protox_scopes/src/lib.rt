@@ -1,0 +1,12 @@
+//! Protobuf's scoping rule: what a name stands for where something uses it.
+#![tactic(auto)]
+
+mod kind;
+pub mod laws;
+mod search;
+mod step;
+mod table;
+
+pub use crate::kind::{Kind, Wanted};
+pub use crate::search::resolve;
+pub use crate::table::Table;

@@ -1,14 +1,14 @@
 -- Names join and split in one way only.
 use Rattle.std.proofs.Common.{◌≡◌, ◌==◌, ◌||◌, ◌&&◌, ℕ, Bool, true, false, not, cond, List, [], ◌∷◌, ◌++◌, length, map, refl, sym, ap, ◌∙◌, arith}
 use Rattle.std.specs.List.{All, AllPass, list_all, list_any, onto_first, position_or_len}
-use Rattle.std.proofs.lemmas.Bool.{true≢false}
+use Rattle.std.proofs.lemmas.Bool.{false≢true, true≢false}
 use Rattle.std.proofs.lemmas.Bool.Decides.{nat_tests}
 use Rattle.std.proofs.lemmas.List.{append_assoc, append_cancel_left, take_all}
 use Rattle.std.proofs.lemmas.List.Elements.{All-cons, All-head, All-nil, All-tail}
 use Rattle.std.proofs.lemmas.List.Sums.{position_or_len_is}
 use Rattle.std.proofs.lemmas.List.Splits.{join_with_byte-slice_split, slice_split_at, slice_split_none}
-use Rattle.protox_names.specs.Names.{is_dot, is_identifier_byte, is_one_part, joined, parts, scopes, within}
-use Rattle.protox_names.specs.Unique.{FullNamesDiffer, IdentifiersAreOnePart, NamesDiffer, OnePartIsTheFront, PartsMakeTheName, PiecesAreTheParts, ScopeComesFirst, ScopesEnd, ScopesGoOutwards, ScopesNest}
+use Rattle.protox_names.specs.Names.{is_dot, is_identifier, is_identifier_byte, is_one_part, joined, parts, scopes, within}
+use Rattle.protox_names.specs.Unique.{FullNamesDiffer, IdentifiersAreOnePart, NamesDiffer, OneMorePart, OnePartIsTheFront, PartsMakeTheName, PiecesAreTheParts, ScopeComesFirst, ScopesEnd, ScopesGoOutwards, ScopesNest}
 
 neither : (a b : Bool) → not (a || b) ≡ true → (a ≡ false) × (not b ≡ true)
 neither true b h = absurd (true≢false (sym h))
@@ -152,4 +152,22 @@ none_is_dot (byte ∷ rest) h =
 pub identifiers_are_one_part : IdentifiersAreOnePart
 identifiers_are_one_part name h = none_is_dot name (both_hold (not (length name == 0)) (list_all is_identifier_byte name) h).1
 
-pub ruleset unique = (name_of_parts, parts_of_joined, front_of_one_part, parts_within, scopes_of_one_part, scopes_within, within_differs, full_names_differ, within_nests, identifiers_are_one_part)
+-- ---- identifiers, joined
+
+join_push : (first : List ℕ) (others : List (List ℕ)) (name : List ℕ) → joined ((first ∷ others) ++ name ∷ []) ≡ joined (first ∷ others) ++ 46 ∷ name
+join_push first [] name = refl
+join_push first (second ∷ others) name =
+    ap (λ l. first ++ 46 ∷ l) (join_push second others name) ∙ sym (append_assoc first (46 ∷ joined (second ∷ others)) (46 ∷ name))
+
+begins_with : (byte : ℕ) (rest : List ℕ) (others : List (List ℕ)) → (more : List ℕ) × (joined ((byte ∷ rest) ∷ others) ≡ byte ∷ more)
+begins_with byte rest [] = (rest, refl)
+begins_with byte rest (second ∷ others) = (rest ++ 46 ∷ joined (second ∷ others), refl)
+
+pub joined_one_more : OneMorePart
+joined_one_more [] name h = refl
+joined_one_more ([] ∷ others) name h = absurd (false≢true (All-head (λ p. is_identifier p ≡ true) [] others h))
+joined_one_more ((byte ∷ rest) ∷ others) name h =
+    let begins = begins_with byte rest others in
+    join_push (byte ∷ rest) others name ∙ ap (λ l. l ++ 46 ∷ name) begins.1 ∙ sym (ap (λ l. within l name) begins.1)
+
+pub ruleset unique = (name_of_parts, parts_of_joined, front_of_one_part, joined_one_more, parts_within, scopes_of_one_part, scopes_within, within_differs, full_names_differ, within_nests, identifiers_are_one_part)

@@ -11,6 +11,10 @@ PartsMakeTheName = (name : List ℕ) → joined (parts name) ≡ name
 abbrev pub PiecesAreTheParts : Type 0
 PiecesAreTheParts = (pieces : List (List ℕ)) → 0 < length pieces → AllPass is_one_part pieces → parts (joined pieces) ≡ pieces
 
+-- Joined, identifiers are the full name of the last one in the scope that the others name.
+abbrev pub OneMorePart : Type 0
+OneMorePart = (pieces : List (List ℕ)) (name : List ℕ) → AllPass is_identifier pieces → joined (pieces ++ name ∷ []) ≡ within (joined pieces) name
+
 -- In a named scope, a name has the parts of the scope, and then its own.
 abbrev pub ScopeComesFirst : Type 0
 ScopeComesFirst = (scope name : List ℕ) → scope ≢ [] → parts (within scope name) ≡ parts scope ++ parts name

@@ -7,7 +7,8 @@ use std::alloc::{AllocError, Global};
 
 // Adds a piece of a name, with a capital in front if it begins with a small letter.
 fn push_capitalized(made: &mut String, piece: &str) -> Result<(), AllocError>
-    ensures { OnOk result (string_bytes made.new ≡ string_bytes made.old ++ words.capitalized piece.now) }
+    ensures { OnOk result
+        (string_bytes made.new ≡ string_bytes made.old ++ words.capitalized piece.now) }
 {
     let mut others = piece.chars();
     let Some(first) = others.next() else {

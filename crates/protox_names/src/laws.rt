@@ -1,12 +1,16 @@
 //! Laws of names. They are for proofs: none of these functions does anything.
 
-ghost use Rattle.protox_names.specs.Unique.{FullNamesDiffer, IdentifiersAreOnePart, NamesDiffer, OnePartIsTheFront, PartsMakeTheName, PiecesAreTheParts, ScopeComesFirst, ScopesEnd, ScopesGoOutwards, ScopesNest};
+ghost use Rattle.protox_names.specs.Unique.{FullNamesDiffer, NamesDiffer, ScopesNest};
+ghost use Rattle.protox_names.specs.Unique.{OneMorePart, OnePartIsTheFront, ScopeComesFirst};
+ghost use Rattle.protox_names.specs.Unique.{PartsMakeTheName, PiecesAreTheParts};
+ghost use Rattle.protox_names.specs.Unique.{IdentifiersAreOnePart, ScopesEnd, ScopesGoOutwards};
 
 /// A name has one list of parts, and parts without dots make one name.
 #[tactic(auto, using(crate::proofs::Joining::unique))]
 pub fn names_join_and_split()
     ensures name { PartsMakeTheName }
     ensures pieces { PiecesAreTheParts }
+    ensures one_more { OneMorePart }
     ensures scope { ScopeComesFirst }
     ensures alone { OnePartIsTheFront }
 {}

@@ -1,7 +1,8 @@
 //! Names of protobuf: texts with dots between their parts.
 #![tactic(auto)]
 
-ghost use Rattle.std.specs.Prelude.{◌≡◌, ◌<◌, ◌∷◌, [], IfOk, IfSome, MatchOption, length, map, string_bytes};
+ghost use Rattle.std.specs.Prelude.{◌≡◌, ◌<◌, ◌∷◌, [], length, map, string_bytes};
+ghost use Rattle.std.specs.Prelude.{IfOk, IfSome, MatchOption};
 ghost use Rattle.protox_names.specs.Names as words;
 
 pub mod cases;
@@ -50,7 +51,8 @@ pub fn front(name: &str) -> &str
 /// The scope that what has this full name stands in: all before the last dot. None if it has no
 /// dot.
 pub fn enclosing(name: &str) -> Option<&str>
-    ensures scopes { MatchOption result (words.scopes name.now ≡ []) (λ scope. words.scopes name.now ≡ scope.now ∷ words.scopes scope.now) }
+    ensures scopes { MatchOption result (words.scopes name.now ≡ [])
+        (λ scope. words.scopes name.now ≡ scope.now ∷ words.scopes scope.now) }
     ensures shorter { IfSome result (λ scope. length scope.now < length name.now) }
 {
     let (scope, _) = name.rsplit_once('.')?;

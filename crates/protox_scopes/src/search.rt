@@ -11,7 +11,8 @@ use protox_names::{enclosing, front, is_one_part};
 // Searches one scope for a name, of which `first` is the first part.
 fn step<T: Table>(table: &T, wanted: Wanted, name: &str, first: &str, scope: &str) -> Step<usize>
     requires { first.now ≡ names.front name.now }
-    ensures { result ≡ words.step (T.kind_of table.now) (T.seen table.now) wanted name.now scope.now }
+    ensures { result
+        ≡ words.step (T.kind_of table.now) (T.seen table.now) wanted name.now scope.now }
 {
     let Some(thing) = table.find(scope, first) else {
         return Step::GoesOn;
@@ -38,7 +39,8 @@ fn step<T: Table>(table: &T, wanted: Wanted, name: &str, first: &str, scope: &st
 ///
 /// It takes no memory.
 pub fn resolve<T: Table>(table: &T, wanted: Wanted, name: &str, user: &str) -> Option<usize>
-    ensures { result ≡ words.resolve (T.kind_of table.now) (T.seen table.now) wanted name.now user.now }
+    ensures { result
+        ≡ words.resolve (T.kind_of table.now) (T.seen table.now) wanted name.now user.now }
 {
     if let Some(full_name) = name.strip_prefix('.') {
         return table.find("", full_name);

@@ -1,6 +1,6 @@
 //! Laws of the scoping rule. They are for proofs: none of these functions does anything.
 
-ghost use Rattle.protox_scopes.specs.Laws.{DotIsSafe, OneMeaning, ResolveIsMeaning};
+ghost use Rattle.protox_scopes.specs.Laws.{DotIsSafe, NumbersDontMatter, OneMeaning, ResolveIsMeaning};
 
 /// A name stands for one thing at most.
 pub fn one_meaning()
@@ -15,4 +15,9 @@ pub fn resolve_is_meaning()
 /// A name that begins with a dot stands for the same, whoever uses it.
 pub fn dot_is_safe()
     ensures { DotIsSafe }
+{}
+
+/// What a name stands for doesn't depend on how things are numbered.
+pub fn numbers_dont_matter()
+    ensures { NumbersDontMatter }
 {}

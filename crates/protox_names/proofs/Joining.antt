@@ -100,7 +100,7 @@ scopes_within (byte ∷ scope) name named h = scopes_at_dot (byte ∷ scope) nam
 
 -- ---- full names
 
-dropped_dot : (first second : List ℕ) → 46 ∷ first ≡ 46 ∷ second → first ≡ second
+pub dropped_dot : (first second : List ℕ) → 46 ∷ first ≡ 46 ∷ second → first ≡ second
 dropped_dot first second h = cc
 
 pub within_differs : NamesDiffer

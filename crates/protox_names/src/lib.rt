@@ -1,8 +1,8 @@
 //! Names of protobuf: texts with dots between their parts.
 #![tactic(auto)]
 
-ghost use Rattle.std.specs.Prelude.{◌≡◌, ◌<◌, ◌∷◌, [], length, map, string_bytes};
-ghost use Rattle.std.specs.Prelude.{IfOk, IfSome, MatchOption};
+ghost use Rattle.std.specs.Prelude.{◌≡◌, ◌↔◌, ◌<◌, ◌∷◌, [], length, map, string_bytes};
+ghost use Rattle.std.specs.Prelude.{IfOk, IfSome, IsTrue, MatchOption};
 ghost use Rattle.protox_names.specs.Names as words;
 
 pub mod cases;
@@ -84,4 +84,20 @@ pub fn within(alloc: Global, scope: &str, name: &str) -> Result<String, AllocErr
     made.push_str(".")?;
     made.push_str(name)?;
     Ok(made)
+}
+
+/// Whether this is the full name of what has this name in a scope. It takes no memory.
+pub fn is_within(full_name: &str, scope: &str, name: &str) -> bool
+    ensures { IsTrue result ↔ (full_name.now ≡ words.within scope.now name.now) }
+{
+    if scope.is_empty() {
+        return full_name == name;
+    }
+    let Some(rest) = full_name.strip_prefix(scope) else {
+        return false;
+    };
+    let Some(last) = rest.strip_prefix('.') else {
+        return false;
+    };
+    last == name
 }

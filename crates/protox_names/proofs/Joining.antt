@@ -1,14 +1,14 @@
 -- Names join and split in one way only.
-use Rattle.std.proofs.Common.{◌≡◌, ◌==◌, ◌||◌, ◌&&◌, ℕ, Bool, true, false, not, cond, List, [], ◌∷◌, ◌++◌, length, map, refl, sym, ap, ◌∙◌, arith}
+use Rattle.std.proofs.Common.{◌≡◌, ◌<◌, ◌==◌, ◌||◌, ◌&&◌, ℕ, Bool, true, false, not, cond, List, [], ◌∷◌, ◌++◌, length, map, refl, sym, ap, ◌∙◌, arith}
 use Rattle.std.specs.List.{All, AllPass, list_all, list_any, onto_first, position_or_len}
 use Rattle.std.proofs.lemmas.Bool.{false≢true, true≢false}
 use Rattle.std.proofs.lemmas.Bool.Decides.{nat_tests}
 use Rattle.std.proofs.lemmas.List.{append_assoc, append_cancel_left, take_all}
-use Rattle.std.proofs.lemmas.List.Elements.{All-cons, All-head, All-nil, All-tail}
+use Rattle.std.proofs.lemmas.List.Elements.{All-append, All-cons, All-head, All-map, All-nil, All-tail, All-weaker}
 use Rattle.std.proofs.lemmas.List.Sums.{position_or_len_is}
 use Rattle.std.proofs.lemmas.List.Splits.{join_with_byte-slice_split, slice_split_at, slice_split_none}
 use Rattle.protox_names.specs.Names.{is_dot, is_identifier, is_identifier_byte, is_one_part, joined, parts, scopes, within}
-use Rattle.protox_names.specs.Unique.{FullNamesDiffer, IdentifiersAreOnePart, NamesDiffer, OneMorePart, OnePartIsTheFront, PartsMakeTheName, PiecesAreTheParts, ScopeComesFirst, ScopesEnd, ScopesGoOutwards, ScopesNest}
+use Rattle.protox_names.specs.Unique.{FullNamesDiffer, IdentifiersAreOnePart, NamesDiffer, OneMorePart, OnePartIsTheFront, PartsMakeTheName, PiecesAreTheParts, ScopeComesFirst, ScopesAreShorter, ScopesEnd, ScopesGoOutwards, ScopesNest}
 
 neither : (a b : Bool) → not (a || b) ≡ true → (a ≡ false) × (not b ≡ true)
 neither true b h = absurd (true≢false (sym h))
@@ -98,6 +98,23 @@ pub scopes_within : ScopesGoOutwards
 scopes_within [] name named h = absurd (named refl)
 scopes_within (byte ∷ scope) name named h = scopes_at_dot (byte ∷ scope) name h
 
+abbrev IsBelow : ℕ → List ℕ → Type 0
+IsBelow limit scope = length scope < limit
+
+last_is_below : (limit : ℕ) (dot : Bool) → 0 < limit → All (IsBelow limit) (cond dot ([] ∷ []) [])
+last_is_below limit true some = All-cons (IsBelow limit) [] [] some (All-nil (IsBelow limit))
+last_is_below limit false some = All-nil (IsBelow limit)
+
+-- a scope around a name is shorter than the name
+pub scopes_are_shorter : ScopesAreShorter
+scopes_are_shorter [] = All-nil (IsBelow 0)
+scopes_are_shorter (byte ∷ rest) =
+    let limit = length (byte ∷ rest) in
+    let inner = All-weaker (IsBelow (length rest)) (λ scope. IsBelow limit (byte ∷ scope)) (λ scope h. omega (arith, h)) (scopes rest) (scopes_are_shorter rest) in
+    All-append (IsBelow limit) (map (λ scope. byte ∷ scope) (scopes rest)) (cond (is_dot byte) ([] ∷ []) [])
+    (All-map (IsBelow limit) (λ scope. byte ∷ scope) (scopes rest) inner)
+    (last_is_below limit (is_dot byte) (omega arith))
+
 -- ---- full names
 
 pub dropped_dot : (first second : List ℕ) → 46 ∷ first ≡ 46 ∷ second → first ≡ second
@@ -170,4 +187,4 @@ joined_one_more ((byte ∷ rest) ∷ others) name h =
     let begins = begins_with byte rest others in
     join_push (byte ∷ rest) others name ∙ ap (λ l. l ++ 46 ∷ name) begins.1 ∙ sym (ap (λ l. within l name) begins.1)
 
-pub ruleset unique = (name_of_parts, parts_of_joined, front_of_one_part, joined_one_more, parts_within, scopes_of_one_part, scopes_within, within_differs, full_names_differ, within_nests, identifiers_are_one_part)
+pub ruleset unique = (name_of_parts, parts_of_joined, front_of_one_part, joined_one_more, parts_within, scopes_of_one_part, scopes_within, scopes_are_shorter, within_differs, full_names_differ, within_nests, identifiers_are_one_part)

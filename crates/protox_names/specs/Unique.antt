@@ -1,6 +1,6 @@
 -- Names join and split in one way only.
 use Rattle.std.specs.Prelude.{◌≡◌, ◌≢◌, ◌<◌, ℕ, true, List, [], ◌∷◌, ◌++◌, length}
-use Rattle.std.specs.List.{AllPass}
+use Rattle.std.specs.List.{All, AllPass}
 use Rattle.protox_names.specs.Names.{front, is_identifier, is_one_part, joined, parts, scopes, within}
 
 -- Joined by dots, the parts of a name are the name.
@@ -34,6 +34,10 @@ ScopesGoOutwards = (scope name : List ℕ) → scope ≢ [] → is_one_part name
 -- Around what has a name without dots in the nameless scope, there is no other.
 abbrev pub ScopesEnd : Type 0
 ScopesEnd = (name : List ℕ) → is_one_part name ≡ true → scopes name ≡ []
+
+-- Each scope around what has a full name is shorter than the name.
+abbrev pub ScopesAreShorter : Type 0
+ScopesAreShorter = (name : List ℕ) → All (λ scope. length scope < length name) (scopes name)
 
 -- A name without dots is its own first part.
 abbrev pub OnePartIsTheFront : Type 0

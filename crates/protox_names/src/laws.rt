@@ -3,7 +3,7 @@
 ghost use Rattle.protox_names.specs.Unique.{FullNamesDiffer, NamesDiffer, ScopesNest};
 ghost use Rattle.protox_names.specs.Unique.{OneMorePart, OnePartIsTheFront, ScopeComesFirst};
 ghost use Rattle.protox_names.specs.Unique.{PartsMakeTheName, PiecesAreTheParts};
-ghost use Rattle.protox_names.specs.Unique.{IdentifiersAreOnePart, ScopesEnd, ScopesGoOutwards};
+ghost use Rattle.protox_names.specs.Unique.{IdentifiersAreOnePart, ScopesAreShorter, ScopesEnd, ScopesGoOutwards};
 
 /// A name has one list of parts, and parts without dots make one name.
 #[tactic(auto, using(crate::proofs::Joining::unique))]
@@ -28,6 +28,7 @@ pub fn full_names_differ()
 pub fn scopes_go_outwards()
     ensures outwards { ScopesGoOutwards }
     ensures ends { ScopesEnd }
+    ensures shorter { ScopesAreShorter }
 {}
 
 /// An identifier has no dot.

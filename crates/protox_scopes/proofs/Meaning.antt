@@ -120,6 +120,13 @@ module _ {Thing : Type 0} (kind : Thing → Kind) (seen : List ℕ → Option Th
     | Stops has' stops ↦ absurd (All-head Misses first inner none has')
   ]
 
+  -- A search in the nameless scope finds nothing else than the last resort.
+  pub nameless_is_last : outwards ([] ∷ []) (seen name) ≡ seen name
+  nameless_is_last = elim (searched []) [
+    | Passes misses passes ↦ ap (λ s. first_end (s ∷ []) (seen name)) passes
+    | Stops has stops ↦ ap (λ s. first_end (s ∷ []) (seen name)) stops
+  ]
+
   -- ---- a search, and the meaning
 
   of_full_name : (user : List ℕ) → is_absolute name ≡ true → resolve kind seen wanted name user ≡ seen (drop 1 name)

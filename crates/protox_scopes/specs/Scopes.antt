@@ -1,5 +1,5 @@
 -- Protobuf's scoping rule: what a name stands for where something uses it.
-use Rattle.std.specs.Prelude.{ℕ, Bool, true, false, List, [], ◌∷◌, drop, map, Option, Some, None, if◌then◌else◌}
+use Rattle.std.specs.Prelude.{◌≡◌, ℕ, Bool, true, false, List, [], ◌∷◌, drop, map, MatchOption, Option, Some, None, if◌then◌else◌}
 use Rattle.protox_names.specs.Names.{front, is_absolute, is_one_part, scopes, within}
 use Rattle.protox_scopes.specs.declared.kind.Kind.{Kind}
 use Rattle.protox_scopes.specs.declared.kind.Kind.TheVariants.{Message, Enum, Service, Package, Member}
@@ -27,6 +27,16 @@ holds_names Member = false
 abbrev pub fits : Wanted → Kind → Bool
 fits AType kind = is_type kind
 fits Anything kind = true
+
+-- the full name of a scope that has a number, or else of the nameless one
+abbrev pub name_of_scope : (ℕ → List ℕ) → Option ℕ → List ℕ
+name_of_scope name_of None = []
+name_of_scope name_of (Some scope) = name_of scope
+
+-- The scope that a scope stands in, or none if that is the nameless one.
+abbrev pub IsOuter : (ℕ → List ℕ) → ℕ → Option ℕ → Type 0
+IsOuter name_of scope outer =
+    MatchOption outer (scopes (name_of scope) ≡ []) (λ o. scopes (name_of scope) ≡ name_of o ∷ scopes (name_of o))
 
 -- the end of the first search that ends, or the last resort
 abbrev pub first_end : {Thing : Type 0} → List (Step Thing) → Option Thing → Option Thing

@@ -1,6 +1,7 @@
 //! Laws of the scoping rule. They are for proofs: none of these functions does anything.
 
-ghost use Rattle.protox_scopes.specs.Laws.{DotIsSafe, NumbersDontMatter, OneMeaning, ResolveIsMeaning};
+ghost use Rattle.protox_scopes.specs.Laws.{DotIsSafe, NumbersDontMatter};
+ghost use Rattle.protox_scopes.specs.Laws.{OneMeaning, ResolveIsMeaning};
 
 /// A name stands for one thing at most.
 pub fn one_meaning()

@@ -8,7 +8,7 @@ use Rattle.std.proofs.lemmas.List.Elements.{All-append, All-cons, All-head, All-
 use Rattle.std.proofs.lemmas.List.Sums.{position_or_len_is}
 use Rattle.std.proofs.lemmas.List.Splits.{join_with_byte-slice_split, slice_split_at, slice_split_none}
 use Rattle.protox_names.specs.Names.{is_dot, is_identifier, is_identifier_byte, is_one_part, joined, parts, scopes, within}
-use Rattle.protox_names.specs.Unique.{FullNamesDiffer, IdentifiersAreOnePart, NamesDiffer, OneMorePart, OnePartIsTheFront, PartsMakeTheName, PiecesAreTheParts, ScopeComesFirst, ScopesAreShorter, ScopesEnd, ScopesGoOutwards, ScopesNest}
+use Rattle.protox_names.specs.Unique.{FullNamesDiffer, IdentifiersAreOnePart, NamesDiffer, OneMorePart, OnePartIsTheFront, PartsHaveNoDots, PartsMakeTheName, PiecesAreTheParts, ScopeComesFirst, ScopesAreShorter, ScopesEnd, ScopesGoOutwards, ScopesNest}
 
 neither : (a b : Bool) → not (a || b) ≡ true → (a ≡ false) × (not b ≡ true)
 neither true b h = absurd (true≢false (sym h))
@@ -25,6 +25,23 @@ no_dots (byte ∷ rest) h =
 
 pub name_of_parts : PartsMakeTheName
 name_of_parts name = join_with_byte-slice_split 46 name
+
+abbrev IsOnePart : List ℕ → Type 0
+IsOnePart part = is_one_part part ≡ true
+
+onto_one_part : (byte : ℕ) (pieces : List (List ℕ)) → is_dot byte ≡ false → AllPass is_one_part pieces → AllPass is_one_part (onto_first byte pieces)
+onto_one_part byte [] is h = All-cons IsOnePart (byte ∷ []) [] (ap (λ b. not (b || false)) is) (All-nil IsOnePart)
+onto_one_part byte (first ∷ others) is h =
+    All-cons IsOnePart (byte ∷ first) others (ap (λ b. not (b || list_any is_dot first)) is ∙ All-head IsOnePart first others h) (All-tail IsOnePart first others h)
+
+chosen_one_part : (dot : Bool) (byte : ℕ) (pieces : List (List ℕ)) → is_dot byte ≡ dot → AllPass is_one_part pieces → AllPass is_one_part (cond dot ([] ∷ pieces) (onto_first byte pieces))
+chosen_one_part true byte pieces is h = All-cons IsOnePart [] pieces refl h
+chosen_one_part false byte pieces is h = onto_one_part byte pieces is h
+
+-- no part has a dot
+pub parts_have_no_dots : PartsHaveNoDots
+parts_have_no_dots [] = All-cons IsOnePart [] [] refl (All-nil IsOnePart)
+parts_have_no_dots (byte ∷ rest) = chosen_one_part (is_dot byte) byte (parts rest) refl (parts_have_no_dots rest)
 
 some_parts : (first : List ℕ) (others : List (List ℕ)) → AllPass is_one_part (first ∷ others) → parts (joined (first ∷ others)) ≡ first ∷ others
 some_parts first [] h = slice_split_none is_dot first (no_dots first (All-head (λ p. is_one_part p ≡ true) first [] h))
@@ -187,4 +204,4 @@ joined_one_more ((byte ∷ rest) ∷ others) name h =
     let begins = begins_with byte rest others in
     join_push (byte ∷ rest) others name ∙ ap (λ l. l ++ 46 ∷ name) begins.1 ∙ sym (ap (λ l. within l name) begins.1)
 
-pub ruleset unique = (name_of_parts, parts_of_joined, front_of_one_part, joined_one_more, parts_within, scopes_of_one_part, scopes_within, scopes_are_shorter, within_differs, full_names_differ, within_nests, identifiers_are_one_part)
+pub ruleset unique = (name_of_parts, parts_have_no_dots, parts_of_joined, front_of_one_part, joined_one_more, parts_within, scopes_of_one_part, scopes_within, scopes_are_shorter, within_differs, full_names_differ, within_nests, identifiers_are_one_part)

@@ -2,3 +2,4 @@ pub mod Joining
 pub mod Found
 pub mod Named
 pub mod Pieces
+pub mod Walking

@@ -1,3 +1,4 @@
 pub mod Names
 pub mod Cases
+pub mod Tree
 pub mod Unique

@@ -7,6 +7,10 @@ use Rattle.protox_names.specs.Names.{front, is_identifier, is_one_part, joined, 
 abbrev pub PartsMakeTheName : Type 0
 PartsMakeTheName = (name : List ℕ) → joined (parts name) ≡ name
 
+-- No part of a name has a dot.
+abbrev pub PartsHaveNoDots : Type 0
+PartsHaveNoDots = (name : List ℕ) → AllPass is_one_part (parts name)
+
 -- Pieces without dots, at least one of them, are the parts of the name that they make.
 abbrev pub PiecesAreTheParts : Type 0
 PiecesAreTheParts = (pieces : List (List ℕ)) → 0 < length pieces → AllPass is_one_part pieces → parts (joined pieces) ≡ pieces

@@ -2,11 +2,12 @@
 use Rattle.std.proofs.Common.{◌≡◌, ◌<◌, ◌+◌, ℕ, true, false, List, [], ◌∷◌, length, map, Option, Some, None, sym, ap, subst, ◌∙◌, arith}
 use Rattle.std.proofs.lemmas.List.Elements.{All-head, All-same}
 use Rattle.protox_names.specs.Names.{is_absolute, is_one_part, scopes, within}
+use Rattle.protox_names.specs.Tree.{name_of_place}
 use Rattle.protox_names.proofs.Joining.{scopes_are_shorter, scopes_at_dot, scopes_of_one_part}
 use Rattle.protox_scopes.specs.declared.kind.Kind.{Kind}
 use Rattle.protox_scopes.specs.declared.kind.Wanted.{Wanted}
 use Rattle.protox_scopes.specs.declared.step.Step.TheVariants.{Ends}
-use Rattle.protox_scopes.specs.Scopes.{IsOuter, first_end, name_of_scope, resolve}
+use Rattle.protox_scopes.specs.Scopes.{IsOuter, first_end, resolve}
 use Rattle.protox_scopes.proofs.Meaning.{at, nameless_is_last, of_relative, outwards}
 
 -- a scope that has a number, and the scopes around it
@@ -47,14 +48,14 @@ module _ {Thing : Type 0} (kind : Thing → Kind) (seen : List ℕ → Option Th
   user_in (byte ∷ scope) user alone =
       sym (ap (λ l. outwards kind seen wanted name l (seen name)) (scopes_at_dot (byte ∷ scope) user alone))
 
-  around_user : (start : Option ℕ) (user : List ℕ) → is_one_part user ≡ true → all_from start ≡ outwards kind seen wanted name (scopes (within (name_of_scope name_of start) user)) (seen name)
+  around_user : (start : Option ℕ) (user : List ℕ) → is_one_part user ≡ true → all_from start ≡ outwards kind seen wanted name (scopes (within (name_of_place name_of start) user)) (seen name)
   around_user None user alone = sym (ap (λ l. outwards kind seen wanted name l (seen name)) (scopes_of_one_part user alone))
   around_user (Some scope) user alone = user_in (name_of scope) user alone
 
   -- what all scopes give is what the name stands for
-  pub by_user : (start : Option ℕ) (found : Option Thing) → is_absolute name ≡ false → found ≡ all_from start → (user : List ℕ) → is_one_part user ≡ true → found ≡ resolve kind seen wanted name (within (name_of_scope name_of start) user)
+  pub by_user : (start : Option ℕ) (found : Option Thing) → is_absolute name ≡ false → found ≡ all_from start → (user : List ℕ) → is_one_part user ≡ true → found ≡ resolve kind seen wanted name (within (name_of_place name_of start) user)
   by_user start found relative is user alone =
-      is ∙ around_user start user alone ∙ sym (of_relative kind seen wanted name (within (name_of_scope name_of start) user) relative)
+      is ∙ around_user start user alone ∙ sym (of_relative kind seen wanted name (within (name_of_place name_of start) user) relative)
 
   -- the scope at a place ends the search
   pub stopped : (start place : Option ℕ) (scope : ℕ) (found : Option Thing) → place ≡ Some scope → Ends found ≡ at kind seen wanted name (name_of scope) → all_from place ≡ all_from start → found ≡ all_from start

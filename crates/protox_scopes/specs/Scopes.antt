@@ -28,11 +28,6 @@ abbrev pub fits : Wanted → Kind → Bool
 fits AType kind = is_type kind
 fits Anything kind = true
 
--- the full name of a scope that has a number, or else of the nameless one
-abbrev pub name_of_scope : (ℕ → List ℕ) → Option ℕ → List ℕ
-name_of_scope name_of None = []
-name_of_scope name_of (Some scope) = name_of scope
-
 -- The scope that a scope stands in, or none if that is the nameless one.
 abbrev pub IsOuter : (ℕ → List ℕ) → ℕ → Option ℕ → Type 0
 IsOuter name_of scope outer =

@@ -2,7 +2,8 @@
 
 ghost use Rattle.std.specs.Prelude.{◌≡◌, ℕ, List, Option};
 ghost use Rattle.protox_names.specs.Names.{within};
-ghost use Rattle.protox_scopes.specs.Scopes.{IsOuter, name_of_scope};
+ghost use Rattle.protox_names.specs.Tree.{name_of_place};
+ghost use Rattle.protox_scopes.specs.Scopes.{IsOuter};
 ghost use Rattle.protox_scopes.specs.declared.kind.Kind.{Kind};
 
 use crate::Kind;
@@ -27,7 +28,7 @@ pub trait ScopeTree {
     /// have several parts, with dots between them.
     fn find(&self, scope: Option<usize>, name: &str) -> Option<usize>
         ensures { result
-            ≡ seen self.now (within (name_of_scope (name_of self.now) scope) name.now) };
+            ≡ seen self.now (within (name_of_place (name_of self.now) scope) name.now) };
 
     /// The kind of the thing with a number.
     fn kind(&self, thing: usize) -> Kind

@@ -2,6 +2,7 @@
 
 ghost use Rattle.std.specs.Prelude.{◌≡◌, ℕ, List, true};
 ghost use Rattle.protox_names.specs.Names as names;
+ghost use Rattle.protox_names.specs.Tree.{name_of_place};
 ghost use Rattle.protox_scopes.specs.Scopes as words;
 
 use crate::step::Step;
@@ -48,7 +49,7 @@ pub fn resolve_in<T: ScopeTree>(
 ) -> Option<usize>
     ensures { (user : List ℕ) → names.is_one_part user ≡ true → result
         ≡ words.resolve (T.kind_of tree.now) (T.seen tree.now) wanted name.now
-        (names.within (words.name_of_scope (T.name_of tree.now) scope) user) }
+        (names.within (name_of_place (T.name_of tree.now) scope) user) }
 {
     if let Some(full_name) = name.strip_prefix('.') {
         return tree.find(None, full_name);

@@ -3,7 +3,6 @@ use Rattle.std.specs.Prelude.{ℕ, List, Option, position, slice_get, option_map
 use Rattle.std.specs.Str.{bytes_eq}
 use Rattle.protox_scopes.specs.declared.kind.Kind.{Kind}
 use Rattle.protox_scopes.specs.declared.kind.Kind.TheVariants.{Member}
-use Rattle.scopecases.specs.declared.listed.Entry.{Entry}
 use Rattle.scopecases.specs.declared.listed.Listed.{Listed}
 
 -- the place of the first entry that has this full name

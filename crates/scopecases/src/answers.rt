@@ -1,8 +1,10 @@
 //! What is printed for a line.
 
 use crate::listed::{Entry, Listed};
+use crate::nested::Nested;
 use protox_names::cases::{json_name, without_case};
-use protox_scopes::{Kind, Wanted, resolve};
+use protox_names::enclosing;
+use protox_scopes::{Kind, Table, Wanted, resolve, resolve_in};
 use std::alloc::{AllocError, Global};
 
 fn kind_of(word: &str) -> Option<Kind> {
@@ -27,6 +29,13 @@ fn judged(alloc: Global, wanted: Wanted, entry: &Entry) -> Result<String, AllocE
     }
 }
 
+// What a tree of the same names finds, if each scope is among them.
+fn found_in_tree(listed: &Listed, wanted: Wanted, name: &str, user: &str) -> Option<usize> {
+    let nested = Nested::new(listed)?;
+    let scope = enclosing(user).and_then(|scope| listed.find("", scope));
+    resolve_in(&nested, wanted, name, scope)
+}
+
 fn found(
     alloc: Global,
     listed: &Listed,
@@ -34,7 +43,11 @@ fn found(
     name: &str,
     user: &str,
 ) -> Result<String, AllocError> {
-    match resolve(listed, wanted, name, user).and_then(|place| listed.entries.get(place)) {
+    let place = resolve(listed, wanted, name, user);
+    if place != found_in_tree(listed, wanted, name, user) {
+        return String::from_str(alloc, "two answers");
+    }
+    match place.and_then(|place| listed.entries.get(place)) {
         Some(entry) => judged(alloc, wanted, entry),
         None => String::from_str(alloc, "not defined"),
     }

@@ -2,7 +2,8 @@
 //! that is used stands for.
 //!
 //! - `message a.b` declares a full name; so do `enum`, `service`, `package` and `member`
-//! - `type b in a.c.d` asks for the type of a field of the full name `a.c.d`
+//! - `type b in a.c.d` asks for the type of a field of the full name `a.c.d`. The answers of
+//!   `resolve` and `resolve_in` have to be the same
 //! - `anything b in a.c.d` asks for whatever has the name, where a message is expected
 //! - `json a_b` asks for the JSON name of a field
 //! - `alike a_b aB` asks whether two names are equal without case
@@ -11,6 +12,7 @@
 
 mod answers;
 mod listed;
+mod nested;
 
 use crate::answers::answer;
 use crate::listed::Listed;

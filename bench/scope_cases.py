@@ -314,6 +314,8 @@ def main():
             with open(os.path.join(words.write, name), 'w', encoding='utf-8') as out:
                 out.write(text)
         return
+    if not os.path.exists(PROGRAM):
+        sys.exit(f'{PROGRAM} is not there: `rt run` in crates/scopecases makes it')
     done = subprocess.run([PROGRAM], input=read, capture_output=True, text=True, check=True)
     wrong = [(line, answer) for line, answer in zip(wanted, done.stdout.split('\n')) if line != answer]
     for line, answer in wrong[:20]:

@@ -111,38 +111,9 @@ fn field_kind<'t, 'a>(
     group(alloc, notes, rows, level)
 }
 
-// A label, if there is one, and then a field.
-#[cycle(bodies)]
-#[tactic(auto, unfolding(crate::specs::inner::Bodies::labelled_kind, crate::specs::inner::Words::labelled_kind))]
-fn labelled_kind<'t, 'a>(
-    alloc: Global,
-    notes: &mut Vec<Note>,
-    rows: &mut Unread<'t, 'a>,
-    level: usize,
-    expected: Expected,
-) -> Result<
-    (
-        Option<(FieldLabel, Span)>,
-        (FieldParts, (RowAt<'t, 'a>, RowAt<'t, 'a>)),
-    ),
-    Refused,
->
-    ensures read { Gives (λ (label, (kind, (first, last))). (label, (kind, (first.at, last.at)))) result rows.new (rule.labelled_kind_at level rows.old) }
-    ensures notes { Adds result notes.old.items (rule.labelled_kind_notes level rows.old) notes.new.items }
-    ensures words { Says result (said.labelled_kind_at level expected rows.old) }
-{
-    if sees_any(rows, &[OPTIONAL, REQUIRED, REPEATED]) {
-        let label = label(rows)?;
-        let kind = field_kind(alloc, notes, rows, level, Expected::Type)?;
-        return Ok((Some(label), kind));
-    }
-    let kind = field_kind(alloc, notes, rows, level, expected)?;
-    Ok((None, kind))
-}
-
 /// field = label? (map | group | normal)
 #[cycle(bodies)]
-#[tactic(auto, unfolding(crate::specs::inner::Bodies::field))]
+#[tactic(auto, unfolding(crate::specs::inner::Bodies::field, crate::specs::inner::Bodies::labelled_kind, crate::specs::inner::Words::labelled_kind))]
 fn field(
     alloc: Global,
     notes: &mut Vec<Note>,
@@ -155,22 +126,23 @@ fn field(
     ensures words { Says result (said.labelled_kind_at level expected rows.old) }
 {
     let begun = rows.again();
-    let start = first_span(&begun);
-    let (label, (parts, (last, end))) = labelled_kind(alloc, notes, rows, level, expected)?;
-    let comments = comments_of(alloc, &begun, &last)?;
-    let span = join(&start, &end.span());
-    let FieldParts {
-        name,
-        kind,
-        number,
-        options,
-    } = parts;
+    let found = if sees_any(rows, &[OPTIONAL, REQUIRED, REPEATED]) {
+        let label = label(rows)?;
+        let kind = field_kind(alloc, notes, rows, level, Expected::Type)?;
+        (Some(label), kind)
+    } else {
+        let kind = field_kind(alloc, notes, rows, level, expected)?;
+        (None, kind)
+    };
+    let comments = comments_of(alloc, &begun, &found.1.1.0)?;
+    let span = join(&first_span(&begun), &found.1.1.1.span());
+    // The parts are large: each is moved once.
     Ok(Field {
-        label,
-        name,
-        kind,
-        number,
-        options,
+        label: found.0,
+        name: found.1.0.name,
+        kind: found.1.0.kind,
+        number: found.1.0.number,
+        options: found.1.0.options,
         comments,
         span,
     })
@@ -428,8 +400,7 @@ fn elements(
         reserved: Items::new(alloc),
     };
     'more: while sees_other(rows, RIGHT_BRACE) {
-        let element = element(alloc, notes, rows, level)?;
-        add_element(&mut inside, element)?;
+        add_element(&mut inside, element(alloc, notes, rows, level)?)?;
     }
     Ok(inside)
 }
@@ -452,17 +423,11 @@ fn braces<'t, 'a>(
     let open = expect_mark(rows, b'{', expected)?;
     let inside = elements(alloc, notes, rows, level)?;
     let close = expect_mark(rows, b'}', Expected::MessageBody)?;
-    let ElementsByKind {
-        items,
-        extensions,
-        options,
-        reserved,
-    } = inside;
     let body = MessageBody {
-        items,
-        extensions,
-        options,
-        reserved,
+        items: inside.items,
+        extensions: inside.extensions,
+        options: inside.options,
+        reserved: inside.reserved,
     };
     Ok((body, (open, close)))
 }

@@ -102,6 +102,14 @@ module _ (source : List ℕ) (part : Table) (refused : Bool) (rows : Rows Place)
       read_to = subst (λ v. IsReadTo v source ahead (w.before ++ new) gone now) (sym behind) (refused-on (subst (λ v. IsReadTo v source rows (w.before ++ notes) gone head) behind w.read_to) now is);
     }
 
+    -- It adds what it declares; `now` is the head with that.
+    pub any-on : (now : File) → now ≡ with_statement head x → IsOnWay source part refused ahead new gone now
+    any-on now is = by refused refl
+      where
+        by : (v : Bool) → refused ≡ v → IsOnWay source part refused ahead new gone now
+        by false none = read-on none now is
+        by true behind = passed-on behind now (ap place_in is ∙ place-with head x)
+
   -- ---- a statement is refused
 
   module _ (e : Refused) (mid new at_refusal : Notes) (most : ℕ) (is : most ≡ length rows - 1) (fails : Fails e (statement.code rows)) (adds : AddsTo e notes (statement.notes (place_in head) rows) mid) (own : AreRefusalNotes part.rows e at_refusal)

@@ -1,6 +1,6 @@
 //! Reads the statements of a part, one by one.
 
-ghost use Rattle.std.specs.Prelude.{◌≡◌, ◌≢◌, ◌<◌, ◌++◌, [], Bool, List, true, false, length, OnOk, IfOk};
+ghost use Rattle.std.specs.Prelude.{◌≡◌, ◌≢◌, ◌<◌, ◌++◌, [], Bool, List, drop, true, false, length, OnOk, IfOk};
 ghost use Rattle.std.specs.List.{list_all};
 ghost use Rattle.protox_ast.specs.declared.ast.FileItem as item_type;
 ghost use Rattle.protox_grammar.specs.Told.{AreValidTokens};
@@ -109,6 +109,8 @@ fn read_last_one<'t, 'a>(
 {
     let most = rows.len() - 1;
     match statement(alloc, notes, rows, &first_place(head)) {
+        // It adds nothing. The others are large, and moved when they are matched.
+        Ok(Statement::Empty) => Ok(()),
         Ok(statement) => {
             if *refused {
                 keep_package(head, statement);
@@ -123,6 +125,28 @@ fn read_last_one<'t, 'a>(
             Ok(())
         }
     }
+}
+
+// The same of the notes behind the first `known`. Mostly there are none.
+fn are_right_behind(notes: &[Note], known: usize) -> bool
+    ensures { result ≡ list_all (λ n. is_no_fault n.noted) (drop known notes.now) }
+{
+    notes.len() <= known || are_right(&notes[known..])
+}
+
+// Whether a statement of a part counts. These rows are left behind it, and its notes are those
+// behind the first `known`.
+fn judged(ahead: &Unread<'_, '_>, notes: &[Note], known: usize) -> Going
+    ensures some { result ≡ goings.On → ahead.now ≢ [] }
+    ensures right { result ≡ goings.On → list_all (λ n. is_no_fault n.noted) (drop known notes.now) ≡ true }
+{
+    if ahead.is_empty() {
+        return Going::Cut;
+    }
+    if !are_right_behind(notes, known) {
+        return Going::Odd;
+    }
+    Going::On
 }
 
 // Reads one more statement of another part, if the part has it whole, and nothing is wrong with it.
@@ -140,17 +164,21 @@ fn read_some_one<'t, 'a>(
     let known = notes.len();
     let mut ahead = rows.again();
     match statement(alloc, notes, &mut ahead, &first_place(head)) {
-        Ok(statement) => {
-            if ahead.is_empty() {
-                return Ok(Going::Cut);
+        Ok(Statement::Empty) => match judged(&ahead, notes.as_slice(), known) {
+            Going::On => {
+                *rows = ahead;
+                Ok(Going::On)
             }
-            if !are_right(&notes[known..]) {
-                return Ok(Going::Odd);
+            odd => Ok(odd),
+        },
+        Ok(statement) => match judged(&ahead, notes.as_slice(), known) {
+            Going::On => {
+                add_statement(head, statement)?;
+                *rows = ahead;
+                Ok(Going::On)
             }
-            add_statement(head, statement)?;
-            *rows = ahead;
-            Ok(Going::On)
-        }
+            odd => Ok(odd),
+        },
         Err(Refused::OutOfMemory) => Err(AllocError),
         Err(Refused::At { left: 0, .. }) => Ok(Going::Cut),
         Err(_) => Ok(Going::Odd),

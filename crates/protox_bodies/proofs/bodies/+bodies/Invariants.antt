@@ -22,9 +22,6 @@ decreases-message l = l.level * 13 + 2
 abbrev pub decreases-field_kind : goal.decreases-field_kind
 decreases-field_kind l = l.level * 13 + 3
 
-abbrev pub decreases-labelled_kind : goal.decreases-labelled_kind
-decreases-labelled_kind l = l.level * 13 + 4
-
 abbrev pub decreases-field : goal.decreases-field
 decreases-field l = l.level * 13 + 5
 

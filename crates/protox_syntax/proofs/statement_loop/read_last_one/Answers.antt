@@ -3,13 +3,25 @@ use Rattle.std.proofs.lemmas.Result.{on_ok_weaker}
 use Rattle.protox_ast.specs.declared.ast.File.{File}
 use Rattle.protox_rows.specs.inner.Notes.{AddsTo}
 use Rattle.protox_syntax.proofs.Growing.{syntax-with}
-use Rattle.protox_syntax.proofs.OnWay.{passed-on, read-on, refused-past}
+use Rattle.protox_syntax.proofs.OnWay.{any-on, passed-on, read-on, refused-past}
 use Rattle.protox_syntax.proofs.Recovering.{next-fewer}
 use Rattle.protox_syntax.proofs.Refusing.{some-length}
 use Rattle.protox_syntax.proofs.Turns.{statement-eats}
 use Rattle.protox_syntax.specs.inner.OnWay.{IsOnWay}
+use Rattle.protox_syntax.specs.inner.Parts.{with_statement}
 use Rattle.protox_syntax.specs.inner.Statements as rule
 use Rattle.protox_syntax.proofs.statement_loop.read_last_one.Goals as goal
+
+pub returns-in-Ok-Empty-clause-fewer : goal.returns-in-Ok-Empty-clause-fewer
+returns-in-Ok-Empty-clause-fewer c = statement-eats c.args.rows.now (c.in-Ok-Empty.field-0, c.statement.new.rows) c.in-Ok-Empty.ensures.read
+
+pub returns-in-Ok-Empty-clause-on : goal.returns-in-Ok-Empty-clause-on
+returns-in-Ok-Empty-clause-on c gone w =
+    let notes = c.args.notes.now.items in
+    let rows = c.args.rows.now in
+    let head = c.args.head.now in
+    let added = c.in-Ok-Empty.ensures.notes ∙ ap (λ q. notes ++ (rule.statement).notes q rows) c.first_place.ensures in
+    any-on c.args.source.now c.args.part.now.table c.args.refused.now rows notes gone head w c.requires.some c.in-Ok-Empty.field-0 c.statement.new.rows c.statement.new.notes.items c.in-Ok-Empty.ensures.read added head (ap (with_statement head) (sym c.in-Ok-Empty.field-0-is))
 
 pub returns-else-refused-clause-fewer : goal.returns-else-refused-clause-fewer
 returns-else-refused-clause-fewer c = on_ok_weaker c.add_statement.result (λ is. statement-eats c.args.rows.now (c.in-Ok.statement, c.statement.new.rows) c.in-Ok.ensures.read) c.add_statement.ensures

@@ -1,0 +1,5 @@
+pub mod Names
+pub mod Imports
+pub mod Rows
+pub mod Sees
+pub mod Order

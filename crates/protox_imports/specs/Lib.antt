@@ -3,3 +3,4 @@ pub mod Imports
 pub mod Rows
 pub mod Sees
 pub mod Order
+pub mod inner

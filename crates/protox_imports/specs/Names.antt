@@ -6,7 +6,7 @@ use Rattle.protox_descriptor.specs.declared.descriptor.FileDescriptorProto.{File
 
 -- The file has this name.
 abbrev pub is_named : List ℕ → FileDescriptorProto → Bool
-is_named name file = option_map_or (λ own. bytes_eq name own) file.name false
+is_named name file = option_map_or (λ own. bytes_eq own name) file.name false
 
 -- the number of the first file of the set with this name, from 0
 abbrev pub number_of : List FileDescriptorProto → List ℕ → Option ℕ

@@ -1,4 +1,11 @@
 //! Which file of a list imports which, the order in which imports come first, and what a file sees.
 #![tactic(auto)]
 
+mod imports;
+mod names;
 pub mod row;
+mod rows;
+mod seen;
+
+pub use imports::Imports;
+pub use seen::sees;

@@ -1,0 +1,4 @@
+pub mod Elements
+pub mod Numbers
+pub mod ByName
+pub mod Marking

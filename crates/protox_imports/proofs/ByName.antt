@@ -11,7 +11,7 @@ use Rattle.std.proofs.lemmas.Slice.Eq.{bytes_eq-Decides}
 use Rattle.protox_descriptor.specs.declared.descriptor.FileDescriptorProto.{FileDescriptorProto}
 use Rattle.protox_imports.specs.Names.{is_named, number_of}
 use Rattle.protox_imports.specs.Imports.{name_at, dependency_at, public_at, IsFirstNamed, Imports, ImportsPublicly}
-use Rattle.protox_imports.specs.Rows.{named_at, row_by, rows_of, named_of, public_of, ImportsIn, PassesOnIn, AreWithin, SayAsNames}
+use Rattle.protox_imports.specs.Rows.{named_at, row_by, rows_of, named_of, public_of, ImportsIn, PassesOnIn, AreWithin, AreAmongImports, SayAsNames}
 use Rattle.protox_imports.specs.declared.row.FileImports.{FileImports}
 use Rattle.protox_imports.proofs.Elements as at
 
@@ -184,10 +184,15 @@ rows_say set = record {
 
 -- They name no file that is not there.
 pub rows_within : (set : List FileDescriptorProto) → AreWithin (rows_of set)
-rows_within set = record {
-  imports = λ f g h. let below = (imports_to set f g h).0 in omega (arith, length-map set (row_by (number_of set)));
-  passes = λ f g h. let below = (passes_to set f g h).0 in omega (arith, length-map set (row_by (number_of set)));
-}
+rows_within set f g h =
+    let below = (imports_to set f g h).0 in
+    omega (arith, length-map set (row_by (number_of set)))
+
+-- What is imported publicly is imported.
+pub rows_among : (set : List FileDescriptorProto) → AreAmongImports (rows_of set)
+rows_among set f g h =
+    let by_name = (passes_to set f g h).1 in
+    imports_from set f g (by_name.1, by_name.2, by_name.4, by_name.5)
 
 -- Rows that are made with a search of the same answers are those of the set.
 rows_found : (find : List ℕ → Option ℕ) (set : List FileDescriptorProto) (rows : List FileImports)
@@ -206,3 +211,9 @@ pub found_within : (find : List ℕ → Option ℕ) (set : List FileDescriptorPr
     → rows ≡ map (row_by find) set → AreWithin rows
 found_within find set rows same e =
     subst (λ rs. AreWithin rs) (sym (rows_found find set rows same e)) (rows_within set)
+
+pub found_among : (find : List ℕ → Option ℕ) (set : List FileDescriptorProto)
+    (rows : List FileImports) → ((q : List ℕ) → find q ≡ number_of set q)
+    → rows ≡ map (row_by find) set → AreAmongImports rows
+found_among find set rows same e =
+    subst (λ rs. AreAmongImports rs) (sym (rows_found find set rows same e)) (rows_among set)

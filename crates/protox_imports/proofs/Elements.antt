@@ -108,3 +108,8 @@ filter_map_at h (z ∷ xs) zero x y e is =
 filter_map_at h (z ∷ xs) (suc k) x y e is =
     let found = filter_map_at h xs k x y e is in
     behind (h z) (filter_map h xs) y found.0 found.1
+
+-- The default plays no part for an index within.
+pub get_or_any : {X : Type 0} (xs : List X) (i : ℕ) (d e : X) → i < length xs
+    → get_or xs i d ≡ get_or xs i e
+get_or_any xs i d e h = same_Some _ _ (sym (slice_get-get_or xs i d h) ∙ slice_get-get_or xs i e h)

@@ -2,3 +2,4 @@ pub mod Elements
 pub mod Numbers
 pub mod ByName
 pub mod Marking
+pub mod Seeing

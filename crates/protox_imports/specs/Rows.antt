@@ -38,9 +38,12 @@ abbrev pub PassesOnIn : List FileImports → ℕ → ℕ → Type 0
 PassesOnIn rows f g = Contains (public_of rows f) g
 
 -- Each number in a row is that of a row.
-pub record AreWithin (rows : List FileImports) : Type 0 where
-  pub imports : (f g : ℕ) → ImportsIn rows f g → g < length rows
-  pub passes : (f g : ℕ) → PassesOnIn rows f g → g < length rows
+abbrev pub AreWithin : List FileImports → Type 0
+AreWithin rows = (f g : ℕ) → ImportsIn rows f g → g < length rows
+
+-- What a file imports publicly is among its imports.
+abbrev pub AreAmongImports : List FileImports → Type 0
+AreAmongImports rows = (f g : ℕ) → PassesOnIn rows f g → ImportsIn rows f g
 
 -- The rows say of each two files what their names say.
 pub record SayAsNames (set : List FileDescriptorProto) (rows : List FileImports) : Type 0 where

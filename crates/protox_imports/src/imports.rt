@@ -1,5 +1,5 @@
-ghost use Rattle.std.specs.Prelude.{◌≡◌, IfOk};
-ghost use Rattle.protox_imports.specs.Rows.{AreWithin, rows_of, SayAsNames};
+ghost use Rattle.std.specs.Prelude.{◌≡◌, ◌<◌, ◌==◌, length, IfOk};
+ghost use Rattle.protox_imports.specs.Rows.{AreWithin, AreAmongImports, rows_of, named_of, public_of, SayAsNames};
 
 use crate::names::by_name;
 use crate::row::FileImports;
@@ -11,9 +11,11 @@ use std::alloc::{AllocError, Global};
 /// Which file of a list imports which, by their numbers.
 #[derive(Drop)]
 pub struct Imports {
-    /// What each file imports, in the order of the files. Each number in it is that of a file.
+    /// What each file imports, in the order of the files. Each number in it is that of a file, and
+    /// what a file imports publicly is among its imports.
     pub files: Items<FileImports>,
     ghost within: { AreWithin files },
+    ghost among: { ∥ AreAmongImports files ∥₁ },
 }
 
 impl Imports {
@@ -29,5 +31,35 @@ impl Imports {
         Ok(Imports {
             files: Items::from_vec(rows),
         })
+    }
+
+    /// The number of files.
+    pub fn len(&self) -> usize
+        ensures { result ≡ length self.now.files }
+    {
+        self.files.len()
+    }
+
+    /// Whether there is no file.
+    pub fn is_empty(&self) -> bool
+        ensures { result ≡ (length self.now.files == 0) }
+    {
+        self.files.is_empty()
+    }
+
+    /// For each import of this file, in order: the first file with its name, or None.
+    pub fn named(&self, file: usize) -> &[Option<usize>]
+        requires { file < length self.now.files }
+        ensures { result.now ≡ named_of self.now.files file }
+    {
+        self.files.as_slice()[file].named.as_slice()
+    }
+
+    /// The files that this file imports publicly.
+    pub fn public(&self, file: usize) -> &[usize]
+        requires { file < length self.now.files }
+        ensures { result.now ≡ public_of self.now.files file }
+    {
+        self.files.as_slice()[file].public.as_slice()
     }
 }

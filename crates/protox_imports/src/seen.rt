@@ -3,7 +3,7 @@
 ghost use Rattle.std.specs.Prelude.{◌≡◌, ℕ, ◌<◌, ◌↔◌, Bool, true, false, Some, length, slice_get, slice_index_or, slice_set, vec_len, unwrap_or, IsTrue, IfOk, OnOk, Contains, ◌++◌, ◌∷◌, [], if◌then◌else◌};
 ghost use Rattle.protox_imports.specs.Rows.{ImportsIn, PassesOnIn};
 ghost use Rattle.protox_imports.specs.Sees.{Sees, IsClosed};
-ghost use Rattle.protox_imports.specs.inner.Marks.{Marks};
+ghost use Rattle.protox_imports.specs.inner.Marks.{Marks, IsSeeing};
 
 use crate::imports::Imports;
 use std::alloc::{AllocError, Global};
@@ -53,6 +53,20 @@ fn mark_all(
     Ok(())
 }
 
+// Marks what the file imports, and what is passed on from there.
+fn reached(alloc: Global, imports: &Imports, file: usize) -> Result<Vec<bool>, AllocError>
+    requires { file < length imports.now.files }
+    ensures { IfOk result (λ marks. IsSeeing imports.now.files file marks.items []) }
+{
+    let mut marks = vec![in alloc; false; imports.len()]?;
+    let mut list = Vec::new(alloc);
+    mark_named(imports.named(file), &mut marks, &mut list)?;
+    while let Some(next) = list.pop() {
+        mark_all(imports.public(next), &mut marks, &mut list)?;
+    }
+    Ok(marks)
+}
+
 /// For each file, in order, whether the file with the number `file` sees it; or `AllocError`. A
 /// file sees itself, what it imports, and what those pass on by public imports, from file to file.
 /// Each file is visited once.
@@ -65,13 +79,7 @@ pub fn sees(alloc: Global, imports: &Imports, file: usize) -> Result<Vec<bool>, 
     ensures closed { IfOk result (λ seen. IsClosed (ImportsIn imports.now.files) (PassesOnIn imports.now.files) file (λ h. unwrap_or (slice_get seen.items h) false)) }
     ensures least { IfOk result (λ seen. (holds : ℕ → Bool) → IsClosed (ImportsIn imports.now.files) (PassesOnIn imports.now.files) file holds → (h : ℕ) → slice_get seen.items h ≡ Some true → IsTrue (holds h)) }
 {
-    let rows = imports.files.as_slice();
-    let mut marks = vec![in alloc; false; rows.len()]?;
-    let mut list = Vec::new(alloc);
-    mark_named(rows[file].named.as_slice(), &mut marks, &mut list)?;
-    while let Some(next) = list.pop() {
-        mark_all(rows[next].public.as_slice(), &mut marks, &mut list)?;
-    }
+    let mut marks = reached(alloc, imports, file)?;
     marks[file] = true;
     Ok(marks)
 }

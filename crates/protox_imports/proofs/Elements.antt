@@ -1,5 +1,5 @@
 -- Elements of lists by their index, as `slice_get` gives them.
-use Rattle.std.proofs.Common.{◌≡◌, ◌≢◌, ◌⊎◌, inl, inr, ℕ, zero, suc, ◌<◌, ◌+◌, List, [], ◌∷◌, ◌++◌, length, get_or, set, take, map, Option, Some, None, refl, sym, ◌∙◌, ap, arith}
+use Rattle.std.proofs.Common.{◌≡◌, ◌≢◌, ◌⊎◌, inl, inr, ℕ, zero, suc, ◌<◌, ◌+◌, List, [], ◌∷◌, ◌++◌, length, get_or, set, take, map, Option, Some, None, refl, sym, ◌∙◌, ap, arith, drop, zero-add, ◌≤◌, length-append}
 use Rattle.std.specs.Prelude.{slice_get, Contains}
 use Rattle.std.specs.List.{filter_map, cons_option}
 use Rattle.std.specs.Option.{option_map}
@@ -113,3 +113,22 @@ filter_map_at h (z ∷ xs) (suc k) x y e is =
 pub get_or_any : {X : Type 0} (xs : List X) (i : ℕ) (d e : X) → i < length xs
     → get_or xs i d ≡ get_or xs i e
 get_or_any xs i d e h = same_Some _ _ (sym (slice_get-get_or xs i d h) ∙ slice_get-get_or xs i e h)
+
+get_none : {X : Type 0} (k n : ℕ) → ◌≡◌ {A = Option X} (slice_get [] k) (slice_get [] n)
+get_none k n = refl
+
+-- an element of the rest of a list
+pub get_drop : {X : Type 0} (d : ℕ) (xs : List X) (k : ℕ)
+    → slice_get (drop d xs) k ≡ slice_get xs (d + k)
+get_drop zero xs k = ap (slice_get xs) (sym (zero-add k))
+get_drop (suc d) [] k = get_none k (suc d + k)
+get_drop (suc d) (x ∷ xs) k =
+    let e : suc (d + k) ≡ suc d + k = omega arith in
+    get_drop d xs k ∙ ap (slice_get (x ∷ xs)) e
+
+-- an element before a front of a list ends
+pub push_within : {X : Type 0} (xs : List X) (y : X) (k : ℕ) (x : X)
+    → slice_get (xs ++ y ∷ []) k ≡ Some x → k ≤ length xs
+push_within xs y k x e =
+    let h = slice_get_within (xs ++ y ∷ []) k x e in
+    omega (arith, h, length-append xs (y ∷ []))

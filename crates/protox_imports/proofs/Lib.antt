@@ -3,3 +3,4 @@ pub mod Numbers
 pub mod ByName
 pub mod Marking
 pub mod Seeing
+pub mod Walking

@@ -6,6 +6,9 @@ mod names;
 pub mod row;
 mod rows;
 mod seen;
+mod sorted;
+mod walk;
 
 pub use imports::Imports;
 pub use seen::sees;
+pub use sorted::Order;

@@ -1,0 +1,13 @@
+use Rattle.std.proofs.Common.{◌≡◌, ◌+◌, ◌*◌, vec_len, length}
+use Rattle.protox_imports.specs.inner.Walk.{IsNew, IsWalk, Onward, new_count}
+use Rattle.protox_imports.proofs.walk.Walk.visit.Given as goal
+
+abbrev pub invariant-loop-top : goal.invariant-loop-top
+invariant-loop-top l = record {
+  walk : IsWalk l.imports.files l.self.states.items l.self.stack.items l.self.placed.items;
+  onward : Onward l.fn.self.states.items l.self.states.items;
+  came : IsNew l.self.states.items l.root → ⊥;
+}
+
+abbrev pub decreases-loop-top : goal.decreases-loop-top
+decreases-loop-top l = 2 * new_count l.self.states.items + vec_len l.self.stack

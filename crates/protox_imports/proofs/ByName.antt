@@ -1,16 +1,16 @@
 -- The rows of a set say what its names say.
 use Rattle.std.proofs.Common.{◌≡◌, ℕ, zero, suc, ◌<◌, ◌+◌, List, [], ◌∷◌, length, get_or, map, Option, Some, None, Bool, true, false, cond, ℤ, pos, negsuc, refl, sym, ◌∙◌, ap, arith, bytes_eq, add-zero, subst}
-use Rattle.std.specs.Prelude.{slice_get, Contains, position}
-use Rattle.std.specs.List.{filter_map, position_from}
+use Rattle.std.specs.Prelude.{slice_get}
+use Rattle.std.specs.List.{position_from}
 use Rattle.std.specs.Option.{option_and_then, option_map_or}
-use Rattle.std.proofs.lemmas.Option.{slice_get_within, slice_get-get_or, same_Some}
+use Rattle.std.proofs.lemmas.Option.{slice_get_within, slice_get-get_or}
 use Rattle.std.proofs.lemmas.List.{length-map}
 use Rattle.std.proofs.lemmas.List.Quantifiers.{position-Some}
 use Rattle.std.proofs.lemmas.Iterator.Adapters.{position_from-zero}
 use Rattle.std.proofs.lemmas.Slice.Eq.{bytes_eq-Decides}
 use Rattle.protox_descriptor.specs.declared.descriptor.FileDescriptorProto.{FileDescriptorProto}
 use Rattle.protox_imports.specs.Names.{is_named, number_of}
-use Rattle.protox_imports.specs.Imports.{name_at, dependency_at, public_at, IsFirstNamed, Imports, ImportsPublicly}
+use Rattle.protox_imports.specs.Imports.{name_at, IsFirstNamed, Imports, ImportsPublicly}
 use Rattle.protox_imports.specs.Rows.{named_at, row_by, rows_of, named_of, public_of, ImportsIn, PassesOnIn, AreWithin, AreAmongImports, SayAsNames}
 use Rattle.protox_imports.specs.declared.row.FileImports.{FileImports}
 use Rattle.protox_imports.proofs.Elements as at
@@ -37,16 +37,18 @@ pub first_found : (set : List FileDescriptorProto) (name : List ℕ) (g : ℕ)
 first_found set name g some e =
     let found = position-Some (is_named name) set g some e in
     let file = get_or set g some in
-    let this : slice_get set g ≡ Some file = slice_get-get_or set g some found.0 in
-    (found.0, record {
-      has = name_of set g file this ∙ own_name name file.name found.1;
-      first = λ k h same.
-        let other = get_or set k some in
-        let that : slice_get set k ≡ Some other = slice_get-get_or set k some (omega (arith, found.0)) in
-        let no : false ≡ true =
+    let this : slice_get set g ≡ Some file = slice_get-get_or set g some found.0 in (
+      found.0,
+      record {
+        has = name_of set g file this ∙ own_name name file.name found.1;
+        first = λ k h same.
+            let other = get_or set k some in
+            let that : slice_get set k ≡ Some other = slice_get-get_or set k some (omega (arith, found.0)) in
+            let no : false ≡ true =
             sym (found.2 k h) ∙ named_own name other.name (sym (name_of set k other that) ∙ same) in
-        cc
-    })
+            cc;
+      },
+    )
 
 step : (b : Bool) (i j : ℕ) (o : Option ℕ) → b ≡ false → o ≡ Some j
     → cond b (Some i) o ≡ Some j
@@ -66,9 +68,9 @@ search_finds (file ∷ set) name i zero has first =
     ∙ ap Some (sym (add-zero i))
 search_finds (file ∷ set) name i (suc g) has first =
     step (is_named name file) i (i + suc g) (position_from (is_named name) (i + 1) set)
-        (not_true (is_named name file) (λ h. first 0 (omega arith) (own_name name file.name h)))
-        (search_finds set name (i + 1) g has (λ k h e. first (suc k) (omega arith) e)
-        ∙ ap Some (omega arith))
+    (not_true (is_named name file) (λ h. first 0 (omega arith) (own_name name file.name h)))
+    (search_finds set name (i + 1) g has (λ k h e. first (suc k) (omega arith) e)
+    ∙ ap Some (omega arith))
 
 -- The first file of a name is what a search by name gives.
 pub found_first : (set : List FileDescriptorProto) (name : List ℕ) (g : ℕ)
@@ -99,7 +101,7 @@ row_at set f file e = at.map_at (row_by (number_of set)) set f file e
 numbered : (set : List FileDescriptorProto) (dependency : List (List ℕ)) (i g : ℕ)
     (some : FileDescriptorProto) → slice_get (map (number_of set) dependency) i ≡ Some (Some g)
     → (name : List ℕ) × (slice_get dependency i ≡ Some name) × (g < length set)
-        × IsFirstNamed set name g
+    × IsFirstNamed set name g
 numbered set dependency i g some e =
     let there = at.get_map (number_of set) dependency i (Some g) e in
     let found = first_found set there.0 g some there.2 in
@@ -118,18 +120,23 @@ imports_to set f g within =
     let row = in_row (λ r. r.named) (slice_get (rows_of set) f) place.0 (Some g) place.1 in
     let file = at.get_map (row_by (number_of set)) set f row.0 row.1 in
     let found = numbered set file.0.dependency place.0 g file.0
-        (ap (λ (r : FileImports). slice_get r.named place.0) file.2 ∙ row.2) in
-    (found.2, (place.0, found.0,
+    (ap (λ (r : FileImports). slice_get r.named place.0) file.2 ∙ row.2) in (
+      found.2,
+      (
+        place.0,
+        found.0,
         ap (option_and_then (λ (x : FileDescriptorProto). slice_get x.dependency place.0)) file.1 ∙ found.1,
-        found.3))
+        found.3,
+      ),
+    )
 
 imports_from : (set : List FileDescriptorProto) (f g : ℕ) → Imports set f g
     → ImportsIn (rows_of set) f g
 imports_from set f g (i, name, e, is) =
     let file = of_some (λ (x : FileDescriptorProto). slice_get x.dependency i) (slice_get set f) name e in
     at.contains_at (named_of (rows_of set) f) i (Some g)
-        (ap (λ o. slice_get (option_map_or (λ (r : FileImports). r.named) o []) i) (row_at set f file.0 file.1)
-        ∙ by_number set file.0.dependency i g name file.2 is)
+    (ap (λ o. slice_get (option_map_or (λ (r : FileImports). r.named) o []) i) (row_at set f file.0 file.1)
+    ∙ by_number set file.0.dependency i g name file.2 is)
 
 -- what the file at an index is
 named_index : (named : List (Option ℕ)) (index : ℤ) (g : ℕ) → named_at named index ≡ Some g
@@ -152,14 +159,20 @@ passes_to set f g within =
     let file = at.get_map (row_by (number_of set)) set f row.0 row.1 in
     let named = map (number_of set) file.0.dependency in
     let index = at.get_filter_map (named_at named) file.0.public_dependency g place.0
-        (ap (λ (r : FileImports). slice_get r.«public» place.0) file.2 ∙ row.2) in
+    (ap (λ (r : FileImports). slice_get r.«public» place.0) file.2 ∙ row.2) in
     let import = named_index named index.1 g index.3 in
-    let found = numbered set file.0.dependency import.0 g file.0 import.2 in
-    (found.2, (index.0, import.0, found.0,
+    let found = numbered set file.0.dependency import.0 g file.0 import.2 in (
+      found.2,
+      (
+        index.0,
+        import.0,
+        found.0,
         ap (option_and_then (λ (x : FileDescriptorProto). slice_get x.public_dependency index.0)) file.1
-        ∙ (index.2 ∙ ap Some import.1),
+            ∙ (index.2 ∙ ap Some import.1),
         ap (option_and_then (λ (x : FileDescriptorProto). slice_get x.dependency import.0)) file.1 ∙ found.1,
-        found.3))
+        found.3,
+      ),
+    )
 
 passes_from : (set : List FileDescriptorProto) (f g : ℕ) → ImportsPublicly set f g
     → PassesOnIn (rows_of set) f g
@@ -167,13 +180,13 @@ passes_from set f g (k, i, name, listed, e, is) =
     let file = of_some (λ (x : FileDescriptorProto). slice_get x.dependency i) (slice_get set f) name e in
     let named = map (number_of set) file.0.dependency in
     let index : slice_get file.0.public_dependency k ≡ Some (pos i) =
-        sym (ap (option_and_then (λ (x : FileDescriptorProto). slice_get x.public_dependency k)) file.1)
-        ∙ listed in
+    sym (ap (option_and_then (λ (x : FileDescriptorProto). slice_get x.public_dependency k)) file.1)
+    ∙ listed in
     let found = at.filter_map_at (named_at named) file.0.public_dependency k (pos i) g index
-        (index_named named (pos i) i g refl (by_number set file.0.dependency i g name file.2 is)) in
+    (index_named named (pos i) i g refl (by_number set file.0.dependency i g name file.2 is)) in
     at.contains_at (public_of (rows_of set) f) found.0 g
-        (ap (λ o. slice_get (option_map_or (λ (r : FileImports). r.«public») o []) found.0) (row_at set f file.0 file.1)
-        ∙ found.1)
+    (ap (λ o. slice_get (option_map_or (λ (r : FileImports). r.«public») o []) found.0) (row_at set f file.0 file.1)
+    ∙ found.1)
 
 -- The rows of a set say what its names say.
 pub rows_say : (set : List FileDescriptorProto) → SayAsNames set (rows_of set)
@@ -217,3 +230,9 @@ pub found_among : (find : List ℕ → Option ℕ) (set : List FileDescriptorPro
     → rows ≡ map (row_by find) set → AreAmongImports rows
 found_among find set rows same e =
     subst (λ rs. AreAmongImports rs) (sym (rows_found find set rows same e)) (rows_among set)
+
+-- A file that imports another is one of the set.
+pub importer_within : (set : List FileDescriptorProto) (f g : ℕ) → Imports set f g → f < length set
+importer_within set f g (i, name, e, is) =
+    let file = of_some (λ (x : FileDescriptorProto). slice_get x.dependency i) (slice_get set f) name e in
+    slice_get_within set f file.0 file.1

@@ -1,5 +1,5 @@
 -- Elements of lists by their index, as `slice_get` gives them.
-use Rattle.std.proofs.Common.{◌≡◌, ◌≢◌, ◌⊎◌, inl, inr, ℕ, zero, suc, ◌<◌, ◌+◌, List, [], ◌∷◌, ◌++◌, length, get_or, set, take, map, Option, Some, None, refl, sym, ◌∙◌, ap, arith, drop, zero-add, ◌≤◌, length-append}
+use Rattle.std.proofs.Common.{◌≡◌, ◌≢◌, ◌⊎◌, inl, inr, ℕ, zero, suc, ◌<◌, ◌+◌, List, [], ◌∷◌, ◌++◌, length, get_or, set, map, Option, Some, None, refl, sym, ◌∙◌, ap, arith, drop, zero-add, ◌≤◌, length-append}
 use Rattle.std.specs.Prelude.{slice_get, Contains}
 use Rattle.std.specs.List.{filter_map, cons_option}
 use Rattle.std.specs.Option.{option_map}
@@ -78,7 +78,7 @@ map_at f xs k x e = slice_get-map f xs k ∙ ap (option_map f) e
 from_front : {X Y : Type 0} (h : X → Option Y) (x : X) (xs : List X) (o : Option Y) (y : Y)
     → h x ≡ o
     → ((j : ℕ) → slice_get (filter_map h xs) j ≡ Some y
-        → (k : ℕ) × (w : X) × (slice_get xs k ≡ Some w) × (h w ≡ Some y))
+    → (k : ℕ) × (w : X) × (slice_get xs k ≡ Some w) × (h w ≡ Some y))
     → (j : ℕ) → slice_get (cons_option o (filter_map h xs)) j ≡ Some y
     → (k : ℕ) × (w : X) × (slice_get (x ∷ xs) k ≡ Some w) × (h w ≡ Some y)
 from_front h x xs None y is more j e =

@@ -4,3 +4,5 @@ pub mod ByName
 pub mod Marking
 pub mod Seeing
 pub mod Walking
+pub mod Cycles
+pub mod NamesAgree

@@ -1,12 +1,12 @@
 -- Marking files, and what is known once all are marked.
-use Rattle.std.proofs.Common.{◌≡◌, ◌≢◌, ◌⊎◌, inl, inr, ℕ, zero, suc, ◌<◌, ◌≤◌, ◌+◌, List, [], ◌∷◌, ◌++◌, length, get_or, set, take, drop, Option, Some, None, Bool, true, false, cond, not, refl, sym, ◌∙◌, ap, subst, arith, length-set, length-append, length-drop}
-use Rattle.std.specs.Prelude.{slice_get, Contains, count_by, sum_by}
+use Rattle.std.proofs.Common.{◌≡◌, ◌⊎◌, inl, inr, ℕ, zero, suc, ◌<◌, ◌≤◌, ◌+◌, List, [], ◌∷◌, ◌++◌, length, get_or, set, take, drop, Option, Some, None, Bool, true, false, cond, not, refl, sym, ◌∙◌, ap, subst, arith, length-set, length-append, length-drop}
+use Rattle.std.specs.Prelude.{Contains}
 use Rattle.std.proofs.lemmas.List.{take_more, take_all, append-nil, nil_from_length}
 use Rattle.std.proofs.lemmas.List.Sums.{sum_by-set}
 use Rattle.std.proofs.lemmas.List.Elements.{Contains-append_left, Contains-push, Contains-push_cases}
-use Rattle.std.proofs.lemmas.Option.{get_or_from_slice_get, slice_get-get_or}
+use Rattle.std.proofs.lemmas.Option.{slice_get-get_or}
 use Rattle.protox_imports.specs.inner.Marks.{IsMarked, unmarked, Marks}
-use Rattle.protox_imports.proofs.Elements.{get_set_same, get_set_other, get_set_cases}
+use Rattle.protox_imports.proofs.Elements.{get_set_same, get_set_cases}
 
 -- Nothing is wanted yet.
 pub Marks-none : (marks : List Bool) (list : List ℕ) (wanted : ℕ → Type 0)
@@ -73,13 +73,13 @@ pub Marks-more : (before : List Bool) (from : List ℕ) (wanted wanted' : ℕ �
     → ((h : ℕ) → wanted' h → wanted h ⊎ (h ≡ file)) → ((h : ℕ) → wanted h → wanted' h)
     → wanted' file → Marks before from wanted marks list
     → Marks before from wanted' (set marks file true)
-        (cond (get_or marks file false) list (list ++ file ∷ []))
+    (cond (get_or marks file false) list (list ++ file ∷ []))
 Marks-more before from wanted wanted' marks list file below now was own m =
     let b = get_or marks file false in
     let list' = cond b list (list ++ file ∷ []) in
     let this : IsMarked (set marks file true) file = set_marked marks file below in
     let old : (h : ℕ) → IsMarked before h ⊎ Contains list h → IsMarked before h ⊎ Contains list' h =
-        λ h k. elim k [ inl x ↦ inl x | inr x ↦ inr (stays_in list file b h x) ] in
+    λ h k. elim k [ inl x ↦ inl x | inr x ↦ inr (stays_in list file b h x) ] in
     record {
       count = length-set marks file true ∙ m.count;
       kept = λ h k. IsMarked-set marks file h (m.kept h k);
@@ -94,7 +94,7 @@ Marks-more before from wanted wanted' marks list file below now was own m =
       new_listed = λ h k. elim (get_set_cases marks file h true true k) [
         | inl e ↦ subst (λ x. IsMarked before x ⊎ Contains list' x) (sym (e.0))
             (elim (now_in list file b (IsMarked marks file)
-                (λ t. slice_get-get_or marks file false below ∙ ap Some t)) [
+            (λ t. slice_get-get_or marks file false below ∙ ap Some t)) [
               | inl x ↦ old file (m.new_listed file x)
               | inr x ↦ inr x
             ])
@@ -106,10 +106,10 @@ Marks-more before from wanted wanted' marks list file below now was own m =
         | inr e ↦ inr (subst (λ x. IsMarked (set marks file true) x) e this)
       ];
       size =
-        let s = size_in list file b in
-        let l = left marks file below in
-        let was_size = m.size in
-        omega (arith, s, l, was_size);
+          let s = size_in list file b in
+          let l = left marks file below in
+          let was_size = m.size in
+          omega (arith, s, l, was_size);
     }
 
 -- The same files are wanted, said in another way.
@@ -153,8 +153,8 @@ all_more before from files marks marks' list list' i file below is within e e' m
     subst (λ ms. Marks before from (Contains (take (i + 1) files)) ms list') (sym e)
     (subst (λ l. Marks before from (Contains (take (i + 1) files)) (set marks file true) l) (sym e')
     (Marks-more before from (Contains (take i files)) (Contains (take (i + 1) files)) marks list file within
-        (λ h k. elim (front_cases files i file below is h k) [ inl x ↦ inl x | inr x ↦ inr (sym x) ])
-        (front_kept files i file below is) (front_new files i file below is) m))
+    (λ h k. elim (front_cases files i file below is h k) [ inl x ↦ inl x | inr x ↦ inr (sym x) ])
+    (front_kept files i file below is) (front_new files i file below is) m))
 
 pub named_more : (before : List Bool) (from : List ℕ) (named : List (Option ℕ))
     (marks marks' : List Bool) (list list' : List ℕ) (i file : ℕ) → i < length named
@@ -168,9 +168,9 @@ named_more before from named marks marks' list list' i file below is within e e'
     subst (λ ms. Marks before from now ms list') (sym e)
     (subst (λ l. Marks before from now (set marks file true) l) (sym e')
     (Marks-more before from (λ g. Contains (take i named) (Some g)) now marks list file within
-        (λ h k. elim (front_cases named i (Some file) below is (Some h) k) [ inl x ↦ inl x | inr x ↦ inr (cc) ])
-        (λ h. front_kept named i (Some file) below is (Some h))
-        (front_new named i (Some file) below is) m))
+    (λ h k. elim (front_cases named i (Some file) below is (Some h) k) [ inl x ↦ inl x | inr x ↦ inr (cc) ])
+    (λ h. front_kept named i (Some file) below is (Some h))
+    (front_new named i (Some file) below is) m))
 
 pub gap_more : (before : List Bool) (from : List ℕ) (named : List (Option ℕ))
     (marks marks' : List Bool) (list list' : List ℕ) (i : ℕ) → i < length named
@@ -182,8 +182,8 @@ gap_more before from named marks marks' list list' i below is e e' m =
     subst (λ ms. Marks before from now ms list') (sym e)
     (subst (λ l. Marks before from now marks l) (sym e')
     (Marks-same before from (λ g. Contains (take i named) (Some g)) now marks list
-        (λ h k. elim (front_cases named i None below is (Some h) k) [ inl x ↦ x | inr x ↦ cc ])
-        (λ h. front_kept named i None below is (Some h)) m))
+    (λ h k. elim (front_cases named i None below is (Some h) k) [ inl x ↦ x | inr x ↦ cc ])
+    (λ h. front_kept named i None below is (Some h)) m))
 
 -- At the end of the list all of it is wanted.
 pub named_all : (before : List Bool) (from : List ℕ) (named : List (Option ℕ))

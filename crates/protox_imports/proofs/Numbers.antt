@@ -54,7 +54,7 @@ position_from-push : {X : Type 0} (p : X → Bool) (i : ℕ) (xs : List X) (y : 
 position_from-push p i [] y = rw add-zero refl
 position_from-push p i (x ∷ xs) y =
     behind (p x) (p y) i (i + 1 + length xs) (i + suc (length xs)) _ _
-        (position_from-push p (i + 1) xs y) (omega arith)
+    (position_from-push p (i + 1) xs y) (omega arith)
 
 -- a further element is found if none before it is
 pub position-push : {X : Type 0} (p : X → Bool) (xs : List X) (y : X)
@@ -71,7 +71,7 @@ pub number_of-more : (set : List FileDescriptorProto) (i : ℕ) (file : FileDesc
     → number_of (take (i + 1) set) q ≡ first_of (number_of (take i set) q) (is_named q file) i
 number_of-more set i file q h e =
     let more : take (i + 1) set ≡ take i set ++ file ∷ [] =
-        take_more set i file h ∙ ap (λ f. take i set ++ f ∷ []) (sym e) in
+    take_more set i file h ∙ ap (λ f. take i set ++ f ∷ []) (sym e) in
     let count : length (take i set) ≡ i = grind (arith, length-take) in
     ap (λ files. number_of files q) more
     ∙ (position-push (is_named q) (take i set) file

@@ -1,18 +1,17 @@
 -- The search for what a file sees.
-use Rattle.std.proofs.Common.{◌≡◌, ◌⊎◌, inl, inr, ℕ, zero, suc, ◌<◌, ◌+◌, List, [], ◌∷◌, ◌++◌, length, set, replicate, Option, Some, None, Bool, true, false, refl, sym, ◌∙◌, ap, subst, arith, get_or}
+use Rattle.std.proofs.Common.{◌≡◌, inl, inr, ℕ, zero, suc, ◌<◌, List, [], ◌∷◌, ◌++◌, length, set, replicate, Option, Some, None, Bool, true, false, refl, sym, ◌∙◌, ap, subst, arith}
 use Rattle.std.specs.Prelude.{slice_get, Contains, IsTrue, unwrap_or, ◌↔◌}
-use Rattle.std.specs.Option.{option_map_or}
 use Rattle.std.proofs.lemmas.List.Elements.{Contains-push, Contains-push_cases, Contains-append_left}
 use Rattle.std.proofs.Math.Bool.{Bool-set}
 use Rattle.std.specs.Coded.{le_prop}
 use Rattle.std.proofs.Math.Logic.{∥∥₁_elim}
 use Rattle.std.proofs.Math.ListN.{length-replicate}
-use Rattle.std.proofs.lemmas.Option.{slice_get_within, slice_get-get_or}
-use Rattle.protox_imports.specs.Rows.{ImportsIn, PassesOnIn, AreWithin, AreAmongImports, named_of, public_of}
+use Rattle.std.proofs.lemmas.Option.{slice_get_within}
+use Rattle.protox_imports.specs.Rows.{ImportsIn, PassesOnIn, AreWithin, AreAmongImports}
 use Rattle.protox_imports.specs.Sees.{Passes, Sees, IsClosed}
 use Rattle.protox_imports.specs.Sees.Passes.{Itself, Publicly}
 use Rattle.protox_imports.specs.declared.row.FileImports.{FileImports}
-use Rattle.protox_imports.specs.inner.Marks.{IsMarked, unmarked, Marks, Reaches, IsSeeing}
+use Rattle.protox_imports.specs.inner.Marks.{IsMarked, Marks, IsSeeing}
 use Rattle.protox_imports.proofs.Elements.{get_set_cases}
 use Rattle.protox_imports.proofs.Marking.{IsMarked-set, set_marked}
 
@@ -31,7 +30,7 @@ pub seeing_starts : (rows : List FileImports) (f : ℕ) (before marks : List Boo
     → Marks before from (λ g. ImportsIn rows f g) marks list → IsSeeing rows f marks list
 seeing_starts rows f before marks from list e e' m =
     let none : (h : ℕ) → IsMarked before h → ⊥ =
-        λ h k. none_marked (length rows) h (subst (λ ms. IsMarked ms h) e k) in
+    λ h k. none_marked (length rows) h (subst (λ ms. IsMarked ms h) e k) in
     record {
       count = m.count ∙ (ap length e ∙ length-replicate (length rows) false);
       sound = λ h k. elim (m.only h k) [
@@ -45,8 +44,8 @@ seeing_starts rows f before marks from list e e' m =
       ];
       listed = λ g k. elim (m.listed g k) [
         | inl x ↦
-          let no : Contains {X = ℕ} [] g = subst (λ (xs : List ℕ). Contains xs g) e' x in
-          absurd (omega (arith, no.1))
+            let no : Contains {X = ℕ} [] g = subst (λ (xs : List ℕ). Contains xs g) e' x in
+            absurd (omega (arith, no.1))
         | inr x ↦ x
       ];
     }
@@ -61,8 +60,8 @@ seeing_goes_on rows f g before marks from rest list e s m = record {
   sound = λ h k. elim (m.only h k) [
     | inl x ↦ s.sound h x
     | inr w ↦
-      let there = s.sound g (s.listed g (subst (λ xs. Contains xs g) (sym e) (Contains-push rest g))) in
-      (there.0, there.1, passes_more h there.2 w)
+        let there = s.sound g (s.listed g (subst (λ xs. Contains xs g) (sym e) (Contains-push rest g))) in
+        (there.0, there.1, passes_more h there.2 w)
   ];
   start = λ h i. m.kept h (s.start h i);
   closed = λ a h k p. elim (m.new_listed a k) [
@@ -99,7 +98,8 @@ module _ (rows : List FileImports) (f : ℕ) (marks : List Bool) (s : IsSeeing r
     (λ k. elim k [
       | inl e ↦ subst (λ x. IsMarked (set marks f true) x) e (set_marked marks f (omega (arith, s.count)))
       | inr there ↦ IsMarked-set marks f h (passed (there.2) (s.start (there.0) (there.1)))
-    ]))
+    ]),
+  )
 
 -- What is closed has what is passed on.
 least_passed : {R : ℕ → ℕ → Type 0} {g h : ℕ} (holds : ℕ → Bool)
@@ -127,9 +127,9 @@ pub sees_closed : (rows : List FileImports) (f : ℕ) (marks : List Bool) → �
     → IsClosed (ImportsIn rows) (PassesOnIn rows) f (λ h. unwrap_or (slice_get marks h) false)
 sees_closed rows f marks among sees =
     let test : (h : ℕ) → IsMarked marks h → IsTrue (unwrap_or (slice_get marks h) false) =
-        λ h k. subst (λ o. IsTrue (unwrap_or o false)) (sym k) refl in
+    λ h k. subst (λ o. IsTrue (unwrap_or o false)) (sym k) refl in
     let fact : (h : ℕ) → IsTrue (unwrap_or (slice_get marks h) false) → IsMarked marks h =
-        λ h t. marked_test (slice_get marks h) t in
+    λ h t. marked_test (slice_get marks h) t in
     record {
       itself = test f ((sees f).1 (inl refl));
       imported = λ g i. test g ((sees g).1 (inr (g, i, Itself g)));

@@ -1,6 +1,6 @@
 -- The steps of the walk that puts files in order, and what is known at its end.
-use Rattle.std.proofs.Common.{◌≡◌, ◌≢◌, ◌⊎◌, inl, inr, ℕ, zero, suc, ◌<◌, ◌≤◌, ◌+◌, ◌-◌, ◌*◌, List, [], ◌∷◌, ◌++◌, length, get_or, set, take, drop, map, replicate, Option, Some, None, Bool, true, false, cond, refl, sym, ◌∙◌, ap, subst, arith, length-set, length-append, length-drop}
-use Rattle.std.specs.Prelude.{slice_get, Contains, count_by, All, AllPairs, IfSome}
+use Rattle.std.proofs.Common.{◌≡◌, ◌≢◌, inl, inr, ℕ, zero, suc, ◌<◌, ◌+◌, ◌-◌, List, [], ◌∷◌, ◌++◌, length, get_or, set, drop, map, replicate, Option, Some, None, cond, refl, sym, ◌∙◌, ap, subst, arith, length-set, length-append, length-drop}
+use Rattle.std.specs.Prelude.{slice_get, Contains, IfSome}
 use Rattle.std.proofs.lemmas.List.{take-append-le, take_all, length-map}
 use Rattle.std.proofs.lemmas.Bool.{cases_lt}
 use Rattle.std.proofs.Math.ListN.{length-replicate}
@@ -12,7 +12,7 @@ use Rattle.protox_imports.specs.declared.row.FileImports.{FileImports}
 use Rattle.protox_imports.specs.declared.walk.State.{State}
 use Rattle.protox_imports.specs.declared.walk.State.TheVariants.{New, Open, Placed}
 use Rattle.protox_imports.specs.declared.walk.Frame.{Frame}
-use Rattle.protox_imports.specs.inner.Walk.{IsNew, IsPlaced, ArePlaced, IsNext, is_new, new_count, IsWalk, Onward, Goes, Visited}
+use Rattle.protox_imports.specs.inner.Walk.{IsNew, IsPlaced, ArePlaced, IsNext, is_new, new_count, IsWalk, Onward, Goes}
 use Rattle.protox_imports.proofs.Elements as at
 
 same_open : (i j : ℕ) → ◌≡◌ {A = State} (Open i) (Open j) → i ≡ j
@@ -35,14 +35,14 @@ kept : (states : List State) (g f : ℕ) (was now x : State) → slice_get state
     → slice_get states f ≡ Some x → x ≢ was → slice_get (set states g now) f ≡ Some x
 kept states g f was now x here e other =
     at.get_set_other states g f now
-        (λ same. other (same_Some x was (sym e ∙ (ap (slice_get states) same ∙ here))))
+    (λ same. other (same_Some x was (sym e ∙ (ap (slice_get states) same ∙ here))))
     ∙ e
 
 -- A file is put on the stack.
 module _ (rows : List FileImports) (states : List State) (stack : List Frame) (placed : List ℕ)
     (g : ℕ) (s : IsWalk rows states stack placed) (new : IsNew states g)
     (from : (j : ℕ) (a : Frame) → slice_get stack j ≡ Some a → j + 1 ≡ length stack
-      → ImportsIn rows a.file g) where
+    → ImportsIn rows a.file g) where
   stays : (f : ℕ) (x : State) → slice_get states f ≡ Some x → x ≢ New
       → slice_get (set states g (Open (length stack))) f ≡ Some x
   stays f x e other = kept states g f New (Open (length stack)) x new e other
@@ -59,15 +59,17 @@ module _ (rows : List FileImports) (states : List State) (stack : List Frame) (p
           | inl o ↦ stays a.file (Open j) (s.open_at j a o) (open_new j)
           | inr l ↦ subst (λ (i : ℕ). slice_get states' a.file ≡ Some (Open i)) (sym (l.0))
               (subst (λ (f : ℕ). slice_get states' f ≡ Some (Open n))
-                (sym is_g ∙ ap (λ (x : Frame). x.file) (l.1)) this)
+              (sym is_g ∙ ap (λ (x : Frame). x.file) (l.1)) this)
         ];
         at_open = λ f j e. elim (at.get_set_cases states g f (Open n) (Open j) e) [
-          | inl h ↦ (top,
-              subst (λ i. slice_get (stack ++ top ∷ []) i ≡ Some top) (same_open n j (h.1)) (at.get_push_last stack top),
-              is_g ∙ sym (h.0))
+          | inl h ↦ (
+            top,
+            subst (λ i. slice_get (stack ++ top ∷ []) i ≡ Some top) (same_open n j (h.1)) (at.get_push_last stack top),
+            is_g ∙ sym (h.0),
+          )
           | inr h ↦
-            let there = s.at_open f j (h.1) in
-            (there.0, at.get_append_left stack (top ∷ []) j there.0 there.1, there.2)
+              let there = s.at_open f j (h.1) in
+              (there.0, at.get_append_left stack (top ∷ []) j there.0 there.1, there.2)
         ];
         placed_at = λ p f e. stays f (Placed p) (s.placed_at p f e) (placed_new p);
         at_placed = λ f p e. elim (at.get_set_cases states g f (Open n) (Placed p) e) [
@@ -76,27 +78,27 @@ module _ (rows : List FileImports) (states : List State) (stack : List Frame) (p
         ];
         passed = λ j a e k h below i. elim (at.get_push_cases stack top j a e) [
           | inl o ↦
-            let there = s.passed j a o k h below i in
-            (there.0, stays h (Placed there.0) there.1 (placed_new there.0))
+              let there = s.passed j a o k h below i in
+              (there.0, stays h (Placed there.0) there.1 (placed_new there.0))
           | inr l ↦
-            let zero' : a.next ≡ 0 = sym (ap (λ (x : Frame). x.next) (l.1)) ∙ is_0 in
-            absurd (omega (arith, below, zero'))
+              let zero' : a.next ≡ 0 = sym (ap (λ (x : Frame). x.next) (l.1)) ∙ is_0 in
+              absurd (omega (arith, below, zero'))
         ];
         chain = λ j a b ea eb. elim (at.get_push_cases stack top (j + 1) b eb) [
           | inl ob ↦ elim (at.get_push_cases stack top j a ea) [
             | inl oa ↦ s.chain j a b oa ob
             | inr la ↦
-              let w = slice_get_within stack (j + 1) b ob in
-              let e = la.0 in
-              absurd (omega (arith, w, e))
+                let w = slice_get_within stack (j + 1) b ob in
+                let e = la.0 in
+                absurd (omega (arith, w, e))
           ]
           | inr lb ↦ elim (at.get_push_cases stack top j a ea) [
             | inl oa ↦ subst (λ (f : ℕ). ImportsIn rows a.file f)
                 (sym is_g ∙ ap (λ (x : Frame). x.file) (lb.1)) (from j a oa (lb.0))
             | inr la ↦
-              let e = la.0 in
-              let e' = lb.0 in
-              absurd (omega (arith, e, e'))
+                let e = la.0 in
+                let e' = lb.0 in
+                absurd (omega (arith, e, e'))
           ]
         ];
         behind = s.behind;
@@ -120,21 +122,21 @@ module _ (rows : List FileImports) (states : List State) (stack : List Frame) (p
       let m = length placed in
       let states' = set states top.file (Placed m) in
       let this : slice_get states' top.file ≡ Some (Placed m) =
-          at.get_set_same states top.file (Placed m) (Open n) on_top in
+      at.get_set_same states top.file (Placed m) (Open n) on_top in
       record {
         count = length-set states top.file (Placed m) ∙ s.count;
         open_at = λ j a e.
-          let below = slice_get_within stack j a e in
-          other_stays a.file (Open j) (s.open_at j a (at.get_append_left stack (top ∷ []) j a e))
-              (λ same. let i = same_open j n same in omega (arith, below, i));
+            let below = slice_get_within stack j a e in
+            other_stays a.file (Open j) (s.open_at j a (at.get_append_left stack (top ∷ []) j a e))
+            (λ same. let i = same_open j n same in omega (arith, below, i));
         at_open = λ f j e. elim (at.get_set_cases states top.file f (Placed m) (Open j) e) [
           | inl h ↦ let no = h.1 in cc
           | inr h ↦
-            let there = s.at_open f j (h.1) in
-            elim (at.get_push_cases stack top j there.0 there.1) [
-              | inl o ↦ (there.0, o, there.2)
-              | inr l ↦ absurd (h.0 (sym (ap (λ (x : Frame). x.file) (l.1) ∙ there.2)))
-            ]
+              let there = s.at_open f j (h.1) in
+              elim (at.get_push_cases stack top j there.0 there.1) [
+                | inl o ↦ (there.0, o, there.2)
+                | inr l ↦ absurd (h.0 (sym (ap (λ (x : Frame). x.file) (l.1) ∙ there.2)))
+              ]
         ];
         placed_at = λ p f e. elim (at.get_push_cases placed top.file p f e) [
           | inl o ↦ other_stays f (Placed p) (s.placed_at p f o) (placed_open p n)
@@ -144,27 +146,27 @@ module _ (rows : List FileImports) (states : List State) (stack : List Frame) (p
         at_placed = λ f p e. elim (at.get_set_cases states top.file f (Placed m) (Placed p) e) [
           | inl h ↦ subst (λ (x : ℕ). slice_get (placed ++ top.file ∷ []) p ≡ Some x) (sym (h.0))
               (subst (λ (i : ℕ). slice_get (placed ++ top.file ∷ []) i ≡ Some top.file)
-                (same_placed m p (h.1)) (at.get_push_last placed top.file))
+              (same_placed m p (h.1)) (at.get_push_last placed top.file))
           | inr h ↦ at.get_append_left placed (top.file ∷ []) p f (s.at_placed f p (h.1))
         ];
         passed = λ j a e k h below i.
-          let there = s.passed j a (at.get_append_left stack (top ∷ []) j a e) k h below i in
-          (there.0, other_stays h (Placed there.0) there.1 (placed_open there.0 n));
+            let there = s.passed j a (at.get_append_left stack (top ∷ []) j a e) k h below i in
+            (there.0, other_stays h (Placed there.0) there.1 (placed_open there.0 n));
         chain = λ j a b ea eb. s.chain j a b (at.get_append_left stack (top ∷ []) j a ea)
             (at.get_append_left stack (top ∷ []) (j + 1) b eb);
         behind = λ p f h e i. elim (at.get_push_cases placed top.file p f e) [
           | inl o ↦
-            let within = slice_get_within placed p f o in
-            subst (λ (xs : List ℕ). Contains xs h)
+              let within = slice_get_within placed p f o in
+              subst (λ (xs : List ℕ). Contains xs h)
               (sym (take-append-le p placed (top.file ∷ []) (omega (arith, within)))) (s.behind p f h o i)
           | inr l ↦
-            let i' : ImportsIn rows top.file h = subst (λ (x : ℕ). ImportsIn rows x h) (sym (l.1)) i in
-            let there = at.at_contains (named_of rows top.file) (Some h) i' in
-            let has = all there.0 h (slice_get_within (named_of rows top.file) there.0 (Some h) there.1) there.1 in
-            let same = l.0 in
-            subst (λ (xs : List ℕ). Contains xs h)
+              let i' : ImportsIn rows top.file h = subst (λ (x : ℕ). ImportsIn rows x h) (sym (l.1)) i in
+              let there = at.at_contains (named_of rows top.file) (Some h) i' in
+              let has = all there.0 h (slice_get_within (named_of rows top.file) there.0 (Some h) there.1) there.1 in
+              let same = l.0 in
+              subst (λ (xs : List ℕ). Contains xs h)
               (sym (take-append-le p placed (top.file ∷ []) (omega (arith, same))
-                ∙ take_all p placed (omega (arith, same))))
+              ∙ take_all p placed (omega (arith, same))))
               (at.contains_at placed has.0 h (s.at_placed h has.0 has.1))
         ];
       }
@@ -178,25 +180,29 @@ module _ (rows : List FileImports) (states : List State) (stack : List Frame) (p
       → (b : Frame) × (slice_get (stack ++ top ∷ []) j ≡ Some b) × (b.file ≡ a.file)
   was j a e = elim (at.get_push_cases stack top' j a e) [
     | inl o ↦ (a, at.get_append_left stack (top ∷ []) j a o, refl)
-    | inr l ↦ (top,
-        subst (λ (i : ℕ). slice_get (stack ++ top ∷ []) i ≡ Some top) (sym (l.0)) (at.get_push_last stack top),
-        sym same ∙ ap (λ (x : Frame). x.file) (l.1))
+    | inr l ↦ (
+      top,
+      subst (λ (i : ℕ). slice_get (stack ++ top ∷ []) i ≡ Some top) (sym (l.0)) (at.get_push_last stack top),
+      sym same ∙ ap (λ (x : Frame). x.file) (l.1),
+    )
   ]
 
   pub move_walk : IsWalk rows states (stack ++ top' ∷ []) placed
   move_walk = record {
     count = s.count;
     open_at = λ j a e.
-      let old = was j a e in
-      subst (λ (f : ℕ). slice_get states f ≡ Some (Open j)) old.2 (s.open_at j old.0 old.1);
+        let old = was j a e in
+        subst (λ (f : ℕ). slice_get states f ≡ Some (Open j)) old.2 (s.open_at j old.0 old.1);
     at_open = λ f j e.
-      let old = s.at_open f j e in
-      elim (at.get_push_cases stack top j old.0 old.1) [
-        | inl o ↦ (old.0, at.get_append_left stack (top' ∷ []) j old.0 o, old.2)
-        | inr l ↦ (top',
+        let old = s.at_open f j e in
+        elim (at.get_push_cases stack top j old.0 old.1) [
+          | inl o ↦ (old.0, at.get_append_left stack (top' ∷ []) j old.0 o, old.2)
+          | inr l ↦ (
+            top',
             subst (λ (i : ℕ). slice_get (stack ++ top' ∷ []) i ≡ Some top') (sym (l.0)) (at.get_push_last stack top'),
-            same ∙ (ap (λ (x : Frame). x.file) (l.1) ∙ old.2))
-      ];
+            same ∙ (ap (λ (x : Frame). x.file) (l.1) ∙ old.2),
+          )
+        ];
     placed_at = s.placed_at;
     at_placed = s.at_placed;
     passed = λ j a e. elim (at.get_push_cases stack top' j a e) [
@@ -205,11 +211,11 @@ module _ (rows : List FileImports) (states : List State) (stack : List Frame) (p
           (subst (λ (f : ℕ). ArePlaced states (named_of rows f) top'.next) (sym same) passed')
     ];
     chain = λ j a b ea eb.
-      let old_a = was j a ea in
-      let old_b = was (j + 1) b eb in
-      subst (λ (f : ℕ). ImportsIn rows f b.file) old_a.2
+        let old_a = was j a ea in
+        let old_b = was (j + 1) b eb in
+        subst (λ (f : ℕ). ImportsIn rows f b.file) old_a.2
         (subst (λ (f : ℕ). ImportsIn rows old_a.0.file f) old_b.2
-          (s.chain j old_a.0 old_b.0 old_a.1 old_b.1));
+        (s.chain j old_a.0 old_b.0 old_a.1 old_b.1));
     behind = s.behind;
   }
 
@@ -217,7 +223,6 @@ module _ (rows : List FileImports) (states : List State) (stack : List Frame) (p
 module _ (rows : List FileImports) (states : List State) (stack : List Frame) (placed : List ℕ)
     (g d : ℕ) (s : IsWalk rows states stack placed) (there : slice_get states g ≡ Some (Open d))
     (last : (a : Frame) → slice_get stack (length stack - 1) ≡ Some a → ImportsIn rows a.file g) where
-
   pub closes : d < length stack
   closes = let f = s.at_open g d there in slice_get_within stack d f.0 f.1
 
@@ -226,28 +231,28 @@ module _ (rows : List FileImports) (states : List State) (stack : List Frame) (p
   cycle_closes files e =
       let file : Frame → ℕ = λ a. a.file in
       let count : length files ≡ length stack - d =
-          ap length e ∙ (length-map (drop d stack) file ∙ length-drop d stack) in
+      ap length e ∙ (length-map (drop d stack) file ∙ length-drop d stack) in
       let below = closes in
       let found : (k f : ℕ) → slice_get files k ≡ Some f
-            → (a : Frame) × (slice_get stack (d + k) ≡ Some a) × (a.file ≡ f) =
-          λ k f h.
-          let a = at.get_map file (drop d stack) k f (ap (λ xs. slice_get xs k) (sym e) ∙ h) in
-          (a.0, sym (at.get_drop d stack k) ∙ a.1, a.2) in
+      → (a : Frame) × (slice_get stack (d + k) ≡ Some a) × (a.file ≡ f) =
+      λ k f h.
+      let a = at.get_map file (drop d stack) k f (ap (λ xs. slice_get xs k) (sym e) ∙ h) in
+      (a.0, sym (at.get_drop d stack k) ∙ a.1, a.2) in
       record {
         some = omega (arith, count, below);
         next = λ k f h ef eh.
-          let a = found k f ef in
-          let b = found (k + 1) h eh in
-          subst (λ (x : ℕ). ImportsIn rows x h) a.2 (subst (λ (x : ℕ). ImportsIn rows a.0.file x) b.2
+            let a = found k f ef in
+            let b = found (k + 1) h eh in
+            subst (λ (x : ℕ). ImportsIn rows x h) a.2 (subst (λ (x : ℕ). ImportsIn rows a.0.file x) b.2
             (s.chain (d + k) a.0 b.0 a.1
-              (ap (slice_get stack) (omega arith) ∙ b.1)));
+            (ap (slice_get stack) (omega arith) ∙ b.1)));
         around = λ f h ef eh.
-          let a = found (length files - 1) f ef in
-          let b = found 0 h eh in
-          let first = s.at_open g d there in
-          let is_g : g ≡ h =
-              sym first.2 ∙ (ap (λ (x : Frame). x.file) (same_Some first.0 b.0 (sym first.1 ∙ (ap (slice_get stack) (omega arith) ∙ b.1))) ∙ b.2) in
-          subst (λ (x : ℕ). ImportsIn rows x h) a.2 (subst (λ (x : ℕ). ImportsIn rows a.0.file x) is_g
+            let a = found (length files - 1) f ef in
+            let b = found 0 h eh in
+            let first = s.at_open g d there in
+            let is_g : g ≡ h =
+            sym first.2 ∙ (ap (λ (x : Frame). x.file) (same_Some first.0 b.0 (sym first.1 ∙ (ap (slice_get stack) (omega arith) ∙ b.1))) ∙ b.2) in
+            subst (λ (x : ℕ). ImportsIn rows x h) a.2 (subst (λ (x : ℕ). ImportsIn rows a.0.file x) is_g
             (last a.0 (ap (slice_get stack) (omega (arith, count, below)) ∙ a.1)));
       }
 
@@ -262,18 +267,18 @@ pub walk_starts : (rows : List FileImports) (states : List State) (stack : List 
     → IsWalk rows states [] placed
 walk_starts rows states stack placed e e' e'' =
     let new : (f : ℕ) (x : State) → slice_get states f ≡ Some x → x ≡ New =
-        λ f x h. all_new (length rows) f x (ap (λ xs. slice_get xs f) (sym e) ∙ h) in
+    λ f x h. all_new (length rows) f x (ap (λ xs. slice_get xs f) (sym e) ∙ h) in
     record {
       count = ap length e ∙ length-replicate (length rows) New;
       open_at = λ j a h. cc;
       at_open = λ f j h. absurd (open_new j (new f (Open j) h));
       placed_at = λ p f h.
-        let no : slice_get {X = ℕ} [] p ≡ Some f = ap (λ (xs : List ℕ). slice_get xs p) (sym e'') ∙ h in cc;
+          let no : slice_get {X = ℕ} [] p ≡ Some f = ap (λ (xs : List ℕ). slice_get xs p) (sym e'') ∙ h in cc;
       at_placed = λ f p h. absurd (placed_new p (new f (Placed p) h));
       passed = λ j a h. cc;
       chain = λ j a b h. cc;
       behind = λ p f g h.
-        let no : slice_get {X = ℕ} [] p ≡ Some f = ap (λ (xs : List ℕ). slice_get xs p) (sym e'') ∙ h in cc;
+          let no : slice_get {X = ℕ} [] p ≡ Some f = ap (λ (xs : List ℕ). slice_get xs p) (sym e'') ∙ h in cc;
     }
 
 -- The walk is at its end: there is no new file, and none on the stack.
@@ -293,18 +298,18 @@ module _ (rows : List FileImports) (states : List State) (placed : List ℕ)
   pub walk_ends : IsInOrder (ImportsIn rows) (length rows) placed
   walk_ends = record {
     all = λ f below.
-      let count = s.count in
-      has_place f (get_or states f New) (slice_get-get_or states f New (omega (arith, below, count))) below;
+        let count = s.count in
+        has_place f (get_or states f New) (slice_get-get_or states f New (omega (arith, below, count))) below;
     within = λ p d below.
-      let h = slice_get_within states (get_or placed p d) (Placed p) (placed_state p d below) in
-      let count = s.count in
-      omega (arith, h, count);
+        let h = slice_get_within states (get_or placed p d) (Placed p) (placed_state p d below) in
+        let count = s.count in
+        omega (arith, h, count);
     once = λ i j d before below same.
-      let here = placed_state i d (omega (arith, before, below)) in
-      let there = placed_state j d below in
-      let e = same_placed i j (same_Some (Placed i) (Placed j)
+        let here = placed_state i d (omega (arith, before, below)) in
+        let there = placed_state j d below in
+        let e = same_placed i j (same_Some (Placed i) (Placed j)
         (sym here ∙ (ap (slice_get states) same ∙ there))) in
-      omega (arith, before, e);
+        omega (arith, before, e);
     behind = s.behind;
   }
 
@@ -324,7 +329,7 @@ new_count-set states g was now e =
     let is : get_or states g now ≡ was = get_or_from_slice_get states g was now e in
     let weight : State → ℕ = λ x. cond (is_new x) 1 0 in
     subst (λ (x : State). new_count (set states g now) + cond (is_new x) 1 0 ≡ new_count states + cond (is_new now) 1 0)
-        is (sum_by-set weight states g now now below)
+    is (sum_by-set weight states g now now below)
 
 if_some : {X : Type 0} (o : Option X) (P : X → Type 0) → ((x : X) → o ≡ Some x → P x) → IfSome o P
 if_some None P h = tt
@@ -336,7 +341,7 @@ pub import_within : (named : List (Option ℕ)) (n i : ℕ) → i < length named
     → IfSome (get_or {A = Option ℕ} named i None) (λ g. g < n)
 import_within named n i below within =
     if_some (get_or named i None) (λ g. g < n) (λ g e.
-      within g (at.contains_at named i (Some g) (slice_get-get_or named i None below ∙ ap Some e)))
+    within g (at.contains_at named i (Some g) (slice_get-get_or named i None below ∙ ap Some e)))
 
 pub placed_more : (states : List State) (named : List (Option ℕ)) (i : ℕ) → i < length named
     → ArePlaced states named i
@@ -346,8 +351,8 @@ placed_more states named i below placed here k g before e =
     elim (cases_lt k i) [
       | inl h ↦ placed k g h e
       | inr h ↦
-        let same : k ≡ i = omega (arith, before, h) in
-        here g (get_or_from_slice_get named i (Some g) None (ap (slice_get named) (sym same) ∙ e))
+          let same : k ≡ i = omega (arith, before, h) in
+          here g (get_or_from_slice_get named i (Some g) None (ap (slice_get named) (sym same) ∙ e))
     ]
 
 pub found_next : (states : List State) (named : List (Option ℕ)) (i g : ℕ) → i < length named
@@ -372,11 +377,11 @@ placing_goes rows states states' stack stack' placed placed' top s all e e' e'' 
     let was = s.open_at (length stack) top (at.get_push_last stack top) in
     let count = new_count-set states top.file (Open (length stack)) (Placed m) was in
     let goes : Goes rows states (set states top.file (Placed m)) (stack ++ top ∷ []) stack (placed ++ top.file ∷ []) =
-        record {
-          walk = place_walk rows states stack placed top s all;
-          onward = onward_set states top.file (Placed m) (placed_new m);
-          less = omega (arith, count, length-append stack (top ∷ []));
-        } in
+    record {
+      walk = place_walk rows states stack placed top s all;
+      onward = onward_set states top.file (Placed m) (placed_new m);
+      less = omega (arith, count, length-append stack (top ∷ []));
+    } in
     subst (λ (x : List State). Goes rows states x (stack ++ top ∷ []) stack' placed') (sym e)
     (subst (λ (x : List Frame). Goes rows states (set states top.file (Placed m)) (stack ++ top ∷ []) x placed') (sym e')
     (subst (λ (x : List ℕ). Goes rows states (set states top.file (Placed m)) (stack ++ top ∷ []) stack x) (sym e'') goes))
@@ -386,8 +391,8 @@ last_is : (stack : List Frame) (top a : Frame) (j : ℕ) → slice_get (stack ++
     → j + 1 ≡ length (stack ++ top ∷ []) → top ≡ a
 last_is stack top a j e end = elim (at.get_push_cases stack top j a e) [
   | inl o ↦
-    let within = slice_get_within stack j a o in
-    absurd (omega (arith, within, end, length-append stack (top ∷ [])))
+      let within = slice_get_within stack j a o in
+      absurd (omega (arith, within, end, length-append stack (top ∷ [])))
   | inr l ↦ l.1
 ]
 
@@ -396,10 +401,11 @@ pub moved : (rows : List FileImports) (states : List State) (stack : List Frame)
     (top top' : Frame) (g : ℕ) → IsWalk rows states (stack ++ top ∷ []) placed → top'.file ≡ top.file
     → IsNext states (named_of rows top.file) top'.next g
     → IsWalk rows states (stack ++ top' ∷ []) placed × ImportsIn rows top'.file g
-moved rows states stack placed top top' g s same next =
-    (move_walk rows states stack placed top top' s same next.passed,
-      subst (λ (f : ℕ). ImportsIn rows f g) (sym same)
-        (at.contains_at (named_of rows top.file) top'.next (Some g) next.at))
+moved rows states stack placed top top' g s same next = (
+  move_walk rows states stack placed top top' s same next.passed,
+  subst (λ (f : ℕ). ImportsIn rows f g) (sym same)
+      (at.contains_at (named_of rows top.file) top'.next (Some g) next.at),
+)
 
 -- A step that puts the next import on the stack leads on.
 pub entering_goes : (rows : List FileImports) (states states' : List State)
@@ -414,16 +420,21 @@ entering_goes rows states states' stack stack' placed placed' top top' frame g s
     let n = length (stack ++ top' ∷ []) in
     let m = moved rows states stack placed top top' g s same next in
     let walk = enter_walk rows states (stack ++ top' ∷ []) placed g m.0 new
-        (λ j a h end. subst (λ (x : Frame). ImportsIn rows x.file g) (last_is stack top' a j h end) m.1)
-        frame is_g is_0 in
+    (λ j a h end. subst (λ (x : Frame). ImportsIn rows x.file g) (last_is stack top' a j h end) m.1)
+    frame is_g is_0 in
     let count = new_count-set states g New (Open n) new in
     let goes : Goes rows states (set states g (Open n)) (stack ++ top ∷ []) ((stack ++ top' ∷ []) ++ frame ∷ []) placed =
-        record {
-          walk = walk;
-          onward = onward_set states g (Open n) (open_new n);
-          less = omega (arith, count, length-append stack (top ∷ []), length-append stack (top' ∷ []),
-            length-append (stack ++ top' ∷ []) (frame ∷ []));
-        } in
+    record {
+      walk = walk;
+      onward = onward_set states g (Open n) (open_new n);
+      less = omega (
+        arith,
+        count,
+        length-append stack (top ∷ []),
+        length-append stack (top' ∷ []),
+        length-append (stack ++ top' ∷ []) (frame ∷ []),
+      );
+    } in
     subst (λ (x : List State). Goes rows states x (stack ++ top ∷ []) stack' placed') (sym e)
     (subst (λ (x : List Frame). Goes rows states (set states g (Open n)) (stack ++ top ∷ []) x placed') (sym e')
     (subst (λ (x : List ℕ). Goes rows states (set states g (Open n)) (stack ++ top ∷ []) ((stack ++ top' ∷ []) ++ frame ∷ []) x) (sym e'') goes))
@@ -439,9 +450,9 @@ closing rows states stack placed top top' g d files s same next is_open e =
     let m = moved rows states stack placed top top' g s same next in
     let some = length-append stack (top' ∷ []) in
     cycle_closes rows states (stack ++ top' ∷ []) placed g d m.0 is_open
-        (λ a h. subst (λ (x : Frame). ImportsIn rows x.file g)
-          (last_is stack top' a (length (stack ++ top' ∷ []) - 1) h (omega (arith, some))) m.1)
-        files e
+    (λ a h. subst (λ (x : Frame). ImportsIn rows x.file g)
+    (last_is stack top' a (length (stack ++ top' ∷ []) - 1) h (omega (arith, some))) m.1)
+    files e
 
 -- A file that is on the stack has its depth there.
 pub depth_within : (rows : List FileImports) (states : List State) (stack : List Frame) (placed : List ℕ)
@@ -463,11 +474,13 @@ new_state states g (Placed p) e not_open waits = absurd (waits (p, e))
 pub top_within : (rows : List FileImports) (states : List State) (stack : List Frame)
     (placed : List ℕ) (top : Frame) → IsWalk rows states (stack ++ top ∷ []) placed
     → (top.file < length states) × (length states ≡ length rows)
-        × ArePlaced states (named_of rows top.file) top.next
+    × ArePlaced states (named_of rows top.file) top.next
 top_within rows states stack placed top s =
-    let last = at.get_push_last stack top in
-    (slice_get_within states top.file (Open (length stack)) (s.open_at (length stack) top last),
-      s.count, s.passed (length stack) top last)
+    let last = at.get_push_last stack top in (
+      slice_get_within states top.file (Open (length stack)) (s.open_at (length stack) top last),
+      s.count,
+      s.passed (length stack) top last,
+    )
 
 -- The walk comes to its first file.
 pub visit_starts : (rows : List FileImports) (states states' : List State)
@@ -475,15 +488,16 @@ pub visit_starts : (rows : List FileImports) (states states' : List State)
     → IsWalk rows states [] placed → IsNew states root → frame.file ≡ root → frame.next ≡ 0
     → states' ≡ set states root (Open 0) → stack' ≡ frame ∷ [] → placed' ≡ placed
     → IsWalk rows states' stack' placed' × Onward states states' × (IsNew states' root → ⊥)
-visit_starts rows states states' stack' placed placed' frame root s new is_root is_0 e e' e'' =
-    (subst (λ (x : List State). IsWalk rows x stack' placed') (sym e)
+visit_starts rows states states' stack' placed placed' frame root s new is_root is_0 e e' e'' = (
+  subst (λ (x : List State). IsWalk rows x stack' placed') (sym e)
       (subst (λ (x : List Frame). IsWalk rows (set states root (Open 0)) x placed') (sym e')
       (subst (λ (x : List ℕ). IsWalk rows (set states root (Open 0)) (frame ∷ []) x) (sym e'')
-        (enter_walk rows states [] placed root s new (λ j a h. cc) frame is_root is_0))),
-      subst (λ (x : List State). Onward states x) (sym e) (onward_set states root (Open 0) (open_new 0)),
-      λ h.
-        let this = at.get_set_same states root (Open 0) New new in
-        open_new 0 (same_Some (Open 0) New (sym this ∙ (ap (λ xs. slice_get xs root) (sym e) ∙ h))))
+      (enter_walk rows states [] placed root s new (λ j a h. cc) frame is_root is_0))),
+  subst (λ (x : List State). Onward states x) (sym e) (onward_set states root (Open 0) (open_new 0)),
+  λ h.
+      let this = at.get_set_same states root (Open 0) New new in
+      open_new 0 (same_Some (Open 0) New (sym this ∙ (ap (λ xs. slice_get xs root) (sym e) ∙ h))),
+)
 
 -- The same of equal lists.
 pub placed_as : (states states' : List State) (named named' : List (Option ℕ)) → states ≡ states'

@@ -1,7 +1,5 @@
 -- The order in which imports come first, and cycles of imports.
 use Rattle.std.specs.Prelude.{◌≡◌, ◌≢◌, ◌<◌, ◌+◌, ◌-◌, ℕ, List, Some, slice_get, take, length, Contains, All, AllPairs}
-use Rattle.protox_imports.specs.declared.sorted.Order.{Order}
-use Rattle.protox_imports.specs.declared.sorted.Order.TheVariants.{Sorted, Cycle}
 
 -- The order has the number of each file once, and each file stands behind all that it imports.
 pub record IsInOrder (imports : ℕ → ℕ → Type 0) (count : ℕ) (order : List ℕ) : Type 0 where
@@ -18,8 +16,3 @@ pub record IsCycle (imports : ℕ → ℕ → Type 0) (files : List ℕ) : Type 
       → imports f g
   pub around : (f g : ℕ) → slice_get files (length files - 1) ≡ Some f
       → slice_get files 0 ≡ Some g → imports f g
-
--- What is said of an answer: an order in which imports come first, or a cycle.
-abbrev pub IsAnswer : (ℕ → ℕ → Type 0) → ℕ → Order → Type 0
-IsAnswer imports count (Sorted files) = IsInOrder imports count files.items
-IsAnswer imports count (Cycle files) = IsCycle imports files.items

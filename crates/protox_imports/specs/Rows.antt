@@ -1,5 +1,5 @@
 -- Which file imports which, by rows of numbers: a row for each file.
-use Rattle.std.specs.Prelude.{◌≡◌, ◌<◌, ◌↔◌, ℕ, ℤ, pos, negsuc, List, [], Option, Some, None, slice_get, map, length, Contains}
+use Rattle.std.specs.Prelude.{◌<◌, ◌↔◌, ℕ, ℤ, pos, negsuc, List, [], Option, Some, None, slice_get, map, length, Contains}
 use Rattle.std.specs.List.{filter_map}
 use Rattle.std.specs.Option.{option_and_then, option_map_or}
 use Rattle.protox_descriptor.specs.declared.descriptor.FileDescriptorProto.{FileDescriptorProto}

@@ -2,6 +2,7 @@
 #![tactic(auto)]
 
 mod imports;
+pub mod laws;
 mod names;
 pub mod row;
 mod rows;
@@ -11,4 +12,4 @@ mod walk;
 
 pub use imports::Imports;
 pub use seen::sees;
-pub use sorted::Order;
+pub use sorted::{Order, in_order};

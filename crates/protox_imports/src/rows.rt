@@ -41,11 +41,7 @@ fn named_at(named: &[Option<usize>], index: i32) -> Option<usize>
 }
 
 // The files that the public imports name.
-fn public(
-    alloc: Global,
-    named: &[Option<usize>],
-    indices: &[i32],
-) -> Result<Vec<usize>, AllocError>
+fn public(alloc: Global, named: &[Option<usize>], indices: &[i32]) -> Result<Vec<usize>, AllocError>
     ensures { IfOk result (λ public. public.items ≡ filter_map (named_at named.now) indices.now) }
 {
     let mut public = Vec::new(alloc);

@@ -39,11 +39,7 @@ fn mark_named(
 }
 
 // Marks all files of a list.
-fn mark_all(
-    files: &[usize],
-    marks: &mut [bool],
-    list: &mut Vec<usize>,
-) -> Result<(), AllocError>
+fn mark_all(files: &[usize], marks: &mut [bool], list: &mut Vec<usize>) -> Result<(), AllocError>
     requires { (g : ℕ) → Contains files.now g → g < length marks.old }
     ensures { OnOk result (Marks marks.old list.old.items (Contains files.now) marks.new list.new.items) }
 {

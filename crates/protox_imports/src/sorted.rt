@@ -1,15 +1,37 @@
 ghost use Rattle.std.specs.Prelude.{◌≡◌, length, IfOk};
 ghost use Rattle.protox_imports.specs.Rows.{ImportsIn};
+ghost use Rattle.protox_imports.specs.Answer.{IsAnswer};
 
 use crate::imports::Imports;
-use crate::walk::{State, Walk};
+use crate::walk::Walk;
 use std::alloc::{AllocError, Global};
 
-/// The answer of `order`.
+/// The answer of `in_order`.
 #[derive(Drop)]
 pub enum Order {
     /// The number of each file once, each behind all that it imports.
     Sorted(Vec<usize>),
     /// Files of which each imports the next, and the last imports the first.
     Cycle(Vec<usize>),
+}
+
+/// An order of the files in which imports come first, or a cycle of imports; or `AllocError`. The
+/// order is that of a depth-first walk: the files as they are given, each behind what it imports,
+/// and its imports in their order. It takes time in line with the number of files and imports, and
+/// no recursion.
+pub fn in_order(alloc: Global, imports: &Imports) -> Result<Order, AllocError>
+    ensures { IfOk result (IsAnswer (ImportsIn imports.now.files) (length imports.now.files)) }
+{
+    let mut walk = Walk::new(alloc, imports.len())?;
+    for file in 0..imports.len() {
+        if let Some(files) = walk.visit(alloc, imports, file)? {
+            return Ok(Order::Cycle(files));
+        }
+    }
+    let Walk {
+        states: _,
+        stack: _,
+        placed,
+    } = walk;
+    Ok(Order::Sorted(placed))
 }

@@ -1,6 +1,6 @@
 //! A walk over the files that gives each its place behind what it imports, by a stack of its own.
 
-ghost use Rattle.std.specs.Prelude.{◌≡◌, ℕ, ◌+◌, ◌<◌, ◌↔◌, Some, [], ◌∷◌, ◌++◌, length, slice_get, slice_set, vec_len, map, drop, IsTrue, IfOk, OnOk, IfSome, IfNone, MatchOption, Contains};
+ghost use Rattle.std.specs.Prelude.{◌≡◌, ℕ, ◌+◌, ◌<◌, ◌↔◌, Some, [], ◌∷◌, ◌++◌, length, slice_get, slice_set, vec_len, replicate, map, drop, IsTrue, IfOk, OnOk, IfSome, IfNone, MatchOption, Contains};
 ghost use Rattle.protox_imports.specs.Order.{IsCycle};
 ghost use Rattle.protox_imports.specs.Rows.{ImportsIn};
 ghost use Rattle.protox_imports.specs.inner.Walk.{IsNew, IsPlaced, ArePlaced, IsNext, IsWalk, Goes, Visited};
@@ -46,11 +46,7 @@ fn waiting(import: Option<usize>, states: &[State]) -> Option<usize>
 }
 
 // The index of the first import that has no place yet, and its file. Those before `from` have one.
-fn next_import(
-    named: &[Option<usize>],
-    states: &[State],
-    from: usize,
-) -> Option<(usize, usize)>
+fn next_import(named: &[Option<usize>], states: &[State], from: usize) -> Option<(usize, usize)>
     requires within { (g : ℕ) → Contains named.now (Some g) → g < length states.now }
     requires passed { ArePlaced states.now named.now from }
     ensures found { IfSome result (λ next. IsNext states.now named.now next.0 next.1) }
@@ -73,6 +69,18 @@ fn files_from(alloc: Global, stack: &[Frame], depth: usize) -> Result<Vec<usize>
 }
 
 impl Walk {
+    // The walk before its first step, over this many files.
+    pub fn new(alloc: Global, count: usize) -> Result<Walk, AllocError>
+        ensures { IfOk result (λ walk. (walk.states.items ≡ replicate count State.New) × (walk.stack.items ≡ []) × (walk.placed.items ≡ [])) }
+    {
+        let states = vec![in alloc; State::New; count]?;
+        Ok(Walk {
+            states,
+            stack: Vec::new(alloc),
+            placed: Vec::new(alloc),
+        })
+    }
+
     // Puts a file on the stack.
     fn enter(&mut self, file: usize) -> Result<(), AllocError>
         requires { file < vec_len self.old.states }
@@ -114,7 +122,10 @@ impl Walk {
             self.place(top.file)?;
             return Ok(None);
         };
-        self.stack.push(Frame { file: top.file, next })?;
+        self.stack.push(Frame {
+            file: top.file,
+            next,
+        })?;
         if let State::Open(depth) = self.states[file] {
             return Ok(Some(files_from(alloc, &self.stack, depth)?));
         }
@@ -122,8 +133,8 @@ impl Walk {
         Ok(None)
     }
 
-    // Gives a file and all that it imports their places, or finds a cycle.
-    pub fn visit(
+    // Gives a new file and all that it imports their places, or finds a cycle.
+    fn visit_new(
         &mut self,
         alloc: Global,
         imports: &Imports,
@@ -141,5 +152,23 @@ impl Walk {
             }
         }
         Ok(None)
+    }
+
+    // Gives a file and all that it imports their places, or finds a cycle.
+    pub fn visit(
+        &mut self,
+        alloc: Global,
+        imports: &Imports,
+        root: usize,
+    ) -> Result<Option<Vec<usize>>, AllocError>
+        requires walk { IsWalk imports.now.files self.old.states.items [] self.old.placed.items }
+        requires ends { self.old.stack.items ≡ [] }
+        requires within { root < length imports.now.files }
+        ensures { IfOk result (λ cycle. MatchOption cycle (Visited imports.now.files self.old.states.items self.new.states.items root self.new.stack.items self.new.placed.items) (λ files. IsCycle (ImportsIn imports.now.files) files.items)) }
+    {
+        match self.states[root] {
+            State::New => self.visit_new(alloc, imports, root),
+            _ => Ok(None),
+        }
     }
 }

@@ -1,6 +1,6 @@
 -- Files that are marked one by one, and a list of those whose public imports are still to be
 -- followed.
-use Rattle.std.specs.Prelude.{◌≡◌, ℕ, ◌+◌, ◌<◌, ◌⊎◌, Bool, true, not, List, Some, slice_get, length, Contains, count_by}
+use Rattle.std.specs.Prelude.{◌≡◌, ℕ, ◌+◌, ◌⊎◌, Bool, true, not, List, Some, slice_get, length, Contains, count_by}
 use Rattle.protox_imports.specs.Rows.{ImportsIn, PassesOnIn}
 use Rattle.protox_imports.specs.Sees.{Passes}
 use Rattle.protox_imports.specs.declared.row.FileImports.{FileImports}

@@ -1,5 +1,5 @@
 -- The walk that puts files in order: which files are on its stack, and which have their place.
-use Rattle.std.specs.Prelude.{◌≡◌, ℕ, ◌+◌, ◌*◌, ◌<◌, Bool, true, false, List, [], ◌∷◌, ◌++◌, Option, Some, slice_get, take, length, Contains, count_by}
+use Rattle.std.specs.Prelude.{◌≡◌, ℕ, ◌+◌, ◌*◌, ◌<◌, Bool, true, false, List, [], Option, Some, slice_get, take, length, Contains, count_by}
 use Rattle.protox_imports.specs.Rows.{named_of, ImportsIn}
 use Rattle.protox_imports.specs.declared.row.FileImports.{FileImports}
 use Rattle.protox_imports.specs.declared.walk.State.{State}

@@ -1,4 +1,3 @@
-use Rattle.std.proofs.Common.{◌∙◌, sym}
 use Rattle.protox_imports.proofs.Walking.{import_within, placed_more, found_next}
 use Rattle.protox_imports.proofs.walk.next_import.Goals as goal
 
@@ -9,9 +8,9 @@ waiting-requires c =
 pub returns-in-Some-clause-found : goal.returns-in-Some-clause-found
 returns-in-Some-clause-found c =
     found_next c.args.states.now c.args.named.now c.loop-index.index c.in-Some.file
-        c.loop-index-test.true c.loop-index.invariant c.in-Some.ensures.found.0 c.in-Some.ensures.found.1
+    c.loop-index-test.true c.loop-index.invariant c.in-Some.ensures.found.0 c.in-Some.ensures.found.1
 
 pub loop-index-preserved : goal.loop-index-preserved
 loop-index-preserved c =
     placed_more c.args.states.now c.args.named.now c.loop-index.index c.loop-index-test.true
-        c.loop-index.invariant c.in_default.ensures.none
+    c.loop-index.invariant c.in_default.ensures.none

@@ -1,4 +1,4 @@
-use Rattle.std.proofs.Common.{◌≡◌, ◌∙◌}
+use Rattle.std.proofs.Common.{◌∙◌}
 use Rattle.std.proofs.lemmas.Grind.{merely}
 use Rattle.protox_imports.specs.inner.Numbers.{number_in}
 use Rattle.protox_imports.proofs.ByName.{found_say, found_within, found_among}
@@ -16,4 +16,4 @@ invariant_of-result c =
 pub returns-clause-by_name : goal.returns-clause-by_name
 returns-clause-by_name c =
     found_say (number_in c.in_ok-numbers.numbers) c.args.files.now c.from_vec.result
-        c.in_ok-numbers.ensures (c.from_vec.ensures ∙ c.in_ok-rows.ensures)
+    c.in_ok-numbers.ensures (c.from_vec.ensures ∙ c.in_ok-rows.ensures)

@@ -1,6 +1,6 @@
-use Rattle.std.proofs.Common.{◌≡◌, ◌+◌, ◌*◌, vec_len, length}
+use Rattle.std.proofs.Common.{◌+◌, ◌*◌, vec_len}
 use Rattle.protox_imports.specs.inner.Walk.{IsNew, IsWalk, Onward, new_count}
-use Rattle.protox_imports.proofs.walk.Walk.visit.Given as goal
+use Rattle.protox_imports.proofs.walk.Walk.visit_new.Given as goal
 
 abbrev pub invariant-loop-top : goal.invariant-loop-top
 invariant-loop-top l = record {

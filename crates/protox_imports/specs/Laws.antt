@@ -1,0 +1,27 @@
+-- What holds of every set of files.
+use Rattle.std.specs.Prelude.{◌↔◌, ℕ, Bool, IsTrue, List, length}
+use Rattle.protox_descriptor.specs.declared.descriptor.FileDescriptorProto.{FileDescriptorProto}
+use Rattle.protox_imports.specs.Imports.{Imports, ImportsPublicly}
+use Rattle.protox_imports.specs.Rows.{ImportsIn, PassesOnIn}
+use Rattle.protox_imports.specs.Sees.{Sees, IsClosed}
+use Rattle.protox_imports.specs.Order.{IsInOrder, IsCycle}
+use Rattle.protox_imports.specs.declared.row.FileImports.{FileImports}
+
+-- What the rows make of orders, of cycles and of what a file sees is what the names make of them.
+pub record Agree (set : List FileDescriptorProto) (rows : List FileImports) : Type 0 where
+  pub orders : (order : List ℕ)
+      → IsInOrder (ImportsIn rows) (length rows) order ↔ IsInOrder (Imports set) (length set) order
+  pub cycles : (files : List ℕ) → IsCycle (ImportsIn rows) files ↔ IsCycle (Imports set) files
+  pub sights : (f h : ℕ)
+      → Sees (ImportsIn rows) (PassesOnIn rows) f h ↔ Sees (Imports set) (ImportsPublicly set) f h
+
+-- Where there is an order in which imports come first, there is no cycle of imports.
+abbrev pub OrderedHasNoCycle : List FileDescriptorProto → Type 0
+OrderedHasNoCycle set = (order files : List ℕ) → IsInOrder (Imports set) (length set) order
+    → IsCycle (Imports set) files → ⊥
+
+-- A file sees only what is in each closed set: no file but by a chain of public imports.
+abbrev pub SeesTheLeast : List FileDescriptorProto → Type 0
+SeesTheLeast set = (f h : ℕ) (holds : ℕ → Bool)
+    → IsClosed (Imports set) (ImportsPublicly set) f holds
+    → Sees (Imports set) (ImportsPublicly set) f h → IsTrue (holds h)

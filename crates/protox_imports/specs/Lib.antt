@@ -2,6 +2,7 @@ pub mod Names
 pub mod Imports
 pub mod Rows
 pub mod Sees
+pub mod Seen
 pub mod Order
 pub mod Answer
 pub mod Laws

@@ -1,5 +1,6 @@
 ghost use Rattle.std.specs.Prelude.{◌≡◌, ◌<◌, ◌==◌, length, IfOk};
-ghost use Rattle.protox_imports.specs.Rows.{AreWithin, AreAmongImports, rows_of, named_of, public_of, SayAsNames};
+ghost use Rattle.protox_imports.specs.Rows.{AreWithin, AreAmongImports, rows_of, named_of};
+ghost use Rattle.protox_imports.specs.Rows.{public_of, SayAsNames};
 
 use crate::names::by_name;
 use crate::row::FileImports;

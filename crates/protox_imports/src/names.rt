@@ -15,7 +15,8 @@ fn note<'a>(
     name: &'a str,
     number: usize,
 ) -> Result<(), AllocError>
-    ensures { OnOk result ((q : List ℕ) → number_in numbers.new q ≡ first_of (number_in numbers.old q) (bytes_eq name.now q) number) }
+    ensures { OnOk result ((q : List ℕ) → number_in numbers.new q ≡
+        first_of (number_in numbers.old q) (bytes_eq name.now q) number) }
 {
     if !numbers.contains_key(name) {
         numbers.insert(name, number)?;
@@ -28,7 +29,8 @@ pub fn by_name<'a>(
     alloc: Global,
     files: &'a [FileDescriptorProto],
 ) -> Result<BTreeMap<&'a str, usize>, AllocError>
-    ensures { IfOk result (λ numbers. (q : List ℕ) → number_in numbers q ≡ number_of files.entry.now q) }
+    ensures { IfOk result (λ numbers. (q : List ℕ) →
+        number_in numbers q ≡ number_of files.entry.now q) }
 {
     let mut numbers = BTreeMap::new(alloc);
     for (number, file) in files.iter().enumerate() {

@@ -1,8 +1,9 @@
 //! What a file sees: itself, what it imports, and what those pass on by public imports.
 
-ghost use Rattle.std.specs.Prelude.{◌≡◌, ℕ, ◌<◌, ◌↔◌, Bool, true, false, Some, length, slice_get, slice_index_or, slice_set, vec_len, unwrap_or, IsTrue, IfOk, OnOk, Contains, ◌++◌, ◌∷◌, [], if◌then◌else◌};
-ghost use Rattle.protox_imports.specs.Rows.{ImportsIn, PassesOnIn};
-ghost use Rattle.protox_imports.specs.Sees.{Sees, IsClosed};
+ghost use Rattle.std.specs.Prelude.{◌≡◌, ℕ, ◌<◌, ◌++◌, ◌∷◌, [], if◌then◌else◌};
+ghost use Rattle.std.specs.Prelude.{true, false, Some, length, Contains, IfOk, OnOk, vec_len};
+ghost use Rattle.std.specs.Prelude.{slice_index_or, slice_set};
+ghost use Rattle.protox_imports.specs.Seen.{AreSeen, AreLeast};
 ghost use Rattle.protox_imports.specs.inner.Marks.{Marks, IsSeeing};
 
 use crate::imports::Imports;
@@ -12,7 +13,9 @@ use std::alloc::{AllocError, Global};
 fn mark(marks: &mut [bool], list: &mut Vec<usize>, file: usize) -> Result<(), AllocError>
     requires { file < length marks.old }
     ensures marks { OnOk result (marks.new ≡ slice_set marks.old file true) }
-    ensures list { OnOk result (list.new.items ≡ (if slice_index_or marks.old file false then list.old.items else list.old.items ++ file ∷ [])) }
+    ensures list { OnOk result (list.new.items ≡
+        (if slice_index_or marks.old file false then list.old.items
+        else list.old.items ++ file ∷ [])) }
 {
     if !marks[file] {
         list.push(file)?;
@@ -28,7 +31,8 @@ fn mark_named(
     list: &mut Vec<usize>,
 ) -> Result<(), AllocError>
     requires { (g : ℕ) → Contains named.now (Some g) → g < length marks.old }
-    ensures { OnOk result (Marks marks.old list.old.items (λ g. Contains named.now (Some g)) marks.new list.new.items) }
+    ensures { OnOk result (Marks marks.old list.old.items (λ g. Contains named.now (Some g))
+        marks.new list.new.items) }
 {
     for file in named {
         if let Some(file) = file {
@@ -41,7 +45,8 @@ fn mark_named(
 // Marks all files of a list.
 fn mark_all(files: &[usize], marks: &mut [bool], list: &mut Vec<usize>) -> Result<(), AllocError>
     requires { (g : ℕ) → Contains files.now g → g < length marks.old }
-    ensures { OnOk result (Marks marks.old list.old.items (Contains files.now) marks.new list.new.items) }
+    ensures { OnOk result (Marks marks.old list.old.items (Contains files.now)
+        marks.new list.new.items) }
 {
     for file in files {
         mark(marks, list, *file)?;
@@ -64,18 +69,16 @@ fn reached(alloc: Global, imports: &Imports, file: usize) -> Result<Vec<bool>, A
 }
 
 /// For each file, in order, whether the file with the number `file` sees it; or `AllocError`. A
-/// file sees itself, what it imports, and what those pass on by public imports, from file to file.
-/// Each file is visited once.
+/// file sees itself, what it imports, and what those pass on by public imports, from file to file:
+/// no more than that, which `least` says. `file` is the number of a file. Each file is visited at
+/// most once.
 pub fn sees(alloc: Global, imports: &Imports, file: usize) -> Result<Vec<bool>, AllocError>
     requires { file < length imports.now.files }
     ensures len { IfOk result (λ seen. vec_len seen ≡ length imports.now.files) }
-    ensures value { IfOk result (λ seen. (h : ℕ) → (slice_get seen.items h ≡ Some true) ↔ Sees (ImportsIn imports.now.files) (PassesOnIn imports.now.files) file h) }
-
-    // What is seen is the least that holds the file and its imports, and what each passes on.
-    ensures closed { IfOk result (λ seen. IsClosed (ImportsIn imports.now.files) (PassesOnIn imports.now.files) file (λ h. unwrap_or (slice_get seen.items h) false)) }
-    ensures least { IfOk result (λ seen. (holds : ℕ → Bool) → IsClosed (ImportsIn imports.now.files) (PassesOnIn imports.now.files) file holds → (h : ℕ) → slice_get seen.items h ≡ Some true → IsTrue (holds h)) }
+    ensures value { IfOk result (λ seen. AreSeen imports.now.files file seen.items) }
+    ensures least { IfOk result (λ seen. AreLeast imports.now.files file seen.items) }
 {
-    let mut marks = reached(alloc, imports, file)?;
-    marks[file] = true;
-    Ok(marks)
+    let mut seen = reached(alloc, imports, file)?;
+    seen[file] = true;
+    Ok(seen)
 }

@@ -1,9 +1,12 @@
 //! A walk over the files that gives each its place behind what it imports, by a stack of its own.
 
-ghost use Rattle.std.specs.Prelude.{◌≡◌, ℕ, ◌+◌, ◌<◌, ◌↔◌, Some, [], ◌∷◌, ◌++◌, length, slice_get, slice_set, vec_len, replicate, map, drop, IsTrue, IfOk, OnOk, IfSome, IfNone, MatchOption, Contains};
+ghost use Rattle.std.specs.Prelude.{◌≡◌, ℕ, ◌<◌, [], ◌∷◌, ◌++◌, Some, IfOk, OnOk, IfSome};
+ghost use Rattle.std.specs.Prelude.{IfNone, MatchOption, Contains, length, slice_set, vec_len};
+ghost use Rattle.std.specs.Prelude.{replicate, map, drop};
 ghost use Rattle.protox_imports.specs.Order.{IsCycle};
 ghost use Rattle.protox_imports.specs.Rows.{ImportsIn};
-ghost use Rattle.protox_imports.specs.inner.Walk.{IsNew, IsPlaced, ArePlaced, IsNext, IsWalk, Goes, Visited};
+ghost use Rattle.protox_imports.specs.inner.Walk.{IsNew, IsPlaced, ArePlaced, IsNext, IsWalk, Goes};
+ghost use Rattle.protox_imports.specs.inner.Walk.{Visited};
 
 use crate::imports::Imports;
 use std::alloc::{AllocError, Global};
@@ -63,7 +66,8 @@ fn next_import(named: &[Option<usize>], states: &[State], from: usize) -> Option
 // The files of the stack from this depth on.
 fn files_from(alloc: Global, stack: &[Frame], depth: usize) -> Result<Vec<usize>, AllocError>
     requires { depth < length stack.now }
-    ensures { IfOk result (λ files. files.items ≡ map (λ frame. frame.file) (drop depth stack.now)) }
+    ensures { IfOk result (λ files.
+        files.items ≡ map (λ frame. frame.file) (drop depth stack.now)) }
 {
     stack[depth..].iter().map(|frame| frame.file).collect(alloc)
 }
@@ -71,7 +75,9 @@ fn files_from(alloc: Global, stack: &[Frame], depth: usize) -> Result<Vec<usize>
 impl Walk {
     // The walk before its first step, over this many files.
     pub fn new(alloc: Global, count: usize) -> Result<Walk, AllocError>
-        ensures { IfOk result (λ walk. (walk.states.items ≡ replicate count State.New) × (walk.stack.items ≡ []) × (walk.placed.items ≡ [])) }
+        ensures states { IfOk result (λ walk. walk.states.items ≡ replicate count State.New) }
+        ensures stack { IfOk result (λ walk. walk.stack.items ≡ []) }
+        ensures placed { IfOk result (λ walk. walk.placed.items ≡ []) }
     {
         let states = vec![in alloc; State::New; count]?;
         Ok(Walk {
@@ -84,8 +90,10 @@ impl Walk {
     // Puts a file on the stack.
     fn enter(&mut self, file: usize) -> Result<(), AllocError>
         requires { file < vec_len self.old.states }
-        ensures states { OnOk result (self.new.states.items ≡ slice_set self.old.states.items file (State.Open (vec_len self.old.stack))) }
-        ensures stack { OnOk result (self.new.stack.items ≡ self.old.stack.items ++ record { file = file; next = 0 } ∷ []) }
+        ensures states { OnOk result (self.new.states.items ≡
+            slice_set self.old.states.items file (State.Open (vec_len self.old.stack))) }
+        ensures stack { OnOk result (self.new.stack.items ≡
+            self.old.stack.items ++ record { file = file; next = 0 } ∷ []) }
         ensures placed { self.new.placed ≡ self.old.placed }
     {
         let depth = self.stack.len();
@@ -97,7 +105,8 @@ impl Walk {
     // Gives a file the next place.
     fn place(&mut self, file: usize) -> Result<(), AllocError>
         requires { file < vec_len self.old.states }
-        ensures states { OnOk result (self.new.states.items ≡ slice_set self.old.states.items file (State.Placed (vec_len self.old.placed))) }
+        ensures states { OnOk result (self.new.states.items ≡
+            slice_set self.old.states.items file (State.Placed (vec_len self.old.placed))) }
         ensures placed { OnOk result (self.new.placed.items ≡ self.old.placed.items ++ file ∷ []) }
         ensures stack { self.new.stack ≡ self.old.stack }
     {
@@ -115,8 +124,12 @@ impl Walk {
         imports: &Imports,
         top: Frame,
     ) -> Result<Option<Vec<usize>>, AllocError>
-        requires { IsWalk imports.now.files self.old.states.items (self.old.stack.items ++ top ∷ []) self.old.placed.items }
-        ensures { IfOk result (λ cycle. MatchOption cycle (Goes imports.now.files self.old.states.items self.new.states.items (self.old.stack.items ++ top ∷ []) self.new.stack.items self.new.placed.items) (λ files. IsCycle (ImportsIn imports.now.files) files.items)) }
+        requires { IsWalk imports.now.files self.old.states.items
+            (self.old.stack.items ++ top ∷ []) self.old.placed.items }
+        ensures { IfOk result (λ cycle. MatchOption cycle
+            (Goes imports.now.files self.old.states.items self.new.states.items
+            (self.old.stack.items ++ top ∷ []) self.new.stack.items self.new.placed.items)
+            (λ files. IsCycle (ImportsIn imports.now.files) files.items)) }
     {
         let Some((next, file)) = next_import(imports.named(top.file), &self.states, top.next) else {
             self.place(top.file)?;
@@ -143,7 +156,10 @@ impl Walk {
         requires walk { IsWalk imports.now.files self.old.states.items [] self.old.placed.items }
         requires ends { self.old.stack.items ≡ [] }
         requires new { IsNew self.old.states.items root }
-        ensures { IfOk result (λ cycle. MatchOption cycle (Visited imports.now.files self.old.states.items self.new.states.items root self.new.stack.items self.new.placed.items) (λ files. IsCycle (ImportsIn imports.now.files) files.items)) }
+        ensures { IfOk result (λ cycle. MatchOption cycle
+            (Visited imports.now.files self.old.states.items self.new.states.items root
+            self.new.stack.items self.new.placed.items)
+            (λ files. IsCycle (ImportsIn imports.now.files) files.items)) }
     {
         self.enter(root)?;
         while let Some(top) = self.stack.pop() {
@@ -164,7 +180,10 @@ impl Walk {
         requires walk { IsWalk imports.now.files self.old.states.items [] self.old.placed.items }
         requires ends { self.old.stack.items ≡ [] }
         requires within { root < length imports.now.files }
-        ensures { IfOk result (λ cycle. MatchOption cycle (Visited imports.now.files self.old.states.items self.new.states.items root self.new.stack.items self.new.placed.items) (λ files. IsCycle (ImportsIn imports.now.files) files.items)) }
+        ensures { IfOk result (λ cycle. MatchOption cycle
+            (Visited imports.now.files self.old.states.items self.new.states.items root
+            self.new.stack.items self.new.placed.items)
+            (λ files. IsCycle (ImportsIn imports.now.files) files.items)) }
     {
         match self.states[root] {
             State::New => self.visit_new(alloc, imports, root),

@@ -208,7 +208,7 @@ rows_among set f g h =
     imports_from set f g (by_name.1, by_name.2, by_name.4, by_name.5)
 
 -- Rows that are made with a search of the same answers are those of the set.
-rows_found : (find : List ℕ → Option ℕ) (set : List FileDescriptorProto) (rows : List FileImports)
+pub rows_found : (find : List ℕ → Option ℕ) (set : List FileDescriptorProto) (rows : List FileImports)
     → ((q : List ℕ) → find q ≡ number_of set q) → rows ≡ map (row_by find) set
     → rows ≡ rows_of set
 rows_found find set rows same e = e ∙ ap (λ f. map (row_by f) set) (λ i q. same q i)

@@ -1,15 +1,17 @@
 -- What is said of rows holds of the names of files.
-use Rattle.std.proofs.Common.{◌≡◌, inl, inr, ℕ, List, length, sym, subst}
+use Rattle.std.proofs.Common.{◌≡◌, inl, inr, ℕ, List, Option, length, map, sym, subst}
 use Rattle.std.proofs.lemmas.List.{length-map}
 use Rattle.protox_descriptor.specs.declared.descriptor.FileDescriptorProto.{FileDescriptorProto}
 use Rattle.protox_imports.specs.Names.{number_of}
+use Rattle.protox_imports.specs.declared.row.FileImports.{FileImports}
 use Rattle.protox_imports.specs.Imports.{Imports, ImportsPublicly}
 use Rattle.protox_imports.specs.Rows.{ImportsIn, PassesOnIn, rows_of, row_by}
 use Rattle.protox_imports.specs.Sees.{Passes, Sees}
 use Rattle.protox_imports.specs.Sees.Passes.{Itself, Publicly}
 use Rattle.protox_imports.specs.Order.{IsInOrder, IsCycle}
-use Rattle.protox_imports.specs.Laws.{Agree, OrderedHasNoCycle, SeesTheLeast}
-use Rattle.protox_imports.proofs.ByName.{rows_say, importer_within}
+use Rattle.protox_imports.specs.Laws.{OrderedHasNoCycle, SeesTheLeast}
+use Rattle.protox_imports.specs.Agree.{Agree}
+use Rattle.protox_imports.proofs.ByName.{rows_say, rows_found, importer_within}
 use Rattle.protox_imports.proofs.Cycles.{no_cycle}
 use Rattle.protox_imports.proofs.Seeing.{sees_least}
 
@@ -74,3 +76,9 @@ ordered_has_no_cycle set order files o c =
 pub sees_the_least : (set : List FileDescriptorProto) → SeesTheLeast set
 sees_the_least set f h holds closed k =
     sees_least (Imports set) (ImportsPublicly set) f h holds closed k
+
+pub found_agree : (find : List ℕ → Option ℕ) (set : List FileDescriptorProto)
+    (rows : List FileImports) → ((q : List ℕ) → find q ≡ number_of set q)
+    → rows ≡ map (row_by find) set → Agree set rows
+found_agree find set rows same e =
+    subst (λ rs. Agree set rs) (sym (rows_found find set rows same e)) (rows_agree set)

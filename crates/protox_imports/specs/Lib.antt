@@ -5,5 +5,6 @@ pub mod Sees
 pub mod Seen
 pub mod Order
 pub mod Answer
+pub mod Agree
 pub mod Laws
 pub mod inner

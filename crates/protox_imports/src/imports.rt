@@ -1,4 +1,5 @@
 ghost use Rattle.std.specs.Prelude.{◌≡◌, ◌<◌, ◌==◌, length, IfOk};
+ghost use Rattle.protox_imports.specs.Agree.{Agree};
 ghost use Rattle.protox_imports.specs.Rows.{AreWithin, AreAmongImports, rows_of, named_of};
 ghost use Rattle.protox_imports.specs.Rows.{public_of, SayAsNames};
 
@@ -26,6 +27,9 @@ impl Imports {
     pub fn new(alloc: Global, files: &[FileDescriptorProto]) -> Result<Imports, AllocError>
         ensures rows { IfOk result (λ imports. imports.files ≡ rows_of files.now) }
         ensures by_name { IfOk result (λ imports. SayAsNames files.now imports.files) }
+
+        // So what `in_order` and `sees` say of the rows they say of the names of the files.
+        ensures agree { IfOk result (λ imports. Agree files.now imports.files) }
     {
         let numbers = by_name(alloc, files)?;
         let rows = rows(alloc, &numbers, files)?;

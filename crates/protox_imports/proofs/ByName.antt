@@ -151,6 +151,20 @@ index_named : (named : List (Option ℕ)) (index : ℤ) (i g : ℕ) → index �
 index_named named index i g e h =
     ap (named_at named) e ∙ ap (option_and_then (λ (o : Option ℕ). o)) h
 
+-- what a listed index says of an import, by names
+publicly : (set : List FileDescriptorProto) (f g : ℕ) (file : FileDescriptorProto) (k i : ℕ)
+    (name : List ℕ) → slice_get set f ≡ Some file
+    → slice_get file.public_dependency k ≡ Some (pos i) → slice_get file.dependency i ≡ Some name
+    → IsFirstNamed set name g → ImportsPublicly set f g
+publicly set f g file k i name there listed named is = (
+  k,
+  i,
+  name,
+  ap (option_and_then (λ (x : FileDescriptorProto). slice_get x.public_dependency k)) there ∙ listed,
+  ap (option_and_then (λ (x : FileDescriptorProto). slice_get x.dependency i)) there ∙ named,
+  is,
+)
+
 passes_to : (set : List FileDescriptorProto) (f g : ℕ) → PassesOnIn (rows_of set) f g
     → (g < length set) × ImportsPublicly set f g
 passes_to set f g within =
@@ -163,15 +177,8 @@ passes_to set f g within =
     let import = named_index named index.1 g index.3 in
     let found = numbered set file.0.dependency import.0 g file.0 import.2 in (
       found.2,
-      (
-        index.0,
-        import.0,
-        found.0,
-        ap (option_and_then (λ (x : FileDescriptorProto). slice_get x.public_dependency index.0)) file.1
-            ∙ (index.2 ∙ ap Some import.1),
-        ap (option_and_then (λ (x : FileDescriptorProto). slice_get x.dependency import.0)) file.1 ∙ found.1,
-        found.3,
-      ),
+      publicly set f g file.0 index.0 import.0 found.0 file.1
+          (index.2 ∙ ap Some import.1) found.1 found.3,
     )
 
 passes_from : (set : List FileDescriptorProto) (f g : ℕ) → ImportsPublicly set f g

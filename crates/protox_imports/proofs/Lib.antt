@@ -6,3 +6,4 @@ pub mod Seeing
 pub mod Walking
 pub mod Cycles
 pub mod NamesAgree
+pub mod Visiting

@@ -1,5 +1,5 @@
 -- The steps of the walk that puts files in order, and what is known at its end.
-use Rattle.std.proofs.Common.{◌≡◌, ◌≢◌, inl, inr, ℕ, zero, suc, ◌<◌, ◌+◌, ◌-◌, List, [], ◌∷◌, ◌++◌, length, get_or, set, drop, map, replicate, Option, Some, None, cond, refl, sym, ◌∙◌, ap, subst, arith, length-set, length-append, length-drop}
+use Rattle.std.proofs.Common.{◌≡◌, ◌≢◌, inl, inr, ℕ, zero, suc, ◌<◌, ◌+◌, ◌-◌, List, [], ◌∷◌, ◌++◌, length, get_or, set, drop, map, reverse, replicate, Option, Some, None, cond, refl, sym, ◌∙◌, ap, subst, arith, length-set, length-append, length-drop}
 use Rattle.std.specs.Prelude.{slice_get, Contains, IfSome}
 use Rattle.std.proofs.lemmas.List.{take-append-le, take_all, length-map}
 use Rattle.std.proofs.lemmas.Bool.{cases_lt}
@@ -12,7 +12,10 @@ use Rattle.protox_imports.specs.declared.row.FileImports.{FileImports}
 use Rattle.protox_imports.specs.declared.walk.State.{State}
 use Rattle.protox_imports.specs.declared.walk.State.TheVariants.{New, Open, Placed}
 use Rattle.protox_imports.specs.declared.walk.Frame.{Frame}
-use Rattle.protox_imports.specs.inner.Walk.{IsNew, IsPlaced, ArePlaced, IsNext, is_new, new_count, IsWalk, Onward, Goes}
+use Rattle.protox_imports.specs.inner.Walk.{IsNew, IsPlaced, ArePlaced, IsNext, is_new, new_count, IsWalk, Onward, Goes, Visited, Orderly}
+use Rattle.protox_imports.specs.DepthFirst.Visits.{Ends, Passes}
+use Rattle.protox_imports.proofs.Visiting.{comes_places, comes_enters, root_enters, reverse-push, visits_more, all_files-more}
+use Rattle.protox_imports.specs.DepthFirst.{Visits, all_files}
 use Rattle.protox_imports.proofs.Elements as at
 
 same_open : (i j : ℕ) → ◌≡◌ {A = State} (Open i) (Open j) → i ≡ j
@@ -364,6 +367,27 @@ found_next states named i g below placed e waits = record {
   waits = waits;
 }
 
+-- The file on top of the stack is a file.
+pub top_within : (rows : List FileImports) (states : List State) (stack : List Frame)
+    (placed : List ℕ) (top : Frame) → IsWalk rows states (stack ++ top ∷ []) placed
+    → (top.file < length states) × (length states ≡ length rows)
+    × ArePlaced states (named_of rows top.file) top.next
+top_within rows states stack placed top s =
+    let last = at.get_push_last stack top in (
+      slice_get_within states top.file (Open (length stack)) (s.open_at (length stack) top last),
+      s.count,
+      s.passed (length stack) top last,
+    )
+
+-- What stands in the order has its place.
+module _ (rows : List FileImports) (states : List State) (stack : List Frame) (placed : List ℕ)
+    (s : IsWalk rows states stack placed) where
+  pub contains_placed : (f : ℕ) → IsPlaced states f → Contains placed f
+  contains_placed f h = at.contains_at placed h.0 f (s.at_placed f h.0 h.1)
+
+  pub placed_contains : (f : ℕ) → Contains placed f → IsPlaced states f
+  placed_contains f h = let there = at.at_contains placed f h in (there.0, s.placed_at there.0 f there.1)
+
 -- A step that gives the file on top its place leads on.
 pub placing_goes : (rows : List FileImports) (states states' : List State)
     (stack stack' : List Frame) (placed placed' : List ℕ) (top : Frame)
@@ -371,20 +395,27 @@ pub placing_goes : (rows : List FileImports) (states states' : List State)
     → ArePlaced states (named_of rows top.file) (length (named_of rows top.file))
     → states' ≡ set states top.file (Placed (length placed)) → stack' ≡ stack
     → placed' ≡ placed ++ top.file ∷ []
-    → Goes rows states states' (stack ++ top ∷ []) stack' placed'
+    → Goes rows states states' (stack ++ top ∷ []) stack' placed placed'
 placing_goes rows states states' stack stack' placed placed' top s all e e' e'' =
     let m = length placed in
+    let now = set states top.file (Placed m) in
+    let named = named_of rows top.file in
     let was = s.open_at (length stack) top (at.get_push_last stack top) in
     let count = new_count-set states top.file (Open (length stack)) (Placed m) was in
-    let goes : Goes rows states (set states top.file (Placed m)) (stack ++ top ∷ []) stack (placed ++ top.file ∷ []) =
+    let goes : Goes rows states now (stack ++ top ∷ []) stack placed (placed ++ top.file ∷ []) =
     record {
       walk = place_walk rows states stack placed top s all;
       onward = onward_set states top.file (Placed m) (placed_new m);
       less = omega (arith, count, length-append stack (top ∷ []));
+      orderly = λ start root o.
+          comes_places rows start root top (reverse stack) placed
+          (subst (λ (xs : List Frame). Orderly rows start root xs placed) (reverse-push stack top) o)
+          (λ k h there. contains_placed rows states (stack ++ top ∷ []) placed s h
+          (all k h (slice_get_within named k (Some h) there) there));
     } in
-    subst (λ (x : List State). Goes rows states x (stack ++ top ∷ []) stack' placed') (sym e)
-    (subst (λ (x : List Frame). Goes rows states (set states top.file (Placed m)) (stack ++ top ∷ []) x placed') (sym e')
-    (subst (λ (x : List ℕ). Goes rows states (set states top.file (Placed m)) (stack ++ top ∷ []) stack x) (sym e'') goes))
+    subst (λ (x : List State). Goes rows states x (stack ++ top ∷ []) stack' placed placed') (sym e)
+    (subst (λ (x : List Frame). Goes rows states now (stack ++ top ∷ []) x placed placed') (sym e')
+    (subst (λ (x : List ℕ). Goes rows states now (stack ++ top ∷ []) stack placed x) (sym e'') goes))
 
 -- The last element of a stack with one more is that one.
 last_is : (stack : List Frame) (top a : Frame) (j : ℕ) → slice_get (stack ++ top ∷ []) j ≡ Some a
@@ -407,23 +438,35 @@ moved rows states stack placed top top' g s same next = (
       (at.contains_at (named_of rows top.file) top'.next (Some g) next.at),
 )
 
+-- the file on top, once its import with this index is looked at
+abbrev pub at_import : Frame → ℕ → Frame
+at_import top i = record { file = top.file; next = i }
+
+-- a file that is put on the stack
+abbrev pub entered : ℕ → Frame
+entered g = record { file = g; next = 0 }
+
 -- A step that puts the next import on the stack leads on.
 pub entering_goes : (rows : List FileImports) (states states' : List State)
-    (stack stack' : List Frame) (placed placed' : List ℕ) (top top' frame : Frame) (g : ℕ)
-    → IsWalk rows states (stack ++ top ∷ []) placed → top'.file ≡ top.file
-    → IsNext states (named_of rows top.file) top'.next g → IsNew states g
-    → frame.file ≡ g → frame.next ≡ 0
-    → states' ≡ set states g (Open (length (stack ++ top' ∷ [])))
-    → stack' ≡ (stack ++ top' ∷ []) ++ frame ∷ [] → placed' ≡ placed
-    → Goes rows states states' (stack ++ top ∷ []) stack' placed'
-entering_goes rows states states' stack stack' placed placed' top top' frame g s same next new is_g is_0 e e' e'' =
+    (stack stack' : List Frame) (placed placed' : List ℕ) (top : Frame) (i g : ℕ)
+    → IsWalk rows states (stack ++ top ∷ []) placed → IsNext states (named_of rows top.file) i g
+    → IsNew states g → states' ≡ set states g (Open (length (stack ++ at_import top i ∷ [])))
+    → stack' ≡ (stack ++ at_import top i ∷ []) ++ entered g ∷ [] → placed' ≡ placed
+    → Goes rows states states' (stack ++ top ∷ []) stack' placed placed'
+entering_goes rows states states' stack stack' placed placed' top i g s next new e e' e'' =
+    let top' : Frame = at_import top i in
+    let frame : Frame = entered g in
+    let whole = stack ++ top ∷ [] in
     let n = length (stack ++ top' ∷ []) in
-    let m = moved rows states stack placed top top' g s same next in
+    let now = set states g (Open n) in
+    let m = moved rows states stack placed top top' g s refl next in
     let walk = enter_walk rows states (stack ++ top' ∷ []) placed g m.0 new
     (λ j a h end. subst (λ (x : Frame). ImportsIn rows x.file g) (last_is stack top' a j h end) m.1)
-    frame is_g is_0 in
+    frame refl refl in
     let count = new_count-set states g New (Open n) new in
-    let goes : Goes rows states (set states g (Open n)) (stack ++ top ∷ []) ((stack ++ top' ∷ []) ++ frame ∷ []) placed =
+    let t = top_within rows states stack placed top s in
+    let has : (h : ℕ) → IsPlaced states h → Contains placed h = contains_placed rows states whole placed s in
+    let goes : Goes rows states now whole ((stack ++ top' ∷ []) ++ frame ∷ []) placed placed =
     record {
       walk = walk;
       onward = onward_set states g (Open n) (open_new n);
@@ -434,10 +477,18 @@ entering_goes rows states states' stack stack' placed placed' top top' frame g s
         length-append stack (top' ∷ []),
         length-append (stack ++ top' ∷ []) (frame ∷ []),
       );
+      orderly = λ start root o.
+          subst (λ (xs : List Frame). Orderly rows start root xs placed)
+          (sym (reverse-push (stack ++ top' ∷ []) frame ∙ ap (λ xs. frame ∷ xs) (reverse-push stack top')))
+          (comes_enters rows start root top (reverse stack) placed i g
+          (subst (λ (xs : List Frame). Orderly rows start root xs placed) (reverse-push stack top) o)
+          next.at (λ h. next.waits (placed_contains rows states whole placed s g h))
+          (λ k h below there. has h (t.2 k h below there))
+          (λ k h below there. has h (next.passed k h below there)));
     } in
-    subst (λ (x : List State). Goes rows states x (stack ++ top ∷ []) stack' placed') (sym e)
-    (subst (λ (x : List Frame). Goes rows states (set states g (Open n)) (stack ++ top ∷ []) x placed') (sym e')
-    (subst (λ (x : List ℕ). Goes rows states (set states g (Open n)) (stack ++ top ∷ []) ((stack ++ top' ∷ []) ++ frame ∷ []) x) (sym e'') goes))
+    subst (λ (x : List State). Goes rows states x whole stack' placed placed') (sym e)
+    (subst (λ (x : List Frame). Goes rows states now whole x placed placed') (sym e')
+    (subst (λ (x : List ℕ). Goes rows states now whole ((stack ++ top' ∷ []) ++ frame ∷ []) placed x) (sym e'') goes))
 
 -- The next import is on the stack: a cycle.
 pub closing : (rows : List FileImports) (states : List State) (stack : List Frame) (placed : List ℕ)
@@ -470,34 +521,58 @@ new_state states g New e not_open waits = e
 new_state states g (Open j) e not_open waits = absurd (not_open j refl)
 new_state states g (Placed p) e not_open waits = absurd (waits (p, e))
 
--- The file on top of the stack is a file.
-pub top_within : (rows : List FileImports) (states : List State) (stack : List Frame)
-    (placed : List ℕ) (top : Frame) → IsWalk rows states (stack ++ top ∷ []) placed
-    → (top.file < length states) × (length states ≡ length rows)
-    × ArePlaced states (named_of rows top.file) top.next
-top_within rows states stack placed top s =
-    let last = at.get_push_last stack top in (
-      slice_get_within states top.file (Open (length stack)) (s.open_at (length stack) top last),
-      s.count,
-      s.passed (length stack) top last,
-    )
-
 -- The walk comes to its first file.
+pub record Starts (rows : List FileImports) (states states' : List State) (stack' : List Frame)
+    (placed placed' : List ℕ) (root : ℕ) : Type 0 where
+  pub walk : IsWalk rows states' stack' placed'
+  pub onward : Onward states states'
+  pub came : IsNew states' root → ⊥
+  pub orderly : Orderly rows placed root (reverse stack') placed'
+
 pub visit_starts : (rows : List FileImports) (states states' : List State)
-    (stack' : List Frame) (placed placed' : List ℕ) (frame : Frame) (root : ℕ)
-    → IsWalk rows states [] placed → IsNew states root → frame.file ≡ root → frame.next ≡ 0
-    → states' ≡ set states root (Open 0) → stack' ≡ frame ∷ [] → placed' ≡ placed
-    → IsWalk rows states' stack' placed' × Onward states states' × (IsNew states' root → ⊥)
-visit_starts rows states states' stack' placed placed' frame root s new is_root is_0 e e' e'' = (
-  subst (λ (x : List State). IsWalk rows x stack' placed') (sym e)
-      (subst (λ (x : List Frame). IsWalk rows (set states root (Open 0)) x placed') (sym e')
-      (subst (λ (x : List ℕ). IsWalk rows (set states root (Open 0)) (frame ∷ []) x) (sym e'')
-      (enter_walk rows states [] placed root s new (λ j a h. cc) frame is_root is_0))),
-  subst (λ (x : List State). Onward states x) (sym e) (onward_set states root (Open 0) (open_new 0)),
-  λ h.
-      let this = at.get_set_same states root (Open 0) New new in
-      open_new 0 (same_Some (Open 0) New (sym this ∙ (ap (λ xs. slice_get xs root) (sym e) ∙ h))),
-)
+    (stack' : List Frame) (placed placed' : List ℕ) (root : ℕ)
+    → IsWalk rows states [] placed → IsNew states root
+    → states' ≡ set states root (Open 0) → stack' ≡ entered root ∷ [] → placed' ≡ placed
+    → Starts rows states states' stack' placed placed' root
+visit_starts rows states states' stack' placed placed' root s new e e' e'' =
+    let now = set states root (Open 0) in
+    let frame : Frame = entered root in
+    let this = at.get_set_same states root (Open 0) New new in
+    let starts : Starts rows states now (frame ∷ []) placed placed root = record {
+      walk = enter_walk rows states [] placed root s new (λ j a h. cc) frame refl refl;
+      onward = onward_set states root (Open 0) (open_new 0);
+      came = λ h. open_new 0 (same_Some (Open 0) New (sym this ∙ h));
+      orderly = root_enters rows placed root (λ h.
+          let there = placed_contains rows states [] placed s root h in
+          placed_new there.0 (same_Some (Placed there.0) New (sym there.1 ∙ new)));
+    } in
+    subst (λ (x : List State). Starts rows states x stack' placed placed' root) (sym e)
+    (subst (λ (x : List Frame). Starts rows states now x placed placed' root) (sym e')
+    (subst (λ (x : List ℕ). Starts rows states now (frame ∷ []) placed x root) (sym e'') starts))
+
+state_placed : (rows : List FileImports) (states : List State) (placed : List ℕ) (root : ℕ)
+    (x : State) → IsWalk rows states [] placed → slice_get states root ≡ Some x → (x ≡ New → ⊥)
+    → Contains placed root
+state_placed rows states placed root New s e other = absurd (other refl)
+state_placed rows states placed root (Open j) s e other =
+    let on = s.at_open root j e in
+    let none = on.1 in
+    cc
+state_placed rows states placed root (Placed p) s e other =
+    at.contains_at placed p root (s.at_placed root p e)
+
+-- A file that was not new is passed by.
+pub passed_visited : (rows : List FileImports) (states : List State) (stack : List Frame)
+    (placed : List ℕ) (root : ℕ) (x : State) → IsWalk rows states [] placed → stack ≡ []
+    → slice_get states root ≡ Some x → (x ≡ New → ⊥)
+    → Visited rows states states root stack placed placed
+passed_visited rows states stack placed root x s ends is other = record {
+  walk = s;
+  ends = ends;
+  onward = λ f h. h;
+  came = λ h. other (same_Some x New (sym is ∙ h));
+  visits = Passes placed placed root [] (state_placed rows states placed root x s is other) (Ends placed);
+}
 
 -- The same of equal lists.
 pub placed_as : (states states' : List State) (named named' : List (Option ℕ)) → states ≡ states'
@@ -521,3 +596,37 @@ next_file_within rows states stack placed top i g within s next =
     let below = within top.file g (at.contains_at (named_of rows top.file) i (Some g) next.at) in
     let count = s.count in
     omega (arith, below, count)
+
+-- One file more was visited.
+pub record Came (rows : List FileImports) (states : List State) (stack : List Frame)
+    (placed : List ℕ) (n : ℕ) : Type 0 where
+  pub walk : IsWalk rows states [] placed
+  pub ends : stack ≡ []
+  pub visits : Visits rows [] (all_files n) placed
+  pub came : (f : ℕ) → f < n → IsNew states f → ⊥
+
+pub comes_first : (rows : List FileImports) (states : List State) (stack : List Frame)
+    (placed : List ℕ) → states ≡ replicate (length rows) New → stack ≡ [] → placed ≡ []
+    → Came rows states stack placed 0
+comes_first rows states stack placed e e' e'' = record {
+  walk = walk_starts rows states stack placed e e' e'';
+  ends = e';
+  visits = subst (λ (x : List ℕ). Visits rows [] [] x) (sym e'') (Ends []);
+  came = λ f below h. omega (arith, below);
+}
+
+pub comes_next : (rows : List FileImports) (states states' : List State) (stack stack' : List Frame)
+    (placed placed' : List ℕ) (n : ℕ) → Came rows states stack placed n
+    → Visited rows states states' n stack' placed placed' → Came rows states' stack' placed' (n + 1)
+comes_next rows states states' stack stack' placed placed' n c v = record {
+  walk = v.walk;
+  ends = v.ends;
+  visits = subst (λ (xs : List (Option ℕ)). Visits rows [] xs placed') (sym (all_files-more n))
+      (visits_more c.visits v.visits);
+  came = λ f below h. elim (cases_lt f n) [
+    | inl low ↦ c.came f low (v.onward f h)
+    | inr high ↦
+        let same : f ≡ n = omega (arith, below, high) in
+        v.came (subst (λ (x : ℕ). IsNew states' x) same h)
+  ];
+}

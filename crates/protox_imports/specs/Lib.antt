@@ -4,6 +4,7 @@ pub mod Rows
 pub mod Sees
 pub mod Seen
 pub mod Order
+pub mod DepthFirst
 pub mod Answer
 pub mod Agree
 pub mod Laws

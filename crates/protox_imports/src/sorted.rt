@@ -1,6 +1,7 @@
 ghost use Rattle.std.specs.Prelude.{◌≡◌, length, IfOk};
 ghost use Rattle.protox_imports.specs.Rows.{ImportsIn};
 ghost use Rattle.protox_imports.specs.Answer.{IsAnswer};
+ghost use Rattle.protox_imports.specs.DepthFirst.{IsDepthFirst};
 
 use crate::imports::Imports;
 use crate::walk::Walk;
@@ -20,7 +21,8 @@ pub enum Order {
 /// and its imports in their order. It takes time in line with the number of files and imports, and
 /// no recursion.
 pub fn in_order(alloc: Global, imports: &Imports) -> Result<Order, AllocError>
-    ensures { IfOk result (IsAnswer (ImportsIn imports.now.files) (length imports.now.files)) }
+    ensures answer { IfOk result (IsAnswer (ImportsIn imports.now.files) (length imports.now.files)) }
+    ensures depth_first { IfOk result (IsDepthFirst imports.now.files) }
 {
     let mut walk = Walk::new(alloc, imports.len())?;
     for file in 0..imports.len() {

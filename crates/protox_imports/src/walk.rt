@@ -128,7 +128,8 @@ impl Walk {
             (self.old.stack.items ++ top ∷ []) self.old.placed.items }
         ensures { IfOk result (λ cycle. MatchOption cycle
             (Goes imports.now.files self.old.states.items self.new.states.items
-            (self.old.stack.items ++ top ∷ []) self.new.stack.items self.new.placed.items)
+            (self.old.stack.items ++ top ∷ []) self.new.stack.items self.old.placed.items
+            self.new.placed.items)
             (λ files. IsCycle (ImportsIn imports.now.files) files.items)) }
     {
         let Some((next, file)) = next_import(imports.named(top.file), &self.states, top.next) else {
@@ -158,7 +159,7 @@ impl Walk {
         requires new { IsNew self.old.states.items root }
         ensures { IfOk result (λ cycle. MatchOption cycle
             (Visited imports.now.files self.old.states.items self.new.states.items root
-            self.new.stack.items self.new.placed.items)
+            self.new.stack.items self.old.placed.items self.new.placed.items)
             (λ files. IsCycle (ImportsIn imports.now.files) files.items)) }
     {
         self.enter(root)?;
@@ -182,7 +183,7 @@ impl Walk {
         requires within { root < length imports.now.files }
         ensures { IfOk result (λ cycle. MatchOption cycle
             (Visited imports.now.files self.old.states.items self.new.states.items root
-            self.new.stack.items self.new.placed.items)
+            self.new.stack.items self.old.placed.items self.new.placed.items)
             (λ files. IsCycle (ImportsIn imports.now.files) files.items)) }
     {
         match self.states[root] {

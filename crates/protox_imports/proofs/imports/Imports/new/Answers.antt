@@ -22,4 +22,4 @@ returns-clause-by_name c =
 pub returns-clause-agree : goal.returns-clause-agree
 returns-clause-agree c =
     found_agree (number_in c.in_ok-numbers.numbers) c.args.files.now c.from_vec.result
-        c.in_ok-numbers.ensures (c.from_vec.ensures ∙ c.in_ok-rows.ensures)
+    c.in_ok-numbers.ensures (c.from_vec.ensures ∙ c.in_ok-rows.ensures)

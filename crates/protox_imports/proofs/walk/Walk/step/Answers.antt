@@ -127,7 +127,7 @@ returns c =
     let depth : c.push.new.self.len ≡ length (stack ++ top' ∷ []) =
     c.push.new.self.ok.0 ∙ ap length c.in_ok-push.ensures.items in
     entering_goes rows states c.enter.new.self.states.items stack c.enter.new.self.stack.items placed
-    c.enter.new.self.placed.items c.args.top top' frame g c.requires refl next new refl refl
+    c.enter.new.self.placed.items c.args.top c.in-Some.next g c.requires next new
     (c.in_ok-enter.ensures.states ∙ ap (λ n. set states g (Open n)) depth)
     (c.in_ok-enter.ensures.stack ∙ ap (λ (xs : List Frame). xs ++ frame ∷ []) c.in_ok-push.ensures.items)
     (ap (λ v. v.items) c.in_ok-enter.ensures.placed)

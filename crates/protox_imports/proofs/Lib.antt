@@ -7,3 +7,4 @@ pub mod Walking
 pub mod Cycles
 pub mod NamesAgree
 pub mod Visiting
+pub mod OneOrder

@@ -1,10 +1,10 @@
 -- The walk visits files depth first.
-use Rattle.std.proofs.Common.{◌≡◌, ◌⊎◌, inl, inr, ℕ, zero, suc, ◌<◌, ◌≤◌, ◌+◌, ◌-◌, List, [], ◌∷◌, ◌++◌, length, get_or, take, drop, map, Option, Some, None, refl, sym, ◌∙◌, ap, subst, arith, length-append, add-zero, zero-add, add-one}
+use Rattle.std.proofs.Common.{◌≡◌, inl, inr, ℕ, zero, suc, ◌<◌, ◌≤◌, ◌+◌, ◌-◌, List, [], ◌∷◌, ◌++◌, length, get_or, take, map, Option, Some, None, refl, sym, ◌∙◌, ap, subst, arith, add-zero, zero-add, add-one}
 use Rattle.std.specs.Prelude.{slice_get, Contains, reverse}
 use Rattle.std.specs.List.{range_with_len}
 use Rattle.std.proofs.lemmas.Bool.{cases_lt}
 use Rattle.std.proofs.lemmas.List.{take_more, take_all, reverse-append}
-use Rattle.std.proofs.lemmas.List.Elements.{Contains-append_left, Contains-push}
+use Rattle.std.proofs.lemmas.List.Elements.{Contains-push}
 use Rattle.std.proofs.lemmas.Option.{slice_get_within, slice_get-get_or, get_or_from_slice_get}
 use Rattle.protox_imports.specs.Rows.{named_of}
 use Rattle.protox_imports.specs.DepthFirst.{Visits, all_files}
@@ -13,7 +13,6 @@ use Rattle.protox_imports.specs.declared.row.FileImports.{FileImports}
 use Rattle.protox_imports.specs.declared.walk.Frame.{Frame}
 use Rattle.protox_imports.specs.inner.Walk.{Waits, Comes, Orderly}
 use Rattle.protox_imports.specs.inner.Walk.Waits.{Bottom, On}
-use Rattle.protox_imports.proofs.Elements as at
 
 -- One list of files is visited after another.
 pub visits_more : {rows : List FileImports} {p q r : List ℕ} {xs ys : List (Option ℕ)}

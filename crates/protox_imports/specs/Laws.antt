@@ -1,8 +1,10 @@
 -- What holds of every set of files.
-use Rattle.std.specs.Prelude.{ℕ, Bool, IsTrue, List, length}
+use Rattle.std.specs.Prelude.{◌≡◌, [], ℕ, Bool, IsTrue, List, length}
 use Rattle.protox_descriptor.specs.declared.descriptor.FileDescriptorProto.{FileDescriptorProto}
 use Rattle.protox_imports.specs.Imports.{Imports, ImportsPublicly}
 use Rattle.protox_imports.specs.Sees.{Sees, IsClosed}
+use Rattle.protox_imports.specs.DepthFirst.{Visits, all_files}
+use Rattle.protox_imports.specs.declared.row.FileImports.{FileImports}
 use Rattle.protox_imports.specs.Order.{IsInOrder, IsCycle}
 
 -- Where there is an order in which imports come first, there is no cycle of imports.
@@ -15,3 +17,8 @@ abbrev pub SeesTheLeast : List FileDescriptorProto → Type 0
 SeesTheLeast set = (f h : ℕ) (holds : ℕ → Bool)
     → IsClosed (Imports set) (ImportsPublicly set) f holds
     → Sees (Imports set) (ImportsPublicly set) f h → IsTrue (holds h)
+
+-- There is at most one order of a depth-first walk.
+abbrev pub OneDepthFirst : List FileImports → Type 0
+OneDepthFirst rows = (order other : List ℕ) → Visits rows [] (all_files (length rows)) order
+    → Visits rows [] (all_files (length rows)) other → order ≡ other

@@ -24,6 +24,11 @@ impl Imports {
     /// The imports of these files, or `AllocError`. Of files with equal names the first counts. It
     /// takes time in line with the length of the names, times the logarithm of the number of files,
     /// whatever the names are.
+    ///
+    /// ```
+    /// let imports = Imports::new(alloc, &files)?;
+    /// if imports.files.iter().any(|file| file.is_missing(0)) { .. }
+    /// ```
     pub fn new(alloc: Global, files: &[FileDescriptorProto]) -> Result<Imports, AllocError>
         ensures rows { IfOk result (λ imports. imports.files ≡ rows_of files.now) }
         ensures by_name { IfOk result (λ imports. SayAsNames files.now imports.files) }
@@ -52,7 +57,8 @@ impl Imports {
         self.files.is_empty()
     }
 
-    /// For each import of this file, in order: the first file with its name, or None.
+    /// For each import of the file with this number, in order: the first file with its name, or
+    /// None if there is none.
     pub fn named(&self, file: usize) -> &[Option<usize>]
         requires { file < length self.now.files }
         ensures { result.now ≡ named_of self.now.files file }
@@ -60,7 +66,7 @@ impl Imports {
         self.files.as_slice()[file].named.as_slice()
     }
 
-    /// The files that this file imports publicly.
+    /// The files that the file with this number imports publicly, as `FileImports` has them.
     pub fn public(&self, file: usize) -> &[usize]
         requires { file < length self.now.files }
         ensures { result.now ≡ public_of self.now.files file }

@@ -2,7 +2,8 @@
 
 ghost use Rattle.std.specs.Prelude.{List};
 ghost use Rattle.protox_descriptor.specs.declared.descriptor.FileDescriptorProto.{FileDescriptorProto};
-ghost use Rattle.protox_imports.specs.Laws.{OrderedHasNoCycle, SeesTheLeast};
+ghost use Rattle.protox_imports.specs.declared.row.FileImports.{FileImports};
+ghost use Rattle.protox_imports.specs.Laws.{OrderedHasNoCycle, SeesTheLeast, OneDepthFirst};
 
 /// A set of files with a cycle of imports has no order, so `in_order` never answers `Sorted` for
 /// it; and one with an order has no cycle.
@@ -14,4 +15,10 @@ pub fn sorted_has_no_cycle()
 /// what that one imports publicly.
 pub fn passes_is_least()
     ensures { (set : List FileDescriptorProto) → SeesTheLeast set }
+{}
+
+/// There is at most one order of a depth-first walk. So the answer of `in_order` is the only one
+/// that its contract allows, where it is an order.
+pub fn depth_first_is_one()
+    ensures { (rows : List FileImports) → OneDepthFirst rows }
 {}

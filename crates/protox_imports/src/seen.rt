@@ -69,9 +69,8 @@ fn reached(alloc: Global, imports: &Imports, file: usize) -> Result<Vec<bool>, A
 }
 
 /// For each file, in order, whether the file with the number `file` sees it; or `AllocError`. A
-/// file sees itself, what it imports, and what those pass on by public imports, from file to file:
-/// no more than that, which `least` says. `file` is the number of a file. Each file is visited at
-/// most once.
+/// file sees itself, what it imports, and what those pass on by public imports, from file to file.
+/// It needs the number of a file. It follows the public imports of each file at most once.
 pub fn sees(alloc: Global, imports: &Imports, file: usize) -> Result<Vec<bool>, AllocError>
     requires { file < length imports.now.files }
     ensures len { IfOk result (λ seen. vec_len seen ≡ length imports.now.files) }

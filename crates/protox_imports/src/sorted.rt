@@ -18,8 +18,18 @@ pub enum Order {
 
 /// An order of the files in which imports come first, or a cycle of imports; or `AllocError`. The
 /// order is that of a depth-first walk: the files as they are given, each behind what it imports,
-/// and its imports in their order. It takes time in line with the number of files and imports, and
-/// no recursion.
+/// and its imports in their order. There is no other such order, by the law `depth_first_is_one`.
+/// Where there is a cycle, there is no order, by the law `sorted_has_no_cycle`.
+///
+/// It takes time in line with the number of files and imports. It calls itself for no file, so a
+/// long chain of imports takes no stack.
+///
+/// ```
+/// match in_order(alloc, &imports)? {
+///     Order::Sorted(files) => ..
+///     Order::Cycle(files) => ..
+/// }
+/// ```
 pub fn in_order(alloc: Global, imports: &Imports) -> Result<Order, AllocError>
     ensures answer { IfOk result (IsAnswer (ImportsIn imports.now.files) (length imports.now.files)) }
     ensures depth_first { IfOk result (IsDepthFirst imports.now.files) }

@@ -1,5 +1,5 @@
 -- What is said of rows holds of the names of files.
-use Rattle.std.proofs.Common.{◌≡◌, inl, inr, ℕ, List, Option, length, map, sym, subst}
+use Rattle.std.proofs.Common.{◌≡◌, inl, inr, ℕ, List, Option, length, map, refl, sym, subst}
 use Rattle.std.proofs.lemmas.List.{length-map}
 use Rattle.protox_descriptor.specs.declared.descriptor.FileDescriptorProto.{FileDescriptorProto}
 use Rattle.protox_imports.specs.Names.{number_of}
@@ -13,7 +13,7 @@ use Rattle.protox_imports.specs.Laws.{OrderedHasNoCycle, SeesTheLeast}
 use Rattle.protox_imports.specs.Agree.{Agree}
 use Rattle.protox_imports.proofs.ByName.{rows_say, rows_found, importer_within}
 use Rattle.protox_imports.proofs.Cycles.{no_cycle}
-use Rattle.protox_imports.proofs.Seeing.{sees_least}
+use Rattle.protox_imports.proofs.Seeing.{sees_least, passes_more}
 
 -- Relations that say the same have the same orders, cycles and sights.
 order_as : (R S : ℕ → ℕ → Type 0) (m n : ℕ) (order : List ℕ) → m ≡ n
@@ -73,9 +73,23 @@ pub ordered_has_no_cycle : (set : List FileDescriptorProto) → OrderedHasNoCycl
 ordered_has_no_cycle set order files o c =
     no_cycle (Imports set) (length set) order files (importer_within set) o c
 
+-- What is imported publicly is imported.
+imported_publicly : (set : List FileDescriptorProto) (f g : ℕ) → ImportsPublicly set f g
+    → Imports set f g
+imported_publicly set f g (k, i, name, listed, named, is) = (i, name, named, is)
+
 pub sees_the_least : (set : List FileDescriptorProto) → SeesTheLeast set
-sees_the_least set f h holds closed k =
-    sees_least (Imports set) (ImportsPublicly set) f h holds closed k
+sees_the_least set = record {
+  itself = λ f. inl refl;
+  imported = λ f g i. inr (g, i, Itself g);
+  passed_on = λ f g h k p. elim k [
+    | inl e ↦
+        let p' : ImportsPublicly set f h = subst (λ (x : ℕ). ImportsPublicly set x h) (sym e) p in
+        inr (h, imported_publicly set f h p', Itself h)
+    | inr there ↦ inr (there.0, there.1, passes_more h (there.2) p)
+  ];
+  least = λ f h holds closed k. sees_least (Imports set) (ImportsPublicly set) f h holds closed k;
+}
 
 pub found_agree : (find : List ℕ → Option ℕ) (set : List FileDescriptorProto)
     (rows : List FileImports) → ((q : List ℕ) → find q ≡ number_of set q)

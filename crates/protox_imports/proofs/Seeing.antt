@@ -15,7 +15,7 @@ use Rattle.protox_imports.specs.inner.Marks.{IsMarked, Marks, IsSeeing}
 use Rattle.protox_imports.proofs.Elements.{get_set_cases}
 use Rattle.protox_imports.proofs.Marking.{IsMarked-set, set_marked}
 
-passes_more : {R : ℕ → ℕ → Type 0} {a b : ℕ} (c : ℕ) → Passes R a b → R b c → Passes R a c
+pub passes_more : {R : ℕ → ℕ → Type 0} {a b : ℕ} (c : ℕ) → Passes R a b → R b c → Passes R a c
 passes_more c (Itself a) r = Publicly a c c r (Itself c)
 passes_more c (Publicly a g b r' p) r = Publicly a g c r' (passes_more c p r)
 

@@ -12,11 +12,15 @@ abbrev pub OrderedHasNoCycle : List FileDescriptorProto → Type 0
 OrderedHasNoCycle set = (order files : List ℕ) → IsInOrder (Imports set) (length set) order
     → IsCycle (Imports set) files → ⊥
 
--- A file sees only what is in each closed set: no file but by a chain of public imports.
-abbrev pub SeesTheLeast : List FileDescriptorProto → Type 0
-SeesTheLeast set = (f h : ℕ) (holds : ℕ → Bool)
-    → IsClosed (Imports set) (ImportsPublicly set) f holds
-    → Sees (Imports set) (ImportsPublicly set) f h → IsTrue (holds h)
+-- What a file sees is the least that holds the file and what it imports, and with each file what
+-- that one imports publicly: it holds these, and all that do so hold it.
+pub record SeesTheLeast (set : List FileDescriptorProto) : Type 0 where
+  pub itself : (f : ℕ) → Sees (Imports set) (ImportsPublicly set) f f
+  pub imported : (f g : ℕ) → Imports set f g → Sees (Imports set) (ImportsPublicly set) f g
+  pub passed_on : (f g h : ℕ) → Sees (Imports set) (ImportsPublicly set) f g
+      → ImportsPublicly set g h → Sees (Imports set) (ImportsPublicly set) f h
+  pub least : (f h : ℕ) (holds : ℕ → Bool) → IsClosed (Imports set) (ImportsPublicly set) f holds
+      → Sees (Imports set) (ImportsPublicly set) f h → IsTrue (holds h)
 
 -- There is at most one order of a depth-first walk.
 abbrev pub OneDepthFirst : List FileImports → Type 0

@@ -12,7 +12,7 @@ pub fn sorted_has_no_cycle()
 {}
 
 /// What a file sees is the least set that holds the file and what it imports, and with each file
-/// what that one imports publicly.
+/// what that one imports publicly: it sees no file but by a chain of public imports.
 pub fn passes_is_least()
     ensures { (set : List FileDescriptorProto) → SeesTheLeast set }
 {}

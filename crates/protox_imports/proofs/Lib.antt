@@ -4,6 +4,7 @@ pub mod ByName
 pub mod Marking
 pub mod Seeing
 pub mod Walking
+pub mod Steps
 pub mod Cycles
 pub mod NamesAgree
 pub mod Visiting

@@ -7,8 +7,8 @@ use Rattle.protox_imports.specs.declared.row.FileImports.{FileImports}
 use Rattle.protox_imports.specs.declared.sorted.Order.{Order}
 use Rattle.protox_imports.specs.declared.sorted.Order.TheVariants.{Sorted, Cycle}
 
--- Visiting these files, one after the other, when some files have their place, leaves those with a
--- place that come last here.
+-- `Visits rows placed files after`: these files are visited, one after the other. Before that
+-- `placed` have their place, in this order, and then `after` have.
 pub data Visits (rows : List FileImports) : List ℕ → List (Option ℕ) → List ℕ → Type 0 where
   -- No file is left.
   Ends : (placed : List ℕ) → Visits rows placed [] placed

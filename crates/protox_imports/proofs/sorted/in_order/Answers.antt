@@ -2,7 +2,8 @@ use Rattle.std.proofs.Common.{◌≡◌, ◌∙◌, ℕ, [], ap, subst, length, 
 use Rattle.std.proofs.lemmas.Option.{MatchOption-at_none}
 use Rattle.protox_imports.specs.DepthFirst.{Visits, all_files}
 use Rattle.protox_imports.specs.declared.walk.State.TheVariants.{New}
-use Rattle.protox_imports.proofs.Walking.{walk_ends, comes_first, comes_next}
+use Rattle.protox_imports.proofs.Steps.{comes_first, comes_next}
+use Rattle.protox_imports.proofs.Walking.{walk_ends}
 use Rattle.protox_imports.proofs.sorted.in_order.Goals as goal
 
 pub loop-file-init : goal.loop-file-init

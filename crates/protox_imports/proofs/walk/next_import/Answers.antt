@@ -1,4 +1,4 @@
-use Rattle.protox_imports.proofs.Walking.{import_within, placed_more, found_next}
+use Rattle.protox_imports.proofs.Steps.{import_within, placed_more, found_next}
 use Rattle.protox_imports.proofs.walk.next_import.Goals as goal
 
 pub waiting-requires : goal.waiting-requires

@@ -6,7 +6,7 @@ use Rattle.protox_imports.specs.declared.walk.State.{State}
 use Rattle.protox_imports.specs.declared.walk.State.TheVariants.{Open, Placed}
 use Rattle.protox_imports.specs.declared.walk.Frame.{Frame}
 use Rattle.protox_imports.specs.inner.Walk.{ArePlaced}
-use Rattle.protox_imports.proofs.Walking.{top_within, placing_goes, entering_goes, closing, depth_within, new_state, placed_as, next_as, next_file_within}
+use Rattle.protox_imports.proofs.Steps.{top_within, placing_goes, entering_goes, closing, depth_within, new_state, placed_as, next_as, next_file_within}
 use Rattle.protox_imports.proofs.walk.Walk.step.Goals as goal
 
 pub named-requires : goal.named-requires

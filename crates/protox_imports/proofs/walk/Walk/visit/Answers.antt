@@ -1,6 +1,6 @@
 use Rattle.std.proofs.Common.{◌∙◌, Some, ap, sym, arith}
 use Rattle.std.proofs.lemmas.Option.{slice_get-get_or}
-use Rattle.protox_imports.proofs.Walking.{passed_visited}
+use Rattle.protox_imports.proofs.Steps.{passed_visited}
 use Rattle.protox_imports.proofs.walk.Walk.visit.Goals as goal
 
 pub returns-in_default : goal.returns-in_default

@@ -1,6 +1,6 @@
 use Rattle.std.proofs.Common.{◌∙◌, ap, set, length, ◌++◌, ◌∷◌, []}
 use Rattle.protox_imports.specs.declared.walk.State.TheVariants.{Open}
-use Rattle.protox_imports.proofs.Walking.{visit_starts, entered}
+use Rattle.protox_imports.proofs.Steps.{visit_starts, entered}
 use Rattle.protox_imports.proofs.walk.Walk.visit_new.Goals as goal
 
 pub loop-top-init : goal.loop-top-init

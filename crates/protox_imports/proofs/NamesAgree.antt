@@ -11,6 +11,9 @@ use Rattle.protox_imports.specs.Sees.Passes.{Itself, Publicly}
 use Rattle.protox_imports.specs.Order.{IsInOrder, IsCycle}
 use Rattle.protox_imports.specs.Laws.{OrderedHasNoCycle, SeesTheLeast}
 use Rattle.protox_imports.specs.Agree.{Agree}
+use Rattle.protox_imports.specs.Answer.{IsAnswer}
+use Rattle.protox_imports.specs.declared.sorted.Order.{Order}
+use Rattle.protox_imports.specs.declared.sorted.Order.TheVariants.{Sorted, Cycle}
 use Rattle.protox_imports.proofs.ByName.{rows_say, rows_found, importer_within}
 use Rattle.protox_imports.proofs.Cycles.{no_cycle}
 use Rattle.protox_imports.proofs.Seeing.{sees_least, passes_more}
@@ -96,3 +99,10 @@ pub found_agree : (find : List ℕ → Option ℕ) (set : List FileDescriptorPro
     → rows ≡ map (row_by find) set → Agree set rows
 found_agree find set rows same e =
     subst (λ rs. Agree set rs) (sym (rows_found find set rows same e)) (rows_agree set)
+
+-- An answer that holds of the rows holds of the names.
+pub answer_agrees : (set : List FileDescriptorProto) (rows : List FileImports) (order : Order)
+    → Agree set rows → IsAnswer (ImportsIn rows) (length rows) order
+    → IsAnswer (Imports set) (length set) order
+answer_agrees set rows (Sorted files) agree h = (agree.orders files.items).0 h
+answer_agrees set rows (Cycle files) agree h = (agree.cycles files.items).0 h

@@ -21,8 +21,8 @@ pub struct Imports {
 }
 
 impl Imports {
-    /// The imports of these files, or `AllocError`. Of files with equal names the first counts. It
-    /// takes time in line with the length of the names, times the logarithm of the number of files,
+    /// The imports of these files, or `AllocError`. Of files with equal names the first counts; no
+    /// import names a file without a name. It takes time in line with the length of the names, times the logarithm of the number of files,
     /// whatever the names are.
     ///
     /// ```

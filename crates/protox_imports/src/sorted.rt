@@ -1,10 +1,12 @@
 ghost use Rattle.std.specs.Prelude.{◌≡◌, length, IfOk};
-ghost use Rattle.protox_imports.specs.Rows.{ImportsIn};
+ghost use Rattle.protox_imports.specs.Imports.{Imports as ImportsByName};
+ghost use Rattle.protox_imports.specs.Rows.{ImportsIn, rows_of};
 ghost use Rattle.protox_imports.specs.Answer.{IsAnswer};
 ghost use Rattle.protox_imports.specs.DepthFirst.{IsDepthFirst};
 
 use crate::imports::Imports;
 use crate::walk::Walk;
+use protox_descriptor::descriptor::FileDescriptorProto;
 use std::alloc::{AllocError, Global};
 
 /// The answer of `in_order`.
@@ -46,4 +48,17 @@ pub fn in_order(alloc: Global, imports: &Imports) -> Result<Order, AllocError>
         placed,
     } = walk;
     Ok(Order::Sorted(placed))
+}
+
+impl Order {
+    /// An order of these files in which imports come first, or a cycle of their imports; or
+    /// `AllocError`. It is what `in_order` answers for `Imports::new`, said of the names of the
+    /// files: file f imports file g if g is the first file with a name that f imports.
+    pub fn of(alloc: Global, files: &[FileDescriptorProto]) -> Result<Order, AllocError>
+        ensures answer { IfOk result (IsAnswer (ImportsByName files.now) (length files.now)) }
+        ensures depth_first { IfOk result (IsDepthFirst (rows_of files.now)) }
+    {
+        let imports = Imports::new(alloc, files)?;
+        in_order(alloc, &imports)
+    }
 }

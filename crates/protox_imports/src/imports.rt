@@ -22,8 +22,8 @@ pub struct Imports {
 
 impl Imports {
     /// The imports of these files, or `AllocError`. Of files with equal names the first counts; no
-    /// import names a file without a name. It takes time in line with the length of the names, times the logarithm of the number of files,
-    /// whatever the names are.
+    /// import names a file without a name. It takes time in line with the length of the names,
+    /// times the logarithm of the number of files, whatever the names are.
     ///
     /// ```
     /// let imports = Imports::new(alloc, &files)?;

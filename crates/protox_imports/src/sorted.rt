@@ -33,7 +33,8 @@ pub enum Order {
 /// }
 /// ```
 pub fn in_order(alloc: Global, imports: &Imports) -> Result<Order, AllocError>
-    ensures answer { IfOk result (IsAnswer (ImportsIn imports.now.files) (length imports.now.files)) }
+    ensures answer { IfOk result
+        (IsAnswer (ImportsIn imports.now.files) (length imports.now.files)) }
     ensures depth_first { IfOk result (IsDepthFirst imports.now.files) }
 {
     let mut walk = Walk::new(alloc, imports.len())?;

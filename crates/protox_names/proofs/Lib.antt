@@ -1,0 +1,5 @@
+pub mod Joining
+pub mod Found
+pub mod Named
+pub mod Pieces
+pub mod Walking

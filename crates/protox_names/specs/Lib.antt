@@ -1,0 +1,4 @@
+pub mod Names
+pub mod Cases
+pub mod Tree
+pub mod Unique

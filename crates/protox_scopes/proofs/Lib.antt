@@ -1,0 +1,4 @@
+pub mod Meaning
+pub mod Outwards
+pub mod Renumbered
+pub mod TreeSearch

@@ -42,37 +42,33 @@ fn add_line(text: &mut String, head: &str, word: &str, names: &[&str]) -> Result
     text.push_str("\n")
 }
 
-fn are_equal(one: &Order, other: &Order) -> bool {
-    match (one, other) {
-        (Order::Sorted(one), Order::Sorted(other)) => one.as_slice() == other.as_slice(),
-        (Order::Cycle(one), Order::Cycle(other)) => one.as_slice() == other.as_slice(),
-        _ => false,
-    }
-}
-
-fn add_order(
+// The line of an order or a cycle.
+fn order_line(
     alloc: Global,
-    text: &mut String,
     files: &[FileDescriptorProto],
     order: &Order,
-) -> Result<(), AllocError> {
+) -> Result<String, AllocError> {
     let (word, numbers) = match order {
         Order::Sorted(numbers) => ("order:", numbers.as_slice()),
         Order::Cycle(numbers) => ("cycle:", numbers.as_slice()),
     };
     let names = names_of(alloc, files, numbers)?;
-    add_line(text, "", word, names.as_slice())
+    let mut text = String::new(alloc);
+    add_line(&mut text, "", word, names.as_slice())?;
+    Ok(text)
 }
 
-// The files that the imports of a file name.
-fn imported(alloc: Global, named: &[Option<usize>]) -> Result<Vec<usize>, AllocError> {
-    let mut numbers = Vec::new(alloc);
-    for file in named {
-        if let Some(number) = file {
-            numbers.push(*number)?;
-        }
+// The names of the files that the imports of a file name.
+fn imported<'a>(
+    alloc: Global,
+    files: &'a [FileDescriptorProto],
+    named: &[Option<usize>],
+) -> Result<Vec<&'a str>, AllocError> {
+    let mut names = Vec::new(alloc);
+    for number in named.iter().flatten() {
+        names.push(name_at(files, *number))?;
     }
-    Ok(numbers)
+    Ok(names)
 }
 
 // The names that imports of a file have and no file has.
@@ -94,18 +90,23 @@ fn missing<'a>(
     Ok(names)
 }
 
-// The numbers of the files that a file sees.
-fn seen(alloc: Global, imports: &Imports, number: usize) -> Result<Vec<usize>, AllocError>
+// The names of the files that a file sees.
+fn seen<'a>(
+    alloc: Global,
+    files: &'a [FileDescriptorProto],
+    imports: &Imports,
+    number: usize,
+) -> Result<Vec<&'a str>, AllocError>
     requires { number < length imports.now.files }
 {
     let marks = sees(alloc, imports, number)?;
-    let mut numbers = Vec::new(alloc);
+    let mut names = Vec::new(alloc);
     for (other, mark) in marks.iter().enumerate() {
         if *mark {
-            numbers.push(other)?;
+            names.push(name_at(files, other))?;
         }
     }
-    Ok(numbers)
+    Ok(names)
 }
 
 fn add_file(
@@ -118,8 +119,7 @@ fn add_file(
     requires { number < length imports.now.files }
 {
     let head = name_at(files, number);
-    let named = imported(alloc, imports.named(number))?;
-    let named = names_of(alloc, files, named.as_slice())?;
+    let named = imported(alloc, files, imports.named(number))?;
     add_line(text, head, " imports:", named.as_slice())?;
     let passed = names_of(alloc, files, imports.public(number))?;
     add_line(text, head, " passes on:", passed.as_slice())?;
@@ -127,8 +127,7 @@ fn add_file(
         let names = missing(alloc, imports, file, number)?;
         add_line(text, head, " misses:", names.as_slice())?;
     }
-    let seen = seen(alloc, imports, number)?;
-    let seen = names_of(alloc, files, seen.as_slice())?;
+    let seen = seen(alloc, files, imports, number)?;
     add_line(text, head, " sees:", seen.as_slice())
 }
 
@@ -139,11 +138,11 @@ pub(crate) fn report(alloc: Global, files: &[FileDescriptorProto]) -> Result<Str
         return String::from_str(alloc, "no files\n");
     }
     let mut text = format!(in alloc; "files: {}\n", imports.len())?;
-    let order = in_order(alloc, &imports)?;
-    if !are_equal(&order, &Order::of(alloc, files)?) {
+    let order = order_line(alloc, files, &in_order(alloc, &imports)?)?;
+    text.push_str(order.as_str())?;
+    if order != order_line(alloc, files, &Order::of(alloc, files)?)? {
         text.push_str("two answers\n")?;
     }
-    add_order(alloc, &mut text, files, &order)?;
     for number in 0..imports.len() {
         add_file(alloc, &mut text, files, &imports, number)?;
     }

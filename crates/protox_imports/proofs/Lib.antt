@@ -1,0 +1,11 @@
+pub mod Elements
+pub mod Numbers
+pub mod ByName
+pub mod Marking
+pub mod Seeing
+pub mod Walking
+pub mod Steps
+pub mod Cycles
+pub mod NamesAgree
+pub mod Visiting
+pub mod OneOrder

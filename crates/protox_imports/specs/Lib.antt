@@ -1,0 +1,11 @@
+pub mod Names
+pub mod Imports
+pub mod Rows
+pub mod Sees
+pub mod Seen
+pub mod Order
+pub mod DepthFirst
+pub mod Answer
+pub mod Agree
+pub mod Laws
+pub mod inner

@@ -1,0 +1,47 @@
+-- A tree of names, as those who use it see it: full names, each with a number and a kind.
+use Rattle.std.specs.Prelude.{◌≡◌, ℕ, true, List, [], ◌∷◌, ◌++◌, length, Contains, Option, is_some, position, if◌then◌else◌}
+use Rattle.std.specs.List.{All, AllPass, slice_index_or}
+use Rattle.std.specs.Str.{bytes_eq}
+use Rattle.protox_names.specs.Names.{is_identifier, parts, scopes, within}
+use Rattle.protox_names.specs.Tree.{name_of_place}
+use Rattle.protox_scopes.specs.declared.kind.Kind.{Kind}
+use Rattle.protox_scopes.specs.declared.kind.Kind.TheVariants.{Member}
+use Rattle.protox_name_tree.specs.Numbered.{IsNumbering}
+
+-- The full name and the kind with number n stand at place n.
+pub record Names : Type 0 where
+  pub full_names : List (List ℕ)
+  pub kinds : List Kind
+
+-- the number of a full name, if the tree has it
+abbrev pub number_of : Names → List ℕ → Option ℕ
+number_of tree full_name = position (λ name. bytes_eq name full_name) tree.full_names
+
+-- the full name with a number; that of an unknown number is empty, as that of the top is
+abbrev pub name_at : Names → ℕ → List ℕ
+name_at tree n = slice_index_or tree.full_names n []
+
+-- the kind with a number; an unknown number has that of what holds no names
+abbrev pub kind_at : Names → ℕ → Kind
+kind_at tree n = slice_index_or tree.kinds n Member
+
+-- the full name of what has this name in a place; in the nameless scope, if there is no number
+abbrev pub name_in : Names → Option ℕ → List ℕ → List ℕ
+name_in tree place name = within (name_of_place (name_at tree) place) name
+
+-- The tree with one more full name. One that it has keeps its number and its kind.
+abbrev pub with_name : Names → List ℕ → Kind → Names
+with_name tree full_name kind =
+    if is_some (number_of tree full_name) then tree
+    else record { full_names = tree.full_names ++ full_name ∷ []; kinds = tree.kinds ++ kind ∷ [] }
+
+-- What holds of every tree of names.
+pub record IsNameTree (tree : Names) : Type 0 where
+  -- no full name stands there twice
+  pub numbered : IsNumbering (number_of tree) tree.full_names
+  -- the parts of a full name are identifiers
+  pub identifiers : All (λ name. AllPass is_identifier (parts name)) tree.full_names
+  -- the scopes around a full name are in the tree
+  pub closed : All (λ name. All (λ scope. Contains tree.full_names scope) (scopes name)) tree.full_names
+  -- each has a kind
+  pub each_kind : length tree.kinds ≡ length tree.full_names

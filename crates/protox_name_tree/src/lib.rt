@@ -1,0 +1,5 @@
+//! Full names in a tree, part by part.
+#![tactic(auto)]
+
+mod nodes;
+mod texts;

@@ -1,5 +1,5 @@
 -- A tree of names, as those who use it see it: full names, each with a number and a kind.
-use Rattle.std.specs.Prelude.{◌≡◌, ℕ, true, List, [], ◌∷◌, ◌++◌, length, Contains, Option, is_some, position, if◌then◌else◌}
+use Rattle.std.specs.Prelude.{◌≡◌, ◌<◌, ⊤, ℕ, List, [], ◌∷◌, ◌++◌, length, Contains, Option, Some, None, is_some, position, if◌then◌else◌}
 use Rattle.std.specs.List.{All, AllPass, slice_index_or}
 use Rattle.std.specs.Str.{bytes_eq}
 use Rattle.protox_names.specs.Names.{is_identifier, parts, scopes, within}
@@ -8,22 +8,52 @@ use Rattle.protox_scopes.specs.declared.kind.Kind.{Kind}
 use Rattle.protox_scopes.specs.declared.kind.Kind.TheVariants.{Member}
 use Rattle.protox_name_tree.specs.Numbered.{IsNumbering}
 
+-- ---- full names
+
+-- the place of a full name in the list
+abbrev pub place_of_name : List (List ℕ) → List ℕ → Option ℕ
+place_of_name names full_name = position (λ name. bytes_eq name full_name) names
+
+-- the full name at a place; it is empty where there is none
+abbrev pub name_at_place : List (List ℕ) → ℕ → List ℕ
+name_at_place names n = slice_index_or names n []
+
+-- What holds of the full names of a tree.
+pub record AreTreeNames (names : List (List ℕ)) : Type 0 where
+  -- none stands there twice
+  pub numbered : IsNumbering (place_of_name names) names
+  -- the parts of each are identifiers
+  pub identifiers : All (λ name. AllPass is_identifier (parts name)) names
+  -- the scopes around each are among them
+  pub closed : All (λ name. All (Contains names) (scopes name)) names
+
+-- ---- with kinds
+
 -- The full name and the kind with number n stand at place n.
 pub record Names : Type 0 where
   pub full_names : List (List ℕ)
   pub kinds : List Kind
 
+pub record IsNameTree (tree : Names) : Type 0 where
+  pub names : AreTreeNames tree.full_names
+  pub each_kind : length tree.kinds ≡ length tree.full_names
+
 -- the number of a full name, if the tree has it
 abbrev pub number_of : Names → List ℕ → Option ℕ
-number_of tree full_name = position (λ name. bytes_eq name full_name) tree.full_names
+number_of tree full_name = place_of_name tree.full_names full_name
 
 -- the full name with a number; that of an unknown number is empty, as that of the top is
 abbrev pub name_at : Names → ℕ → List ℕ
-name_at tree n = slice_index_or tree.full_names n []
+name_at tree n = name_at_place tree.full_names n
 
 -- the kind with a number; an unknown number has that of what holds no names
 abbrev pub kind_at : Names → ℕ → Kind
 kind_at tree n = slice_index_or tree.kinds n Member
+
+-- the top, or a number that the tree has
+abbrev pub IsKnown : List (List ℕ) → Option ℕ → Type 0
+IsKnown names None = ⊤
+IsKnown names (Some n) = n < length names
 
 -- the full name of what has this name in a place; in the nameless scope, if there is no number
 abbrev pub name_in : Names → Option ℕ → List ℕ → List ℕ
@@ -34,14 +64,3 @@ abbrev pub with_name : Names → List ℕ → Kind → Names
 with_name tree full_name kind =
     if is_some (number_of tree full_name) then tree
     else record { full_names = tree.full_names ++ full_name ∷ []; kinds = tree.kinds ++ kind ∷ [] }
-
--- What holds of every tree of names.
-pub record IsNameTree (tree : Names) : Type 0 where
-  -- no full name stands there twice
-  pub numbered : IsNumbering (number_of tree) tree.full_names
-  -- the parts of a full name are identifiers
-  pub identifiers : All (λ name. AllPass is_identifier (parts name)) tree.full_names
-  -- the scopes around a full name are in the tree
-  pub closed : All (λ name. All (λ scope. Contains tree.full_names scope) (scopes name)) tree.full_names
-  -- each has a kind
-  pub each_kind : length tree.kinds ≡ length tree.full_names

@@ -3,3 +3,6 @@
 
 mod nodes;
 mod texts;
+mod tree;
+
+pub use crate::tree::NameTree;

@@ -1,0 +1,129 @@
+//! The tree.
+
+ghost use Rattle.std.specs.Prelude.{◌≡◌, [], true, length, IfOk, OnErr, OnOk};
+ghost use Rattle.protox_names.specs.Names as words;
+ghost use Rattle.protox_names.specs.Tree.{name_of_place};
+ghost use Rattle.protox_name_tree.specs.Tree.{IsKnown, IsNameTree, name_at, name_in};
+ghost use Rattle.protox_name_tree.specs.Tree.{kind_at, number_of, with_name};
+
+use crate::nodes::{Node, Nodes};
+use crate::texts::Texts;
+use protox_scopes::Kind;
+use std::alloc::{AllocError, Global};
+use std::marker::Model;
+
+/// Full names that are made of identifiers, with the scopes around each. Every one has a number,
+/// counted from 0 in the order in which they were added, and a kind.
+///
+/// No full name is kept as a text: a name stands in the scope that it is added to, under its own
+/// name. So a long scope with many names costs no more than a short one. Nothing is hashed, and a
+/// look-up takes as many steps as the name has parts, each of them a search in two ordered maps.
+#[derive(Drop)]
+pub struct NameTree {
+    texts: Texts,
+    nodes: Nodes,
+}
+
+impl Model for NameTree {
+    ghost use Rattle.std.specs.Prelude.{map};
+    ghost use Rattle.protox_name_tree.specs.Keys.{key_of, kinds_of, names_of};
+    ghost use Rattle.protox_name_tree.specs.Sound.{IsSound};
+    ghost use Rattle.protox_name_tree.specs.Tree.{Names};
+
+    ghost Value = { Names };
+
+    ghost view = { λ t. record {
+      full_names = names_of t.texts (map key_of t.nodes);
+      kinds = kinds_of t.nodes;
+    } };
+
+    ghost invariant = { λ t.
+        IsSound t.texts (map key_of t.nodes) (names_of t.texts (map key_of t.nodes)) };
+}
+
+impl NameTree {
+    /// A tree without names.
+    pub fn new(alloc: Global) -> NameTree
+        ensures { result ≡ record { full_names = []; kinds = [] } }
+    {
+        let texts = Texts::new(alloc);
+        let nodes = Nodes::new(alloc);
+        NameTree { texts, nodes }
+    }
+
+    /// How many names it has.
+    pub fn len(&self) -> usize
+        ensures len { result ≡ length self.now.full_names }
+        ensures tree { IsNameTree self.now }
+    {
+        self.nodes.len()
+    }
+
+    // The same place, where an unknown number stands for the top.
+    fn known(&self, place: Option<usize>) -> Option<usize>
+        ensures tree { IsNameTree self.now }
+        ensures known { IsKnown self.now.full_names result }
+        ensures name { name_of_place (name_at self.now) result
+            ≡ name_of_place (name_at self.now) place }
+    {
+        let len = self.len();
+        match place {
+            Some(number) if number < len => place,
+            _ => None,
+        }
+    }
+
+    // What has a name without dots in a place.
+    fn child(&self, place: Option<usize>, name: &str) -> Option<usize>
+        requires known { IsKnown self.now.full_names place }
+        requires one_part { words.is_one_part name.now ≡ true }
+        ensures { result ≡ number_of self.now (name_in self.now place name.now) }
+    {
+        let name = self.texts.number(name)?;
+        self.nodes.number(place, name)
+    }
+
+    /// Adds a name to a place, with its kind, and returns the number of its full name. With no
+    /// number, the place is the nameless scope; so it is if nothing has the number. If the place
+    /// has the name already, nothing is added: the number is that of the first, and so is the kind.
+    ///
+    /// # Errors
+    /// `AllocError` where memory runs out. The tree is as it was.
+    pub fn add(
+        &mut self,
+        alloc: Global,
+        place: Option<usize>,
+        name: &str,
+        kind: Kind,
+    ) -> Result<usize, AllocError>
+        requires { words.is_identifier name.now ≡ true }
+        ensures number { IfOk result
+            (λ n. number_of self.new (name_in self.old place name.now) ≡ Some n) }
+        ensures added { OnOk result
+            (self.new ≡ with_name self.old (name_in self.old place name.now) kind) }
+        ensures err { OnErr result (self.new ≡ self.old) }
+    {
+        let place = self.known(place);
+        if let Some(number) = self.child(place, name) {
+            return Ok(number);
+        }
+        let name = self.texts.add(alloc, name)?;
+        let number = self.nodes.push(Node { place, name, kind })?;
+        Ok(number)
+    }
+
+    /// The number of what has this name in a place, if anything has it. The name may have several
+    /// parts, with dots between them. With no number, the place is the nameless scope; so it is if
+    /// nothing has the number. It takes no memory.
+    pub fn find(&self, place: Option<usize>, name: &str) -> Option<usize>
+        ensures { result ≡ number_of self.now (name_in self.now place name.now) }
+    {
+        let mut place = self.known(place);
+        let mut rest = name;
+        while let Some((part, more)) = rest.split_once('.') {
+            place = Some(self.child(place, part)?);
+            rest = more;
+        }
+        self.child(place, rest)
+    }
+}

@@ -1,5 +1,5 @@
 -- What one addition makes of a tree.
-use Rattle.std.proofs.Common.{◌≡◌, ℕ, true, List, [], ◌∷◌, ◌++◌, length, map, Option, Some, None, Result, Ok, Err, OnErr, cond, is_some, refl, sym, ap, subst, ◌∙◌}
+use Rattle.std.proofs.Common.{◌≡◌, ℕ, true, List, [], ◌∷◌, ◌++◌, length, map, Option, Some, None, Result, Ok, Err, OnErr, cond, is_some, sym, ap, subst, ◌∙◌}
 use Rattle.std.specs.List.{slice_get}
 use Rattle.std.proofs.lemmas.List.{length-map, map-append}
 use Rattle.protox_names.specs.Names.{is_identifier, within}
@@ -8,8 +8,8 @@ use Rattle.protox_scopes.specs.declared.kind.Kind.{Kind}
 use Rattle.protox_name_tree.specs.declared.nodes.Node.{Node}
 use Rattle.protox_name_tree.specs.Keys.{key_of, kinds_of, names_of}
 use Rattle.protox_name_tree.specs.Sound.{IsSound}
-use Rattle.protox_name_tree.specs.Tree.{IsKnown, Names, name_at, name_at_place, name_in, number_of, place_of_name, with_name}
-use Rattle.protox_name_tree.proofs.Growing.{added, names_kept, names_pushed, no_such_key, sound_kept, sound_pushed}
+use Rattle.protox_name_tree.specs.Tree.{IsKnown, Names, name_at_place, name_in, number_of, place_of_name, with_name}
+use Rattle.protox_name_tree.proofs.Growing.{names_kept, names_pushed, no_such_key, sound_kept, sound_pushed}
 use Rattle.protox_name_tree.proofs.Numbering.{slice_get-last}
 
 -- what holds, holds after an error

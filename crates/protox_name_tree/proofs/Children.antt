@@ -1,7 +1,7 @@
 -- What has a name without dots in a place is found by its key.
-use Rattle.std.proofs.Common.{◌≡◌, ◌<◌, ℕ, true, List, [], ◌∷◌, length, get_or, Option, Some, None, refl, sym, ap, ◌∙◌, arith}
+use Rattle.std.proofs.Common.{◌≡◌, ℕ, true, List, get_or, Option, Some, None, sym, ap, ◌∙◌, arith}
 use Rattle.std.specs.List.{slice_get}
-use Rattle.std.proofs.lemmas.Option.{none-some, same_Some, slice_get-get_or, slice_get_within}
+use Rattle.std.proofs.lemmas.Option.{same_Some, slice_get-get_or, slice_get_within}
 use Rattle.protox_names.specs.Names.{is_one_part, within}
 use Rattle.protox_names.specs.Tree.{name_of_place}
 use Rattle.protox_names.proofs.Joining.{full_names_differ, identifiers_are_one_part}

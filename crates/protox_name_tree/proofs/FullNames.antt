@@ -1,17 +1,16 @@
 -- Full names of a tree: they are found, and a walk over the parts of a name finds it.
-use Rattle.std.proofs.Common.{◌≡◌, ◌≢◌, ◌<◌, ℕ, Bool, true, false, cond, List, [], ◌∷◌, ◌++◌, length, map, get_or, Option, Some, None, MatchOption, bytes_eq, is_some, refl, sym, ap, subst, ◌∙◌, arith, append_assoc}
-use Rattle.std.specs.List.{All, AllPass, Contains, position, position_or_len, slice_get}
+use Rattle.std.proofs.Common.{◌≡◌, ◌≢◌, ◌<◌, ℕ, Bool, true, false, cond, List, [], ◌∷◌, ◌++◌, length, map, get_or, Option, Some, None, MatchOption, bytes_eq, is_some, refl, sym, ap, subst, ◌∙◌, arith}
+use Rattle.std.specs.List.{All, AllPass, Contains, position_or_len, slice_get}
 use Rattle.std.proofs.lemmas.Bool.{false≢true, lt-ltb}
 use Rattle.std.proofs.lemmas.List.{get_or-map, length-map}
 use Rattle.std.proofs.lemmas.List.Elements.{All-head, Contains-append_left, Contains-push}
 use Rattle.std.proofs.lemmas.List.Quantifiers.{position-Some}
 use Rattle.std.proofs.lemmas.List.Sums.{position_or_len_is}
-use Rattle.std.proofs.lemmas.Option.{get_or_from_slice_get, none-some, same_Some, slice_get-get_or, slice_get_within}
+use Rattle.std.proofs.lemmas.Option.{get_or_from_slice_get, slice_get-get_or, slice_get_within}
 use Rattle.std.proofs.lemmas.Slice.Eq.{bytes_eq-Decides}
 use Rattle.protox_names.specs.Names.{is_identifier, is_one_part, parts, scopes, within}
-use Rattle.protox_names.specs.Tree.{IsPlace, IsTree, name_of_place, walk}
+use Rattle.protox_names.specs.Tree.{IsPlace, IsTree, name_of_place}
 use Rattle.protox_names.proofs.Joining.{scopes_of_one_part, scopes_within}
-use Rattle.protox_name_tree.specs.Numbered.{IsNumbering}
 use Rattle.protox_name_tree.specs.Tree.{AreTreeNames, IsKnown, name_at_place, place_of_name}
 
 -- ---- elements

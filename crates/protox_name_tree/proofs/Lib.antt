@@ -5,3 +5,4 @@ pub mod Children
 pub mod Walked
 pub mod Growing
 pub mod Added
+pub mod Outwards

@@ -2,6 +2,7 @@
 #![tactic(auto)]
 
 mod nodes;
+mod scopes;
 mod texts;
 mod tree;
 

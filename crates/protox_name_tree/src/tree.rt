@@ -3,6 +3,7 @@
 ghost use Rattle.std.specs.Prelude.{◌≡◌, [], true, length, IfOk, OnErr, OnOk};
 ghost use Rattle.protox_names.specs.Names as words;
 ghost use Rattle.protox_names.specs.Tree.{name_of_place};
+ghost use Rattle.protox_scopes.specs.Scopes.{IsOuter};
 ghost use Rattle.protox_name_tree.specs.Tree.{IsKnown, IsNameTree, name_at, name_in};
 ghost use Rattle.protox_name_tree.specs.Tree.{kind_at, number_of, with_name};
 
@@ -125,5 +126,40 @@ impl NameTree {
             rest = more;
         }
         self.child(place, rest)
+    }
+
+    /// The number of what has this name in the scope with this full name, if anything has it. The
+    /// nameless scope is the empty text. It takes no memory.
+    pub fn find_within(&self, scope: &str, name: &str) -> Option<usize>
+        ensures { result ≡ number_of self.now (words.within scope.now name.now) }
+    {
+        // for the proof: each scope of the tree is in the tree
+        let _nodes = &self.nodes;
+        if scope.is_empty() {
+            return self.find(None, name);
+        }
+        let place = self.find(None, scope)?;
+        self.find(Some(place), name)
+    }
+
+    /// The number of the scope that a name stands in. None if that is the nameless scope, or if
+    /// nothing has the number.
+    pub fn outer(&self, number: usize) -> Option<usize>
+        ensures { IsOuter (name_at self.now) number result }
+    {
+        match self.nodes.get(number) {
+            Some(node) => node.place,
+            None => None,
+        }
+    }
+
+    /// The kind of what has a number; that of a member, if nothing has it.
+    pub fn kind(&self, number: usize) -> Kind
+        ensures { result ≡ kind_at self.now number }
+    {
+        match self.nodes.get(number) {
+            Some(node) => node.kind,
+            None => Kind::Member,
+        }
     }
 }

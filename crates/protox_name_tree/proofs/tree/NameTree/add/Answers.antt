@@ -1,7 +1,7 @@
-use Rattle.std.proofs.Common.{◌≡◌, ℕ, Some, None, length, refl, sym, ap, subst, ◌∙◌}
+use Rattle.std.proofs.Common.{◌≡◌, Some, sym, ap, subst, ◌∙◌}
 use Rattle.protox_names.specs.Names.{within}
 use Rattle.protox_names.proofs.Joining.{identifiers_are_one_part}
-use Rattle.protox_name_tree.specs.Tree.{name_in, number_of, with_name}
+use Rattle.protox_name_tree.specs.Tree.{number_of, with_name}
 use Rattle.protox_name_tree.proofs.Added.{AreSound, no_such_node, number_of_node, on_err, same_seen, seen, seen_with_node, sound_with_node, sound_with_texts}
 use Rattle.protox_name_tree.proofs.tree.NameTree.add.Goals as goal
 

@@ -1,4 +1,4 @@
-use Rattle.std.proofs.Common.{◌≡◌, Some, None, sym, ap, ◌∙◌, rules}
+use Rattle.std.proofs.Common.{Some, None, sym, ap, ◌∙◌, rules}
 use Rattle.std.specs.Option.{option_and_then}
 use Rattle.protox_names.specs.Names.{parts, within}
 use Rattle.protox_names.specs.Tree.{walk}

@@ -6,3 +6,4 @@ pub mod Walked
 pub mod Growing
 pub mod Added
 pub mod Outwards
+pub mod Standing

@@ -1,5 +1,5 @@
 -- A tree of names, as those who use it see it: full names, each with a number and a kind.
-use Rattle.std.specs.Prelude.{◌≡◌, ◌<◌, ⊤, ℕ, List, [], ◌∷◌, ◌++◌, length, Contains, Option, Some, None, is_some, position, if◌then◌else◌}
+use Rattle.std.specs.Prelude.{◌≡◌, ◌<◌, ◌+◌, ◌&&◌, ⊤, ℕ, Bool, true, List, [], ◌∷◌, ◌++◌, length, Contains, drop, Option, Some, None, is_some, position, if◌then◌else◌}
 use Rattle.std.specs.List.{All, AllPass, slice_index_or}
 use Rattle.std.specs.Str.{bytes_eq}
 use Rattle.protox_names.specs.Names.{is_identifier, parts, scopes, within}
@@ -64,3 +64,27 @@ abbrev pub with_name : Names → List ℕ → Kind → Names
 with_name tree full_name kind =
     if is_some (number_of tree full_name) then tree
     else record { full_names = tree.full_names ++ full_name ∷ []; kinds = tree.kinds ++ kind ∷ [] }
+
+-- ---- by full names
+
+-- what a full name ends in, where these are the scopes around it
+abbrev pub own_name : List ℕ → List (List ℕ) → List ℕ
+own_name full_name [] = full_name
+own_name full_name (scope ∷ outer) = drop (length scope + 1) full_name
+
+-- the innermost scope, if there is one, is in the tree
+abbrev pub has_innermost : Names → List (List ℕ) → Bool
+has_innermost tree [] = true
+has_innermost tree (scope ∷ outer) = is_some (number_of tree scope)
+
+-- The full name can stand in the tree: its scope does, and what it ends in is an identifier.
+abbrev pub can_stand : Names → List ℕ → Bool
+can_stand tree full_name = has_innermost tree (scopes full_name) && is_identifier (own_name full_name (scopes full_name))
+
+-- the tree with one more full name, if that can stand in it
+abbrev pub with_declared : Names → List ℕ → Kind → Names
+with_declared tree full_name kind = if can_stand tree full_name then with_name tree full_name kind else tree
+
+-- the number of a full name that can stand in the tree
+abbrev pub number_if_stands : Names → Names → List ℕ → Option ℕ
+number_if_stands old new full_name = if can_stand old full_name then number_of new full_name else None

@@ -1,14 +1,16 @@
 //! The tree.
 
-ghost use Rattle.std.specs.Prelude.{◌≡◌, [], true, length, IfOk, OnErr, OnOk};
+ghost use Rattle.std.specs.Prelude.{◌≡◌, [], true, false, length, IfNone, IfOk, IfSome, OnErr, OnOk};
 ghost use Rattle.protox_names.specs.Names as words;
 ghost use Rattle.protox_names.specs.Tree.{name_of_place};
 ghost use Rattle.protox_scopes.specs.Scopes.{IsOuter};
 ghost use Rattle.protox_name_tree.specs.Tree.{IsKnown, IsNameTree, name_at, name_in};
-ghost use Rattle.protox_name_tree.specs.Tree.{kind_at, number_of, with_name};
+ghost use Rattle.protox_name_tree.specs.Tree.{can_stand, kind_at, number_if_stands, number_of};
+ghost use Rattle.protox_name_tree.specs.Tree.{with_declared, with_name};
 
 use crate::nodes::{Node, Nodes};
 use crate::texts::Texts;
+use protox_names::is_identifier;
 use protox_scopes::Kind;
 use std::alloc::{AllocError, Global};
 use std::marker::Model;
@@ -111,6 +113,58 @@ impl NameTree {
         let name = self.texts.add(alloc, name)?;
         let number = self.nodes.push(Node { place, name, kind })?;
         Ok(number)
+    }
+
+    // The place and the own name of a full name, if it can stand in the tree.
+    fn standing<'a>(&self, full_name: &'a str) -> Option<(Option<usize>, &'a str)>
+        ensures none { IfNone result (can_stand self.now full_name.now ≡ false) }
+        ensures some { IfSome result (λ x. can_stand self.now full_name.now ≡ true) }
+        ensures own { IfSome result (λ x. words.is_identifier x.1.now ≡ true) }
+        ensures name { IfSome result (λ x. name_in self.now x.0 x.1.now ≡ full_name.now) }
+    {
+        // for the proof: a scope of the tree isn't the nameless one
+        let _nodes = &self.nodes;
+        match full_name.rsplit_once('.') {
+            None => {
+                if is_identifier(full_name) {
+                    Some((None, full_name))
+                } else {
+                    None
+                }
+            }
+            Some((scope, own)) => {
+                let place = self.find(None, scope)?;
+                if is_identifier(own) {
+                    Some((Some(place), own))
+                } else {
+                    None
+                }
+            }
+        }
+    }
+
+    /// Adds a full name, with its kind, if it can stand in the tree: what it ends in is an
+    /// identifier, and the scope that it stands in has been added, or is the nameless one. It
+    /// returns the number of the full name, or None if that can't stand in the tree.
+    ///
+    /// # Errors
+    /// `AllocError` where memory runs out. The tree is as it was.
+    pub fn declare(
+        &mut self,
+        alloc: Global,
+        full_name: &str,
+        kind: Kind,
+    ) -> Result<Option<usize>, AllocError>
+        ensures number { IfOk result
+            (λ n. n ≡ number_if_stands self.old self.new full_name.now) }
+        ensures declared { OnOk result (self.new ≡ with_declared self.old full_name.now kind) }
+        ensures err { OnErr result (self.new ≡ self.old) }
+    {
+        let Some((place, own)) = self.standing(full_name) else {
+            return Ok(None);
+        };
+        let number = self.add(alloc, place, own, kind)?;
+        Ok(Some(number))
     }
 
     /// The number of what has this name in a place, if anything has it. The name may have several

@@ -1,0 +1,4 @@
+pub mod Numbered
+pub mod Keys
+pub mod Sound
+pub mod Tree

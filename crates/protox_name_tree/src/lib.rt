@@ -1,0 +1,9 @@
+//! Full names in a tree, part by part.
+#![tactic(auto)]
+
+mod nodes;
+mod scopes;
+mod texts;
+mod tree;
+
+pub use crate::tree::NameTree;

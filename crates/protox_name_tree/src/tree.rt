@@ -1,0 +1,219 @@
+//! The tree.
+
+ghost use Rattle.std.specs.Prelude.{◌≡◌, [], true, false, length, IfNone, IfOk, IfSome, OnErr, OnOk};
+ghost use Rattle.protox_names.specs.Names as words;
+ghost use Rattle.protox_names.specs.Tree.{name_of_place};
+ghost use Rattle.protox_scopes.specs.Scopes.{IsOuter};
+ghost use Rattle.protox_name_tree.specs.Tree.{IsKnown, IsNameTree, name_at, name_in};
+ghost use Rattle.protox_name_tree.specs.Tree.{can_stand, kind_at, number_if_stands, number_of};
+ghost use Rattle.protox_name_tree.specs.Tree.{with_declared, with_name};
+
+use crate::nodes::{Node, Nodes};
+use crate::texts::Texts;
+use protox_names::is_identifier;
+use protox_scopes::Kind;
+use std::alloc::{AllocError, Global};
+use std::marker::Model;
+
+/// Full names that are made of identifiers, with the scopes around each. Every one has a number,
+/// counted from 0 in the order in which they were added, and a kind.
+///
+/// No full name is kept as a text: a name stands in the scope that it is added to, under its own
+/// name. So a long scope with many names costs no more than a short one. Nothing is hashed, and a
+/// look-up takes as many steps as the name has parts, each of them a search in two ordered maps.
+#[derive(Drop)]
+pub struct NameTree {
+    texts: Texts,
+    nodes: Nodes,
+}
+
+impl Model for NameTree {
+    ghost use Rattle.std.specs.Prelude.{map};
+    ghost use Rattle.protox_name_tree.specs.Keys.{key_of, kinds_of, names_of};
+    ghost use Rattle.protox_name_tree.specs.Sound.{IsSound};
+    ghost use Rattle.protox_name_tree.specs.Tree.{Names};
+
+    ghost Value = { Names };
+
+    ghost view = { λ t. record {
+      full_names = names_of t.texts (map key_of t.nodes);
+      kinds = kinds_of t.nodes;
+    } };
+
+    ghost invariant = { λ t.
+        IsSound t.texts (map key_of t.nodes) (names_of t.texts (map key_of t.nodes)) };
+}
+
+impl NameTree {
+    /// A tree without names.
+    pub fn new(alloc: Global) -> NameTree
+        ensures { result ≡ record { full_names = []; kinds = [] } }
+    {
+        let texts = Texts::new(alloc);
+        let nodes = Nodes::new(alloc);
+        NameTree { texts, nodes }
+    }
+
+    /// How many names it has.
+    pub fn len(&self) -> usize
+        ensures len { result ≡ length self.now.full_names }
+        ensures tree { IsNameTree self.now }
+    {
+        self.nodes.len()
+    }
+
+    // The same place, where an unknown number stands for the top.
+    fn known(&self, place: Option<usize>) -> Option<usize>
+        ensures tree { IsNameTree self.now }
+        ensures known { IsKnown self.now.full_names result }
+        ensures name { name_of_place (name_at self.now) result
+            ≡ name_of_place (name_at self.now) place }
+    {
+        let len = self.len();
+        match place {
+            Some(number) if number < len => place,
+            _ => None,
+        }
+    }
+
+    // What has a name without dots in a place.
+    fn child(&self, place: Option<usize>, name: &str) -> Option<usize>
+        requires known { IsKnown self.now.full_names place }
+        requires one_part { words.is_one_part name.now ≡ true }
+        ensures { result ≡ number_of self.now (name_in self.now place name.now) }
+    {
+        let name = self.texts.number(name)?;
+        self.nodes.number(place, name)
+    }
+
+    /// Adds a name to a place, with its kind, and returns the number of its full name. With no
+    /// number, the place is the nameless scope; so it is if nothing has the number. If the place
+    /// has the name already, nothing is added: the number is that of the first, and so is the kind.
+    ///
+    /// # Errors
+    /// `AllocError` where memory runs out. The tree is as it was.
+    pub fn add(
+        &mut self,
+        alloc: Global,
+        place: Option<usize>,
+        name: &str,
+        kind: Kind,
+    ) -> Result<usize, AllocError>
+        requires { words.is_identifier name.now ≡ true }
+        ensures number { IfOk result
+            (λ n. number_of self.new (name_in self.old place name.now) ≡ Some n) }
+        ensures added { OnOk result
+            (self.new ≡ with_name self.old (name_in self.old place name.now) kind) }
+        ensures err { OnErr result (self.new ≡ self.old) }
+    {
+        let place = self.known(place);
+        if let Some(number) = self.child(place, name) {
+            return Ok(number);
+        }
+        let name = self.texts.add(alloc, name)?;
+        let number = self.nodes.push(Node { place, name, kind })?;
+        Ok(number)
+    }
+
+    // The place and the own name of a full name, if it can stand in the tree.
+    fn standing<'a>(&self, full_name: &'a str) -> Option<(Option<usize>, &'a str)>
+        ensures none { IfNone result (can_stand self.now full_name.now ≡ false) }
+        ensures some { IfSome result (λ x. can_stand self.now full_name.now ≡ true) }
+        ensures own { IfSome result (λ x. words.is_identifier x.1.now ≡ true) }
+        ensures name { IfSome result (λ x. name_in self.now x.0 x.1.now ≡ full_name.now) }
+    {
+        // for the proof: a scope of the tree isn't the nameless one
+        let _nodes = &self.nodes;
+        match full_name.rsplit_once('.') {
+            None => {
+                if is_identifier(full_name) {
+                    Some((None, full_name))
+                } else {
+                    None
+                }
+            }
+            Some((scope, own)) => {
+                let place = self.find(None, scope)?;
+                if is_identifier(own) {
+                    Some((Some(place), own))
+                } else {
+                    None
+                }
+            }
+        }
+    }
+
+    /// Adds a full name, with its kind, if it can stand in the tree: what it ends in is an
+    /// identifier, and the scope that it stands in has been added, or is the nameless one. It
+    /// returns the number of the full name, or None if that can't stand in the tree.
+    ///
+    /// # Errors
+    /// `AllocError` where memory runs out. The tree is as it was.
+    pub fn declare(
+        &mut self,
+        alloc: Global,
+        full_name: &str,
+        kind: Kind,
+    ) -> Result<Option<usize>, AllocError>
+        ensures number { IfOk result
+            (λ n. n ≡ number_if_stands self.old self.new full_name.now) }
+        ensures declared { OnOk result (self.new ≡ with_declared self.old full_name.now kind) }
+        ensures err { OnErr result (self.new ≡ self.old) }
+    {
+        let Some((place, own)) = self.standing(full_name) else {
+            return Ok(None);
+        };
+        let number = self.add(alloc, place, own, kind)?;
+        Ok(Some(number))
+    }
+
+    /// The number of what has this name in a place, if anything has it. The name may have several
+    /// parts, with dots between them. With no number, the place is the nameless scope; so it is if
+    /// nothing has the number. It takes no memory.
+    pub fn find(&self, place: Option<usize>, name: &str) -> Option<usize>
+        ensures { result ≡ number_of self.now (name_in self.now place name.now) }
+    {
+        let mut place = self.known(place);
+        let mut rest = name;
+        while let Some((part, more)) = rest.split_once('.') {
+            place = Some(self.child(place, part)?);
+            rest = more;
+        }
+        self.child(place, rest)
+    }
+
+    /// The number of what has this name in the scope with this full name, if anything has it. The
+    /// nameless scope is the empty text. It takes no memory.
+    pub fn find_within(&self, scope: &str, name: &str) -> Option<usize>
+        ensures { result ≡ number_of self.now (words.within scope.now name.now) }
+    {
+        // for the proof: each scope of the tree is in the tree
+        let _nodes = &self.nodes;
+        if scope.is_empty() {
+            return self.find(None, name);
+        }
+        let place = self.find(None, scope)?;
+        self.find(Some(place), name)
+    }
+
+    /// The number of the scope that a name stands in. None if that is the nameless scope, or if
+    /// nothing has the number.
+    pub fn outer(&self, number: usize) -> Option<usize>
+        ensures { IsOuter (name_at self.now) number result }
+    {
+        match self.nodes.get(number) {
+            Some(node) => node.place,
+            None => None,
+        }
+    }
+
+    /// The kind of what has a number; that of a member, if nothing has it.
+    pub fn kind(&self, number: usize) -> Kind
+        ensures { result ≡ kind_at self.now number }
+    {
+        match self.nodes.get(number) {
+            Some(node) => node.kind,
+            None => Kind::Member,
+        }
+    }
+}

@@ -1,12 +1,12 @@
 //! The table.
 
-ghost use Rattle.std.specs.Prelude.{◌≡◌, [], length, OnErr, OnOk};
+ghost use Rattle.std.specs.Prelude.{◌≡◌, [], true, length, IfOk, OnErr, OnOk};
 ghost use Rattle.std.specs.List.{slice_get};
 ghost use Rattle.std.specs.Option.{option_copied};
-ghost use Rattle.protox_names.specs.Names.{within};
+ghost use Rattle.protox_names.specs.Names.{is_identifier, within};
 ghost use Rattle.protox_name_tree.specs.Tree.{kind_at, name_at, name_in, number_of};
 ghost use Rattle.protox_scopes.specs.Scopes.{IsOuter};
-ghost use Rattle.protox_symbols.specs.Symbols.{with_thing};
+ghost use Rattle.protox_symbols.specs.Symbols.{with_added, with_thing};
 
 use crate::Thing;
 use protox_descriptor::values::Numbers;
@@ -75,13 +75,45 @@ impl Symbols {
     {
         let path = Numbers::from_slice(alloc, path)?;
         self.things.reserve(1)?;
-        let known = self.names.len();
+        let count = self.names.len();
         self.names.declare(alloc, full_name, kind)?;
-        if self.names.len() == known {
+        if self.names.len() == count {
             return Ok(());
         }
         self.things.push_reserved(Thing { file, path });
         Ok(())
+    }
+
+    /// Adds what is declared with this name in the scope with a number, and returns the number of
+    /// its full name. With no number, the scope is the nameless one. If the scope has the name
+    /// already, nothing is added: the number is that of the first. Unlike `declare`, it doesn't
+    /// look for the scope, so it serves where many names stand in a scope with a long name.
+    ///
+    /// # Errors
+    /// `AllocError` where memory runs out. The table is as it was.
+    pub fn add(
+        &mut self,
+        alloc: Global,
+        scope: Option<usize>,
+        name: &str,
+        kind: Kind,
+        thing: Thing,
+    ) -> Result<usize, AllocError>
+        requires { is_identifier name.now ≡ true }
+        ensures number { IfOk result (λ n. number_of self.new.names
+            (name_in self.old.names scope name.now) ≡ Some n) }
+        ensures added { OnOk result (self.new
+            ≡ with_added self.old (name_in self.old.names scope name.now) kind thing) }
+        ensures err { OnErr result (self.new ≡ self.old) }
+    {
+        self.things.reserve(1)?;
+        let known = self.names.len();
+        let number = self.names.add(alloc, scope, name, kind)?;
+        if self.names.len() == known {
+            return Ok(number);
+        }
+        self.things.push_reserved(thing);
+        Ok(number)
     }
 
     /// What has a number.

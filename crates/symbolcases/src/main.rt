@@ -5,7 +5,7 @@
 //! - `add b in a` adds a member to a scope
 //! - `find b in a` looks a name up in one scope
 //! - `type b in a.c.d` asks for the type of a field of the full name `a.c.d`, and `anything b in
-//!   a.c.d` for whatever has the name. The answers of `resolve` and `resolve_in` have to be the same
+//!   a.c.d` for whatever has the name. `resolve` and `resolve_in` have to give the same answer
 //! - `names` asks how many names there are
 #![tactic(auto)]
 

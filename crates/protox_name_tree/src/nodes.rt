@@ -65,7 +65,8 @@ impl Nodes {
 
     /// The number of the node with this name in this place, if there is one.
     pub(crate) fn number(&self, place: Option<usize>, name: usize) -> Option<usize>
-        ensures { (n : ℕ) → (result ≡ Some n) ↔ (slice_get (map key_of self.now) n ≡ Some (place, name)) }
+        ensures { (n : ℕ) → (result ≡ Some n)
+            ↔ (slice_get (map key_of self.now) n ≡ Some (place, name)) }
     {
         self.numbers.get(&(place, name)).copied()
     }

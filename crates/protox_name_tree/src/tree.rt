@@ -1,6 +1,7 @@
 //! The tree.
 
-ghost use Rattle.std.specs.Prelude.{◌≡◌, [], true, false, length, IfNone, IfOk, IfSome, OnErr, OnOk};
+ghost use Rattle.std.specs.Prelude.{◌≡◌, [], true, false, length};
+ghost use Rattle.std.specs.Prelude.{IfNone, IfOk, IfSome, OnErr, OnOk};
 ghost use Rattle.protox_names.specs.Names as words;
 ghost use Rattle.protox_names.specs.Tree.{name_of_place};
 ghost use Rattle.protox_scopes.specs.Scopes.{IsOuter};

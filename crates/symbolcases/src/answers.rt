@@ -1,8 +1,9 @@
 //! What is printed for a line.
 
-use protox_name_tree::NameTree;
+use protox_descriptor::values::Numbers;
 use protox_names::is_identifier;
 use protox_scopes::{Kind, Wanted, resolve, resolve_in};
+use protox_symbols::{Symbols, Thing};
 use std::alloc::{AllocError, Global};
 
 fn kind_of(word: &str) -> Option<Kind> {
@@ -28,63 +29,79 @@ fn kind_word(kind: Kind) -> &'static str {
 
 fn told(
     alloc: Global,
-    tree: &NameTree,
+    symbols: &Symbols,
     line: &str,
     number: Option<usize>,
 ) -> Result<String, AllocError> {
-    match number {
-        Some(number) => format!(in alloc; "{line}: {} {number}", kind_word(tree.kind(number))),
-        None => format!(in alloc; "{line}: none"),
+    let Some(number) = number else {
+        return format!(in alloc; "{line}: none");
+    };
+    let kind = kind_word(symbols.kind(number));
+    match symbols.thing(number) {
+        Some(thing) => format!(in alloc; "{line}: {kind} {number} of line {}", thing.file),
+        None => format!(in alloc; "{line}: {kind} {number} of no line"),
     }
 }
 
 fn added(
     alloc: Global,
-    tree: &mut NameTree,
+    symbols: &mut Symbols,
     name: &str,
     scope: &str,
+    count: usize,
 ) -> Result<Option<usize>, AllocError> {
-    let place = tree.find_within("", scope);
+    let place = symbols.find_within("", scope);
     if !is_identifier(name) {
         return Ok(None);
     }
-    tree.add(alloc, place, name, Kind::Member).map(Some)
+    let path = Numbers::new();
+    let thing = Thing { file: count, path };
+    symbols
+        .add(alloc, place, name, Kind::Member, thing)
+        .map(Some)
 }
 
 // What a name stands for, if both ways of asking agree.
 fn resolved(
     alloc: Global,
-    tree: &NameTree,
+    symbols: &Symbols,
     line: &str,
     wanted: Wanted,
     name: &str,
     user: &str,
 ) -> Result<String, AllocError> {
-    let found = resolve(tree, wanted, name, user);
-    let scope = tree.find(None, user).and_then(|user| tree.outer(user));
-    if found == resolve_in(tree, wanted, name, scope) {
-        told(alloc, tree, line, found)
+    let found = resolve(symbols, wanted, name, user);
+    let scope = symbols
+        .find(None, user)
+        .and_then(|user| symbols.outer(user));
+    if found == resolve_in(symbols, wanted, name, scope) {
+        told(alloc, symbols, line, found)
     } else {
         format!(in alloc; "{line}: two answers")
     }
 }
 
 /// Answers one line, or declares what it declares.
-pub(crate) fn answer(alloc: Global, tree: &mut NameTree, line: &str) -> Result<String, AllocError> {
+pub(crate) fn answer(
+    alloc: Global,
+    symbols: &mut Symbols,
+    line: &str,
+    count: usize,
+) -> Result<String, AllocError> {
     let (verb, rest) = line.split_once(' ').unwrap_or((line, ""));
     if let Some(kind) = kind_of(verb) {
-        let number = tree.declare(alloc, rest, kind)?;
-        return told(alloc, tree, line, number);
+        symbols.declare(alloc, rest, kind, count, &[])?;
+        return told(alloc, symbols, line, symbols.find_within("", rest));
     }
     let (name, scope) = rest.split_once(" in ").unwrap_or((rest, ""));
     match verb {
         "add" => {
-            let number = added(alloc, tree, name, scope)?;
-            told(alloc, tree, line, number)
+            let number = added(alloc, symbols, name, scope, count)?;
+            told(alloc, symbols, line, number)
         }
-        "find" => told(alloc, tree, line, tree.find_within(scope, name)),
-        "type" => resolved(alloc, tree, line, Wanted::AType, name, scope),
-        "anything" => resolved(alloc, tree, line, Wanted::Anything, name, scope),
-        _ => format!(in alloc; "{line}: {}", tree.len()),
+        "find" => told(alloc, symbols, line, symbols.find_within(scope, name)),
+        "type" => resolved(alloc, symbols, line, Wanted::AType, name, scope),
+        "anything" => resolved(alloc, symbols, line, Wanted::Anything, name, scope),
+        _ => format!(in alloc; "{line}: {}", symbols.len()),
     }
 }

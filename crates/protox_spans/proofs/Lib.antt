@@ -1,2 +1,5 @@
 pub mod Counting
 pub mod Meeting
+pub mod Pieces
+pub mod Filling
+pub mod Searching

@@ -29,8 +29,10 @@ impl Table<'_> {
         if self.levels[level].met(0, span) == 0 {
             return None;
         }
+        let count = self.spans.len();
         let mut at = 0;
         while level > 0 {
+            prove!(at < count);
             level -= 1;
             at *= 2;
             if self.levels[level].met(at, span) == 0 {

@@ -26,19 +26,19 @@ single number = record { start = rank number; end = rank number + 1 }
 abbrev pub half_open : Option ℤ → Option ℤ → Span
 half_open start end = record { start = rank start; end = rank end }
 
-abbrev pub of_field : FieldDescriptorProto → Span
+unfoldable pub of_field : FieldDescriptorProto → Span
 of_field field = single field.number
 
-abbrev pub of_value : EnumValueDescriptorProto → Span
+unfoldable pub of_value : EnumValueDescriptorProto → Span
 of_value value = single value.number
 
 -- In a message the end isn't in the range.
-abbrev pub of_reserved_range : ReservedRange → Span
+unfoldable pub of_reserved_range : ReservedRange → Span
 of_reserved_range range = half_open range.start range.end
 
-abbrev pub of_extension_range : ExtensionRange → Span
+unfoldable pub of_extension_range : ExtensionRange → Span
 of_extension_range range = half_open range.start range.end
 
 -- In an enum the end is the last number of the range.
-abbrev pub of_enum_range : EnumReservedRange → Span
+unfoldable pub of_enum_range : EnumReservedRange → Span
 of_enum_range range = record { start = rank range.start; end = rank range.end + 1 }

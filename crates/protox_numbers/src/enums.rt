@@ -13,7 +13,12 @@ use std::alloc::{AllocError, Global};
 fn value_spans(alloc: Global, of: &EnumDescriptorProto) -> Result<Vec<Span>, AllocError>
     ensures { IfOk result (λ made. made.items ≡ words.value_spans of.now) }
 {
-    of.value.iter().map(|value| of_value(value)).collect(alloc)
+    let mut made = Vec::new(alloc);
+    let values = of.value.as_slice();
+    for value in values {
+        made.push(of_value(value))?;
+    }
+    Ok(made)
 }
 
 fn range_spans(alloc: Global, of: &EnumDescriptorProto) -> Result<Vec<Span>, AllocError>

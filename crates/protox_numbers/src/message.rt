@@ -12,11 +12,12 @@ use std::alloc::{AllocError, Global};
 fn field_spans(alloc: Global, message: &DescriptorProto) -> Result<Vec<Span>, AllocError>
     ensures { IfOk result (λ made. made.items ≡ words.field_spans message.now) }
 {
-    message
-        .field
-        .iter()
-        .map(|field| of_field(field))
-        .collect(alloc)
+    let mut made = Vec::new(alloc);
+    let fields = message.field.as_slice();
+    for field in fields {
+        made.push(of_field(field))?;
+    }
+    Ok(made)
 }
 
 fn reserved_spans(alloc: Global, message: &DescriptorProto) -> Result<Vec<Span>, AllocError>
@@ -32,11 +33,12 @@ fn reserved_spans(alloc: Global, message: &DescriptorProto) -> Result<Vec<Span>,
 fn extension_spans(alloc: Global, message: &DescriptorProto) -> Result<Vec<Span>, AllocError>
     ensures { IfOk result (λ made. made.items ≡ words.extension_spans message.now) }
 {
-    message
-        .extension_range
-        .iter()
-        .map(|range| of_extension_range(range))
-        .collect(alloc)
+    let mut made = Vec::new(alloc);
+    let ranges = message.extension_range.as_slice();
+    for range in ranges {
+        made.push(of_extension_range(range))?;
+    }
+    Ok(made)
 }
 
 /// The fields whose number an earlier field has, in order, each with the first field of this

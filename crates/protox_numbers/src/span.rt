@@ -38,30 +38,35 @@ fn half_open(start: Option<i32>, end: Option<i32>) -> Span
     Span { start, end }
 }
 
+#[tactic(auto, unfolding(crate::specs::Numbers::of_field))]
 pub fn of_field(field: &FieldDescriptorProto) -> Span
     ensures { result ≡ words.of_field field.now }
 {
     single(field.number)
 }
 
+#[tactic(auto, unfolding(crate::specs::Numbers::of_reserved_range))]
 pub fn of_reserved_range(range: &ReservedRange) -> Span
     ensures { result ≡ words.of_reserved_range range.now }
 {
     half_open(range.start, range.end)
 }
 
+#[tactic(auto, unfolding(crate::specs::Numbers::of_extension_range))]
 pub fn of_extension_range(range: &ExtensionRange) -> Span
     ensures { result ≡ words.of_extension_range range.now }
 {
     half_open(range.start, range.end)
 }
 
+#[tactic(auto, unfolding(crate::specs::Numbers::of_value))]
 pub fn of_value(value: &EnumValueDescriptorProto) -> Span
     ensures { result ≡ words.of_value value.now }
 {
     single(value.number)
 }
 
+#[tactic(auto, unfolding(crate::specs::Numbers::of_enum_range))]
 pub fn of_enum_range(range: &EnumReservedRange) -> Span
     ensures { result ≡ words.of_enum_range range.now }
 {

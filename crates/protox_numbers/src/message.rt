@@ -66,8 +66,8 @@ pub fn fields_in_reserved_ranges(
     ensures { IfOk result (λ made. made.items ≡ words.fields_in_reserved_ranges message.now) }
 {
     let fields = field_spans(alloc, message)?;
-    let ranges = reserved_spans(alloc, message)?;
-    let met = first_met(alloc, ranges.as_slice(), fields.as_slice())?;
+    let reserved = reserved_spans(alloc, message)?;
+    let met = first_met(alloc, reserved.as_slice(), fields.as_slice())?;
     with_first(alloc, met.as_slice())
 }
 
@@ -83,8 +83,8 @@ pub fn fields_in_extension_ranges(
     ensures { IfOk result (λ made. made.items ≡ words.fields_in_extension_ranges message.now) }
 {
     let fields = field_spans(alloc, message)?;
-    let ranges = extension_spans(alloc, message)?;
-    let met = first_met(alloc, ranges.as_slice(), fields.as_slice())?;
+    let extensions = extension_spans(alloc, message)?;
+    let met = first_met(alloc, extensions.as_slice(), fields.as_slice())?;
     with_first(alloc, met.as_slice())
 }
 
@@ -99,8 +99,8 @@ pub fn overlapping_reserved_ranges(
 ) -> Result<Vec<Clash>, AllocError>
     ensures { IfOk result (λ made. made.items ≡ words.overlapping_reserved_ranges message.now) }
 {
-    let ranges = reserved_spans(alloc, message)?;
-    let met = first_met(alloc, ranges.as_slice(), ranges.as_slice())?;
+    let reserved = reserved_spans(alloc, message)?;
+    let met = first_met(alloc, reserved.as_slice(), reserved.as_slice())?;
     with_earlier(alloc, met.as_slice())
 }
 
@@ -115,8 +115,8 @@ pub fn overlapping_extension_ranges(
 ) -> Result<Vec<Clash>, AllocError>
     ensures { IfOk result (λ made. made.items ≡ words.overlapping_extension_ranges message.now) }
 {
-    let ranges = extension_spans(alloc, message)?;
-    let met = first_met(alloc, ranges.as_slice(), ranges.as_slice())?;
+    let extensions = extension_spans(alloc, message)?;
+    let met = first_met(alloc, extensions.as_slice(), extensions.as_slice())?;
     with_earlier(alloc, met.as_slice())
 }
 

@@ -3,3 +3,4 @@ pub mod Meeting
 pub mod Pieces
 pub mod Filling
 pub mod Searching
+pub mod Shared

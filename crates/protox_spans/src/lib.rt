@@ -2,6 +2,7 @@
 #![tactic(auto)]
 
 mod block;
+pub mod laws;
 mod levels;
 mod search;
 mod span;

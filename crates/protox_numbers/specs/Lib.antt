@@ -1,0 +1,5 @@
+pub mod Clashes
+pub mod Numbers
+pub mod Message
+pub mod Enums
+pub mod Parts

@@ -1,0 +1,6 @@
+pub mod Counting
+pub mod Meeting
+pub mod Pieces
+pub mod Filling
+pub mod Searching
+pub mod Shared

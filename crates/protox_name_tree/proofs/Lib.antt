@@ -7,3 +7,4 @@ pub mod Growing
 pub mod Added
 pub mod Outwards
 pub mod Standing
+pub mod Parts

@@ -43,7 +43,7 @@ kind_past nodes n none =
 pub no_kind : (nodes : List Node) (n : ℕ) (found : Option Node) → found ≡ slice_get nodes n → found ≡ None → Member ≡ get_or (kinds_of nodes) n Member
 no_kind nodes n found is none = kind_past nodes n (sym is ∙ none)
 
-past_if_none : {X : Type 0} (xs : List X) (n : ℕ) → slice_get xs n ≡ None → length xs ≤ n
+pub past_if_none : {X : Type 0} (xs : List X) (n : ℕ) → slice_get xs n ≡ None → length xs ≤ n
 past_if_none xs n none =
     elim (slice_get_cases xs n).1 [
       | inl within ↦ absurd (none-some within.0 (sym none ∙ within.2))

@@ -1,16 +1,14 @@
 -- A full name, cut at its last dot.
-use Rattle.std.proofs.Common.{◌≡◌, ◌≢◌, ◌<◌, ◌≤◌, ◌+◌, ◌&&◌, ◌==◌, ℕ, Bool, true, false, List, [], ◌∷◌, ◌++◌, length, take, drop, Option, Some, None, MatchOption, Bor, is_some, cond, lit<, refl, sym, ap, ◌∙◌}
+use Rattle.std.proofs.Common.{◌≡◌, ◌≢◌, ◌≤◌, ◌+◌, ◌&&◌, ◌==◌, ℕ, Bool, true, false, List, [], ◌∷◌, ◌++◌, length, take, drop, Option, Some, None, MatchOption, Bor, is_some, lit<, refl, sym, ap, ◌∙◌}
 use Rattle.std.specs.Str.Pattern.{RFindsChar}
 use Rattle.std.specs.Str.{NoCharPasses}
-use Rattle.std.proofs.lemmas.Bool.{false≢true}
 use Rattle.std.proofs.lemmas.List.{take-append-drop}
 use Rattle.std.proofs.lemmas.Str.Pattern.{NoCharPasses-char, drop_at_char}
 use Rattle.std.proofs.Math.Seq.{drop-append-add}
 use Rattle.protox_names.specs.Names.{is_identifier, is_one_part, scopes, within}
 use Rattle.protox_names.proofs.Found.{one_part}
 use Rattle.protox_names.proofs.Joining.{scopes_at_dot, scopes_of_one_part}
-use Rattle.protox_scopes.specs.declared.kind.Kind.{Kind}
-use Rattle.protox_name_tree.specs.Tree.{AreTreeNames, Names, can_stand, has_innermost, name_at, name_in, number_of, own_name, with_declared, with_name}
+use Rattle.protox_name_tree.specs.Tree.{AreTreeNames, Names, can_stand, has_innermost, name_at, name_in, number_of, own_name}
 use Rattle.protox_name_tree.proofs.FullNames.{found_known, known_some}
 use Rattle.protox_name_tree.proofs.Outwards.{name_of_found}
 

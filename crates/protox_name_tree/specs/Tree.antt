@@ -88,3 +88,22 @@ with_declared tree full_name kind = if can_stand tree full_name then with_name t
 -- the number of a full name that can stand in the tree
 abbrev pub number_if_stands : Names → Names → List ℕ → Option ℕ
 number_if_stands old new full_name = if can_stand old full_name then number_of new full_name else None
+
+-- ---- part by part
+
+-- What stands in this place under this name has the number.
+pub record IsPart (tree : Names) (number : ℕ) (place : Option ℕ) (own : List ℕ) : Type 0 where
+  pub within_tree : number < length tree.full_names
+  pub known : IsKnown tree.full_names place
+  pub identifier : is_identifier own ≡ true
+  pub full_name : name_at tree number ≡ name_in tree place own
+
+-- a dot, and the full name; nothing for the top, which has no name
+abbrev pub dotted : List ℕ → List ℕ
+dotted [] = []
+dotted (byte ∷ name) = 46 ∷ byte ∷ name
+
+-- the names in a row, from the last one on, with a dot before each
+abbrev pub outwards : List (List ℕ) → List ℕ
+outwards [] = []
+outwards (name ∷ outer) = outwards outer ++ 46 ∷ name

@@ -1,6 +1,7 @@
 //! Full names in a tree, part by part.
 #![tactic(auto)]
 
+mod dotted;
 mod nodes;
 mod scopes;
 mod texts;

@@ -2,6 +2,7 @@
 
 ghost use Rattle.std.specs.Prelude.{◌≡◌, ◌↔◌, ◌++◌, ◌∷◌, [], ℕ, List, Some, IfOk, OnErr};
 ghost use Rattle.std.specs.List.{slice_get};
+ghost use Rattle.std.specs.Option.{option_copied};
 
 use std::alloc::{AllocError, Global};
 use std::collections::BTreeMap;
@@ -42,6 +43,16 @@ impl Texts {
         ensures { (n : ℕ) → (result ≡ Some n) ↔ (slice_get self.now n ≡ Some text.now) }
     {
         self.numbers.get(text).copied()
+    }
+
+    /// The text with a number.
+    pub(crate) fn get(&self, number: usize) -> Option<&str>
+        ensures { option_copied result ≡ slice_get self.now number }
+    {
+        match self.texts.get(number) {
+            Some(text) => Some(text.as_str()),
+            None => None,
+        }
     }
 
     fn push(&mut self, alloc: Global, text: &str) -> Result<usize, AllocError>

@@ -1,11 +1,11 @@
 //! The tree.
 
-ghost use Rattle.std.specs.Prelude.{◌≡◌, [], true, false, length};
+ghost use Rattle.std.specs.Prelude.{◌≡◌, ◌≤◌, [], true, false, length};
 ghost use Rattle.std.specs.Prelude.{IfNone, IfOk, IfSome, OnErr, OnOk};
 ghost use Rattle.protox_names.specs.Names as words;
 ghost use Rattle.protox_names.specs.Tree.{name_of_place};
 ghost use Rattle.protox_scopes.specs.Scopes.{IsOuter};
-ghost use Rattle.protox_name_tree.specs.Tree.{IsKnown, IsNameTree, name_at, name_in};
+ghost use Rattle.protox_name_tree.specs.Tree.{IsKnown, IsNameTree, IsPart, name_at, name_in};
 ghost use Rattle.protox_name_tree.specs.Tree.{can_stand, kind_at, number_if_stands, number_of};
 ghost use Rattle.protox_name_tree.specs.Tree.{with_declared, with_name};
 
@@ -206,6 +206,17 @@ impl NameTree {
             Some(node) => node.place,
             None => None,
         }
+    }
+
+    /// The place that a name stands in, and the name in this place. None if nothing has the
+    /// number.
+    pub fn part(&self, number: usize) -> Option<(Option<usize>, &str)>
+        ensures none { IfNone result (length self.now.full_names ≤ number) }
+        ensures some { IfSome result (λ part. IsPart self.now number part.0 part.1.now) }
+    {
+        let node = self.nodes.get(number)?;
+        let own = self.texts.get(node.name)?;
+        Some((node.place, own))
     }
 
     /// The kind of what has a number; that of a member, if nothing has it.

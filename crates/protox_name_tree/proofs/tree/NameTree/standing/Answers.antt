@@ -1,4 +1,4 @@
-use Rattle.std.proofs.Common.{◌≡◌, false, None, Option, Some, IfNone, sym, ap, subst, ◌∙◌}
+use Rattle.std.proofs.Common.{None, Some, sym, subst, ◌∙◌}
 use Rattle.protox_name_tree.specs.Tree.{AreTreeNames}
 use Rattle.protox_name_tree.proofs.Standing.{cut_last, in_scope, no_scope, stands_alone, whole_name}
 use Rattle.protox_name_tree.proofs.tree.NameTree.standing.Goals as goal

@@ -6,4 +6,5 @@ pub mod Walked
 pub mod Growing
 pub mod Added
 pub mod Outwards
+pub mod Missing
 pub mod Standing

@@ -78,7 +78,7 @@ contains_more byte around scope has = (
   get_or-map (λ each. byte ∷ each) around has.0 scope (byte ∷ scope) has.1 ∙ ap (λ each. byte ∷ each) has.2,
 )
 
-scope_at_dot : (scope name : List ℕ) → Contains (scopes (scope ++ 46 ∷ name)) scope
+pub scope_at_dot : (scope name : List ℕ) → Contains (scopes (scope ++ 46 ∷ name)) scope
 scope_at_dot [] name = Contains-push (map (λ each. 46 ∷ each) (scopes name)) []
 scope_at_dot (byte ∷ scope) name =
     Contains-append_left (map (λ each. byte ∷ each) (scopes (scope ++ 46 ∷ name))) _ (byte ∷ scope) (contains_more byte (scopes (scope ++ 46 ∷ name)) scope (scope_at_dot scope name))
@@ -87,7 +87,7 @@ scope_is_around : (scope name : List ℕ) → scope ≢ [] → Contains (scopes 
 scope_is_around [] name some = absurd (some refl)
 scope_is_around (byte ∷ scope) name some = scope_at_dot (byte ∷ scope) name
 
-found_some : (names : List (List ℕ)) (name : List ℕ) → AreTreeNames names → Contains names name → is_some (place_of_name names name) ≡ true
+pub found_some : (names : List (List ℕ)) (name : List ℕ) → AreTreeNames names → Contains names name → is_some (place_of_name names name) ≡ true
 found_some names name tree has =
     ap is_some (tree.numbered.number_of name has.0 (slice_get-get_or names has.0 name has.1 ∙ ap (λ each. Some each) has.2))
 

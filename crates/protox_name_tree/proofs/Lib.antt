@@ -6,5 +6,6 @@ pub mod Walked
 pub mod Growing
 pub mod Added
 pub mod Outwards
+pub mod Missing
 pub mod Standing
 pub mod Parts

@@ -1,15 +1,16 @@
 -- A full name, cut at its last dot.
-use Rattle.std.proofs.Common.{◌≡◌, ◌≢◌, ◌≤◌, ◌+◌, ◌&&◌, ◌==◌, ℕ, Bool, true, false, List, [], ◌∷◌, ◌++◌, length, take, drop, Option, Some, None, MatchOption, Bor, is_some, lit<, refl, sym, ap, ◌∙◌}
+use Rattle.std.proofs.Common.{◌≡◌, ◌≢◌, ◌<◌, ◌≤◌, ◌+◌, ◌&&◌, ◌==◌, ℕ, Bool, true, false, List, [], ◌∷◌, ◌++◌, length, take, drop, Option, Some, None, MatchOption, Bor, is_some, lit<, refl, sym, ap, ◌∙◌}
 use Rattle.std.specs.Str.Pattern.{RFindsChar}
 use Rattle.std.specs.Str.{NoCharPasses}
-use Rattle.std.proofs.lemmas.List.{take-append-drop}
+use Rattle.std.proofs.lemmas.List.{append_assoc, take-append-drop}
 use Rattle.std.proofs.lemmas.Str.Pattern.{NoCharPasses-char, drop_at_char}
 use Rattle.std.proofs.Math.Seq.{drop-append-add}
 use Rattle.protox_names.specs.Names.{is_identifier, is_one_part, scopes, within}
 use Rattle.protox_names.proofs.Found.{one_part}
 use Rattle.protox_names.proofs.Joining.{scopes_at_dot, scopes_of_one_part}
-use Rattle.protox_name_tree.specs.Tree.{AreTreeNames, Names, can_stand, has_innermost, name_at, name_in, number_of, own_name}
-use Rattle.protox_name_tree.proofs.FullNames.{found_known, known_some}
+use Rattle.protox_name_tree.specs.Tree.{AreTreeNames, IsKnown, Names, can_stand, has_innermost, name_at, name_in, number_of, own_name}
+use Rattle.protox_name_tree.proofs.FullNames.{found_known, known_name, known_some}
+use Rattle.protox_name_tree.proofs.Missing.{no_odd_end, no_odd_name, none_behind}
 use Rattle.protox_name_tree.proofs.Outwards.{name_of_found}
 
 no_char : (name : List ℕ) → NoCharPasses (λ d. d == 46) name → is_one_part name ≡ true
@@ -27,6 +28,18 @@ cut_last name (Some x) (i, j, at, before, after, order, front, back) = record {
       sym (take-append-drop i name) ∙ ap (λ l. take i name ++ l) (drop_at_char 46 name i j at.1 (lit< tt))
       ∙ ap (λ l. l ++ 46 ∷ drop j name) (sym before) ∙ ap (λ l. x.0.now ++ 46 ∷ l) (sym after);
   one = ap is_one_part after ∙ no_char (drop j name) at.0;
+}
+
+-- what `rsplit_once` says where it finds no dot
+pub uncut : (name : List ℕ) → RFindsChar 46 name None → is_one_part name ≡ true
+uncut name none = no_char name none
+
+-- A name in a scope is cut where the name is.
+pub cut_within : (around name scope own : List ℕ) → IsCutAtLast name scope own → IsCutAtLast (within around name) (within around scope) own
+cut_within [] name scope own at = at
+cut_within (byte ∷ around) name scope own at = record {
+  whole = ap (λ l. (byte ∷ around) ++ 46 ∷ l) at.whole ∙ sym (append_assoc (byte ∷ around) (46 ∷ scope) (46 ∷ own));
+  one = at.one;
 }
 
 pub stands_alone : (tree : Names) (name : List ℕ) → scopes name ≡ [] → can_stand tree name ≡ is_identifier name
@@ -53,3 +66,31 @@ pub whole_name : (tree : Names) (name scope own : List ℕ) (place : ℕ) → Ar
 whole_name tree name scope own place names at found =
     within_some (name_at tree place) own (known_some tree.full_names place names (found_known tree.full_names scope place found))
     ∙ ap (λ s. s ++ 46 ∷ own) (name_of_found tree.full_names scope place names found) ∙ sym at.whole
+
+-- what has a name without dots in a place
+cut_in_place : (tree : Names) (n : ℕ) (name : List ℕ) → AreTreeNames tree.full_names → n < length tree.full_names → is_one_part name ≡ true → IsCutAtLast (name_in tree (Some n) name) (name_at tree n) name
+cut_in_place tree n name names known one = record {
+  whole = within_some (name_at tree n) name (known_some tree.full_names n names known);
+  one = one;
+}
+
+pub stands_in_place : (tree : Names) (place : Option ℕ) (name : List ℕ) → AreTreeNames tree.full_names → IsKnown tree.full_names place → is_one_part name ≡ true → can_stand tree (name_in tree place name) ≡ is_identifier name
+stands_in_place tree None name names known one = stands_alone tree name (scopes_of_one_part name one)
+stands_in_place tree (Some n) name names known one =
+    in_scope tree (name_in tree (Some n) name) (name_at tree n) name n (is_identifier name) (cut_in_place tree n name names known one)
+    (names.numbered.number_of (name_at tree n) n (known_name tree.full_names n known)) refl
+
+-- ---- what isn't in the tree
+
+pub none_with_end : (tree : Names) (name scope own : List ℕ) → AreTreeNames tree.full_names → IsCutAtLast name scope own → is_identifier own ≡ false → number_of tree name ≡ None
+none_with_end tree name scope own names at odd =
+    ap (number_of tree) at.whole ∙ no_odd_end tree.full_names scope own names at.one odd
+
+pub none_in_place : (tree : Names) (place : Option ℕ) (name : List ℕ) → AreTreeNames tree.full_names → IsKnown tree.full_names place → is_one_part name ≡ true → is_identifier name ≡ false → number_of tree (name_in tree place name) ≡ None
+none_in_place tree None name names known one odd = no_odd_name tree.full_names name names one odd
+none_in_place tree (Some n) name names known one odd =
+    none_with_end tree (name_in tree (Some n) name) (name_at tree n) name names (cut_in_place tree n name names known one) odd
+
+pub none_in_scope : (tree : Names) (name scope own : List ℕ) → AreTreeNames tree.full_names → IsCutAtLast name scope own → number_of tree scope ≡ None → number_of tree name ≡ None
+none_in_scope tree name scope own names at none =
+    ap (number_of tree) at.whole ∙ none_behind tree.full_names scope own names none

@@ -116,25 +116,30 @@ impl NameTree {
         Ok(number)
     }
 
-    // The place and the own name of a full name, if it can stand in the tree.
-    fn standing<'a>(&self, full_name: &'a str) -> Option<(Option<usize>, &'a str)>
-        ensures none { IfNone result (can_stand self.now full_name.now ≡ false) }
-        ensures some { IfSome result (λ x. can_stand self.now full_name.now ≡ true) }
+    // The place and the own name of what has this name in a place, if it can stand in the tree. The
+    // name may have several parts.
+    fn standing<'a>(&self, place: Option<usize>, name: &'a str) -> Option<(Option<usize>, &'a str)>
+        ensures none { IfNone result
+            (can_stand self.now (name_in self.now place name.now) ≡ false) }
+        ensures unknown { IfNone result
+            (number_of self.now (name_in self.now place name.now) ≡ None) }
+        ensures some { IfSome result
+            (λ x. can_stand self.now (name_in self.now place name.now) ≡ true) }
         ensures own { IfSome result (λ x. words.is_identifier x.1.now ≡ true) }
-        ensures name { IfSome result (λ x. name_in self.now x.0 x.1.now ≡ full_name.now) }
+        ensures name { IfSome result
+            (λ x. name_in self.now x.0 x.1.now ≡ name_in self.now place name.now) }
     {
-        // for the proof: a scope of the tree isn't the nameless one
-        let _nodes = &self.nodes;
-        match full_name.rsplit_once('.') {
+        let place = self.known(place);
+        match name.rsplit_once('.') {
             None => {
-                if is_identifier(full_name) {
-                    Some((None, full_name))
+                if is_identifier(name) {
+                    Some((place, name))
                 } else {
                     None
                 }
             }
             Some((scope, own)) => {
-                let place = self.find(None, scope)?;
+                let place = self.find(place, scope)?;
                 if is_identifier(own) {
                     Some((Some(place), own))
                 } else {
@@ -142,6 +147,35 @@ impl NameTree {
                 }
             }
         }
+    }
+
+    /// Adds what has this name in a place, with its kind, if it can stand there: it ends in an
+    /// identifier, and what that stands in has been added, or is the nameless scope. The name may
+    /// have several parts. With no number, the place is the nameless scope; so it is if nothing has
+    /// the number. It returns the number of the full name, or None if that can't stand in the tree.
+    ///
+    /// # Errors
+    /// `AllocError` where memory runs out. The tree is as it was.
+    pub fn declare_in(
+        &mut self,
+        alloc: Global,
+        place: Option<usize>,
+        name: &str,
+        kind: Kind,
+    ) -> Result<Option<usize>, AllocError>
+        ensures number { IfOk result (λ n. n
+            ≡ number_if_stands self.old self.new (name_in self.old place name.now)) }
+        ensures found { IfOk result (λ n. n
+            ≡ number_of self.new (name_in self.old place name.now)) }
+        ensures declared { OnOk result
+            (self.new ≡ with_declared self.old (name_in self.old place name.now) kind) }
+        ensures err { OnErr result (self.new ≡ self.old) }
+    {
+        let Some((place, own)) = self.standing(place, name) else {
+            return Ok(None);
+        };
+        let number = self.add(alloc, place, own, kind)?;
+        Ok(Some(number))
     }
 
     /// Adds a full name, with its kind, if it can stand in the tree: what it ends in is an
@@ -161,11 +195,7 @@ impl NameTree {
         ensures declared { OnOk result (self.new ≡ with_declared self.old full_name.now kind) }
         ensures err { OnErr result (self.new ≡ self.old) }
     {
-        let Some((place, own)) = self.standing(full_name) else {
-            return Ok(None);
-        };
-        let number = self.add(alloc, place, own, kind)?;
-        Ok(Some(number))
+        self.declare_in(alloc, None, full_name, kind)
     }
 
     /// The number of what has this name in a place, if anything has it. The name may have several

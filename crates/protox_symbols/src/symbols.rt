@@ -4,12 +4,13 @@ ghost use Rattle.std.specs.Prelude.{◌≡◌, [], true, length, IfOk, OnErr, On
 ghost use Rattle.std.specs.List.{slice_get};
 ghost use Rattle.std.specs.Option.{option_copied};
 ghost use Rattle.protox_names.specs.Names.{is_identifier, within};
-ghost use Rattle.protox_name_tree.specs.Tree.{kind_at, name_at, name_in, number_of};
+ghost use Rattle.protox_name_tree.specs.Tree.{IsNameTree, dotted, kind_at, name_at};
+ghost use Rattle.protox_name_tree.specs.Tree.{name_in, number_of};
 ghost use Rattle.protox_scopes.specs.Scopes.{IsOuter};
 ghost use Rattle.protox_symbols.specs.Symbols.{with_added, with_thing};
 
 use crate::Thing;
-use protox_descriptor::values::Numbers;
+use protox_descriptor::values::{Numbers, Text};
 use protox_name_tree::NameTree;
 use protox_scopes::Kind;
 use std::alloc::{AllocError, Global};
@@ -51,6 +52,7 @@ impl Symbols {
     pub fn len(&self) -> usize
         ensures names { result ≡ length self.now.names.full_names }
         ensures things { result ≡ length self.now.things }
+        ensures tree { IsNameTree self.now.names }
     {
         self.names.len()
     }
@@ -121,6 +123,16 @@ impl Symbols {
         ensures { option_copied result ≡ slice_get self.now.things number }
     {
         self.things.get(number)
+    }
+
+    /// A dot, and the full name with a number. It is empty if nothing has the number.
+    ///
+    /// # Errors
+    /// `AllocError` where memory runs out.
+    pub fn dotted(&self, alloc: Global, number: usize) -> Result<Text, AllocError>
+        ensures { IfOk result (λ made. made ≡ dotted (name_at self.now.names number)) }
+    {
+        Ok(Text::from_string(self.names.dotted(alloc, number)?))
     }
 
     /// The number of what has this name in the scope with a number, if anything has it. The name

@@ -1,0 +1,10 @@
+//! What a file sees of the declarations of a set of files.
+#![tactic(auto)]
+
+mod names;
+mod packages;
+mod scopes;
+mod view;
+
+pub use crate::packages::seen_packages;
+pub use crate::view::View;

@@ -1,0 +1,52 @@
+//! What can be wrong with a set of files that use one another's names.
+#![tactic(auto)]
+
+use protox_descriptor::values::{Numbers, Text};
+
+/// What is wrong with a file of a set, and where. Files have the numbers of the list that they were
+/// given in, from 0.
+#[derive(Drop)]
+pub struct LinkFault {
+    /// The number of the file.
+    pub file: usize,
+    /// The path of the part at fault, from the file's descriptor on, as locations have it: of a
+    /// name, a type, an extendee, the type of a method, or an import.
+    pub path: Numbers,
+    /// What is wrong.
+    pub kind: LinkFaultKind,
+}
+
+/// What is wrong. What is declared is named by its number in the table of the set.
+#[derive(Drop)]
+pub enum LinkFaultKind {
+    /// A declaration has no name.
+    MissingName,
+    /// The name of a declaration is no identifier: a letter, a digit or `_`, once or more.
+    BadName,
+    /// What has this number has the same full name, and was declared before.
+    AlreadyDefined(usize),
+    /// What has this number has the full name of a package of the file, and is no package.
+    NotAPackage(usize),
+    /// This name stands for nothing.
+    NotDefined(Text),
+    /// This name stands for what is no message and no enum.
+    NotAType(Text),
+    /// This name stands for what is no message.
+    NotAMessage(Text),
+    /// No file has the name of the import.
+    MissingImport,
+    /// An earlier import has the same name.
+    RepeatedImport,
+    /// The import closes a circle: these files import one another in this order, and the last one
+    /// imports the first.
+    ImportCycle(Vec<usize>),
+}
+
+/// Why a set of files could not be linked.
+#[derive(Drop)]
+pub enum LinkFailure {
+    /// This is wrong, in the order of the files and of their parts.
+    Refused(Vec<LinkFault>),
+    /// Memory ran out.
+    OutOfMemory,
+}

@@ -1,0 +1,6 @@
+pub mod Folding
+pub mod Growing
+pub mod Standing
+pub mod Found
+pub mod Inside
+pub mod Packages

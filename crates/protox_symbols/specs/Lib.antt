@@ -1,1 +1,3 @@
 pub mod Symbols
+pub mod Things
+pub mod Scopes

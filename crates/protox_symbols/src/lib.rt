@@ -1,6 +1,9 @@
 //! A table of what is declared: its full names, and where each stands.
 #![tactic(auto)]
 
+mod declares;
+mod files;
+mod parts;
 mod scopes;
 mod symbols;
 mod thing;

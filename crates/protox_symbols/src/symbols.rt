@@ -76,14 +76,40 @@ impl Symbols {
         ensures err { OnErr result (self.new ≡ self.old) }
     {
         let path = Numbers::from_slice(alloc, path)?;
+        self.declare_in(alloc, None, full_name, kind, Thing { file, path })?;
+        Ok(())
+    }
+
+    /// The same for a name in the scope with a number, of one or more parts; with no number, in the
+    /// nameless scope. It returns the number of the full name, or None if that can't stand in the
+    /// table. Unlike `declare`, it doesn't look for the scope, so it serves where many names stand
+    /// in a scope with a long name.
+    ///
+    /// # Errors
+    /// `AllocError` where memory runs out. The table is as it was.
+    pub fn declare_in(
+        &mut self,
+        alloc: Global,
+        scope: Option<usize>,
+        name: &str,
+        kind: Kind,
+        thing: Thing,
+    ) -> Result<Option<usize>, AllocError>
+        ensures number { IfOk result (λ n. n
+            ≡ number_of self.new.names (name_in self.old.names scope name.now)) }
+        ensures declared { OnOk result (self.new
+            ≡ with_thing self.old (name_in self.old.names scope name.now) kind thing) }
+        ensures tree { OnOk result (IsNameTree self.new.names) }
+        ensures err { OnErr result (self.new ≡ self.old) }
+    {
         self.things.reserve(1)?;
         let count = self.names.len();
-        self.names.declare(alloc, full_name, kind)?;
+        let number = self.names.declare_in(alloc, scope, name, kind)?;
         if self.names.len() == count {
-            return Ok(());
+            return Ok(number);
         }
-        self.things.push_reserved(Thing { file, path });
-        Ok(())
+        self.things.push_reserved(thing);
+        Ok(number)
     }
 
     /// Adds what is declared with this name in the scope with a number, and returns the number of

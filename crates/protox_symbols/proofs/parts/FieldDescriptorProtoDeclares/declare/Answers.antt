@@ -1,0 +1,16 @@
+use Rattle.std.proofs.Common.{ap, ◌∙◌}
+use Rattle.protox_descriptor.specs.FieldDescriptorProto.{FieldDescriptorProto}
+use Rattle.std.specs.Option.{option_copied}
+use Rattle.protox_walk.specs.Declarations.{declared, full_name}
+use Rattle.protox_walk.specs.Parts.{Field}
+use Rattle.protox_symbols.specs.Scopes.{scope_name}
+use Rattle.protox_symbols.proofs.Folding.{alone_added}
+use Rattle.protox_symbols.proofs.Standing.{entry_named}
+use Rattle.protox_symbols.proofs.parts.FieldDescriptorProtoDeclares.declare.Goals as goal
+
+pub returns : goal.returns
+returns c =
+    let field = c.args.self.now in
+    let scope = scope_name c.args.symbols.now c.args.scope in
+    alone_added c.args.file c.args.symbols.now c.declare_part.new.self (declared c.args.path.now (full_name scope field.name) (Field field))
+    (entry_named c.args.symbols.now c.declare_part.new.self scope (option_copied c.as_ref-name.result) field.name c.args.file c.args.path.now (Field field) (c.as_ref-name.ensures.value ∙ ap (λ (f : FieldDescriptorProto). f.name) c.self.view_is) c.in_ok-declare_part.ensures.declared)

@@ -1,2 +1,3 @@
 pub mod Uses
-pub mod Declared
+pub mod Faults
+pub mod Checked

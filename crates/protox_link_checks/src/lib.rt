@@ -1,4 +1,10 @@
 //! What is wrong with the names of a set of files, in the order of their parts.
 #![tactic(auto)]
 
+mod each;
+mod file;
+mod name;
+mod parts;
 mod uses;
+
+pub use crate::file::check_names;

@@ -45,7 +45,11 @@ fn kind_named(view: &View<'_>, wanted: Wanted, scope: Option<usize>, name: &str)
 }
 
 // What is wrong with the name of a type, if it stands for something of this kind.
-fn wrong_type(alloc: Global, name: &str, kind: Option<Kind>) -> Result<Option<LinkFaultKind>, AllocError>
+fn wrong_type(
+    alloc: Global,
+    name: &str,
+    kind: Option<Kind>,
+) -> Result<Option<LinkFaultKind>, AllocError>
     ensures { IfOk result (λ wrong. option_to_list wrong ≡ wrong_type name.now kind) }
 {
     let Some(kind) = kind else {
@@ -58,7 +62,11 @@ fn wrong_type(alloc: Global, name: &str, kind: Option<Kind>) -> Result<Option<Li
 }
 
 // The same for the name of a message.
-fn wrong_message(alloc: Global, name: &str, kind: Option<Kind>) -> Result<Option<LinkFaultKind>, AllocError>
+fn wrong_message(
+    alloc: Global,
+    name: &str,
+    kind: Option<Kind>,
+) -> Result<Option<LinkFaultKind>, AllocError>
     ensures { IfOk result (λ wrong. option_to_list wrong ≡ wrong_message name.now kind) }
 {
     match kind {

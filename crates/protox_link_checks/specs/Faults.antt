@@ -36,7 +36,7 @@ module _ (table : Table) (sees packages : List Bool) (file : ℕ) where
   abbrev pub faults_named : Path → List ℕ → List ℕ → List LinkFault → List LinkFault
   faults_named path full_name own uses =
       if is_identifier own then
-        (if has_innermost table.names (scopes full_name) then clash_faults path (number_of table.names full_name) ++ uses else [])
+      (if has_innermost table.names (scopes full_name) then clash_faults path (number_of table.names full_name) ++ uses else [])
       else fault_at file path NAME (bad_name own) ∷ []
 
   abbrev pub declared_faults : Declared → List LinkFault

@@ -1,0 +1,16 @@
+use Rattle.std.proofs.Common.{sym, ◌∙◌}
+use Rattle.std.specs.Option.{option_copied}
+use Rattle.protox_link_checks.proofs.Named.{looked_at, not_looked_at}
+use Rattle.protox_link_checks.proofs.name.check_name.Goals as goal
+
+pub returns-in_default : goal.returns-in_default
+returns-in_default c full h uses =
+    let view = c.args.view.now in
+    not_looked_at view.symbols.now view.sees.now view.packages.now c.args.file c.args.path.now c.args.scope full c.text_of-name.result.now (option_copied c.args.name) c.args.faults.now.items uses
+    c.in_default.is c.text_of-name.ensures (sym c.if-not-is_identifier.ensures) h
+
+pub returns : goal.returns
+returns c full h =
+    let view = c.args.view.now in
+    looked_at view.symbols.now view.sees.now view.packages.now c.args.file c.args.path.now c.len-count.ensures.tree c.in-Some.scope c.args.scope full c.text_of-name.result.now (option_copied c.args.name) c.find-number.result c.args.faults.now.items c.check_clash.new.faults.items
+    c.in-Some.is c.text_of-name.ensures (sym c.if-not-is_identifier.ensures) c.find-number.ensures c.in_ok-check_clash.ensures h

@@ -1,0 +1,32 @@
+use Rattle.std.proofs.Common.{◌≡◌, List, ℕ, Option, None, Some, refl, sym, ap, subst, ◌∙◌}
+use Rattle.std.specs.Option.{option_copied}
+use Rattle.protox_descriptor.specs.FieldDescriptorProto.{FieldDescriptorProto}
+use Rattle.protox_descriptor.specs.declared.tag.field.TheConstants.{EXTENDEE, TYPE_NAME}
+use Rattle.protox_walk.specs.Declarations.{declared, full_name, text_of}
+use Rattle.protox_walk.specs.Parts.{Field}
+use Rattle.protox_link_checks.specs.Uses.{field_uses, message_faults, type_faults}
+use Rattle.protox_link_checks.proofs.Checking.{alone, name_read, uses_checked}
+use Rattle.protox_link_checks.proofs.parts.FieldDescriptorProtoChecked.check.Goals as goal
+
+pub returns-in_default : goal.returns-in_default
+returns-in_default c full h =
+    let view = c.args.view.now in
+    let field = c.args.self.now in
+    let named = c.as_ref-name.ensures.value ∙ ap (λ (f : FieldDescriptorProto). f.name) c.self.view_is in
+    let checked = name_read view.symbols.now view.sees.now view.packages.now c.args.file c.args.path.now full (option_copied c.as_ref-name.result) field.name c.args.faults.now.items c.check_name.new.faults.items c.in_ok-scope.field-0 None named c.in_default.is (c.in_ok-scope.ensures full h) in
+    alone view.symbols.now view.sees.now view.packages.now c.args.file c.args.faults.now.items c.check_name.new.faults.items (declared c.args.path.now (full_name full field.name) (Field field))
+    (checked (field_uses view.symbols.now view.sees.now view.packages.now c.args.file c.args.path.now (full_name full field.name) field))
+
+pub returns : goal.returns
+returns c full h =
+    let view = c.args.view.now in
+    let field = c.args.self.now in
+    let named = c.as_ref-name.ensures.value ∙ ap (λ (f : FieldDescriptorProto). f.name) c.self.view_is in
+    let typed = c.as_ref-of_type.ensures.value ∙ ap (λ (f : FieldDescriptorProto). f.type_name) c.self.view_is in
+    let may = name_read view.symbols.now view.sees.now view.packages.now c.args.file c.args.path.now full (option_copied c.as_ref-name.result) field.name c.args.faults.now.items c.check_name.new.faults.items c.in_ok-scope.field-0 (Some c.in-Some.scope) named c.in-Some.is (c.in_ok-scope.ensures full h) in
+    uses_checked view.symbols.now view.sees.now view.packages.now c.args.file c.check_message.result c.args.path.now full field.name c.in-Some.scope c.args.faults.now.items c.check_name.new.faults.items c.check_type.new.faults.items c.check_message.new.faults.items
+    (λ (user : List ℕ). type_faults view.symbols.now view.sees.now view.packages.now c.args.file c.args.path.now TYPE_NAME user field.type_name)
+    (λ (user : List ℕ). message_faults view.symbols.now view.sees.now view.packages.now c.args.file c.args.path.now EXTENDEE user field.extendee)
+    may
+    (rw (← typed) (c.in_ok-check_type.ensures (text_of field.name) may.one))
+    (rw (← c.extendee-extendee.ensures) (c.check_message.ensures (text_of field.name) may.one))

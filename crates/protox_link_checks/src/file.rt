@@ -1,0 +1,61 @@
+//! What is wrong with the names of a file.
+
+ghost use Rattle.std.specs.Prelude.{◌≡◌, ◌++◌, OnOk};
+ghost use Rattle.protox_link_checks.specs.Faults.{all_declared_faults};
+
+use crate::each::check_each;
+use crate::name::inside;
+use protox_descriptor::descriptor::FileDescriptorProto;
+use protox_descriptor::tag::file::{ENUM_TYPE, EXTENSION, MESSAGE_TYPE, SERVICE};
+use protox_link_fault::LinkFault;
+use protox_views::View;
+use std::alloc::{AllocError, Global};
+
+/// Adds what is wrong with the names that a file declares, and with those that it uses: of types, of
+/// what is extended, and of what methods take and give. The faults are in the order of the file's
+/// declarations.
+///
+/// It makes no full name, so a scope with a long name costs no more than another.
+///
+/// # Errors
+/// `AllocError` where memory runs out, or where a list has more than 2,147,483,648 parts: no path
+/// can count them. Some faults may have been added then.
+pub fn check_names(
+    alloc: Global,
+    view: &View<'_>,
+    number: usize,
+    file: &FileDescriptorProto,
+    faults: &mut Vec<LinkFault>,
+) -> Result<(), AllocError>
+    ensures { OnOk result (faults.new.items ≡ faults.old.items
+        ++ all_declared_faults view.now.symbols.now view.now.sees.now view.now.packages.now number
+        file.now) }
+{
+    let scope = inside(view, Some(None), file.package.as_ref());
+    let messages = &file.message_type;
+    let enums = &file.enum_type;
+    let services = &file.service;
+    let extensions = &file.extension;
+    check_each(
+        alloc,
+        view,
+        number,
+        scope,
+        &[],
+        MESSAGE_TYPE,
+        messages,
+        faults,
+    )?;
+    check_each(alloc, view, number, scope, &[], ENUM_TYPE, enums, faults)?;
+    check_each(alloc, view, number, scope, &[], SERVICE, services, faults)?;
+    check_each(
+        alloc,
+        view,
+        number,
+        scope,
+        &[],
+        EXTENSION,
+        extensions,
+        faults,
+    )
+}

@@ -1,0 +1,121 @@
+//! What is wrong with the name of a declaration.
+
+ghost use Rattle.std.specs.Prelude.{◌≡◌, ◌++◌, ℕ, Bool, List, IfOk, OnOk};
+ghost use Rattle.std.specs.Option.{option_copied};
+ghost use Rattle.protox_link_checks.specs.Checked.{IsChecked};
+ghost use Rattle.protox_link_checks.specs.Faults.{bad_name, clash_faults, is_declared_at};
+ghost use Rattle.protox_symbols.specs.Scopes.{IsFoundScope};
+ghost use Rattle.protox_walk.specs.Declarations.{full_name, text_of};
+
+use crate::uses::add_fault;
+use protox_descriptor::tag::message::NAME;
+use protox_descriptor::values::Text;
+use protox_link_fault::{LinkFault, LinkFaultKind};
+use protox_names::is_identifier;
+use protox_symbols::Symbols;
+use protox_views::View;
+use std::alloc::{AllocError, Global};
+
+// The text of a name; the empty one where the name is not set.
+fn text_of(name: Option<&Text>) -> &str
+    ensures { result.now ≡ text_of (option_copied name.entry) }
+{
+    match name {
+        Some(name) => name.as_str(),
+        None => "",
+    }
+}
+
+/// The scope that what has this name in a scope is. None if the table has no such scope.
+pub(crate) fn inside(
+    view: &View<'_>,
+    scope: Option<Option<usize>>,
+    name: Option<&Text>,
+) -> Option<Option<usize>>
+    ensures { (full : List ℕ) → IsFoundScope view.now.symbols.now full scope
+        → IsFoundScope view.now.symbols.now (full_name full (option_copied name.entry)) result }
+{
+    let scope = scope?;
+    // for the proof: a full name has one number
+    let _count = view.symbols.len();
+    let name = text_of(name);
+    match view.symbols.find(scope, name) {
+        Some(number) => Some(Some(number)),
+        None if scope.is_none() && name.is_empty() => Some(None),
+        None => None,
+    }
+}
+
+fn is_declared_at(symbols: &Symbols, file: usize, path: &[i32], number: usize) -> bool
+    ensures { (sees packages : List Bool) → result
+        ≡ is_declared_at symbols.now sees packages file path.now number }
+{
+    match symbols.thing(number) {
+        Some(thing) => thing.file == file && thing.path.as_slice() == path,
+        None => false,
+    }
+}
+
+// Adds a fault if an earlier declaration has the number of a full name.
+fn check_clash(
+    alloc: Global,
+    view: &View<'_>,
+    file: usize,
+    path: &[i32],
+    number: Option<usize>,
+    faults: &mut Vec<LinkFault>,
+) -> Result<(), AllocError>
+    ensures { OnOk result (faults.new.items ≡ faults.old.items
+        ++ clash_faults view.now.symbols.now view.now.sees.now view.now.packages.now file path.now
+        number) }
+{
+    let Some(number) = number else {
+        return Ok(());
+    };
+    if is_declared_at(view.symbols, file, path, number) {
+        return Ok(());
+    }
+    let kind = LinkFaultKind::AlreadyDefined(number);
+    add_fault(alloc, file, path, NAME, kind, faults)
+}
+
+// What is wrong with a name that is no identifier.
+fn bad_name(name: &str) -> LinkFaultKind
+    ensures { result ≡ bad_name name.now }
+{
+    if name.is_empty() {
+        LinkFaultKind::MissingName
+    } else {
+        LinkFaultKind::BadName
+    }
+}
+
+/// Adds what is wrong with the name of a declaration in a scope. If the names that it uses are to be
+/// looked at, it returns the number of the scope.
+pub(crate) fn check_name(
+    alloc: Global,
+    view: &View<'_>,
+    file: usize,
+    scope: Option<Option<usize>>,
+    path: &[i32],
+    name: Option<&Text>,
+    faults: &mut Vec<LinkFault>,
+) -> Result<Option<Option<usize>>, AllocError>
+    ensures { (full : List ℕ) → IsFoundScope view.now.symbols.now full scope → IfOk result
+        (IsChecked view.now.symbols.now view.now.sees.now view.now.packages.now file path.now full
+        (option_copied name.entry) faults.old.items faults.new.items) }
+{
+    let name = text_of(name);
+    if !is_identifier(name) {
+        add_fault(alloc, file, path, NAME, bad_name(name), faults)?;
+        return Ok(None);
+    }
+    let Some(scope) = scope else {
+        return Ok(None);
+    };
+    // for the proof: a full name has one number
+    let _count = view.symbols.len();
+    let number = view.symbols.find(scope, name);
+    check_clash(alloc, view, file, path, number, faults)?;
+    Ok(Some(scope))
+}

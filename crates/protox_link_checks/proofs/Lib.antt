@@ -1,3 +1,5 @@
 pub mod Named
 pub mod Folding
 pub mod Checking
+pub mod Outwards
+pub mod Imported

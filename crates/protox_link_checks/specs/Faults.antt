@@ -8,7 +8,7 @@ use Rattle.protox_descriptor.specs.declared.descriptor.FileDescriptorProto.{File
 use Rattle.protox_descriptor.specs.declared.tag.message.TheConstants.{NAME}
 use Rattle.protox_link_fault.specs.declared.LinkFault.{LinkFault}
 use Rattle.protox_link_fault.specs.declared.LinkFaultKind.{LinkFaultKind}
-use Rattle.protox_link_fault.specs.declared.LinkFaultKind.TheVariants.{AlreadyDefined, BadName, MissingName}
+use Rattle.protox_link_fault.specs.declared.LinkFaultKind.TheVariants.{AlreadyDefined, BadName, MissingName, NotInTable}
 use Rattle.protox_link_checks.specs.Uses.{fault_at, uses_of}
 use Rattle.protox_name_tree.specs.Tree.{has_innermost, number_of}
 use Rattle.protox_names.specs.Names.{is_identifier, scopes}
@@ -26,9 +26,10 @@ module _ (table : Table) (sees packages : List Bool) (file : ℕ) where
   abbrev pub is_declared_at : Path → ℕ → Bool
   is_declared_at path n = option_map_or (λ thing. thing.file == file && pointwise int_eq thing.path path) (slice_get table.things n) false
 
-  -- Of two declarations with one full name, the later one is at fault.
+  -- The table has the full name of each declaration. Of two with one full name, the later one is at
+  -- fault.
   abbrev pub clash_faults : Path → Option ℕ → List LinkFault
-  clash_faults path None = []
+  clash_faults path None = fault_at file path NAME NotInTable ∷ []
   clash_faults path (Some n) = if is_declared_at path n then [] else fault_at file path NAME (AlreadyDefined n) ∷ []
 
   -- The faults of what has a name: of the name itself, or else of its full name, and of the names

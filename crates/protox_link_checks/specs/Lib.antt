@@ -1,3 +1,5 @@
 pub mod Uses
 pub mod Faults
 pub mod Checked
+pub mod Imports
+pub mod File

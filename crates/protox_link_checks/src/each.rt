@@ -32,8 +32,13 @@ pub(crate) trait Checked {
             view.now.sees.now view.now.packages.now file) (declares self.now full path.now)) };
 }
 
-// The path of the sibling at an index.
-fn path_to(alloc: Global, path: &[i32], tag: i32, index: usize) -> Result<Numbers, AllocError>
+/// The path of the sibling at an index.
+pub(crate) fn path_to(
+    alloc: Global,
+    path: &[i32],
+    tag: i32,
+    index: usize,
+) -> Result<Numbers, AllocError>
     ensures { IfOk result (λ made. made ≡ nth path.now tag index) }
 {
     if index > 2147483647 {

@@ -1,10 +1,13 @@
 //! What is wrong with the names of a file.
 
-ghost use Rattle.std.specs.Prelude.{◌≡◌, ◌++◌, OnOk};
+ghost use Rattle.std.specs.Prelude.{◌≡◌, ◌<◌, ◌++◌, ℕ, Some, length, Contains, OnOk};
 ghost use Rattle.protox_link_checks.specs.Faults.{all_declared_faults};
+ghost use Rattle.protox_link_checks.specs.File.{file_faults};
 
 use crate::each::check_each;
-use crate::name::inside;
+use crate::imports::check_imports;
+use crate::name::{inside, text_of};
+use crate::package::check_package;
 use protox_descriptor::descriptor::FileDescriptorProto;
 use protox_descriptor::tag::file::{ENUM_TYPE, EXTENSION, MESSAGE_TYPE, SERVICE};
 use protox_link_fault::LinkFault;
@@ -58,4 +61,30 @@ pub fn check_names(
         extensions,
         faults,
     )
+}
+
+/// Adds all that is wrong with a file of a set, as far as names go: with its imports, its package,
+/// and the names that it declares and uses. `imports` has the number of the first file with the
+/// name of each import, if any file has it.
+///
+/// # Errors
+/// `AllocError` where memory runs out, or where a list has more than 2,147,483,648 parts: no path
+/// can count them. Some faults may have been added then.
+pub fn check_file(
+    alloc: Global,
+    view: &View<'_>,
+    imports: &[Option<usize>],
+    number: usize,
+    file: &FileDescriptorProto,
+    faults: &mut Vec<LinkFault>,
+) -> Result<(), AllocError>
+    requires { (n : ℕ) → Contains imports.now (Some n) → n < length view.now.sees.now }
+    ensures { OnOk result (faults.new.items ≡ faults.old.items
+        ++ file_faults view.now.symbols.now view.now.sees.now view.now.packages.now number
+        imports.now file.now) }
+{
+    check_imports(alloc, view.sees.len(), number, imports, faults)?;
+    let package = text_of(file.package.as_ref());
+    check_package(alloc, view.symbols, number, package, faults)?;
+    check_names(alloc, view, number, file, faults)
 }

@@ -3,8 +3,10 @@
 
 mod each;
 mod file;
+mod imports;
 mod name;
+mod package;
 mod parts;
 mod uses;
 
-pub use crate::file::check_names;
+pub use crate::file::{check_file, check_names};

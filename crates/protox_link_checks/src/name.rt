@@ -16,8 +16,8 @@ use protox_symbols::Symbols;
 use protox_views::View;
 use std::alloc::{AllocError, Global};
 
-// The text of a name; the empty one where the name is not set.
-fn text_of(name: Option<&Text>) -> &str
+/// The text of a name; the empty one where the name is not set.
+pub(crate) fn text_of(name: Option<&Text>) -> &str
     ensures { result.now ≡ text_of (option_copied name.entry) }
 {
     match name {
@@ -56,7 +56,7 @@ fn is_declared_at(symbols: &Symbols, file: usize, path: &[i32], number: usize) -
     }
 }
 
-// Adds a fault if an earlier declaration has the number of a full name.
+// Adds a fault if an earlier declaration has the number of a full name, or if there is no number.
 fn check_clash(
     alloc: Global,
     view: &View<'_>,
@@ -70,7 +70,7 @@ fn check_clash(
         number) }
 {
     let Some(number) = number else {
-        return Ok(());
+        return add_fault(alloc, file, path, NAME, LinkFaultKind::NotInTable, faults);
     };
     if is_declared_at(view.symbols, file, path, number) {
         return Ok(());

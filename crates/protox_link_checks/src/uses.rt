@@ -77,7 +77,7 @@ fn wrong_message(
 }
 
 // Adds a fault, if there is one.
-fn add_if_any(
+pub(crate) fn add_if_any(
     alloc: Global,
     file: usize,
     path: &[i32],

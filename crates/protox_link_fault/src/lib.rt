@@ -25,6 +25,9 @@ pub enum LinkFaultKind {
     BadName,
     /// What has this number has the same full name, and was declared before.
     AlreadyDefined(usize),
+    /// The table doesn't have the declaration, although it has what the declaration stands in. In the
+    /// table of the set this can't be.
+    NotInTable,
     /// What has this number has the full name of a package of the file, and is no package.
     NotAPackage(usize),
     /// This name stands for nothing.

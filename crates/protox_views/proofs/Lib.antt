@@ -1,2 +1,2 @@
 mod Found
-mod Ways
+pub mod Ways

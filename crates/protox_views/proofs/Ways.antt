@@ -46,10 +46,10 @@ same_number names n q tree here there same =
     same_Some q n (sym (tree.numbered.number_of (name_at names q) q (known_name names.full_names q there))
     ∙ tree.numbered.number_of (name_at names q) n (known_name names.full_names n here ∙ ap (λ name. Some name) (sym same)))
 
-past_name : (names : Names) (q : ℕ) → length names.full_names ≤ q → name_at names q ≡ []
+pub past_name : (names : Names) (q : ℕ) → length names.full_names ≤ q → name_at names q ≡ []
 past_name names q past = sym (unwrap_or-slice_get names.full_names q []) ∙ ap (λ name. unwrap_or name []) (slice_get_past names.full_names q past)
 
-is_below : (q n : ℕ) → (q < n) ⊎ (n ≤ q)
+pub is_below : (q n : ℕ) → (q < n) ⊎ (n ≤ q)
 is_below q n = grind arith
 
 is_same : (q n : ℕ) → (q ≡ n) ⊎ (q ≡ n → ⊥)

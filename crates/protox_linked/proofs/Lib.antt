@@ -1,1 +1,1 @@
-mod Nesting
+pub mod Nesting

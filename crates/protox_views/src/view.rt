@@ -10,6 +10,7 @@ use protox_symbols::Symbols;
 
 /// What a file sees of a table of declarations: what is declared in files that it sees, and the
 /// packages that these files are in.
+#[derive(Drop)]
 pub struct View<'a> {
     /// The table.
     pub symbols: &'a Symbols,

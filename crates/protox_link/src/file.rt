@@ -1,0 +1,60 @@
+//! One file of a list: what is wrong with it, and what linking makes of it.
+
+ghost use Rattle.std.specs.Prelude.{◌≡◌, ◌<◌, ℕ, List, Some, length, Contains, OnOk};
+ghost use Rattle.protox_descriptor.specs.declared.descriptor.FileDescriptorProto.{FileDescriptorProto};
+ghost use Rattle.protox_link.specs.Files.{IsChecked, IsDone};
+ghost use Rattle.protox_link.specs.Known.{IsKnownOf};
+
+use crate::known::Known;
+use crate::packages::text_of;
+use protox_descriptor::descriptor::FileDescriptorProto;
+use protox_imports::sees;
+use protox_link_checks::check_file;
+use protox_link_fault::LinkFault;
+use protox_linked::link_file;
+use protox_views::{View, seen_packages};
+use std::alloc::{AllocError, Global};
+
+// Adds what is wrong with a file that sees this, and links it if nothing is wrong so far.
+fn check_and_link(
+    alloc: Global,
+    view: &View<'_>,
+    imports: &[Option<usize>],
+    number: usize,
+    file: &mut FileDescriptorProto,
+    faults: &mut Vec<LinkFault>,
+) -> Result<(), AllocError>
+    requires { (n : ℕ) → Contains imports.now (Some n) → n < length view.now.sees.now }
+    ensures { OnOk result (IsChecked view.now.symbols.now view.now.sees.now view.now.packages.now
+        number imports.now file.old file.new faults.old.items faults.new.items) }
+{
+    check_file(alloc, view, imports, number, file, faults)?;
+    if !faults.is_empty() {
+        return Ok(());
+    }
+    let package = view.symbols.find(None, text_of(file.package.as_ref()));
+    link_file(alloc, view, package, file)
+}
+
+/// Adds what is wrong with the file of this number, and links it if nothing is wrong so far.
+pub(crate) fn do_file(
+    alloc: Global,
+    known: &Known,
+    number: usize,
+    file: &mut FileDescriptorProto,
+    faults: &mut Vec<LinkFault>,
+) -> Result<(), AllocError>
+    requires { number < length known.now.imports.files }
+    ensures { (all : List FileDescriptorProto) → IsKnownOf all known.now → OnOk result
+        (IsDone all number file.old file.new faults.old.items faults.new.items) }
+{
+    let sees = sees(alloc, &known.imports, number)?;
+    let packages = known.packages.as_slice();
+    let packages = seen_packages(alloc, &known.symbols, packages, sees.as_slice())?;
+    let view = View {
+        symbols: &known.symbols,
+        sees: sees.as_slice(),
+        packages: packages.as_slice(),
+    };
+    check_and_link(alloc, &view, known.imports.named(number), number, file, faults)
+}

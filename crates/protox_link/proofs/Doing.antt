@@ -1,10 +1,15 @@
 -- One file of a list after another.
-use Rattle.std.proofs.Common.{◌≡◌, ◌<◌, ℕ, Bool, false, List, Option, [], ◌++◌, length, OnOk, Result, refl, sym, ap, subst, ◌∙◌, slice_index_or}
+use Rattle.std.proofs.Common.{◌≡◌, ◌<◌, ◌≤◌, ◌+◌, ℕ, Bool, false, List, Option, [], ◌∷◌, ◌++◌, add-one, append-nil, append_assoc, arith, drop, get_or, length, take, OnOk, Result, refl, sym, ap, subst, ◌∙◌, slice_index_or}
+use Rattle.std.proofs.Math.ListN.{set}
+use Rattle.std.proofs.Math.Seq.{take-suc-set}
+use Rattle.std.proofs.lemmas.Grind.{drop_more_same}
+use Rattle.std.proofs.lemmas.List.{drop-set-lt, drop_all, drop_more, length-set, take_all}
 use Rattle.std.proofs.lemmas.Result.{on_ok_weaker}
 use Rattle.protox_descriptor.specs.declared.descriptor.FileDescriptorProto.{FileDescriptorProto}
 use Rattle.protox_imports.specs.Rows.{named_of, rows_of}
 use Rattle.protox_imports.specs.Seen.{AreSeen}
-use Rattle.protox_link.specs.Files.{IsChecked, IsDone}
+use Rattle.protox_link.proofs.Standing.{none_of_first}
+use Rattle.protox_link.specs.Files.{AreDone, AreFaults, AreLinked, IsChecked, IsDone, NoFile, NoMore, OneFile, OneMore, faults_in, linked_in}
 use Rattle.protox_link.specs.Known.{IsKnownOf}
 use Rattle.protox_link.specs.Seen.{IsSeenBy, packages_of}
 use Rattle.protox_link.specs.declared.known.Known.{Known}
@@ -26,8 +31,8 @@ done r all known n sees packages imports file made before after is as_many of_fi
     on_ok_weaker r (λ checked.
     let named_all : imports ≡ named_of (rows_of all) n = named ∙ ap (λ rows. named_of rows n) is.rows in
     let in_all : IsChecked (table_of all) sees packages n (named_of (rows_of all) n) file made before after =
-      subst (λ i. IsChecked (table_of all) sees packages n i file made before after) named_all
-      (subst (λ t. IsChecked t sees packages n imports file made before after) is.table checked) in
+    subst (λ i. IsChecked (table_of all) sees packages n i file made before after) named_all
+    (subst (λ t. IsChecked t sees packages n imports file made before after) is.table checked) in
     record {
       sees = sees;
       packages = packages;
@@ -40,3 +45,59 @@ done r all known n sees packages imports file made before after is as_many of_fi
       faults = in_all.faults;
       linked = in_all.linked;
     })
+
+-- ---- the files so far
+
+module _ (all : List FileDescriptorProto) where
+  -- The files before the number n are done: whatever is wrong with those that are left stands behind
+  -- the faults so far, and what becomes of them behind the files so far.
+  pub record AreDoneTo (n : ℕ) (files : List FileDescriptorProto) (faults : List LinkFault) : Type 0 where
+    pub as_many : length files ≡ length all
+    pub left : drop n files ≡ drop n all
+    pub told : (rest : List LinkFault) → AreFaults all n (drop n all) rest → AreFaults all 0 all (faults ++ rest)
+    pub linked : faults ≡ [] → (more : List FileDescriptorProto) → AreLinked all n (drop n all) more → AreLinked all 0 all (take n files ++ more)
+
+  pub none_done : AreDoneTo 0 all []
+  none_done = record {
+    as_many = refl;
+    left = refl;
+    told = λ rest h. h;
+    linked = λ none more h. h;
+  }
+
+  pub one_done : (n : ℕ) (files : List FileDescriptorProto) (file made : FileDescriptorProto) (before after : List LinkFault) → n < length files → file ≡ get_or files n file
+      → AreDoneTo n files before → IsDone all n file made before after → AreDoneTo (n + 1) (set files n made) after
+  one_done n files file made before after below is so_far one =
+      let first : drop n all ≡ file ∷ drop (n + 1) all =
+      sym so_far.left ∙ drop_more files n file below ∙ ap (λ f. f ∷ drop (n + 1) files) (sym is)
+      ∙ ap (λ rest. file ∷ rest) (drop_more_same files all n so_far.left) in
+      record {
+        as_many = length-set files n made ∙ so_far.as_many;
+        left = drop-set-lt (n + 1) files n made (omega arith) ∙ drop_more_same files all n so_far.left;
+        told = λ rest h.
+            subst (AreFaults all 0 all) (sym (ap (λ faults. faults ++ rest) one.faults ∙ append_assoc before (faults_in all n one.sees one.packages file) rest))
+            (so_far.told (faults_in all n one.sees one.packages file ++ rest)
+            (subst (λ left. AreFaults all n left (faults_in all n one.sees one.packages file ++ rest)) (sym first)
+            (OneMore n file (drop (n + 1) all) one.sees one.packages rest one.seen h)));
+        linked = λ none more h.
+            let same : take (n + 1) (set files n made) ++ more ≡ take n files ++ linked_in all one.sees one.packages file ∷ more =
+            ap (λ front. front ++ more) (ap (λ m. take m (set files n made)) (add-one n) ∙ take-suc-set files n made below)
+            ∙ append_assoc (take n files) (made ∷ []) more
+            ∙ ap (λ f. take n files ++ f ∷ more) (one.linked none) in
+            subst (AreLinked all 0 all) (sym same)
+            (so_far.linked (none_of_first before _ (sym one.faults ∙ none)) (linked_in all one.sees one.packages file ∷ more)
+            (subst (λ left. AreLinked all n left (linked_in all one.sees one.packages file ∷ more)) (sym first)
+            (OneFile n file (drop (n + 1) all) one.sees one.packages more one.seen h)));
+      }
+
+  pub all_done : (n : ℕ) (files : List FileDescriptorProto) (faults : List LinkFault) → length files ≤ n → AreDoneTo n files faults → AreDone all files faults
+  all_done n files faults end so_far =
+      let none : drop n all ≡ [] = drop_all n all (omega (arith, end, so_far.as_many)) in
+      record {
+        told =
+            subst (AreFaults all 0 all) (append-nil faults)
+            (so_far.told [] (subst (λ left. AreFaults all n left []) (sym none) (NoMore n)));
+        linked = λ right.
+            subst (AreLinked all 0 all) (append-nil (take n files) ∙ take_all n files end)
+            (so_far.linked right [] (subst (λ left. AreLinked all n left []) (sym none) (NoFile n)));
+      }

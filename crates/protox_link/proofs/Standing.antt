@@ -67,7 +67,7 @@ module _ (t : Table) (sees packages : List Bool) (file : ℕ) where
         | inl good ↦ good
         | inr bad ↦
             let told : fault_at file path message_tag.NAME (bad_name own) ∷ [] ≡ [] =
-              sym (ap (λ b. cond b (cond (has_innermost t.names (scopes full)) (clash_faults t sees packages file path (number_of t.names full) ++ uses) []) (fault_at file path message_tag.NAME (bad_name own) ∷ [])) bad) ∙ none in
+            sym (ap (λ b. cond b (cond (has_innermost t.names (scopes full)) (clash_faults t sees packages file path (number_of t.names full) ++ uses) []) (fault_at file path message_tag.NAME (bad_name own) ∷ [])) bad) ∙ none in
             cc
       ]
 

@@ -44,3 +44,10 @@ pub record IsDone (all : List FileDescriptorProto) (n : ℕ) (file made : FileDe
   pub seen : IsSeenBy all n sees packages
   pub faults : after ≡ before ++ faults_in all n sees packages file
   pub linked : after ≡ [] → made ≡ linked_in all sees packages file
+
+-- ---- all files
+
+-- These are all faults of the files of a list, and if there are none, the files are linked.
+pub record AreDone (all made : List FileDescriptorProto) (faults : List LinkFault) : Type 0 where
+  pub told : AreFaults all 0 all faults
+  pub linked : faults ≡ [] → AreLinked all 0 all made

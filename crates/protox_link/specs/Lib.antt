@@ -1,3 +1,5 @@
 pub mod Seen
 pub mod Files
 pub mod Known
+pub mod Link
+pub mod Prepared

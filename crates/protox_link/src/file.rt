@@ -56,5 +56,12 @@ pub(crate) fn do_file(
         sees: sees.as_slice(),
         packages: packages.as_slice(),
     };
-    check_and_link(alloc, &view, known.imports.named(number), number, file, faults)
+    check_and_link(
+        alloc,
+        &view,
+        known.imports.named(number),
+        number,
+        file,
+        faults,
+    )
 }

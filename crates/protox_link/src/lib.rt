@@ -2,5 +2,12 @@
 #![tactic(auto)]
 
 mod file;
+mod files;
 mod known;
+mod linking;
 mod packages;
+mod prepare;
+mod set;
+
+pub use crate::linking::link;
+pub use crate::set::LinkedSet;

@@ -18,9 +18,9 @@ returns c all known =
     let as_many : length c.as_slice-2.result.now ≡ length rows = omega (arith, ap length c.as_slice-2.ensures.value, c.in_ok-sees.ensures.len, c.in_ok-sees.sees.ok.0) in
     let of_files : AreSeen rows c.args.number c.as_slice-2.result.now = subst (λ (marks : List Bool). AreSeen rows c.args.number marks) (sym c.as_slice-2.ensures.value) c.in_ok-sees.ensures.value in
     let of_packages : (k : ℕ) → k < length names.full_names → slice_index_or c.as_slice-3.result.now k false ≡ is_package_seen names c.args.known.now.packages.items c.as_slice-2.result.now k = λ k below.
-      ap (λ (marks : List Bool). slice_index_or marks k false) c.as_slice-3.ensures.value
-      ∙ c.in_ok-packages.ensures k below
-      ∙ ap (λ (packages : List (Option ℕ)). is_package_seen names packages c.as_slice.result.now k) c.as_slice-packages.ensures.value
-      ∙ ap (λ (marks : List Bool). is_package_seen names c.args.known.now.packages.items marks k) (c.as_slice.ensures.value ∙ sym c.as_slice-2.ensures.value) in
+    ap (λ (marks : List Bool). slice_index_or marks k false) c.as_slice-3.ensures.value
+    ∙ c.in_ok-packages.ensures k below
+    ∙ ap (λ (packages : List (Option ℕ)). is_package_seen names packages c.as_slice.result.now k) c.as_slice-packages.ensures.value
+    ∙ ap (λ (marks : List Bool). is_package_seen names c.args.known.now.packages.items marks k) (c.as_slice.ensures.value ∙ sym c.as_slice-2.ensures.value) in
     done c.check_and_link.result all c.args.known.now c.args.number c.as_slice-2.result.now c.as_slice-3.result.now c.named.result.now c.args.file.now c.check_and_link.new.file c.args.faults.now.items c.check_and_link.new.faults.items known
     as_many of_files of_packages c.named.ensures (length-map all _) c.check_and_link.ensures

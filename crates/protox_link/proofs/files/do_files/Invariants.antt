@@ -1,0 +1,8 @@
+use Rattle.std.proofs.Common.{◌≡◌, []}
+use Rattle.protox_link.proofs.Doing.{AreDoneTo}
+use Rattle.protox_link.specs.Known.{IsKnownOf}
+use Rattle.protox_link.proofs.files.do_files.Given as goal
+
+abbrev pub invariant-loop-number : goal.invariant-loop-number
+invariant-loop-number l =
+    IsKnownOf l.fn.files l.known → l.fn.faults.items ≡ [] → AreDoneTo l.fn.files l.number l.files l.faults.items

@@ -1,0 +1,35 @@
+-- Linked sets of files, and why there is none.
+use Rattle.std.specs.Prelude.{◌≡◌, ◌≢◌, ◌-◌, ◌⊎◌, ⊤, ℕ, List, [], ◌∷◌, Option, Some, length, slice_get}
+use Rattle.protox_descriptor.specs.declared.descriptor.FileDescriptorProto.{FileDescriptorProto}
+use Rattle.protox_descriptor.specs.declared.tag.file.TheConstants.{DEPENDENCY}
+use Rattle.protox_imports.specs.Imports.{Imports}
+use Rattle.protox_imports.specs.Order.{IsCycle, IsInOrder}
+use Rattle.protox_link.specs.Files.{AreFaults, AreLinked}
+use Rattle.protox_link.specs.declared.set.LinkedSet.{LinkedSet}
+use Rattle.protox_link_fault.specs.declared.LinkFailure.{LinkFailure}
+use Rattle.protox_link_fault.specs.declared.LinkFailure.TheVariants.{OutOfMemory, Refused}
+use Rattle.protox_link_fault.specs.declared.LinkFault.{LinkFault}
+use Rattle.protox_link_fault.specs.declared.LinkFaultKind.TheVariants.{ImportCycle}
+
+-- The files of the set are the given ones, linked. Nothing is wrong with them, and the order is one
+-- in which each file stands behind what it imports.
+pub record IsSetOf (files : List FileDescriptorProto) (set : LinkedSet) : Type 0 where
+  pub right : AreFaults files 0 files []
+  pub linked : AreLinked files 0 files set.files.items
+  pub ordered : IsInOrder (Imports files) (length files) set.order.items
+
+-- The fault is that of files that import one another in a circle. It is told at the last of them.
+pub record IsOfCircle (files : List FileDescriptorProto) (fault : LinkFault) : Type 0 where
+  pub circle : List ℕ
+  pub last : slice_get circle (length circle - 1) ≡ Some fault.file
+  pub at_imports : fault.path ≡ DEPENDENCY ∷ []
+  pub is : IsCycle (Imports files) circle
+
+-- There is a circle, or these are all faults, and there is one.
+abbrev pub AreOfFiles : List FileDescriptorProto → List LinkFault → Type 0
+AreOfFiles files faults =
+    ((fault : LinkFault) × (faults ≡ fault ∷ []) × IsOfCircle files fault) ⊎ ((faults ≢ []) × AreFaults files 0 files faults)
+
+abbrev pub IsFailureOf : List FileDescriptorProto → LinkFailure → Type 0
+IsFailureOf files (Refused faults) = AreOfFiles files faults.items
+IsFailureOf files OutOfMemory = ⊤

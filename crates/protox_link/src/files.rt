@@ -1,0 +1,29 @@
+//! All files of a list, one by one.
+
+ghost use Rattle.std.specs.Prelude.{◌≡◌, [], List, length, OnOk};
+ghost use Rattle.protox_descriptor.specs.declared.descriptor.FileDescriptorProto.{FileDescriptorProto};
+ghost use Rattle.protox_link.specs.Files.{AreDone};
+ghost use Rattle.protox_link.specs.Known.{IsKnownOf};
+
+use crate::file::do_file;
+use crate::known::Known;
+use protox_descriptor::descriptor::FileDescriptorProto;
+use protox_link_fault::LinkFault;
+use std::alloc::{AllocError, Global};
+
+/// Adds what is wrong with each file, in order. The files are linked as long as nothing is wrong.
+pub(crate) fn do_files(
+    alloc: Global,
+    known: &Known,
+    files: &mut [FileDescriptorProto],
+    faults: &mut Vec<LinkFault>,
+) -> Result<(), AllocError>
+    requires { length files.old ≡ length known.now.imports.files }
+    ensures { IsKnownOf files.old known.now → faults.old.items ≡ [] → OnOk result
+        (AreDone files.old files.new faults.new.items) }
+{
+    for (number, file) in files.iter_mut().enumerate() {
+        do_file(alloc, known, number, file, faults)?;
+    }
+    Ok(())
+}

@@ -1,0 +1,118 @@
+//! Linking.
+
+ghost use Rattle.std.specs.Prelude.{◌≡◌, ◌<◌, ◌-◌, ◌∷◌, [], Some, length, slice_get, List, IfOk, IfErr};
+ghost use Rattle.protox_descriptor.specs.declared.descriptor.FileDescriptorProto.{FileDescriptorProto};
+ghost use Rattle.protox_imports.specs.Imports.{Imports as ImportsOf};
+ghost use Rattle.protox_imports.specs.Order.{IsCycle, IsInOrder};
+ghost use Rattle.protox_link.specs.Files.{AreDone};
+ghost use Rattle.protox_link.specs.Known.{IsKnownOf};
+ghost use Rattle.protox_link.specs.Link.{IsFailureOf, IsSetOf};
+
+use crate::LinkedSet;
+use crate::files::do_files;
+use crate::known::Known;
+use crate::prepare::{Prepared, prepare};
+use protox_descriptor::descriptor::FileDescriptorProto;
+use protox_descriptor::tag::file::DEPENDENCY;
+use protox_descriptor::values::Numbers;
+use protox_link_fault::{LinkFailure, LinkFault, LinkFaultKind};
+use std::alloc::{AllocError, Global};
+
+// The fault of files that import one another in a circle.
+fn fault_of_circle(alloc: Global, circle: Vec<usize>) -> Result<LinkFault, AllocError>
+    requires { 0 < length circle.items }
+    ensures file { IfOk result (λ fault. slice_get circle.items (length circle.items - 1)
+        ≡ Some fault.file) }
+    ensures path { IfOk result (λ fault. fault.path ≡ DEPENDENCY ∷ []) }
+{
+    let path = Numbers::from_slice(alloc, &[DEPENDENCY])?;
+    let file = circle[circle.len() - 1];
+    let kind = LinkFaultKind::ImportCycle(circle);
+    Ok(LinkFault { file, path, kind })
+}
+
+// All that is wrong with files that don't import one another in a circle, in order. If nothing is,
+// they are linked.
+fn finish(
+    alloc: Global,
+    known: &Known,
+    files: &mut Vec<FileDescriptorProto>,
+) -> Result<Vec<LinkFault>, AllocError>
+    ensures { IsKnownOf files.old.items known.now → IfOk result (λ faults.
+        AreDone files.old.items files.new.items faults.items) }
+{
+    let mut faults = Vec::new(alloc);
+    if files.len() == known.imports.len() {
+        do_files(alloc, known, files.as_mut_slice(), &mut faults)?;
+    }
+    Ok(faults)
+}
+
+// What linking gives, if there is no circle.
+fn link_ready(
+    alloc: Global,
+    known: &Known,
+    order: Vec<usize>,
+    files: Vec<FileDescriptorProto>,
+) -> Result<LinkedSet, LinkFailure>
+    requires known { IsKnownOf files.items known.now }
+    requires order { IsInOrder (ImportsOf files.items) (length files.items) order.items }
+    ensures linked { IfOk result (λ set. IsSetOf files.items set) }
+    ensures refused { IfErr result (λ failure. IsFailureOf files.items failure) }
+{
+    let mut files = files;
+    let Ok(faults) = finish(alloc, known, &mut files) else {
+        return Err(LinkFailure::OutOfMemory);
+    };
+    if !faults.is_empty() {
+        return Err(LinkFailure::Refused(faults));
+    }
+    Ok(LinkedSet { files, order })
+}
+
+// Why files that import one another in a circle are not linked.
+fn refused_circle(alloc: Global, circle: Vec<usize>) -> LinkFailure
+    requires { 0 < length circle.items }
+    ensures { (files : List FileDescriptorProto) → IsCycle (ImportsOf files) circle.items
+        → IsFailureOf files result }
+{
+    let Ok(fault) = fault_of_circle(alloc, circle) else {
+        return LinkFailure::OutOfMemory;
+    };
+    let mut faults = Vec::new(alloc);
+    match faults.push(fault) {
+        Ok(()) => LinkFailure::Refused(faults),
+        Err(_) => LinkFailure::OutOfMemory,
+    }
+}
+
+/// Links a list of files: each name that they use becomes a dot and the full name of what it stands
+/// for, fields of named types get the type of a message or of an enum, and each field gets a name in
+/// JSON. All else stays as it is. Files are named by their numbers in the list, from 0.
+///
+/// # Errors
+/// `Refused`, with all that is wrong, where something is: an import of no file of the list, an
+/// import told twice, a circle of imports (this is told alone, at its last file), a name that is no
+/// identifier or that was declared before in any of the files, and a name that stands for nothing
+/// that the file sees, or for something of another kind. The faults are in the order of the files
+/// and of their parts.
+/// `OutOfMemory` where memory runs out, or where a list has more than 2,147,483,648 parts: no path
+/// can count them.
+///
+/// ```
+/// match link(alloc, files) {
+///     Ok(set) => ..
+///     Err(LinkFailure::Refused(faults)) => ..
+///     Err(LinkFailure::OutOfMemory) => ..
+/// }
+/// ```
+pub fn link(alloc: Global, files: Vec<FileDescriptorProto>) -> Result<LinkedSet, LinkFailure>
+    ensures linked { IfOk result (λ set. IsSetOf files.items set) }
+    ensures refused { IfErr result (λ failure. IsFailureOf files.items failure) }
+{
+    match prepare(alloc, files.as_slice()) {
+        Ok(Prepared::Ready(known, order)) => link_ready(alloc, &known, order, files),
+        Ok(Prepared::Circle(circle)) => Err(refused_circle(alloc, circle)),
+        Err(_) => Err(LinkFailure::OutOfMemory),
+    }
+}

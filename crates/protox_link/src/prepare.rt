@@ -1,0 +1,46 @@
+//! What is known of a list of files before they are linked.
+
+ghost use Rattle.std.specs.Prelude.{◌≡◌, IfOk};
+ghost use Rattle.protox_imports.specs.Imports.{Imports as ImportsOf};
+ghost use Rattle.protox_imports.specs.Order.{IsCycle};
+ghost use Rattle.protox_link.specs.Known.{IsKnownOf};
+ghost use Rattle.protox_link.specs.Prepared.{IsPreparedFor};
+
+use crate::known::Known;
+use crate::packages::packages_of;
+use protox_descriptor::descriptor::FileDescriptorProto;
+use protox_imports::{Imports, Order, in_order};
+use protox_symbols::Symbols;
+use std::alloc::{AllocError, Global};
+
+/// What is found out first.
+#[derive(Drop)]
+pub(crate) enum Prepared {
+    /// What is known, and an order in which imports come first.
+    Ready(Known, Vec<usize>),
+    /// Files that import one another in a circle.
+    Circle(Vec<usize>),
+}
+
+/// Finds out what is known of a list of files.
+///
+/// # Errors
+/// `AllocError` where memory runs out, or where a list has more than 2,147,483,648 parts: no path
+/// can count them.
+pub(crate) fn prepare(alloc: Global, files: &[FileDescriptorProto]) -> Result<Prepared, AllocError>
+    ensures { IfOk result (IsPreparedFor files.now) }
+{
+    let imports = Imports::new(alloc, files)?;
+    let order = match in_order(alloc, &imports)? {
+        Order::Sorted(order) => order,
+        Order::Cycle(circle) => return Ok(Prepared::Circle(circle)),
+    };
+    let symbols = Symbols::of(alloc, files)?;
+    let packages = packages_of(alloc, &symbols, files)?;
+    let known = Known {
+        imports,
+        symbols,
+        packages,
+    };
+    Ok(Prepared::Ready(known, order))
+}

@@ -104,12 +104,12 @@ impl Symbols {
     {
         self.things.reserve(1)?;
         let count = self.names.len();
-        let number = self.names.declare_in(alloc, scope, name, kind)?;
+        let found = self.names.declare_in(alloc, scope, name, kind)?;
         if self.names.len() == count {
-            return Ok(number);
+            return Ok(found);
         }
         self.things.push_reserved(thing);
-        Ok(number)
+        Ok(found)
     }
 
     /// Adds what is declared with this name in the scope with a number, and returns the number of

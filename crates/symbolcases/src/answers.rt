@@ -1,5 +1,6 @@
 //! What is printed for a line.
 
+use crate::set::{Set, note};
 use protox_descriptor::values::Numbers;
 use protox_names::is_identifier;
 use protox_scopes::{Kind, Wanted, resolve, resolve_in};
@@ -61,6 +62,34 @@ fn added(
         .map(Some)
 }
 
+// What has a full name, with its file and its path.
+fn found_at(
+    alloc: Global,
+    symbols: &Symbols,
+    line: &str,
+    full_name: &str,
+) -> Result<String, AllocError> {
+    let Some(number) = symbols.find(None, full_name) else {
+        return format!(in alloc; "{line}: none");
+    };
+    let kind = kind_word(symbols.kind(number));
+    let Some(thing) = symbols.thing(number) else {
+        return format!(in alloc; "{line}: {kind} {number} of no file");
+    };
+    let mut text = format!(in alloc; "{line}: {kind} {number} of file {} at", thing.file)?;
+    for step in thing.path.as_slice() {
+        text = format!(in alloc; "{text} {step}")?;
+    }
+    Ok(text)
+}
+
+// The table of the files so far, in place of the one before.
+fn ended(alloc: Global, symbols: &mut Symbols, set: &mut Set) -> Result<String, AllocError> {
+    *symbols = Symbols::of(alloc, set.files.as_slice())?;
+    set.files.clear();
+    format!(in alloc; "end: {}", symbols.len())
+}
+
 // What a name stands for, if both ways of asking agree.
 fn resolved(
     alloc: Global,
@@ -81,10 +110,12 @@ fn resolved(
     }
 }
 
-/// Answers one line, or declares what it declares.
+/// Answers one line, or declares what it declares. What says something of a file is printed as it
+/// is.
 pub(crate) fn answer(
     alloc: Global,
     symbols: &mut Symbols,
+    set: &mut Set,
     line: &str,
     count: usize,
 ) -> Result<String, AllocError> {
@@ -102,6 +133,12 @@ pub(crate) fn answer(
         "find" => told(alloc, symbols, line, symbols.find_within(scope, name)),
         "type" => resolved(alloc, symbols, line, Wanted::AType, name, scope),
         "anything" => resolved(alloc, symbols, line, Wanted::Anything, name, scope),
-        _ => format!(in alloc; "{line}: {}", symbols.len()),
+        "names" => format!(in alloc; "{line}: {}", symbols.len()),
+        "at" => found_at(alloc, symbols, line, rest),
+        "end" => ended(alloc, symbols, set),
+        _ => {
+            note(alloc, set, verb, rest)?;
+            String::from_str(alloc, line)
+        }
     }
 }

@@ -3,3 +3,4 @@ pub mod Files
 pub mod Known
 pub mod Link
 pub mod Prepared
+pub mod Laws

@@ -4,6 +4,7 @@
 mod file;
 mod files;
 mod known;
+pub mod laws;
 mod linking;
 mod packages;
 mod prepare;

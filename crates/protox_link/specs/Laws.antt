@@ -1,0 +1,22 @@
+-- What holds of linking, whatever the files are.
+use Rattle.std.specs.Prelude.{◌≡◌, ℕ, List, [], length}
+use Rattle.protox_descriptor.specs.declared.descriptor.FileDescriptorProto.{FileDescriptorProto}
+use Rattle.protox_imports.specs.Imports.{Imports}
+use Rattle.protox_imports.specs.Order.{IsInOrder}
+use Rattle.protox_link.specs.Files.{AreFaults, AreLinked}
+use Rattle.protox_link.specs.Link.{IsFailureOf}
+use Rattle.protox_link_fault.specs.declared.LinkFailure.{LinkFailure}
+use Rattle.protox_link_fault.specs.declared.LinkFailure.TheVariants.{OutOfMemory}
+use Rattle.protox_link_fault.specs.declared.LinkFault.{LinkFault}
+
+-- Files have one list of faults.
+abbrev pub OneListOfFaults : Type 0
+OneListOfFaults = (files : List FileDescriptorProto) (faults other : List LinkFault) → AreFaults files 0 files faults → AreFaults files 0 files other → faults ≡ other
+
+-- Linking makes one list of files of them.
+abbrev pub OneLinking : Type 0
+OneLinking = (files made other : List FileDescriptorProto) → AreLinked files 0 files made → AreLinked files 0 files other → made ≡ other
+
+-- Files of which nothing is wrong, and which have an order, are refused only where memory runs out.
+abbrev pub OnlyWhereWrong : Type 0
+OnlyWhereWrong = (files : List FileDescriptorProto) (order : List ℕ) (failure : LinkFailure) → IsInOrder (Imports files) (length files) order → AreFaults files 0 files [] → IsFailureOf files failure → failure ≡ OutOfMemory

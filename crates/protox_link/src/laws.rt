@@ -1,0 +1,16 @@
+//! Laws of linking. Each is a function that does nothing. Its contract is the law.
+
+ghost use Rattle.protox_link.specs.Laws.{OneLinking, OneListOfFaults, OnlyWhereWrong};
+
+/// Files have one list of faults, and linking makes one list of files of them. So the answer of
+/// `link` is the only one that its contract allows, but for circles of imports and want of memory.
+pub fn one_answer()
+    ensures faults { OneListOfFaults }
+    ensures linked { OneLinking }
+{}
+
+/// Files of which nothing is wrong, and which have an order in which imports come first, are linked,
+/// or memory ran out.
+pub fn only_where_wrong()
+    ensures { OnlyWhereWrong }
+{}

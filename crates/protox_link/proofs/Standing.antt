@@ -14,6 +14,7 @@ use Rattle.protox_descriptor.specs.declared.tag.file.TheConstants as file_tag
 use Rattle.protox_descriptor.specs.declared.tag.message.TheConstants as message_tag
 use Rattle.protox_link_checks.specs.Faults.{bad_name, clash_faults, declared_faults, faults_named}
 use Rattle.protox_link_checks.specs.Imports.{package_faults, wrong_package_found}
+use Rattle.protox_link_checks.specs.Numbers.{message_number_faults}
 use Rattle.protox_link_checks.specs.Uses.{fault_at, faults_at}
 use Rattle.protox_link_fault.specs.declared.LinkFault.{LinkFault}
 use Rattle.protox_linked.proofs.Nesting.{message-stands}
@@ -123,7 +124,7 @@ module _ (t : Table) (sees packages : List Bool) (file : ℕ) where
       let own = (out-DescriptorProto m).name in
       let name = full_name full own in
       let all : wrong (declared path name (Message m)) ++ flat_map wrong (inside m name path) ≡ [] = sym (ap (flat_map wrong) (message_declares m full path)) ∙ none in
-      let here : stands t name ≡ true = declared_stands path full own [] there (none_of_first _ _ all) in
+      let here : stands t name ≡ true = declared_stands path full own (message_number_faults file path m) there (none_of_first _ _ all) in
       let parts : flat_map wrong (inside m name path) ≡ [] = none_of_second (wrong (declared path name (Message m))) _ all in
       let behind : flat_map wrong (messages_at m name path ++ (enums_at m name path ++ (extensions_at m name path ++ oneofs_at m name path))) ≡ [] = none_of_second (flat_map wrong (fields_at m name path)) _ (sym (flat_map-append wrong (fields_at m name path) _) ∙ parts) in
       let messages : flat_map wrong (messages_at m name path) ≡ [] = none_of_first _ _ (sym (flat_map-append wrong (messages_at m name path) (enums_at m name path ++ (extensions_at m name path ++ oneofs_at m name path))) ∙ behind) in

@@ -39,6 +39,14 @@ module _ (t : Table) (sees packages : List Bool) (file : ℕ) where
   first_checked r before between after d ds is =
       on_ok_weaker r (λ rest. rest ∙ ap (λ faults. faults ++ flat_map wrong ds) is ∙ append_assoc before (wrong d) (flat_map wrong ds))
 
+  -- what may use something, and what it uses
+  pub rest_checked : {T E : Type 0} (r : Result T E) (path : Path) (full : List ℕ) (name : Option (List ℕ)) (number : Option ℕ) (before between after uses : List LinkFault)
+      → MayUse t sees packages file path full name before between number
+      → OnOk r (after ≡ between ++ uses)
+      → OnOk r (after ≡ before ++ faults_named t sees packages file path (full_name full name) (text_of name) uses)
+  rest_checked r path full name number before between after uses may =
+      on_ok_weaker r (λ is. is ∙ sym (may.behind uses))
+
   -- what uses two names
   pub uses_checked : {T E : Type 0} (r : Result T E) (path : Path) (full : List ℕ) (name : Option (List ℕ)) (number : Option ℕ) (before start between after : List LinkFault) (first second : List ℕ → List LinkFault)
       → MayUse t sees packages file path full name before start number

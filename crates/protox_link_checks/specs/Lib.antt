@@ -1,3 +1,4 @@
+pub mod Numbers
 pub mod Uses
 pub mod Faults
 pub mod Checked

@@ -4,6 +4,7 @@ use Rattle.protox_descriptor.specs.FieldDescriptorProto.{FieldDescriptorProto}
 use Rattle.protox_descriptor.specs.declared.descriptor.MethodDescriptorProto.{MethodDescriptorProto}
 use Rattle.protox_descriptor.specs.declared.tag.field.TheConstants as field_tag
 use Rattle.protox_descriptor.specs.declared.tag.method.TheConstants as method_tag
+use Rattle.protox_link_checks.specs.Numbers.{enum_number_faults, message_number_faults}
 use Rattle.protox_link_fault.specs.declared.LinkFault.{LinkFault}
 use Rattle.protox_link_fault.specs.declared.LinkFaultKind.{LinkFaultKind}
 use Rattle.protox_link_fault.specs.declared.LinkFaultKind.TheVariants.{NotAMessage, NotAType, NotDefined}
@@ -66,11 +67,12 @@ module _ (table : Table) (sees packages : List Bool) (file : ℕ) where
       message_faults path method_tag.INPUT_TYPE user method.input_type
       ++ message_faults path method_tag.OUTPUT_TYPE user method.output_type
 
+  -- what is wrong with a declaration, but for its name: the names that it uses, and its numbers
   abbrev pub uses_of : Path → List ℕ → Described → List LinkFault
-  uses_of path user (Message message) = []
+  uses_of path user (Message message) = message_number_faults file path message
   uses_of path user (Field field) = field_uses path user field
   uses_of path user (Oneof oneof) = []
-  uses_of path user (Enum enum) = []
+  uses_of path user (Enum enum) = enum_number_faults file path enum
   uses_of path user (Value value) = []
   uses_of path user (Service service) = []
   uses_of path user (Method method) = method_uses path user method

@@ -4,7 +4,9 @@
 mod each;
 mod file;
 mod imports;
+mod itself;
 mod name;
+mod numbers;
 mod package;
 mod parts;
 mod uses;

@@ -1,6 +1,7 @@
 //! What is wrong with each kind of descriptor.
 
 use crate::each::{Checked, check_each};
+use crate::itself::{check_enum_itself, check_message_itself};
 use crate::name::{check_name, inside};
 use crate::uses::{check_message, check_type};
 use protox_descriptor::descriptor::{
@@ -96,8 +97,7 @@ impl Checked for EnumDescriptorProto {
         path: &[i32],
         faults: &mut Vec<LinkFault>,
     ) -> Result<(), AllocError> {
-        let name = self.name.as_ref();
-        check_name(alloc, view, file, scope, path, name, faults)?;
+        check_enum_itself(alloc, view, file, scope, path, self, faults)?;
         check_each(alloc, view, file, scope, path, VALUE, &self.value, faults)
     }
 }
@@ -162,9 +162,8 @@ impl Checked for DescriptorProto {
         path: &[i32],
         faults: &mut Vec<LinkFault>,
     ) -> Result<(), AllocError> {
-        let name = self.name.as_ref();
-        check_name(alloc, view, file, scope, path, name, faults)?;
-        let inner = inside(view, scope, name);
+        check_message_itself(alloc, view, file, scope, path, self, faults)?;
+        let inner = inside(view, scope, self.name.as_ref());
         let messages = &self.nested_type;
         let enums = &self.enum_type;
         let extensions = &self.extension;

@@ -36,6 +36,16 @@ pub enum LinkFaultKind {
     NotAType(Text),
     /// This name stands for what is no message.
     NotAMessage(Text),
+    /// A number or a range clashes with another one, in this way: with the field, the reserved range
+    /// or the extension range that has this index in the message, or with the reserved range that
+    /// has it in the enum.
+    Clash(NumberFault, usize),
+    /// The number of a field is one from 19000 to 19999.
+    ForImplementation,
+    /// A range has no number: in a message its end is at most its start, in an enum below it.
+    EmptyRange,
+    /// An enum has no value.
+    NoValue,
     /// No file has the name of the import.
     MissingImport,
     /// An earlier import has the same name.
@@ -43,6 +53,27 @@ pub enum LinkFaultKind {
     /// The import closes a circle: these files import one another in this order, and the last one
     /// imports the first.
     ImportCycle(Vec<usize>),
+}
+
+/// How numbers and ranges clash.
+#[derive(Clone, Copy, PartialEq, Debug)]
+pub enum NumberFault {
+    /// An earlier field has the number of a field.
+    Reused,
+    /// The number of a field is in a reserved range.
+    Reserved,
+    /// The number of a field is in an extension range.
+    ForExtensions,
+    /// A reserved range overlaps an earlier one.
+    ReservedTwice,
+    /// An extension range overlaps an earlier one.
+    ExtensionsTwice,
+    /// An extension range overlaps a reserved range.
+    ExtensionsReserved,
+    /// The number of a value of an enum is in a reserved range.
+    ValueReserved,
+    /// A reserved range of an enum overlaps an earlier one.
+    ValuesReservedTwice,
 }
 
 /// Why a set of files could not be linked.

@@ -1,0 +1,21 @@
+use Rattle.std.proofs.Common.{None, Some}
+use Rattle.std.specs.Option.{option_copied}
+use Rattle.protox_descriptor.specs.declared.descriptor.DescriptorProto.{out-DescriptorProto}
+use Rattle.protox_link_checks.proofs.Checking.{name_read, rest_checked}
+use Rattle.protox_link_checks.specs.Numbers.{message_number_faults}
+use Rattle.protox_link_checks.proofs.itself.check_message_itself.Goals as goal
+
+pub returns-in_default : goal.returns-in_default
+returns-in_default c full h =
+    let view = c.args.view.now in
+    let message = c.args.message.now in
+    name_read view.symbols.now view.sees.now view.packages.now c.args.file c.args.path.now full (option_copied c.as_ref-name.result) (out-DescriptorProto message).name c.args.faults.now.items c.check_name.new.faults.items c.in_ok-check_name.field-0 None c.as_ref-name.ensures.value c.in_default.is (c.in_ok-check_name.ensures full h)
+    (message_number_faults c.args.file c.args.path.now message)
+
+pub returns : goal.returns
+returns c full h =
+    let view = c.args.view.now in
+    let message = c.args.message.now in
+    rest_checked view.symbols.now view.sees.now view.packages.now c.args.file c.check_numbers.result c.args.path.now full (out-DescriptorProto message).name c.in-Some.field-0 c.args.faults.now.items c.check_name.new.faults.items c.check_numbers.new.faults.items (message_number_faults c.args.file c.args.path.now message)
+    (name_read view.symbols.now view.sees.now view.packages.now c.args.file c.args.path.now full (option_copied c.as_ref-name.result) (out-DescriptorProto message).name c.args.faults.now.items c.check_name.new.faults.items c.in_ok-check_name.field-0 (Some c.in-Some.field-0) c.as_ref-name.ensures.value c.in-Some.is (c.in_ok-check_name.ensures full h))
+    c.check_numbers.ensures

@@ -1,3 +1,4 @@
+pub mod Empty
 pub mod Numbers
 pub mod Uses
 pub mod Faults

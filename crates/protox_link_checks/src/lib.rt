@@ -2,6 +2,7 @@
 #![tactic(auto)]
 
 mod each;
+mod empty;
 mod file;
 mod imports;
 mod itself;

@@ -2,10 +2,13 @@
 
 ghost use Rattle.std.specs.Prelude.{◌≡◌, ◌++◌, ◌∷◌, [], OnOk};
 ghost use Rattle.protox_link_checks.specs.Numbers.{clash_fault, clash_faults};
+ghost use Rattle.protox_link_checks.specs.Numbers.{clashing_ranges, clashing_values, empty_ranges};
 ghost use Rattle.protox_link_checks.specs.Numbers.{enum_number_faults, field_number_faults};
-ghost use Rattle.protox_link_checks.specs.Numbers.{message_number_faults, range_faults};
+ghost use Rattle.protox_link_checks.specs.Numbers.{message_number_faults, no_value};
 
 use crate::each::path_to;
+use crate::empty::{Siblings, check_empty};
+use crate::uses::add_fault;
 use protox_descriptor::descriptor::{DescriptorProto, EnumDescriptorProto};
 use protox_descriptor::tag::{enum_, enum_value, field, message};
 use protox_descriptor::values::Numbers;
@@ -93,8 +96,8 @@ fn check_fields(
     add_clashes(alloc, &place, for_extensions.as_slice(), faults)
 }
 
-// Adds what is wrong with the ranges of a message.
-fn check_ranges(
+// Adds a fault for each range of a message that clashes.
+fn check_clashing_ranges(
     alloc: Global,
     file: usize,
     path: &[i32],
@@ -102,7 +105,7 @@ fn check_ranges(
     faults: &mut Vec<LinkFault>,
 ) -> Result<(), AllocError>
     ensures { OnOk result (faults.new.items
-        ≡ faults.old.items ++ range_faults file path.now of.now) }
+        ≡ faults.old.items ++ clashing_ranges file path.now of.now) }
 {
     let mut place = Place {
         file,
@@ -122,6 +125,25 @@ fn check_ranges(
     add_clashes(alloc, &place, in_reserved.as_slice(), faults)
 }
 
+// Adds a fault for each range of a message that has no number.
+fn check_empty_ranges(
+    alloc: Global,
+    file: usize,
+    path: &[i32],
+    of: &DescriptorProto,
+    faults: &mut Vec<LinkFault>,
+) -> Result<(), AllocError>
+    ensures { OnOk result (faults.new.items
+        ≡ faults.old.items ++ empty_ranges file path.now of.now) }
+{
+    let tag = message::RESERVED_RANGE;
+    let reserved = Siblings { file, path, tag };
+    check_empty(alloc, &reserved, of.reserved_range.as_slice(), faults)?;
+    let tag = message::EXTENSION_RANGE;
+    let extensions = Siblings { file, path, tag };
+    check_empty(alloc, &extensions, of.extension_range.as_slice(), faults)
+}
+
 /// Adds what is wrong with the numbers and ranges of a message.
 pub(crate) fn check_numbers(
     alloc: Global,
@@ -134,11 +156,12 @@ pub(crate) fn check_numbers(
         ≡ faults.old.items ++ message_number_faults file path.now of.now) }
 {
     check_fields(alloc, file, path, of, faults)?;
-    check_ranges(alloc, file, path, of, faults)
+    check_empty_ranges(alloc, file, path, of, faults)?;
+    check_clashing_ranges(alloc, file, path, of, faults)
 }
 
-/// Adds what is wrong with the numbers and ranges of an enum.
-pub(crate) fn check_enum_numbers(
+// Adds a fault for each value and each range of an enum that clashes.
+fn check_clashing_values(
     alloc: Global,
     file: usize,
     path: &[i32],
@@ -146,7 +169,7 @@ pub(crate) fn check_enum_numbers(
     faults: &mut Vec<LinkFault>,
 ) -> Result<(), AllocError>
     ensures { OnOk result (faults.new.items
-        ≡ faults.old.items ++ enum_number_faults file path.now of.now) }
+        ≡ faults.old.items ++ clashing_values file path.now of.now) }
 {
     let mut place = Place {
         file,
@@ -162,4 +185,45 @@ pub(crate) fn check_enum_numbers(
     place.how = NumberFault::ValuesReservedTwice;
     let ranges = overlapping_enum_ranges(alloc, of)?;
     add_clashes(alloc, &place, ranges.as_slice(), faults)
+}
+
+// Adds a fault if an enum has no value.
+fn check_has_value(
+    alloc: Global,
+    file: usize,
+    path: &[i32],
+    of: &EnumDescriptorProto,
+    faults: &mut Vec<LinkFault>,
+) -> Result<(), AllocError>
+    ensures { OnOk result (faults.new.items ≡ faults.old.items ++ no_value file path.now of.now) }
+{
+    if !of.value.is_empty() {
+        return Ok(());
+    }
+    add_fault(
+        alloc,
+        file,
+        path,
+        enum_::NAME,
+        LinkFaultKind::NoValue,
+        faults,
+    )
+}
+
+/// Adds what is wrong with the numbers and ranges of an enum.
+pub(crate) fn check_enum_numbers(
+    alloc: Global,
+    file: usize,
+    path: &[i32],
+    of: &EnumDescriptorProto,
+    faults: &mut Vec<LinkFault>,
+) -> Result<(), AllocError>
+    ensures { OnOk result (faults.new.items
+        ≡ faults.old.items ++ enum_number_faults file path.now of.now) }
+{
+    check_has_value(alloc, file, path, of, faults)?;
+    let tag = enum_::RESERVED_RANGE;
+    let reserved = Siblings { file, path, tag };
+    check_empty(alloc, &reserved, of.reserved_range.as_slice(), faults)?;
+    check_clashing_values(alloc, file, path, of, faults)
 }

@@ -3,7 +3,7 @@
 use crate::each::{Checked, check_each};
 use crate::itself::{check_enum_itself, check_message_itself};
 use crate::name::{check_name, inside};
-use crate::uses::{check_message, check_type};
+use crate::uses::{check_message, check_number, check_type};
 use protox_descriptor::descriptor::{
     DescriptorProto, EnumDescriptorProto, EnumValueDescriptorProto, FieldDescriptorProto,
     MethodDescriptorProto, OneofDescriptorProto, ServiceDescriptorProto,
@@ -35,6 +35,7 @@ impl Checked for FieldDescriptorProto {
         let Some(scope) = check_name(alloc, view, file, scope, path, name, faults)? else {
             return Ok(());
         };
+        check_number(alloc, file, path, self, faults)?;
         let of_type = self.type_name.as_ref();
         check_type(alloc, view, file, scope, path, TYPE_NAME, of_type, faults)?;
         let extendee = self.extendee();

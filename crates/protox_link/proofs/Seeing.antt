@@ -19,7 +19,8 @@ use Rattle.protox_link.specs.Link.{IsFailureOf}
 use Rattle.protox_link.specs.Seen.{IsSeenBy, packages_of}
 use Rattle.protox_link_checks.specs.Faults.{declared_faults, faults_named}
 use Rattle.protox_link_checks.specs.Imports.{import_faults, package_faults}
-use Rattle.protox_link_checks.specs.Uses.{faults_at, implementation_faults, kind_named, message_faults, type_faults, uses_of, wrong_message, wrong_type}
+use Rattle.protox_link_checks.specs.Numbers.{implementation_faults}
+use Rattle.protox_link_checks.specs.Uses.{faults_at, kind_named, message_faults, type_faults, uses_of, wrong_message, wrong_type}
 use Rattle.protox_link_fault.specs.declared.LinkFailure.{LinkFailure}
 use Rattle.protox_link_fault.specs.declared.LinkFailure.TheVariants.{OutOfMemory, Refused}
 use Rattle.protox_link_fault.specs.declared.LinkFault.{LinkFault}
@@ -111,7 +112,7 @@ module _ (all : List FileDescriptorProto) (n : ℕ) (sees packages packages' : L
 
   uses_alike : (file : ℕ) (path : Path) (user : List ℕ) (part : Described) → uses_of table sees packages file path user part ≡ uses_of table sees packages' file path user part
   uses_alike file path user (Message message) = refl
-  uses_alike file path user (Field field) = λ i. (implementation_faults table sees packages file path field ++ types_alike file path field_tag.TYPE_NAME user field.type_name i) ++ messages_alike file path field_tag.EXTENDEE user field.extendee i
+  uses_alike file path user (Field field) = λ i. (implementation_faults file path field ++ types_alike file path field_tag.TYPE_NAME user field.type_name i) ++ messages_alike file path field_tag.EXTENDEE user field.extendee i
   uses_alike file path user (Oneof oneof) = refl
   uses_alike file path user (Enum enum) = refl
   uses_alike file path user (Value value) = refl

@@ -93,9 +93,10 @@ fn refused_circle(alloc: Global, circle: Vec<usize>) -> LinkFailure
 /// # Errors
 /// `Refused`, with all that is wrong, where something is: an import of no file of the list, an
 /// import told twice, a circle of imports (this is told alone, at its last file), a name that is no
-/// identifier or that was declared before in any of the files, and a name that stands for nothing
-/// that the file sees, or for something of another kind. The faults are in the order of the files
-/// and of their parts.
+/// identifier or that was declared before in any of the files, a name that stands for nothing that
+/// the file sees, or for something of another kind, a number or a range that clashes with another
+/// one, a number from 19000 to 19999, a range without numbers, and an enum without values. The
+/// faults are in the order of the files and of their parts.
 /// `OutOfMemory` where memory runs out, or where a list has more than 2,147,483,648 parts: no path
 /// can count them.
 ///

@@ -10,12 +10,12 @@ use Rattle.protox_descriptor.specs.declared.tag.message.TheConstants as message_
 use Rattle.protox_link_checks.specs.Empty.{empty_faults}
 use Rattle.protox_link_fault.specs.declared.LinkFault.{LinkFault}
 use Rattle.protox_link_fault.specs.declared.LinkFaultKind.{LinkFaultKind}
-use Rattle.protox_link_fault.specs.declared.LinkFaultKind.TheVariants.{Clash, NoValue}
+use Rattle.protox_link_fault.specs.declared.LinkFaultKind.TheVariants.{Clash, ForImplementation, NoValue}
 use Rattle.protox_link_fault.specs.declared.NumberFault.{NumberFault}
 use Rattle.protox_link_fault.specs.declared.NumberFault.TheVariants as fault
 use Rattle.protox_numbers.specs.Enums as of_enum
 use Rattle.protox_numbers.specs.Message as of_message
-use Rattle.protox_numbers.specs.Parts.{is_backward_enum_range, is_empty_extension_range, is_empty_reserved_range}
+use Rattle.protox_numbers.specs.Parts.{is_backward_enum_range, is_empty_extension_range, is_empty_reserved_range, is_for_implementation}
 use Rattle.protox_numbers.specs.declared.clash.Clash.{Clash as Clashing}
 use Rattle.protox_walk.specs.Declarations.{Path, nth}
 
@@ -57,6 +57,11 @@ module _ (file : ℕ) (path : Path) where
   -- An enum has a value.
   abbrev pub no_value : EnumDescriptorProto → List LinkFault
   no_value enum = if length enum.value == 0 then record { file = file; path = path ++ enum_tag.NAME ∷ []; kind = NoValue } ∷ [] else []
+
+  -- Numbers from 19000 to 19999 are for the implementation of protocol buffers.
+  abbrev pub implementation_faults : FieldDescriptorProto → List LinkFault
+  implementation_faults field =
+      if is_for_implementation field then record { file = file; path = path ++ field_tag.NUMBER ∷ []; kind = ForImplementation } ∷ [] else []
 
   abbrev pub enum_number_faults : EnumDescriptorProto → List LinkFault
   enum_number_faults enum =

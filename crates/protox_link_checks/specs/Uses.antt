@@ -4,12 +4,11 @@ use Rattle.protox_descriptor.specs.FieldDescriptorProto.{FieldDescriptorProto}
 use Rattle.protox_descriptor.specs.declared.descriptor.MethodDescriptorProto.{MethodDescriptorProto}
 use Rattle.protox_descriptor.specs.declared.tag.field.TheConstants as field_tag
 use Rattle.protox_descriptor.specs.declared.tag.method.TheConstants as method_tag
-use Rattle.protox_link_checks.specs.Numbers.{enum_number_faults, message_number_faults}
+use Rattle.protox_link_checks.specs.Numbers.{enum_number_faults, implementation_faults, message_number_faults}
 use Rattle.protox_link_fault.specs.declared.LinkFault.{LinkFault}
 use Rattle.protox_link_fault.specs.declared.LinkFaultKind.{LinkFaultKind}
-use Rattle.protox_link_fault.specs.declared.LinkFaultKind.TheVariants.{ForImplementation, NotAMessage, NotAType, NotDefined}
+use Rattle.protox_link_fault.specs.declared.LinkFaultKind.TheVariants.{NotAMessage, NotAType, NotDefined}
 use Rattle.protox_name_tree.specs.Tree.{kind_at}
-use Rattle.protox_numbers.specs.Parts.{is_for_implementation}
 use Rattle.protox_scopes.specs.Scopes.{is_type, resolve}
 use Rattle.protox_scopes.specs.declared.kind.Kind.{Kind}
 use Rattle.protox_scopes.specs.declared.kind.Kind.TheVariants as kind
@@ -56,14 +55,10 @@ module _ (table : Table) (sees packages : List Bool) (file : ℕ) where
   message_faults path tag user None = []
   message_faults path tag user (Some name) = faults_at file path tag (wrong_message name (kind_named table sees packages Anything user name))
 
-  -- Numbers from 19000 to 19999 are for the implementation of protocol buffers.
-  abbrev pub implementation_faults : Path → FieldDescriptorProto → List LinkFault
-  implementation_faults path field = if is_for_implementation field then fault_at file path field_tag.NUMBER ForImplementation ∷ [] else []
-
   -- The type of a field is a message or an enum; what it extends is a message.
   abbrev pub field_uses : Path → List ℕ → FieldDescriptorProto → List LinkFault
   field_uses path user field =
-      (implementation_faults path field ++ type_faults path field_tag.TYPE_NAME user field.type_name)
+      (implementation_faults file path field ++ type_faults path field_tag.TYPE_NAME user field.type_name)
       ++ message_faults path field_tag.EXTENDEE user field.extendee
 
   -- Methods take and give messages.

@@ -4,19 +4,20 @@ ghost use Rattle.std.specs.Prelude.{◌≡◌, ◌++◌, ◌∷◌, [], OnOk};
 ghost use Rattle.protox_link_checks.specs.Numbers.{clash_fault, clash_faults};
 ghost use Rattle.protox_link_checks.specs.Numbers.{clashing_ranges, clashing_values, empty_ranges};
 ghost use Rattle.protox_link_checks.specs.Numbers.{enum_number_faults, field_number_faults};
+ghost use Rattle.protox_link_checks.specs.Numbers.{implementation_faults};
 ghost use Rattle.protox_link_checks.specs.Numbers.{message_number_faults, no_value};
 
 use crate::each::path_to;
 use crate::empty::{Siblings, check_empty};
 use crate::uses::add_fault;
-use protox_descriptor::descriptor::{DescriptorProto, EnumDescriptorProto};
+use protox_descriptor::descriptor::{DescriptorProto, EnumDescriptorProto, FieldDescriptorProto};
 use protox_descriptor::tag::{enum_, enum_value, field, message};
 use protox_descriptor::values::Numbers;
 use protox_link_fault::{LinkFault, LinkFaultKind, NumberFault};
 use protox_numbers::{
     Clash, extension_ranges_in_reserved, fields_in_extension_ranges, fields_in_reserved_ranges,
-    overlapping_enum_ranges, overlapping_extension_ranges, overlapping_reserved_ranges,
-    reused_numbers, values_in_reserved_ranges,
+    is_for_implementation, overlapping_enum_ranges, overlapping_extension_ranges,
+    overlapping_reserved_ranges, reused_numbers, values_in_reserved_ranges,
 };
 use std::alloc::{AllocError, Global};
 
@@ -226,4 +227,28 @@ pub(crate) fn check_enum_numbers(
     let reserved = Siblings { file, path, tag };
     check_empty(alloc, &reserved, of.reserved_range.as_slice(), faults)?;
     check_clashing_values(alloc, file, path, of, faults)
+}
+
+/// Adds a fault if a field has a number that is for the implementation of protocol buffers.
+pub(crate) fn check_number(
+    alloc: Global,
+    file: usize,
+    path: &[i32],
+    of: &FieldDescriptorProto,
+    faults: &mut Vec<LinkFault>,
+) -> Result<(), AllocError>
+    ensures { OnOk result (faults.new.items
+        ≡ faults.old.items ++ implementation_faults file path.now of.now) }
+{
+    if !is_for_implementation(of) {
+        return Ok(());
+    }
+    add_fault(
+        alloc,
+        file,
+        path,
+        field::NUMBER,
+        LinkFaultKind::ForImplementation,
+        faults,
+    )
 }

@@ -3,7 +3,8 @@
 use crate::each::{Checked, check_each};
 use crate::itself::{check_enum_itself, check_message_itself};
 use crate::name::{check_name, inside};
-use crate::uses::{check_message, check_number, check_type};
+use crate::numbers::check_number;
+use crate::uses::{check_message, check_type};
 use protox_descriptor::descriptor::{
     DescriptorProto, EnumDescriptorProto, EnumValueDescriptorProto, FieldDescriptorProto,
     MethodDescriptorProto, OneofDescriptorProto, ServiceDescriptorProto,

@@ -6,15 +6,12 @@ ghost use Rattle.protox_name_tree.specs.Tree.{kind_at};
 ghost use Rattle.protox_names.specs.Names as names;
 ghost use Rattle.protox_names.specs.Tree.{name_of_place};
 ghost use Rattle.protox_name_tree.specs.Tree.{name_at};
-ghost use Rattle.protox_link_checks.specs.Uses.{fault_at, faults_at, implementation_faults, kind_named};
+ghost use Rattle.protox_link_checks.specs.Uses.{fault_at, faults_at, kind_named};
 ghost use Rattle.protox_symbols.specs.Symbols.{Table};
 ghost use Rattle.protox_link_checks.specs.Uses.{message_faults, type_faults, wrong_message, wrong_type};
 
-use protox_descriptor::descriptor::FieldDescriptorProto;
-use protox_descriptor::tag::field::NUMBER;
 use protox_descriptor::values::{Numbers, Text};
 use protox_link_fault::{LinkFault, LinkFaultKind};
-use protox_numbers::is_for_implementation;
 use protox_scopes::{Kind, ScopeTree, Wanted, resolve_in};
 use protox_views::View;
 use std::alloc::{AllocError, Global};
@@ -143,28 +140,4 @@ pub(crate) fn check_message(
     let kind = kind_named(view, Wanted::Anything, scope, name.as_str());
     let wrong = wrong_message(alloc, name.as_str(), kind)?;
     add_if_any(alloc, file, path, tag, wrong, faults)
-}
-
-/// Adds a fault if a field has a number that is for the implementation of protocol buffers.
-pub(crate) fn check_number(
-    alloc: Global,
-    file: usize,
-    path: &[i32],
-    field: &FieldDescriptorProto,
-    faults: &mut Vec<LinkFault>,
-) -> Result<(), AllocError>
-    ensures { (table : Table) (sees packages : List Bool) → OnOk result (faults.new.items
-        ≡ faults.old.items ++ implementation_faults table sees packages file path.now field.now) }
-{
-    if !is_for_implementation(field) {
-        return Ok(());
-    }
-    add_fault(
-        alloc,
-        file,
-        path,
-        NUMBER,
-        LinkFaultKind::ForImplementation,
-        faults,
-    )
 }

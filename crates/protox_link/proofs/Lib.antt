@@ -1,3 +1,4 @@
 pub mod Standing
 pub mod Doing
 pub mod Seeing
+pub mod Closing

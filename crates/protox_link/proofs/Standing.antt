@@ -23,7 +23,7 @@ use Rattle.protox_linked.specs.Linked as linked
 use Rattle.protox_name_tree.proofs.FullNames.{found_name}
 use Rattle.protox_name_tree.specs.Tree.{has_innermost, name_at, name_in, number_of}
 use Rattle.protox_names.proofs.Joining.{identifiers_are_one_part, scopes_of_one_part, scopes_within}
-use Rattle.protox_names.specs.Names.{is_identifier, scopes, within}
+use Rattle.protox_names.specs.Names.{is_identifier, is_one_part, scopes, within}
 use Rattle.protox_names.specs.Tree.{name_of_place}
 use Rattle.protox_symbols.proofs.Inside.{enums_at, extensions_at, fields_at, inside, message_declares, messages_at, oneofs_at}
 use Rattle.protox_symbols.proofs.Standing.{full_is_within}
@@ -46,11 +46,11 @@ pub no_items : {X : Type 0} (count : ℕ) (xs : List X) → true ≡ (count == 0
 no_items count [] none is = refl
 no_items count (x ∷ xs) none is = absurd (omega (arith, is, (Decides-eqb count 0).0 (sym none)))
 
-same_text : (name : Option (List ℕ)) → linked.text_of name ≡ text_of name
+pub same_text : (name : Option (List ℕ)) → linked.text_of name ≡ text_of name
 same_text None = refl
 same_text (Some name) = refl
 
-true_or_false : (b : Bool) → (b ≡ true) ⊎ (b ≡ false)
+pub true_or_false : (b : Bool) → (b ≡ true) ⊎ (b ≡ false)
 true_or_false true = inl refl
 true_or_false false = inr refl
 
@@ -84,14 +84,28 @@ module _ (t : Table) (sees packages : List Bool) (file : ℕ) where
   has_number path None uses none = cc
   has_number path (Some n) uses none = refl
 
-  -- What is in a scope of the table, and of which nothing is wrong, is in the table.
-  pub declared_stands : (path : Path) (full : List ℕ) (name : Option (List ℕ)) (uses : List LinkFault) → IsThere full → faults_named t sees packages file path (full_name full name) (text_of name) uses ≡ [] → stands t (full_name full name) ≡ true
-  declared_stands path full name uses there none =
+  -- What is in a scope of the table has neither a clash nor faults of what it uses, where nothing is
+  -- wrong with it.
+  none_told : (path : Path) (full : List ℕ) (name : Option (List ℕ)) (uses : List LinkFault) → IsThere full → faults_named t sees packages file path (full_name full name) (text_of name) uses ≡ [] → clash_faults t sees packages file path (number_of t.names (full_name full name)) ++ uses ≡ []
+  none_told path full name uses there none =
       let good = good_name path (full_name full name) (text_of name) uses none in
       let around : has_innermost t.names (scopes (full_name full name)) ≡ true = ap (λ f. has_innermost t.names (scopes f)) (sym (full_is_within full name)) ∙ has_scope full (text_of name) there good in
       let clash = clash_faults t sees packages file path (number_of t.names (full_name full name)) ++ uses in
-      has_number path (number_of t.names (full_name full name)) uses
-      (sym (ap (λ b. cond b (cond (has_innermost t.names (scopes (full_name full name))) clash []) (fault_at file path message_tag.NAME (bad_name (text_of name)) ∷ [])) good ∙ ap (λ b. cond b clash []) around) ∙ none)
+      sym (ap (λ b. cond b (cond (has_innermost t.names (scopes (full_name full name))) clash []) (fault_at file path message_tag.NAME (bad_name (text_of name)) ∷ [])) good ∙ ap (λ b. cond b clash []) around) ∙ none
+
+  -- It is in the table then.
+  pub declared_stands : (path : Path) (full : List ℕ) (name : Option (List ℕ)) (uses : List LinkFault) → IsThere full → faults_named t sees packages file path (full_name full name) (text_of name) uses ≡ [] → stands t (full_name full name) ≡ true
+  declared_stands path full name uses there none =
+      has_number path (number_of t.names (full_name full name)) uses (none_told path full name uses there none)
+
+  pub none_used : (path : Path) (full : List ℕ) (name : Option (List ℕ)) (uses : List LinkFault) → IsThere full → faults_named t sees packages file path (full_name full name) (text_of name) uses ≡ [] → uses ≡ []
+  none_used path full name uses there none =
+      none_of_second (clash_faults t sees packages file path (number_of t.names (full_name full name))) uses (none_told path full name uses there none)
+
+  -- Its name is of one part then.
+  pub own_is_one_part : (path : Path) (full : List ℕ) (name : Option (List ℕ)) (uses : List LinkFault) → faults_named t sees packages file path (full_name full name) (text_of name) uses ≡ [] → is_one_part (text_of name) ≡ true
+  own_is_one_part path full name uses none =
+      identifiers_are_one_part (text_of name) (good_name path (full_name full name) (text_of name) uses none)
 
   -- the same of a service
   pub service_there : (full : List ℕ) (path : Path) (s : ServiceDescriptorProto) → IsThere full → flat_map wrong (service_at s full path) ≡ [] → service_stands (stands t) full s ≡ true
@@ -106,6 +120,11 @@ module _ (t : Table) (sees packages : List Bool) (file : ℕ) where
   all_there at test full path tag n (x ∷ xs) each none =
       let split : flat_map wrong (at x full (nth path tag n)) ++ flat_map wrong (numbered path tag (n + 1) (all_in at full xs)) ≡ [] = sym (flat_map-append wrong (at x full (nth path tag n)) (numbered path tag (n + 1) (all_in at full xs))) ∙ none in
       and_from (test x) (list_all test xs) (each x (nth path tag n) (none_of_first _ _ split)) (all_there at test full path tag (n + 1) xs each (none_of_second _ _ split))
+
+  pub message_itself_stands : (full : List ℕ) (path : Path) (m : DescriptorProto) → IsThere full → flat_map wrong (message_at m full path) ≡ [] → stands t (full_name full (out-DescriptorProto m).name) ≡ true
+  message_itself_stands full path m there none =
+      declared_stands path full (out-DescriptorProto m).name (message_number_faults file path m) there
+      (none_of_first _ _ (sym (ap (flat_map wrong) (message_declares m full path)) ∙ none))
 
   abbrev IsMessageThere : DescriptorProto → Type 0
   IsMessageThere m = (full : List ℕ) (path : Path) → IsThere full → flat_map wrong (message_at m full path) ≡ [] → message_stands (stands t) full m ≡ true
@@ -124,7 +143,7 @@ module _ (t : Table) (sees packages : List Bool) (file : ℕ) where
       let own = (out-DescriptorProto m).name in
       let name = full_name full own in
       let all : wrong (declared path name (Message m)) ++ flat_map wrong (inside m name path) ≡ [] = sym (ap (flat_map wrong) (message_declares m full path)) ∙ none in
-      let here : stands t name ≡ true = declared_stands path full own (message_number_faults file path m) there (none_of_first _ _ all) in
+      let here = message_itself_stands full path m there none in
       let parts : flat_map wrong (inside m name path) ≡ [] = none_of_second (wrong (declared path name (Message m))) _ all in
       let behind : flat_map wrong (messages_at m name path ++ (enums_at m name path ++ (extensions_at m name path ++ oneofs_at m name path))) ≡ [] = none_of_second (flat_map wrong (fields_at m name path)) _ (sym (flat_map-append wrong (fields_at m name path) _) ∙ parts) in
       let messages : flat_map wrong (messages_at m name path) ≡ [] = none_of_first _ _ (sym (flat_map-append wrong (messages_at m name path) (enums_at m name path ++ (extensions_at m name path ++ oneofs_at m name path))) ∙ behind) in

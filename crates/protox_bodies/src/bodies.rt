@@ -145,6 +145,7 @@ fn map_or_group_field(
 
 /// map | group | normal , read as the field that begins at the rows `begun` with this label.
 #[cycle(bodies)]
+#[inline(always)]
 #[tactic(auto, unfolding(crate::specs::inner::Bodies::field_kind, crate::specs::inner::Bodies::map_or_group, crate::specs::inner::Words::field_kind, crate::specs::inner::Words::map_or_group))]
 fn field_behind(
     alloc: Global,

@@ -55,7 +55,9 @@ fn name_and_number<'t, 'a>(
 }
 
 /// normal = type ident "=" int list? ";" , read as the field that begins at the rows `begun` with
-/// this label. Most fields are normal ones, so their parts go straight into the field.
+/// this label. Most fields are normal ones, so their parts go straight into the field, and the field
+/// to where it is wanted: a result that is passed on is copied.
+#[inline(always)]
 #[tactic(auto, unfolding(crate::specs::inner::Fields::normal, crate::specs::inner::Fields::name_and_number, crate::specs::inner::Words::normal, crate::specs::inner::Words::name_and_number))]
 pub(crate) fn normal(
     alloc: Global,

@@ -6,6 +6,7 @@ ghost use Rattle.protox_ast.specs.Steps.{of_message, of_body, of_item, of_field,
 ghost use Rattle.protox_ast.specs.declared.ast.MessageBody.{out-MessageBody};
 ghost use Rattle.protox_describe.specs.Descriptor.{descriptor_steps, nested_of, parts};
 ghost use Rattle.protox_describe.specs.Fields.{message_proto, entry_name, entry_parts};
+ghost use Rattle.protox_describe.specs.inner.Pass.{with_nested};
 
 use crate::fields::entry_message;
 use crate::items::{enums, extensions, fields, oneofs};
@@ -14,20 +15,29 @@ use crate::ranges::{extension_protos, greatest_number, reserved_protos, reserved
 use protox_ast::ast::{
     Extend, Field, FieldKind, Message, MessageBody, MessageItem, Oneof, Syntax, Ty,
 };
-use protox_descriptor::descriptor::DescriptorProto;
+use protox_descriptor::descriptor::descriptor_proto::{ExtensionRange, ReservedRange};
+use protox_descriptor::descriptor::{
+    DescriptorProto, EnumDescriptorProto, FieldDescriptorProto, MessageOptions,
+    OneofDescriptorProto,
+};
 use protox_descriptor::values::{Items, Text};
 use std::alloc::{AllocError, Global};
 
-// The descriptor of a message with this name, this body and these nested messages. It is large, so
-// its parts go straight into it.
-fn with_nested(
-    alloc: Global,
-    syntax: Syntax,
-    name: &str,
-    ast: &MessageBody,
-    nested_type: Items<DescriptorProto>,
-) -> Result<DescriptorProto, AllocError>
-    ensures { IfOk result (λ message. let all = map (of_item (descriptor_steps syntax)) (out-MessageBody ast.now).items in message ≡ message_proto name.now (record (parts all (out-MessageBody ast.now).extensions (out-MessageBody ast.now).options (out-MessageBody ast.now).reserved) { nested = nested_type })) }
+// The parts of a message without its nested messages.
+#[derive(Drop)]
+pub(crate) struct Unnested {
+    field: Items<FieldDescriptorProto>,
+    extension: Items<FieldDescriptorProto>,
+    enum_type: Items<EnumDescriptorProto>,
+    extension_range: Items<ExtensionRange>,
+    oneof_decl: Items<OneofDescriptorProto>,
+    options: Option<MessageOptions>,
+    reserved_range: Items<ReservedRange>,
+    reserved_name: Items<Text>,
+}
+
+fn all_but_nested(alloc: Global, syntax: Syntax, ast: &MessageBody) -> Result<Unnested, AllocError>
+    ensures { IfOk result (λ unnested. let all = map (of_item (descriptor_steps syntax)) (out-MessageBody ast.now).items in with_nested unnested (flat_map nested_of all) ≡ parts all (out-MessageBody ast.now).extensions (out-MessageBody ast.now).options (out-MessageBody ast.now).reserved) }
 {
     let greatest = greatest_number(ast.options.as_slice());
     let field = fields(alloc, syntax, ast.items.as_slice())?;
@@ -38,7 +48,38 @@ fn with_nested(
     let options = message_options(alloc, ast.options.as_slice())?;
     let reserved_range = reserved_protos(alloc, greatest, ast.reserved.as_slice())?;
     let reserved_name = reserved_texts(alloc, ast.reserved.as_slice())?;
+    Ok(Unnested {
+        field,
+        extension,
+        enum_type,
+        extension_range,
+        oneof_decl,
+        options,
+        reserved_range,
+        reserved_name,
+    })
+}
+
+// Builds the descriptor from its name and parts.
+fn joined(
+    alloc: Global,
+    name: &str,
+    unnested: Unnested,
+    nested_type: Items<DescriptorProto>,
+) -> Result<DescriptorProto, AllocError>
+    ensures { IfOk result (λ message. message ≡ message_proto name.now (with_nested unnested nested_type)) }
+{
     let name = Text::copy(alloc, name)?;
+    let Unnested {
+        field,
+        extension,
+        enum_type,
+        extension_range,
+        oneof_decl,
+        options,
+        reserved_range,
+        reserved_name,
+    } = unnested;
     Ok(DescriptorProto {
         name: Some(name),
         field,
@@ -99,7 +140,8 @@ fn body_message(
     ensures { IfOk result (λ message. message ≡ message_proto name.now (of_body (descriptor_steps syntax) ast.now)) }
 {
     let nested = nested(alloc, syntax, ast)?;
-    with_nested(alloc, syntax, name, ast, nested)
+    let unnested = all_but_nested(alloc, syntax, ast)?;
+    joined(alloc, name, unnested, nested)
 }
 
 #[cycle(messages)]

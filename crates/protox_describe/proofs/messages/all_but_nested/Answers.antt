@@ -7,10 +7,9 @@ use Rattle.protox_ast.specs.Ranges.{extension_protos, greatest_number, reserved_
 use Rattle.protox_ast.specs.Steps.{of_item}
 use Rattle.protox_descriptor.specs.declared.descriptor.options.MessageOptions.{MessageOptions}
 use Rattle.protox_descriptor.specs.declared.descriptor.options.UninterpretedOption.{UninterpretedOption}
-use Rattle.protox_describe.specs.Descriptor.{all_oneofs, descriptor_steps, enums_of, extensions_of, fields_of, is_oneof}
-use Rattle.protox_describe.specs.Fields.{message_proto}
+use Rattle.protox_describe.specs.Descriptor.{all_oneofs, descriptor_steps, enums_of, extensions_of, fields_of, is_oneof, nested_of}
 use Rattle.protox_describe.specs.Siblings.{count, each_after}
-use Rattle.protox_describe.proofs.messages.with_nested.Goals as goal
+use Rattle.protox_describe.proofs.messages.all_but_nested.Goals as goal
 
 -- the options of a message that is no map entry
 abbrev plain : List UninterpretedOption → MessageOptions
@@ -31,14 +30,14 @@ returns c =
     let reserved = c.in_ok-reserved_range.ensures ∙ ap (λ n. map (reserved_range n) (reserved_ranges c.as_slice-8.result.now)) numbers
     ∙ ap (λ l. map (reserved_range (greatest_number body.options)) (reserved_ranges l)) c.as_slice-8.ensures in
     let names = c.in_ok-reserved_name.ensures ∙ ap reserved_texts c.as_slice-9.ensures in
-    λ i. message_proto (c.in_ok-name.ensures.value i) (record {
+    λ i. record {
       field = field i;
       extension = extension i;
-      nested = c.args.nested_type;
+      nested = flat_map nested_of (map item body.items);
       enum = enum i;
       extension_range = ranges i;
       oneof = oneof i;
       options = options i;
       reserved_range = reserved i;
       reserved_name = names i;
-    })
+    }

@@ -1,3 +1,4 @@
 pub mod Turns
+pub mod Labels
 pub mod ExactFields
 pub mod ExactBodies

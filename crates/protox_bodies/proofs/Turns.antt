@@ -1,5 +1,5 @@
 -- Each declaration between the braces of a body takes a row.
-use Rattle.std.proofs.Common.{◌≡◌, ◌-◌, ℕ, zero, suc, List, [], ◌∷◌, Option, Some, None, Ok, length, ap, refl, arith}
+use Rattle.std.proofs.Common.{◌≡◌, ◌-◌, ℕ, zero, suc, List, [], ◌∷◌, Option, Some, None, Result, Ok, Err, length, ap, refl, ◌∙◌, arith}
 use Rattle.protox_fault.specs.Faults.{Span}
 use Rattle.protox_lexeme.specs.Shapes.{Row, Rows}
 use Rattle.protox_ast.specs.KeywordWalk as k
@@ -12,11 +12,14 @@ use Rattle.protox_grammar.proofs.Reading.{err-ok}
 use Rattle.protox_grammar.proofs.Takes.{bind_ok, ok_is}
 use Rattle.protox_grammar.proofs.Depths as depths
 use Rattle.protox_grammar.proofs.Messages as rules
-use Rattle.protox_grammar.proofs.Shows.{shows-eats}
+use Rattle.protox_grammar.proofs.Shows.{seen, shows-eats}
 use Rattle.protox_options.specs.inner.Options.{here}
 use Rattle.protox_ast.specs.declared.ast.Ident as ident_type
 use Rattle.protox_rows.specs.inner.Names.{ident}
 use Rattle.protox_rows.specs.declared.expected.Expected.{Expected}
+use Rattle.protox_rows.specs.declared.refused.Refused.{Refused}
+use Rattle.protox_rows.specs.declared.refused.Refused.TheVariants.{OutOfMemory, At, TooDeep}
+use Rattle.protox_rows.specs.inner.Outcome.{Fails}
 use Rattle.protox_bodies.specs.inner.Bodies as messages
 use Rattle.protox_bodies.specs.inner.Words as said
 
@@ -28,6 +31,23 @@ oneof_element-eats n = shows-eats (rules.oneof_element-laws here k.KeepsMbody (b
 
 pub extend_element-eats : (n : ℕ) → Consumes (messages.extend_element_at n)
 extend_element-eats n = shows-eats (rules.extend_element-laws here k.KeepsMbody (bodies.FitsMbody n) (bodies.unsealed n).read (bodies.unsealed n).steps (bodies.unsealed n).trace (depths.body-laws here n)) (messages.extend_element n (messages.mbody_at n)).shows
+
+-- ---- a declaration that is added to a value as soon as it is read
+
+-- What is read, if the value with it is.
+pub added : {A B : Type 0} (add : A → B) (read : Result (A × Rows Place) Refusal) (new : B) (left : Rows Place) → (read >>= seen add) ≡ Ok (new, left) → (x : A) × (read ≡ Ok (x, left)) × (add x ≡ new)
+added add read new left e =
+    let p = bind_ok read (seen add) (new, left) e in
+    let same = ok_is (add p.0.0, p.0.1) (new, left) p.2 in
+    (p.0.0, p.1 ∙ ap (λ (v : Rows Place). Ok (p.0.0, v)) (ap (λ v. v.1) same), ap (λ v. v.0) same)
+
+-- Nothing is read, if the value with it isn't.
+pub unadded : {A B : Type 0} (e : Refused) (add : A → B) (read : Result (A × Rows Place) Refusal) → Fails e (read >>= seen add) → Fails e read
+unadded OutOfMemory add read h = tt
+unadded (At left expected) add (Ok x) h = absurd cc
+unadded (At left expected) add (Err d) h = cc
+unadded (TooDeep left) add (Ok x) h = absurd cc
+unadded (TooDeep left) add (Err d) h = cc
 
 -- ---- levels
 

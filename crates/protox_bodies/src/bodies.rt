@@ -1,13 +1,16 @@
 //! Reads fields with groups, oneofs, extends, messages and their bodies. `level` says how many more
 //! levels of bodies may be opened.
 
+ghost use Rattle.protox_grammar.specs.Reader.{mapped};
 ghost use Rattle.protox_rows.specs.inner.Outcome.{Gives};
 ghost use Rattle.protox_rows.specs.inner.Words.{Says};
 ghost use Rattle.protox_bodies.specs.inner.Words as said;
 ghost use Rattle.protox_rows.specs.inner.Notes.{Adds};
 ghost use Rattle.protox_bodies.specs.inner.Bodies as rule;
+ghost use Rattle.protox_bodies.specs.inner.Fields.{field_of};
 
 use crate::around::{before_body, bodiless_element, first_span, refuse_deep_body};
+use crate::begins::{sees_keyword, sees_label, sees_map_or_group};
 use crate::fields::{group_name, map_field, normal};
 use crate::parts::{
     Element, ElementsByKind, FieldParts, OneofElement, OneofElementsByKind, add_element,
@@ -23,8 +26,7 @@ use protox_grammar::note::Note;
 use protox_lex::error::Span;
 use protox_options::options::{list_if_any, option};
 use protox_rows::class::{
-    ENUM, EXTEND, EXTENSIONS, GROUP, MAP, MESSAGE, ONEOF, OPTION, OPTIONAL, REPEATED, REQUIRED,
-    RESERVED, RIGHT_BRACE, SEMICOLON, sees, sees_any, sees_other,
+    ENUM, EXTEND, MAP, MESSAGE, ONEOF, OPTION, RIGHT_BRACE, SEMICOLON, sees, sees_any, sees_other,
 };
 use protox_rows::expected::Expected;
 use protox_rows::leaf::{expect_mark, expect_word, join};
@@ -88,27 +90,80 @@ fn group<'t, 'a>(
     Ok((parts, braces))
 }
 
-/// map | group | normal
+/// map | group
 #[cycle(bodies)]
-#[tactic(auto, unfolding(crate::specs::inner::Bodies::field_kind, crate::specs::inner::Words::field_kind))]
-fn field_kind<'t, 'a>(
+#[tactic(auto, unfolding(crate::specs::inner::Bodies::map_or_group, crate::specs::inner::Words::map_or_group))]
+fn map_or_group<'t, 'a>(
     alloc: Global,
     notes: &mut Vec<Note>,
     rows: &mut Unread<'t, 'a>,
     level: usize,
-    expected: Expected,
 ) -> Result<(FieldParts, (RowAt<'t, 'a>, RowAt<'t, 'a>)), Refused>
-    ensures read { Gives (λ (kind, (first, last)). (kind, (first.at, last.at))) result rows.new (rule.field_kind_at level rows.old) }
-    ensures notes { Adds result notes.old.items (rule.field_kind_notes level rows.old) notes.new.items }
-    ensures words { Says result (said.field_kind_at level expected rows.old) }
+    ensures read { Gives (λ (kind, (first, last)). (kind, (first.at, last.at))) result rows.new (rule.map_or_group_at level rows.old) }
+    ensures notes { Adds result notes.old.items (rule.map_or_group_notes level rows.old) notes.new.items }
+    ensures words { Says result (said.map_or_group_at level rows.old) }
 {
-    if !sees_any(rows, &[MAP, GROUP]) {
-        return normal(alloc, notes, rows, expected);
-    }
     if sees(rows, MAP) {
         return map_field(alloc, notes, rows);
     }
     group(alloc, notes, rows, level)
+}
+
+// The same, as the field that begins at the rows `begun` with this label.
+#[cycle(bodies)]
+fn map_or_group_field(
+    alloc: Global,
+    notes: &mut Vec<Note>,
+    rows: &mut Unread<'_, '_>,
+    level: usize,
+    begun: &Unread<'_, '_>,
+    label: Option<(FieldLabel, Span)>,
+) -> Result<Field, Refused>
+    ensures read { Gives (λ x. x) result rows.new (mapped (λ kind. field_of begun.now (label, kind)) (rule.map_or_group_at level) rows.old) }
+    ensures notes { Adds result notes.old.items (rule.map_or_group_notes level rows.old) notes.new.items }
+    ensures words { Says result (said.map_or_group_at level rows.old) }
+{
+    let (parts, (first, last)) = map_or_group(alloc, notes, rows, level)?;
+    let comments = comments_of(alloc, begun, &first)?;
+    let span = join(&first_span(begun), &last.span());
+    let FieldParts {
+        name,
+        kind,
+        number,
+        options,
+    } = parts;
+    Ok(Field {
+        label,
+        name,
+        kind,
+        number,
+        options,
+        comments,
+        span,
+    })
+}
+
+/// map | group | normal , read as the field that begins at the rows `begun` with this label.
+#[cycle(bodies)]
+#[inline(always)]
+#[tactic(auto, unfolding(crate::specs::inner::Bodies::field_kind, crate::specs::inner::Bodies::map_or_group, crate::specs::inner::Words::field_kind, crate::specs::inner::Words::map_or_group))]
+fn field_behind(
+    alloc: Global,
+    notes: &mut Vec<Note>,
+    rows: &mut Unread<'_, '_>,
+    level: usize,
+    expected: Expected,
+    begun: &Unread<'_, '_>,
+    label: Option<(FieldLabel, Span)>,
+) -> Result<Field, Refused>
+    ensures read { Gives (λ x. x) result rows.new (mapped (λ kind. field_of begun.now (label, kind)) (rule.field_kind_at level) rows.old) }
+    ensures notes { Adds result notes.old.items (rule.field_kind_notes level rows.old) notes.new.items }
+    ensures words { Says result (said.field_kind_at level expected rows.old) }
+{
+    if sees_map_or_group(rows) {
+        return map_or_group_field(alloc, notes, rows, level, begun, label);
+    }
+    normal(alloc, notes, rows, expected, begun, label)
 }
 
 /// field = label? (map | group | normal)
@@ -126,26 +181,11 @@ fn field(
     ensures words { Says result (said.labelled_kind_at level expected rows.old) }
 {
     let begun = rows.again();
-    let found = if sees_any(rows, &[OPTIONAL, REQUIRED, REPEATED]) {
-        let label = label(rows)?;
-        let kind = field_kind(alloc, notes, rows, level, Expected::Type)?;
-        (Some(label), kind)
-    } else {
-        let kind = field_kind(alloc, notes, rows, level, expected)?;
-        (None, kind)
-    };
-    let comments = comments_of(alloc, &begun, &found.1.1.0)?;
-    let span = join(&first_span(&begun), &found.1.1.1.span());
-    // The parts are large: each is moved once.
-    Ok(Field {
-        label: found.0,
-        name: found.1.0.name,
-        kind: found.1.0.kind,
-        number: found.1.0.number,
-        options: found.1.0.options,
-        comments,
-        span,
-    })
+    if sees_label(rows) {
+        let label = Some(label(rows)?);
+        return field_behind(alloc, notes, rows, level, Expected::Type, &begun, label);
+    }
+    field_behind(alloc, notes, rows, level, expected, &begun, None)
 }
 
 /// ";" | option | field
@@ -354,7 +394,26 @@ fn keyword_element(
     bodiless_element(alloc, notes, rows)
 }
 
-/// ";" | field | oneof | enum | message | extend | option | reserved | extensions
+/// The same, added to those inside.
+#[cycle(bodies)]
+fn add_keyword_element(
+    alloc: Global,
+    notes: &mut Vec<Note>,
+    rows: &mut Unread<'_, '_>,
+    level: usize,
+    inside: &mut ElementsByKind,
+) -> Result<(), Refused>
+    ensures read { Gives (λ x. inside.new) result rows.new (mapped (rule.add_element inside.old) (rule.keyword_element_at level) rows.old) }
+    ensures notes { Adds result notes.old.items (rule.keyword_element_notes level rows.old) notes.new.items }
+    ensures words { Says result (said.keyword_element_at level rows.old) }
+{
+    let element = keyword_element(alloc, notes, rows, level)?;
+    add_element(inside, element)?;
+    Ok(())
+}
+
+/// ";" | field | oneof | enum | message | extend | option | reserved | extensions , added to those
+/// inside. A field is large, and most elements are fields: it goes straight to its list.
 #[cycle(bodies)]
 #[tactic(auto, unfolding(crate::specs::inner::Bodies::element, crate::specs::inner::Words::element))]
 fn element(
@@ -362,23 +421,22 @@ fn element(
     notes: &mut Vec<Note>,
     rows: &mut Unread<'_, '_>,
     level: usize,
-) -> Result<Element, Refused>
-    ensures read { Gives (λ x. x) result rows.new (rule.element_at level rows.old) }
+    inside: &mut ElementsByKind,
+) -> Result<(), Refused>
+    ensures read { Gives (λ x. inside.new) result rows.new (mapped (rule.add_element inside.old) (rule.element_at level) rows.old) }
     ensures notes { Adds result notes.old.items (rule.element_notes level rows.old) notes.new.items }
     ensures words { Says result (said.element_at level rows.old) }
 {
     if sees(rows, SEMICOLON) {
         expect_mark(rows, b';', Expected::Semicolon)?;
-        return Ok(Element::Empty);
+        return Ok(());
     }
-    if sees_any(
-        rows,
-        &[ONEOF, ENUM, MESSAGE, EXTEND, OPTION, RESERVED, EXTENSIONS],
-    ) {
-        return keyword_element(alloc, notes, rows, level);
+    if sees_keyword(rows) {
+        return add_keyword_element(alloc, notes, rows, level, inside);
     }
     let field = field(alloc, notes, rows, level, Expected::MessageBody)?;
-    Ok(Element::Item(MessageItem::Field(field)))
+    inside.items.push(MessageItem::Field(field))?;
+    Ok(())
 }
 
 #[cycle(bodies)]
@@ -400,7 +458,7 @@ fn elements(
         reserved: Items::new(alloc),
     };
     'more: while sees_other(rows, RIGHT_BRACE) {
-        add_element(&mut inside, element(alloc, notes, rows, level)?)?;
+        element(alloc, notes, rows, level, &mut inside)?;
     }
     Ok(inside)
 }

@@ -1,6 +1,7 @@
 //! Reads the kinds of fields without a body, and the names of groups.
 
 ghost use Rattle.std.specs.Prelude.{◌≡◌, ◌++◌, OnOk, suc, length};
+ghost use Rattle.protox_grammar.specs.Reader.{mapped};
 ghost use Rattle.protox_grammar.specs.Told.{group_notes};
 ghost use Rattle.protox_rows.specs.inner.Outcome.{Gives};
 ghost use Rattle.protox_rows.specs.inner.Words.{Says};
@@ -9,17 +10,18 @@ ghost use Rattle.protox_rows.specs.declared.expected.Expected.TheVariants as exp
 ghost use Rattle.protox_rows.specs.inner.Notes.{Adds};
 ghost use Rattle.protox_bodies.specs.inner.Fields as rule;
 
+use crate::around::first_span;
 use crate::parts::FieldParts;
-use protox_ast::ast::{Boxed, FieldKind, Ident, Int, OptionList, Ty};
+use protox_ast::ast::{Boxed, Field, FieldKind, FieldLabel, Ident, Int, OptionList, Ty};
 use protox_descriptor::case::is_valid_group_name;
 use protox_grammar::note::{Note, Noted};
 use protox_lex::error::{ParseErrorKind, Span};
 use protox_options::options::{after_list, list_if_any};
 use protox_rows::expected::Expected;
-use protox_rows::leaf::{copied, expect_mark, expect_word};
+use protox_rows::leaf::{copied, expect_mark, expect_word, join};
 use protox_rows::names::{field_type, ident, int};
 use protox_rows::refused::Refused;
-use protox_rows::rows::{RowAt, Unread, span_between};
+use protox_rows::rows::{RowAt, Unread, comments_of, span_between};
 use std::alloc::{AllocError, Global};
 
 // What may follow a named type: a dot goes on with it.
@@ -52,29 +54,41 @@ fn name_and_number<'t, 'a>(
     Ok((name, number, options, end))
 }
 
-/// normal = type ident "=" int list? ";"
-#[tactic(auto, unfolding(crate::specs::inner::Fields::normal, crate::specs::inner::Words::normal))]
-pub(crate) fn normal<'t, 'a>(
+/// normal = type ident "=" int list? ";" , read as the field that begins at the rows `begun` with
+/// this label. Most fields are normal ones, so their parts go straight into the field, and the field
+/// to where it is wanted: a result that is passed on is copied.
+#[inline(always)]
+#[tactic(auto, unfolding(crate::specs::inner::Fields::normal, crate::specs::inner::Fields::name_and_number, crate::specs::inner::Words::normal, crate::specs::inner::Words::name_and_number))]
+pub(crate) fn normal(
     alloc: Global,
     notes: &mut Vec<Note>,
-    rows: &mut Unread<'t, 'a>,
+    rows: &mut Unread<'_, '_>,
     expected: Expected,
-) -> Result<(FieldParts, (RowAt<'t, 'a>, RowAt<'t, 'a>)), Refused>
-    ensures read { Gives (λ (kind, (first, last)). (kind, (first.at, last.at))) result rows.new ((rule.normal).code rows.old) }
+    begun: &Unread<'_, '_>,
+    label: Option<(FieldLabel, Span)>,
+) -> Result<Field, Refused>
+    ensures read { Gives (λ x. x) result rows.new (mapped (λ kind. rule.field_of begun.now (label, kind)) (rule.normal).code rows.old) }
     ensures notes { Adds result notes.old.items ((rule.normal).notes rows.old) notes.new.items }
     ensures words { Says result (said.normal expected rows.old) }
 {
     let (ty, ty_span) = field_type(alloc, rows, expected)?;
     let behind = after_type(&ty, Expected::DotOrIdent, Expected::Ident);
-    let (name, number, options, end) = name_and_number(alloc, notes, rows, behind)?;
-    let last = end.again();
-    let parts = FieldParts {
+    let name = ident(alloc, rows, behind)?;
+    expect_mark(rows, b'=', Expected::Equals)?;
+    let number = int(rows)?;
+    let options = list_if_any(alloc, notes, rows)?;
+    let end = expect_mark(rows, b';', after_list(&options))?;
+    let comments = comments_of(alloc, begun, &end)?;
+    let span = join(&first_span(begun), &end.span());
+    Ok(Field {
+        label,
         name,
         kind: FieldKind::Normal { ty, ty_span },
         number,
         options,
-    };
-    Ok((parts, (end, last)))
+        comments,
+        span,
+    })
 }
 
 /// map = "map" "<" type "," type ">" ident "=" int list? ";"

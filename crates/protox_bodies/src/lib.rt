@@ -2,6 +2,7 @@
 #![tactic(auto)]
 
 mod around;
+mod begins;
 pub mod bodies;
 mod fields;
 mod parts;

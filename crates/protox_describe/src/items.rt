@@ -64,13 +64,17 @@ fn oneofs_among(items: &[MessageItem]) -> usize
     oneofs
 }
 
-// How many of the items are fields.
+// How many fields the items have, with those of oneofs.
 fn fields_among(items: &[MessageItem]) -> usize {
     let mut fields: usize = 0;
     for item in items {
-        if let MessageItem::Field(_) = item {
-            fields = fields.saturating_add(1);
-        }
+        fields = fields.saturating_add(match item {
+            MessageItem::Field(_) => 1,
+            MessageItem::Oneof(oneof) => oneof.fields.len(),
+            MessageItem::Message(_) => 0,
+            MessageItem::Enum(_) => 0,
+            MessageItem::Extend(_) => 0,
+        });
     }
     fields
 }

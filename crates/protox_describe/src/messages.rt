@@ -94,6 +94,29 @@ fn joined(
     })
 }
 
+// Whether a message is nested for an item: one that is written, or one for a group or a map.
+fn nests(item: &MessageItem) -> bool {
+    match item {
+        MessageItem::Message(_) => true,
+        MessageItem::Field(field) => !matches!(field.kind, FieldKind::Normal { .. }),
+        MessageItem::Oneof(_) => false,
+        MessageItem::Enum(_) => false,
+        MessageItem::Extend(_) => false,
+    }
+}
+
+// How many messages are nested, but for groups in oneofs and `extend` statements. For each nested
+// message there is room then, and no more: a message takes much.
+fn nested_among(items: &[MessageItem]) -> usize {
+    let mut nested: usize = 0;
+    for item in items {
+        if nests(item) {
+            nested = nested.saturating_add(1);
+        }
+    }
+    nested
+}
+
 /// The descriptor of a message.
 #[cycle(messages)]
 pub(crate) fn message_proto(
@@ -129,7 +152,7 @@ fn nested(
 ) -> Result<Items<DescriptorProto>, AllocError>
     ensures { IfOk result (λ found. found ≡ flat_map nested_of (map (of_item (descriptor_steps syntax)) (out-MessageBody ast.now).items)) }
 {
-    let mut found = Items::new(alloc);
+    let mut found = Items::with_capacity(alloc, nested_among(ast.items.as_slice()))?;
     for item in ast.items.as_slice() {
         push_nested(alloc, syntax, item, &mut found)?;
     }

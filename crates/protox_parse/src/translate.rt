@@ -21,14 +21,20 @@ use protox_lex::error::{ParseErrorKind, SyntaxFailure};
 use protox_syntax::taking::TakesItems;
 use std::alloc::{AllocError, Global};
 
+/// Of a source of at most this many bytes no item is described before all have been checked.
+const CHECKED_FIRST: usize = 0x4_0000;
+
 /// What is made of the items of a source, while it is read: their faults, or what describes them.
 #[derive(Drop)]
 pub(crate) struct Translation<'a> {
     draft: FileDraft<'a>,
     faults: Vec<ParseErrorKind>,
-    // Items that are described only at the end: one whose description may be much longer than
-    // itself, and all behind it.
+    // Items that are described only at the end: all of a short source, so that one with a fault
+    // takes no time for descriptions; else one whose description may be much longer than itself,
+    // and all behind it.
     kept: Items<FileItem>,
+    // Whether the source is short.
+    short: bool,
 }
 
 // Adds the faults of an item.
@@ -51,10 +57,11 @@ fn describe(
     item: FileItem,
     draft: &mut FileDraft<'_>,
     kept: &mut Items<FileItem>,
+    short: bool,
 ) -> Result<(), AllocError>
     ensures { OnOk result ((source : List ℕ) (items : List item_type.FileItem) → AreInHand source head.now.syntax items draft.old kept.old → AreInHand source head.now.syntax (items ++ item ∷ []) draft.new kept.new) }
 {
-    if kept.is_empty() && !repeats_much(&item) {
+    if !short && kept.is_empty() && !repeats_much(&item) {
         draft.take(alloc, head, item)
     } else {
         kept.push(item)
@@ -70,7 +77,14 @@ impl TakesItems for Translation<'_> {
             // A file with a fault gets no descriptor.
             return Ok(());
         }
-        describe(alloc, head, item, &mut self.draft, &mut self.kept)
+        describe(
+            alloc,
+            head,
+            item,
+            &mut self.draft,
+            &mut self.kept,
+            self.short,
+        )
     }
 }
 
@@ -125,6 +139,7 @@ impl<'a> Translation<'a> {
             draft: FileDraft::new(alloc, source),
             faults: Vec::new(alloc),
             kept: Items::new(alloc),
+            short: source.len() <= CHECKED_FIRST,
         }
     }
 
@@ -144,6 +159,7 @@ impl<'a> Translation<'a> {
             draft,
             faults,
             kept,
+            short: _,
         } = self;
         let mut all = faults;
         add_faults_of_head(alloc, head, &mut all)?;

@@ -9,6 +9,8 @@ use Rattle.protox_lexeme.specs.Gaps.{may_lead, Attribution, attribution}
 use Rattle.protox_lexeme.specs.Shapes.{Shape, Ident, Int, Float, Str, Mark, LineComment, BlockComment, Newline, Invalid, Row, Rows}
 use Rattle.protox_lexeme.specs.Table.{Table}
 use Rattle.protox_ast.proofs.Standing.{as-many}
+use Rattle.protox_grammar.specs.Class.{Set, class, in_set}
+use Rattle.protox_grammar.specs.Reader.{head_in}
 use Rattle.protox_rows.specs.Rows.{no_row, bare_row, shape_of_row, IsFirst}
 use Rattle.protox_ast.specs.Places.{Place, placed, next_gap, later_gaps, next_shape, place_of, placed_from}
 
@@ -185,3 +187,8 @@ none-there (x ∷ xs) (suc k) d e = none-there xs k d e
 pub none-mapped : {A B : Type 0} (f : A → B) (o : Option A) → option_map f o ≡ None → o ≡ None
 none-mapped f None e = refl
 none-mapped f (Some x) e = absurd cc
+
+-- Whether the first row is in a set of classes.
+pub first-in : (P : Set) (rows : Rows Place) (first : Row Place) → IsFirst rows (Some first) → P (class first.shape) ≡ head_in (in_set P) rows
+first-in P [] first is = absurd is
+first-in P (x ∷ xs) first is = ap (λ (r : Row Place). P (class r.shape)) (sym is)

@@ -46,30 +46,38 @@ pub fn sees_below(rows: &Unread<'_, '_>, bound: u8) -> bool
     }
 }
 
+// Whether the class is that of a scalar type. Written out, so that no list is walked: each field asks.
+fn is_scalar(class: u8) -> bool
+    ensures { result ≡ scalar_set class }
+{
+    matches!(
+        class,
+        DOUBLE
+            | FLOAT_WORD
+            | INT32
+            | INT64
+            | UINT32
+            | UINT64
+            | SINT32
+            | SINT64
+            | FIXED32
+            | FIXED64
+            | SFIXED32
+            | SFIXED64
+            | BOOL
+            | STRING_WORD
+            | BYTES
+    )
+}
+
 /// Whether the next token is a scalar type.
 pub fn sees_scalar(rows: &Unread<'_, '_>) -> bool
     ensures { result ≡ head_in (in_set scalar_set) rows.now }
 {
-    sees_any(
-        rows,
-        &[
-            DOUBLE,
-            FLOAT_WORD,
-            INT32,
-            INT64,
-            UINT32,
-            UINT64,
-            SINT32,
-            SINT64,
-            FIXED32,
-            FIXED64,
-            SFIXED32,
-            SFIXED64,
-            BOOL,
-            STRING_WORD,
-            BYTES,
-        ],
-    )
+    match rows.first() {
+        Some(first) => is_scalar(first.class()),
+        None => false,
+    }
 }
 
 /// Whether the class is one of these.

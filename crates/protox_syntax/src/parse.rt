@@ -95,6 +95,8 @@ fn read_parts<T: TakesItems>(alloc: Global, source: &str, to: &mut T) -> Result<
         let ends = read_part(alloc, source, &mut head, &mut progress)?;
         hand_over(alloc, &mut head, to)?;
         if ends {
+            // The list of the items is empty, but has room.
+            head.items = Items::new(alloc);
             return Ok(head);
         }
     }

@@ -1,28 +1,37 @@
 //! Where reading goes on behind a statement that is refused, so that later faults are reported too.
 
 ghost use Rattle.std.specs.Prelude.{◌≡◌, ◌++◌, OnOk};
+ghost use Rattle.protox_grammar.specs.Class.{among};
 ghost use Rattle.protox_grammar.specs.Told.{Notes};
-ghost use Rattle.protox_syntax.specs.inner.Recovery.{AreRefusalNotes, at_most, behind_block, from_statement, last_rows, next_rows, plain_note, refusal_notes};
+ghost use Rattle.protox_syntax.specs.inner.Recovery.{AreRefusalNotes, at_most, behind_block, from_statement, last_rows, next_rows, plain_note, refusal_notes, statement_words};
 
 use crate::fault_list::refusal;
 use protox_grammar::note::{Note, Noted};
 use protox_lex::lex::TokenTable;
 use protox_rows::class::{
-    ENUM, EXTEND, IMPORT, LEFT_BRACE, MESSAGE, OPTION, PACKAGE, RIGHT_BRACE, SERVICE, sees_any,
+    ENUM, EXTEND, IMPORT, LEFT_BRACE, MESSAGE, OPTION, PACKAGE, RIGHT_BRACE, SERVICE,
 };
 use protox_rows::refused::Refused;
 use protox_rows::rows::Unread;
 use std::alloc::{AllocError, Global};
 
+// Whether reading may go on at a token of this class. Written out, so that no list is walked: each
+// row that is skipped is asked.
+fn begins_statement(class: u8) -> bool
+    ensures { result ≡ among statement_words class }
+{
+    matches!(
+        class,
+        ENUM | EXTEND | IMPORT | MESSAGE | OPTION | SERVICE | PACKAGE
+    )
+}
+
 // Skips to the next word that begins a statement, or to the end.
 fn skip_to_statement(rows: &mut Unread<'_, '_>)
     ensures { rows.new ≡ from_statement rows.old }
 {
-    'rows: while let Some((_, rest)) = rows.split() {
-        if sees_any(
-            rows,
-            &[ENUM, EXTEND, IMPORT, MESSAGE, OPTION, SERVICE, PACKAGE],
-        ) {
+    'rows: while let Some((first, rest)) = rows.split() {
+        if begins_statement(first.class()) {
             return;
         }
         *rows = rest;

@@ -32,7 +32,8 @@ impl TakesItems for Items<FileItem> {
     }
 }
 
-/// Hands over the items that the head holds.
+/// Hands over the items that the head holds. The list keeps its room for those of the next part:
+/// to give back much room at once is dear, since the allocator then tidies all that it has.
 pub(crate) fn hand_over<T: TakesItems>(
     alloc: Global,
     head: &mut File,
@@ -41,9 +42,10 @@ pub(crate) fn hand_over<T: TakesItems>(
     ensures head { OnOk result (head.new ≡ record head.old { items = [] }) }
     ensures taken { OnOk result (FoldsTo (T.takes head.old.syntax) to.old head.old.items to.new) }
 {
-    let items = mem::replace(&mut head.items, Items::new(alloc));
-    for item in items.into_vec() {
+    let mut items = mem::replace(&mut head.items, Items::new(alloc)).into_vec();
+    for item in items.drain(..) {
         to.take(alloc, head, item)?;
     }
+    head.items = Items::from_vec(items);
     Ok(())
 }

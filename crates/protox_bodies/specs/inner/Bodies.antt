@@ -225,6 +225,15 @@ module _ (n : ℕ) (b : Opened (bodies.unsealed n).read (bodies.unsealed n).trac
   group = named bodies.to_group (λ (keyword, (name, (number, (options, (body, braces))))). (record { name = name; kind = kind.Group keyword.span body; number = number; options = options }, braces)) (λ x. refl)
       (opened_by (codes "group") (before group_name group_name-keeps number_and_body))
 
+  -- a map or a group of the tree as the code keeps it
+  abbrev pub map_or_group_seen : tree.Map Place ⊎ tree.Group Place → Kind
+  map_or_group_seen (inl x) = kind_seen (tree.map x)
+  map_or_group_seen (inr x) = kind_seen (tree.group x)
+
+  -- map | group
+  unfoldable pub map_or_group : Noting (rule.choice (only token.map) r.map (bodies.group (bodies.mbody_at n))) map_or_group_seen
+  map_or_group = shown_by (two _ _ (λ x. refl) (λ x. refl)) (choice (only token.map) map_field group)
+
   -- map | group | normal
   unfoldable pub field_kind : Noting (bodies.field_kind (bodies.mbody_at n)) kind_seen
   unfolding bodies.field_kind
@@ -348,6 +357,12 @@ group_at n = (group n (mbody_at n)).code
 
 abbrev pub group_notes : ℕ → Rows Place → told.Notes
 group_notes n = (group n (mbody_at n)).notes
+
+abbrev pub map_or_group_at : ℕ → Reader Place (Kind)
+map_or_group_at n = (map_or_group n (mbody_at n)).code
+
+abbrev pub map_or_group_notes : ℕ → Rows Place → told.Notes
+map_or_group_notes n = (map_or_group n (mbody_at n)).notes
 
 abbrev pub field_kind_at : ℕ → Reader Place (Kind)
 field_kind_at n = (field_kind n (mbody_at n)).code

@@ -62,6 +62,10 @@ module _ (n : ℕ) (body : Expected → Words) where
   unfoldable pub group : Words
   group = and_then (fixed (Ident (codes "group"))) (always expected.Type) (λ m. and_then (fields_rule.group_name).code (always expected.Ident) (λ name. number_and_body))
 
+  -- map | group
+  unfoldable pub map_or_group : Words
+  map_or_group = choose (only token.map) map_field group
+
   -- map | group | normal
   unfoldable pub field_kind : Expected → Words
   field_kind e = choose (among (token.map ∷ token.group ∷ [])) (choose (only token.map) map_field group) (normal e)
@@ -131,6 +135,9 @@ number_and_body_at n = number_and_body n (mbody_at n)
 
 abbrev pub group_at : ℕ → Words
 group_at n = group n (mbody_at n)
+
+abbrev pub map_or_group_at : ℕ → Words
+map_or_group_at n = map_or_group n (mbody_at n)
 
 abbrev pub field_kind_at : ℕ → Expected → Words
 field_kind_at n = field_kind n (mbody_at n)

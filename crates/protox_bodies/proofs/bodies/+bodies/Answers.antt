@@ -6,33 +6,51 @@ use Rattle.protox_rows.specs.inner.Notes.{Adds, AddsTo}
 use Rattle.protox_rows.specs.inner.Words.{Says, SaysOf}
 use Rattle.protox_bodies.specs.inner.Bodies as rule
 use Rattle.protox_bodies.specs.inner.Words as said
-use Rattle.protox_bodies.proofs.Turns.{element-eats, oneof_element-eats, extend_element-eats, one_level, no_level, no_words, words_below}
+use Rattle.protox_bodies.proofs.Turns.{element-eats, oneof_element-eats, extend_element-eats, added, unadded, one_level, no_level, no_words, words_below}
+use Rattle.protox_bodies.proofs.Labels.{labelled-field, plain-field}
+use Rattle.protox_rows.specs.inner.Outcome.{Gives}
 use Rattle.protox_bodies.proofs.bodies.+bodies.Goals as goal
+
+pub field-returns-then-sees_label-clause-read : goal.field-returns-then-sees_label-clause-read
+field-returns-then-sees_label-clause-read t c =
+    subst (Gives (λ x. x) c.field_behind.result c.field_behind.new.rows) (labelled-field c.args.level c.args.rows.now _ c.again-begun.ensures _ _ (sym c.sees_label.ensures ∙ c.if-sees_label.true) c.in_ok-label.ensures.read) c.field_behind.ensures.read
+
+pub field-returns-clause-read : goal.field-returns-clause-read
+field-returns-clause-read t c =
+    subst (Gives (λ x. x) c.field_behind-2.result c.field_behind-2.new.rows) (plain-field c.args.level c.args.rows.now _ c.again-begun.ensures (sym c.sees_label.ensures ∙ c.if-sees_label.false)) c.field_behind-2.ensures.read
 
 pub elements-returns-in_err-element-clause-read : goal.elements-returns-in_err-element-clause-read
 elements-returns-in_err-element-clause-read t c =
     let p = err_from_is_err_and c.from_residual.result c.from_residual.ensures.1 in
-    rw (p.1, p.2) (turns.ends rule.add_element (in_set (but 48)) (rule.element_at c.args.level) (element-eats c.args.level) (rule.elements_at c.args.level c.args.rows.now) c.in_err-element.field-0.0 _ _ (sym c.sees_other.ensures ∙ c.more-test.true) c.in_err-element.ensures.read c.more.invariant.read)
+    let unread = unadded c.in_err-element.field-0.0 (rule.add_element c.more.inside) (rule.element_at c.args.level c.more.rows) c.in_err-element.ensures.read in
+    rw (p.1, p.2) (turns.ends rule.add_element (in_set (but 48)) (rule.element_at c.args.level) (element-eats c.args.level) (rule.elements_at c.args.level c.args.rows.now) c.in_err-element.field-0.0 _ _ (sym c.sees_other.ensures ∙ c.more-test.true) unread c.more.invariant.read)
 
 pub elements-returns-in_err-element-clause-notes : goal.elements-returns-in_err-element-clause-notes
 elements-returns-in_err-element-clause-notes t c =
     let p = err_from_is_err_and c.from_residual.result c.from_residual.ensures.1 in
-    rw (p.1, p.2) (turns.last-notes (but 48) (rule.element_at c.args.level) (rule.element_notes c.args.level) (element-eats c.args.level) c.in_err-element.field-0.0 c.args.notes.now.items c.more.notes.items c.element.new.notes.items (rule.elements_notes c.args.level c.args.rows.now) c.more.rows (sym c.sees_other.ensures ∙ c.more-test.true) c.in_err-element.ensures.read c.in_err-element.ensures.notes c.more.invariant.notes)
+    let unread = unadded c.in_err-element.field-0.0 (rule.add_element c.more.inside) (rule.element_at c.args.level c.more.rows) c.in_err-element.ensures.read in
+    rw (p.1, p.2) (turns.last-notes (but 48) (rule.element_at c.args.level) (rule.element_notes c.args.level) (element-eats c.args.level) c.in_err-element.field-0.0 c.args.notes.now.items c.more.notes.items c.element.new.notes.items (rule.elements_notes c.args.level c.args.rows.now) c.more.rows (sym c.sees_other.ensures ∙ c.more-test.true) unread c.in_err-element.ensures.notes c.more.invariant.notes)
 
 pub elements-returns-in_err-element-clause-words : goal.elements-returns-in_err-element-clause-words
 elements-returns-in_err-element-clause-words t c =
     let p = err_from_is_err_and c.from_residual.result c.from_residual.ensures.1 in
-    rw (p.1, p.2) (turns.last-words (in_set (but 48)) (rule.element_at c.args.level) (said.element_at c.args.level) (element-eats c.args.level) c.in_err-element.field-0.0 (said.elements_at c.args.level c.args.rows.now) c.more.rows (sym c.sees_other.ensures ∙ c.more-test.true) c.in_err-element.ensures.read c.in_err-element.ensures.words c.more.invariant.words)
+    let unread = unadded c.in_err-element.field-0.0 (rule.add_element c.more.inside) (rule.element_at c.args.level c.more.rows) c.in_err-element.ensures.read in
+    rw (p.1, p.2) (turns.last-words (in_set (but 48)) (rule.element_at c.args.level) (said.element_at c.args.level) (element-eats c.args.level) c.in_err-element.field-0.0 (said.elements_at c.args.level c.args.rows.now) c.more.rows (sym c.sees_other.ensures ∙ c.more-test.true) unread c.in_err-element.ensures.words c.more.invariant.words)
 
 pub elements-more-smaller : goal.elements-more-smaller
-elements-more-smaller t c = turns.shorter (rule.element_at c.args.level) (element-eats c.args.level) c.more.rows c.element.new.rows _ c.in_ok-element.ensures.read
+elements-more-smaller t c =
+    let one = added (rule.add_element c.more.inside) (rule.element_at c.args.level c.more.rows) c.element.new.inside c.element.new.rows c.in_ok-element.ensures.read in
+    turns.shorter (rule.element_at c.args.level) (element-eats c.args.level) c.more.rows c.element.new.rows one.0 one.1
 
 pub elements-more-preserved : goal.elements-more-preserved
-elements-more-preserved t c = record {
-  read = rw c.in_ok-add_element.ensures (turns.more rule.add_element (in_set (but 48)) (rule.element_at c.args.level) (element-eats c.args.level) (rule.elements_at c.args.level c.args.rows.now) _ _ _ _ (sym c.sees_other.ensures ∙ c.more-test.true) c.in_ok-element.ensures.read c.more.invariant.read);
-  notes = turns.more-notes (but 48) (rule.element_at c.args.level) (rule.element_notes c.args.level) (element-eats c.args.level) c.args.notes.now.items c.more.notes.items c.element.new.notes.items (rule.elements_notes c.args.level c.args.rows.now) c.more.rows c.element.new.rows _ (sym c.sees_other.ensures ∙ c.more-test.true) c.in_ok-element.ensures.read c.in_ok-element.ensures.notes c.more.invariant.notes;
-  words = turns.more-words (in_set (but 48)) (rule.element_at c.args.level) (said.element_at c.args.level) (element-eats c.args.level) (said.elements_at c.args.level c.args.rows.now) _ _ _ (sym c.sees_other.ensures ∙ c.more-test.true) c.in_ok-element.ensures.read c.more.invariant.words;
-}
+elements-more-preserved t c =
+    let one = added (rule.add_element c.more.inside) (rule.element_at c.args.level c.more.rows) c.element.new.inside c.element.new.rows c.in_ok-element.ensures.read in
+    let test = sym c.sees_other.ensures ∙ c.more-test.true in
+    record {
+      read = rw (sym one.2) (turns.more rule.add_element (in_set (but 48)) (rule.element_at c.args.level) (element-eats c.args.level) (rule.elements_at c.args.level c.args.rows.now) c.more.inside c.more.rows c.element.new.rows one.0 test one.1 c.more.invariant.read);
+      notes = turns.more-notes (but 48) (rule.element_at c.args.level) (rule.element_notes c.args.level) (element-eats c.args.level) c.args.notes.now.items c.more.notes.items c.element.new.notes.items (rule.elements_notes c.args.level c.args.rows.now) c.more.rows c.element.new.rows one.0 test one.1 c.in_ok-element.ensures.notes c.more.invariant.notes;
+      words = turns.more-words (in_set (but 48)) (rule.element_at c.args.level) (said.element_at c.args.level) (element-eats c.args.level) (said.elements_at c.args.level c.args.rows.now) c.more.rows c.element.new.rows one.0 test one.1 c.more.invariant.words;
+    }
 
 pub elements-returns-clause-read : goal.elements-returns-clause-read
 elements-returns-clause-read t c = turns.done rule.add_element (in_set (but 48)) (rule.element_at c.args.level) (element-eats c.args.level) (rule.elements_at c.args.level c.args.rows.now) _ _ (sym c.sees_other.ensures ∙ c.more-test.false) c.more.invariant.read

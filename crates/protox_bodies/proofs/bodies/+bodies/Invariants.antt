@@ -8,52 +8,61 @@ use Rattle.protox_bodies.specs.inner.Words as said
 use Rattle.protox_bodies.proofs.bodies.+bodies.Given as goal
 
 abbrev pub decreases-mbody : goal.decreases-mbody
-decreases-mbody l = l.level * 13
+decreases-mbody l = l.level * 15
 
 abbrev pub decreases-group : goal.decreases-group
-decreases-group l = l.level * 13 + 2
+decreases-group l = l.level * 15 + 2
 
 abbrev pub decreases-number_and_body : goal.decreases-number_and_body
-decreases-number_and_body l = l.level * 13 + 1
+decreases-number_and_body l = l.level * 15 + 1
 
 abbrev pub decreases-message : goal.decreases-message
-decreases-message l = l.level * 13 + 2
+decreases-message l = l.level * 15 + 2
 
-abbrev pub decreases-field_kind : goal.decreases-field_kind
-decreases-field_kind l = l.level * 13 + 3
+abbrev pub decreases-map_or_group : goal.decreases-map_or_group
+decreases-map_or_group l = l.level * 15 + 3
+
+abbrev pub decreases-map_or_group_field : goal.decreases-map_or_group_field
+decreases-map_or_group_field l = l.level * 15 + 4
+
+abbrev pub decreases-field_behind : goal.decreases-field_behind
+decreases-field_behind l = l.level * 15 + 5
 
 abbrev pub decreases-field : goal.decreases-field
-decreases-field l = l.level * 13 + 5
+decreases-field l = l.level * 15 + 6
 
 abbrev pub decreases-oneof_element : goal.decreases-oneof_element
-decreases-oneof_element l = l.level * 13 + 6
+decreases-oneof_element l = l.level * 15 + 7
 
 abbrev pub decreases-oneof_elements : goal.decreases-oneof_elements
-decreases-oneof_elements l = l.level * 13 + 7
+decreases-oneof_elements l = l.level * 15 + 8
 
 abbrev pub decreases-oneof : goal.decreases-oneof
-decreases-oneof l = l.level * 13 + 8
+decreases-oneof l = l.level * 15 + 9
 
 abbrev pub decreases-extend_element : goal.decreases-extend_element
-decreases-extend_element l = l.level * 13 + 6
+decreases-extend_element l = l.level * 15 + 7
 
 abbrev pub decreases-extend_elements : goal.decreases-extend_elements
-decreases-extend_elements l = l.level * 13 + 7
+decreases-extend_elements l = l.level * 15 + 8
 
 abbrev pub decreases-extend : goal.decreases-extend
-decreases-extend l = l.level * 13 + 8
+decreases-extend l = l.level * 15 + 9
 
 abbrev pub decreases-keyword_element : goal.decreases-keyword_element
-decreases-keyword_element l = l.level * 13 + 9
+decreases-keyword_element l = l.level * 15 + 10
+
+abbrev pub decreases-add_keyword_element : goal.decreases-add_keyword_element
+decreases-add_keyword_element l = l.level * 15 + 11
 
 abbrev pub decreases-element : goal.decreases-element
-decreases-element l = l.level * 13 + 10
+decreases-element l = l.level * 15 + 12
 
 abbrev pub decreases-elements : goal.decreases-elements
-decreases-elements l = l.level * 13 + 11
+decreases-elements l = l.level * 15 + 13
 
 abbrev pub decreases-braces : goal.decreases-braces
-decreases-braces l = l.level * 13 + 12
+decreases-braces l = l.level * 15 + 14
 
 abbrev pub invariant-elements-more : goal.invariant-elements-more
 invariant-elements-more l = record {

@@ -1,6 +1,7 @@
 use Rattle.std.proofs.Common.{◌≡◌, ◌++◌, [], List, None, length, true, false, arith, refl, sym, ap, subst, ◌∙◌}
 use Rattle.std.specs.List.{FoldsTo}
 use Rattle.protox_ast.specs.declared.ast.File.{File}
+use Rattle.protox_ast.specs.declared.ast.FileItem.{FileItem}
 use Rattle.protox_syntax.proofs.Answering.{between-handed, between-none, read-into, taken-more}
 use Rattle.protox_syntax.proofs.Standing.{last-within}
 use Rattle.protox_syntax.specs.inner.Parts.{IsAll, IsBetween, IsTurned}
@@ -46,9 +47,10 @@ returns-then-ends-clause-read g c =
     let all = subst (λ b. IsTurned source i.gone b c.read_part.new.progress c.read_part.new.head) c.if-ends.true turned in
     let takes = g.T.TakesItems.takes in
     let handed = c.in_ok-hand_over.ensures in
-    subst (λ (h : File). IsReadInto takes source h c.args.to.now c.hand_over.new.to) (sym handed.head)
+    subst (λ (xs : List FileItem). IsReadInto takes source (record c.hand_over.new.head { items = xs }) c.args.to.now c.hand_over.new.to) (sym c.new.ensures)
+    (subst (λ (h : File). IsReadInto takes source h c.args.to.now c.hand_over.new.to) (sym (ap (λ (h : File). record h { items = [] }) handed.head))
     (read-into takes source i.gone c.read_part.new.head c.args.to.now c.hand_over.new.to all
-    (taken-more takes source c.parts.progress i.gone c.parts.head c.read_part.new.head c.args.to.now c.parts.to c.hand_over.new.to i.between c.in_ok-ends.ensures.syntax i.taken handed.taken))
+    (taken-more takes source c.parts.progress i.gone c.parts.head c.read_part.new.head c.args.to.now c.parts.to c.hand_over.new.to i.between c.in_ok-ends.ensures.syntax i.taken handed.taken)))
 
 pub read_part-requires-clause-between : goal.read_part-requires-clause-between
 read_part-requires-clause-between g c = (c.parts.invariant.gone, c.parts.invariant.between)

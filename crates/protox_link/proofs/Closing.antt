@@ -1,5 +1,5 @@
 -- Where nothing is wrong with a file, each name in what linking makes of it stands for something.
-use Rattle.std.proofs.Common.{◌≡◌, ◌⊎◌, inl, inr, ◌<◌, ℕ, ◌+◌, Bool, true, false, cond, List, [], ◌∷◌, ◌++◌, map, Option, Some, None, is_some, refl, sym, ap, subst, ◌∙◌, drop, get_or, length, slice_get}
+use Rattle.std.proofs.Common.{◌≡◌, ◌⊎◌, inl, inr, ◌<◌, ℕ, ◌+◌, Bool, true, false, cond, List, [], ◌∷◌, ◌++◌, map, Option, Some, None, is_some, refl, sym, ap, subst, ◌∙◌, arith, drop, length, slice_get, suc, zero}
 use Rattle.std.specs.Prelude.{ℤ, ⊤, All, IfSome}
 use Rattle.std.specs.List.{flat_map}
 use Rattle.std.specs.Option.{option_and_then, option_map, option_map_or, option_or, unwrap_or}
@@ -19,9 +19,14 @@ use Rattle.protox_descriptor.specs.declared.tag.file.TheConstants as file_tag
 use Rattle.protox_descriptor.specs.declared.tag.message.TheConstants as message_tag
 use Rattle.protox_descriptor.specs.declared.tag.method.TheConstants as method_tag
 use Rattle.protox_descriptor.specs.declared.tag.service.TheConstants as service_tag
-use Rattle.protox_link.proofs.Standing.{IsThere, declared_stands, none_of_first, none_of_second, message_itself_stands, none_used, own_is_one_part, same_text}
-use Rattle.protox_link.specs.Closed.{IsClosedField, IsClosedMethod, IsClosedPart, IsNameOf, is_message}
-use Rattle.protox_link_checks.specs.Faults.{declared_faults, faults_named}
+use Rattle.protox_link.proofs.Standing.{IsThere, declared_stands, none_of_first, none_of_second, message_itself_stands, none_used, own_is_one_part, package_there, same_text}
+use Rattle.protox_imports.specs.Rows.{named_of, rows_of}
+use Rattle.protox_link.proofs.Seeing.{same_faults, split, split_linked}
+use Rattle.protox_link.specs.Closed.{AreClosed, IsClosedField, IsClosedFile, IsClosedMethod, IsClosedPart, IsNameOf, is_message}
+use Rattle.protox_link.specs.Files.{AreFaults, AreLinked, faults_in, linked_in}
+use Rattle.protox_link.specs.Seen.{IsSeenBy}
+use Rattle.protox_link_checks.specs.Faults.{all_declared_faults, declared_faults, faults_named}
+use Rattle.protox_link_checks.specs.Imports.{import_faults, package_faults}
 use Rattle.protox_link_checks.specs.Numbers.{implementation_faults}
 use Rattle.protox_link_checks.specs.Uses.{faults_at, kind_named, message_faults, type_faults, wrong_message, wrong_type}
 use Rattle.protox_link_fault.specs.declared.LinkFault.{LinkFault}
@@ -44,6 +49,7 @@ use Rattle.protox_scopes.specs.declared.kind.Wanted.TheVariants.{AType, Anything
 use Rattle.protox_symbols.proofs.Inside.{enums_at, extensions_at, fields_at, inside, message_declares, messages_at, oneofs_at}
 use Rattle.protox_symbols.proofs.Standing.{full_is_within}
 use Rattle.protox_symbols.specs.Symbols.{Table}
+use Rattle.protox_symbols.specs.Things.{table_of}
 use Rattle.protox_views.specs.Views.{is_seen, meaning, seen, target}
 use Rattle.protox_walk.specs.Declarations.{At, Path, all_in, declared, enum_at, field_at, file_declarations, full_name, message_at, method_at, nth, numbered, oneof_at, service_at, siblings_at, text_of, value_at}
 use Rattle.protox_walk.specs.Parts.{Declared, Field, Message, Method, Service}
@@ -352,14 +358,53 @@ module _ (t : Table) (sees packages : List Bool) (file : ℕ) where
       let second : flat_map wrong in_enums ++ flat_map wrong (in_services ++ in_extensions) ≡ [] = sym (flat_map-append wrong in_enums (in_services ++ in_extensions)) ∙ none_of_second (flat_map wrong in_messages) _ first in
       let third : flat_map wrong in_services ++ flat_map wrong in_extensions ≡ [] = sym (flat_map-append wrong in_services in_extensions) ∙ none_of_second (flat_map wrong in_enums) _ second in
       let all : All IsClosed (siblings_at [] file_tag.MESSAGE_TYPE (all_in message_at package1 (map (linked_message meaning1 package1) f.message_type))
-          ++ (in_enums
-          ++ (siblings_at [] file_tag.SERVICE (all_in service_at package1 (map (linked_service meaning1 package1) f.service))
-          ++ siblings_at [] file_tag.EXTENSION (all_in field_at package1 (map (linked_field meaning1 package1) f.extension))))) =
-          All-append IsClosed _ _ (all_closed message_at (linked_message meaning1 package1) package1 [] file_tag.MESSAGE_TYPE 0 f.message_type (λ m place h. message_is_closed m package1 place there h) (none_of_first _ _ first))
-          (All-append IsClosed _ _ (all_left enum_at package1 [] file_tag.ENUM_TYPE 0 f.enum_type (λ e place. enum_left package1 e place))
-          (All-append IsClosed _ _ (all_closed service_at (linked_service meaning1 package1) package1 [] file_tag.SERVICE 0 f.service (λ s place h. service_closed package1 s place there h) (none_of_first _ _ third))
-          (all_closed field_at (linked_field meaning1 package1) package1 [] file_tag.EXTENSION 0 f.extension (λ x place h. field_closed package1 x place there h) (none_of_second (flat_map wrong in_services) _ third)))) in
+      ++ (in_enums
+      ++ (siblings_at [] file_tag.SERVICE (all_in service_at package1 (map (linked_service meaning1 package1) f.service))
+      ++ siblings_at [] file_tag.EXTENSION (all_in field_at package1 (map (linked_field meaning1 package1) f.extension))))) =
+      All-append IsClosed _ _ (all_closed message_at (linked_message meaning1 package1) package1 [] file_tag.MESSAGE_TYPE 0 f.message_type (λ m place h. message_is_closed m package1 place there h) (none_of_first _ _ first))
+      (All-append IsClosed _ _ (all_left enum_at package1 [] file_tag.ENUM_TYPE 0 f.enum_type (λ e place. enum_left package1 e place))
+      (All-append IsClosed _ _ (all_closed service_at (linked_service meaning1 package1) package1 [] file_tag.SERVICE 0 f.service (λ s place h. service_closed package1 s place there h) (none_of_first _ _ third))
+      (all_closed field_at (linked_field meaning1 package1) package1 [] file_tag.EXTENSION 0 f.extension (λ x place h. field_closed package1 x place there h) (none_of_second (flat_map wrong in_services) _ third)))) in
       subst (λ scope. All IsClosed (siblings_at [] file_tag.MESSAGE_TYPE (all_in message_at package1 (map (linked_message meaning1 scope) f.message_type))
-          ++ (in_enums
-          ++ (siblings_at [] file_tag.SERVICE (all_in service_at package1 (map (linked_service meaning1 scope) f.service))
-          ++ siblings_at [] file_tag.EXTENSION (all_in field_at package1 (map (linked_field meaning1 scope) f.extension)))))) (sym (same_text f.«package»)) all
+      ++ (in_enums
+      ++ (siblings_at [] file_tag.SERVICE (all_in service_at package1 (map (linked_service meaning1 scope) f.service))
+      ++ siblings_at [] file_tag.EXTENSION (all_in field_at package1 (map (linked_field meaning1 scope) f.extension)))))) (sym (same_text f.«package»)) all
+
+-- ---- file by file
+
+module _ (all : List FileDescriptorProto) where
+  no_file : (n k : ℕ) (file : FileDescriptorProto) → slice_get [] k ≡ Some file → IsClosedFile all (n + k) file
+  no_file n zero file is = cc
+  no_file n (suc k) file is = cc
+
+  here_or_behind : (n k : ℕ) (first : FileDescriptorProto) (more : List FileDescriptorProto) (file : FileDescriptorProto) → slice_get (first ∷ more) k ≡ Some file → IsClosedFile all n first
+      → ((j : ℕ) → slice_get more j ≡ Some file → IsClosedFile all ((n + 1) + j) file) → IsClosedFile all (n + k) file
+  here_or_behind n zero first more file is here behind =
+      subst (λ number. IsClosedFile all number file) (sym (omega arith)) (subst (IsClosedFile all n) (ap (λ (o : Option FileDescriptorProto). unwrap_or o first) is) here)
+  here_or_behind n (suc k) first more file is here behind =
+      subst (λ number. IsClosedFile all number file) (omega arith) (behind k is)
+
+  closed_in : (n : ℕ) (sees packages : List Bool) (file : FileDescriptorProto) → IsSeenBy all n sees packages → faults_in all n sees packages file ≡ [] → IsClosedFile all n (linked_in all sees packages file)
+  closed_in n sees packages file seen_by none =
+      let t = table_of all in
+      let behind : package_faults t n (text_of file.«package») ++ all_declared_faults t sees packages n file ≡ [] = none_of_second (import_faults n (named_of (rows_of all) n)) _ none in
+      let there = package_there t n (text_of file.«package») (none_of_first (package_faults t n (text_of file.«package»)) _ behind) in
+      record {
+        sees = sees;
+        packages = packages;
+        seen = seen_by;
+        closed = file_closed t sees packages n file there (none_of_second (package_faults t n (text_of file.«package»)) _ behind);
+      }
+
+  -- the files from the number n on
+  closed_from : (files : List FileDescriptorProto) (n k : ℕ) (made : List FileDescriptorProto) (file : FileDescriptorProto) → AreFaults all n files [] → AreLinked all n files made → slice_get made k ≡ Some file → IsClosedFile all (n + k) file
+  closed_from [] n k made file right linked is = no_file n k file (subst (λ files. slice_get files k ≡ Some file) (split_linked all n [] made linked) is)
+  closed_from (first ∷ more) n k made file right linked is =
+      let a = split all n (first ∷ more) [] right in
+      let b = split_linked all n (first ∷ more) made linked in
+      let first_right : faults_in all n b.0 b.1 first ≡ [] = same_faults all n b.0 a.0 b.1 a.1 first b.3 a.3 ∙ none_of_first _ a.2 (sym a.5) in
+      let more_right : AreFaults all (n + 1) more [] = subst (AreFaults all (n + 1) more) (none_of_second (faults_in all n a.0 a.1 first) a.2 (sym a.5)) a.4 in
+      here_or_behind n k (linked_in all b.0 b.1 first) b.2 file (subst (λ files. slice_get files k ≡ Some file) b.5 is) (closed_in n b.0 b.1 first b.3 first_right) (λ j h. closed_from more (n + 1) j b.2 file more_right b.4 h)
+
+  pub are_closed_all : (made : List FileDescriptorProto) → AreFaults all 0 all [] → AreLinked all 0 all made → AreClosed all made
+  are_closed_all made right linked k file is = subst (λ number. IsClosedFile all number file) (omega arith) (closed_from all 0 k made file right linked is)

@@ -128,17 +128,17 @@ module _ (all : List FileDescriptorProto) (n : ℕ) (sees packages packages' : L
 -- ---- file by file
 
 module _ (all : List FileDescriptorProto) where
-  abbrev AreSplit : ℕ → List FileDescriptorProto → List LinkFault → Type 0
+  abbrev pub AreSplit : ℕ → List FileDescriptorProto → List LinkFault → Type 0
   AreSplit n [] faults = faults ≡ []
   AreSplit n (file ∷ more) faults = (sees : List Bool) × (packages : List Bool) × (rest : List LinkFault) × IsSeenBy all n sees packages × AreFaults all (n + 1) more rest × (faults ≡ faults_in all n sees packages file ++ rest)
 
-  split : (n : ℕ) (files : List FileDescriptorProto) (faults : List LinkFault) → AreFaults all n files faults → AreSplit n files faults
+  pub split : (n : ℕ) (files : List FileDescriptorProto) (faults : List LinkFault) → AreFaults all n files faults → AreSplit n files faults
   split n files faults h = elim h as (λ m fs ws _. AreSplit m fs ws) [
     | NoMore m ↦ refl
     | OneMore m file more sees packages rest seen behind ↦ (sees, packages, rest, seen, behind, refl)
   ]
 
-  same_faults : (n : ℕ) (sees other packages packages' : List Bool) (file : FileDescriptorProto) → IsSeenBy all n sees packages → IsSeenBy all n other packages' → faults_in all n sees packages file ≡ faults_in all n other packages' file
+  pub same_faults : (n : ℕ) (sees other packages packages' : List Bool) (file : FileDescriptorProto) → IsSeenBy all n sees packages → IsSeenBy all n other packages' → faults_in all n sees packages file ≡ faults_in all n other packages' file
   same_faults n sees other packages packages' file here there =
       let same = same_marks all n sees other packages packages' here there in
       faults_alike all n sees packages packages' here (subst (λ marks. IsSeenBy all n marks packages') (sym same) there) file
@@ -154,11 +154,11 @@ module _ (all : List FileDescriptorProto) where
       ∙ ap (λ rest. faults_in all n b.0 b.1 file ++ rest) (one_list more (n + 1) a.2 b.2 a.4 b.4)
       ∙ sym b.5
 
-  abbrev AreSplitLinked : ℕ → List FileDescriptorProto → List FileDescriptorProto → Type 0
+  abbrev pub AreSplitLinked : ℕ → List FileDescriptorProto → List FileDescriptorProto → Type 0
   AreSplitLinked n [] made = made ≡ []
   AreSplitLinked n (file ∷ more) made = (sees : List Bool) × (packages : List Bool) × (rest : List FileDescriptorProto) × IsSeenBy all n sees packages × AreLinked all (n + 1) more rest × (made ≡ linked_in all sees packages file ∷ rest)
 
-  split_linked : (n : ℕ) (files made : List FileDescriptorProto) → AreLinked all n files made → AreSplitLinked n files made
+  pub split_linked : (n : ℕ) (files made : List FileDescriptorProto) → AreLinked all n files made → AreSplitLinked n files made
   split_linked n files made h = elim h as (λ m fs ms _. AreSplitLinked m fs ms) [
     | NoFile m ↦ refl
     | OneFile m file more sees packages rest seen behind ↦ (sees, packages, rest, seen, behind, refl)

@@ -4,6 +4,7 @@ ghost use Rattle.std.specs.Prelude.{◌≡◌, ◌<◌, ◌-◌, ◌∷◌, [], 
 ghost use Rattle.protox_descriptor.specs.declared.descriptor.FileDescriptorProto.{FileDescriptorProto};
 ghost use Rattle.protox_imports.specs.Imports.{Imports as ImportsOf};
 ghost use Rattle.protox_imports.specs.Order.{IsCycle, IsInOrder};
+ghost use Rattle.protox_link.specs.Closed.{AreClosed};
 ghost use Rattle.protox_link.specs.Files.{AreDone};
 ghost use Rattle.protox_link.specs.Known.{IsKnownOf};
 ghost use Rattle.protox_link.specs.Link.{IsFailureOf, IsSetOf};
@@ -58,6 +59,7 @@ fn link_ready(
     requires known { IsKnownOf files.items known.now }
     requires order { IsInOrder (ImportsOf files.items) (length files.items) order.items }
     ensures linked { IfOk result (λ set. IsSetOf files.items set) }
+    ensures closed { IfOk result (λ set. AreClosed files.items set.files.items) }
     ensures refused { IfErr result (λ failure. IsFailureOf files.items failure) }
 {
     let mut files = files;
@@ -109,6 +111,7 @@ fn refused_circle(alloc: Global, circle: Vec<usize>) -> LinkFailure
 /// ```
 pub fn link(alloc: Global, files: Vec<FileDescriptorProto>) -> Result<LinkedSet, LinkFailure>
     ensures linked { IfOk result (λ set. IsSetOf files.items set) }
+    ensures closed { IfOk result (λ set. AreClosed files.items set.files.items) }
     ensures refused { IfErr result (λ failure. IsFailureOf files.items failure) }
 {
     match prepare(alloc, files.as_slice()) {

@@ -147,14 +147,22 @@ class Faults:
         first one extends. The value of a map has none, or that of something else."""
         return next((path for path in self.uses if self.places.get(path) == place), None) if place else None
 
+    def is_meant(self, path, name, is_full):
+        """Whether what is told of a name may be told of a use. A full name may be told of its first part."""
+        used = self.uses[path]
+        parts = used.lstrip('.').split('.')
+        fronts = ('.' + '.'.join(parts[:n + 1]) for n in range(len(parts)))
+        return any(f'.{name}'.endswith(front) for front in fronts) if is_full else used == name
+
     def take(self, place, text):
         """Takes an error; the place is None where protoc tells none."""
         for rule, words in OF_USES:
             if found := rule.fullmatch(text):
-                if path := self.use_at(place):
+                path, is_full = self.use_at(place), 'seems to be' in text
+                if path and self.is_meant(path, found[1], is_full):
                     self.add(path, f'{words}: {self.uses[path]}')
                 else:
-                    self.nowhere[words, found[1], 'seems to' in text] += 1
+                    self.nowhere[words, found[1], is_full] += 1
                 return
         if found := TWICE_ELSEWHERE.fullmatch(text):
             self.twice[found[1], found[2]] += 1
@@ -187,10 +195,8 @@ class Faults:
 
     def add_nowhere(self):
         told = {path for path, _ in self.found}
-        # what is told of a full name may be told of an end of it
-        for (words, name, is_full), count in sorted(self.nowhere.items(), key=lambda told: told[0][2]):
-            paths = [path for path, used in self.uses.items()
-                     if (f'.{name}'.endswith('.' + used.lstrip('.')) if is_full else used == name)
+        for (words, name, is_full), count in sorted(self.nowhere.items(), key=lambda item: item[0][2]):
+            paths = [path for path in self.uses if self.is_meant(path, name, is_full)
                      and path not in told and path != self.use_at(self.places.get(path))]
             if len(paths) != count:
                 raise Unclear(f'{self.name}: {name} is told {count} times without a place')

@@ -14,7 +14,10 @@ are those that a linker may be slow for; COUNT is a number of files or of parts,
   chain    COUNT files, each of which imports the one before it
   public   the same, where the imports are public
   ladder   COUNT files, each of which imports the two before it publicly
+  packages a chain of public imports, where each file has a package of 50 parts of its own
   star     COUNT files, and one that imports all of them
+  alone    COUNT files of 20 messages each, which import nothing
+  parts    a package of COUNT parts, and a field for each 10 of them whose type is nothing
   cycle    COUNT files that import one another in a circle
   gone     a file with COUNT imports that are missing
 """
@@ -82,6 +85,23 @@ def linked_files(count, verb, back):
         yield f'f{number}.proto', f'{HEAD}{imports}message M{number} {{ {field} }}\n'
 
 
+def packages(count):
+    for number in range(count):
+        package = '.'.join([f'p{number}'] + ['q'] * 49)
+        imports = f'import public "f{number - 1}.proto";\n' if number else ''
+        yield f'f{number}.proto', f'{HEAD}package {package};\n{imports}message M {{}}\n'
+
+
+def alone(count):
+    for number in range(count):
+        yield f'f{number}.proto', HEAD + ''.join(f'message M{number}x{n} {{}}\n' for n in range(20))
+
+
+def parts(count):
+    fields = ''.join(f'optional Gone f{n} = {n + 1};\n' for n in range(count // 10))
+    return in_one(f'package {".".join(["p"] * count)};\nmessage M {{\n{fields}}}\n')
+
+
 def star(count):
     files = [(f'f{n}.proto', f'{HEAD}message M{n} {{}}\n') for n in range(count)]
     imports = ''.join(f'import "f{n}.proto";\n' for n in range(count))
@@ -111,7 +131,10 @@ SHAPES = {
     'chain': lambda count, _: linked_files(count, '', 1),
     'public': lambda count, _: linked_files(count, 'public ', 1),
     'ladder': lambda count, _: linked_files(count, 'public ', 2),
+    'packages': lambda count, _: packages(count),
     'star': lambda count, _: star(count),
+    'alone': lambda count, _: alone(count),
+    'parts': lambda count, _: parts(count),
     'cycle': lambda count, _: cycle(count),
     'gone': lambda count, _: in_one(''.join(f'import "gone{n}.proto";\n' for n in range(count))),
 }

@@ -18,8 +18,10 @@ isn't told apart from `is not defined`.
 
 Of equal names in one file protoc takes that of a oneof first, then those of fields, enums, messages and
 extensions, and here it is the first in the order of paths; so of such sets that are made by chance the
-names that are used aren't compared. Of the parts of a package that are something else, protoc tells the
-longest alone.
+names that are used aren't compared. Of equal names in two files protoc takes that of the file that is
+read first, and here it is that of the file that is given first; so in no set a file stands before one
+that it imports and that has a name of it. Of the parts of a package that are something else, protoc tells
+the longest alone.
 """
 import argparse
 import os

@@ -38,6 +38,13 @@ def within(scope, name):
     return f'{scope}.{name}' if scope else name
 
 
+def is_told_again(error, after):
+    """Whether the error behind this one tells the same of the same name in other words."""
+    one = re.search(r'^(\S+) "(.*)" seems to be defined in', error)
+    other = re.search(r'^(\S+) ".*" is resolved to "(.*)", which is not defined', after)
+    return one and other and one[1] == other[1] and f'{other[2]}.'.startswith(f'{one[2]}.')
+
+
 def sets_of(text):
     """Titles, and files as pairs of names and texts."""
     sets = []
@@ -247,8 +254,8 @@ class Protoc:
     def faults_of(self, name, errors, known):
         """The lines of the faults of one file."""
         faults = Faults(self.parser, self.folder, name, known)
-        for error in errors:
-            if error.endswith(': File not found.'):
+        for error, after in zip(errors, errors[1:] + ['']):
+            if error.endswith(': File not found.') or is_told_again(error, after):
                 continue
             if part := PLACED.fullmatch(error):
                 if part[1] == name:

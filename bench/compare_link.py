@@ -25,7 +25,7 @@ def compiled(protoc, folders, names):
     with tempfile.TemporaryDirectory() as folder:
         out = os.path.join(folder, 'set')
         done = subprocess.run([protoc, *(f'-I{part}' for part in folders), '--include_imports', f'-o{out}', *names],
-                              capture_output=True, text=True, check=False)
+                              capture_output=True, check=False)
         if done.returncode:
             return None
         with open(out, 'rb') as data:

@@ -7,7 +7,7 @@ usage: compare_link.py PROTOC PROGRAM [--each] [--seed S] -I FOLDER.. FILE..
 PROGRAM is crates/linkcases/out/linkcases. FILE is a name within one of the folders, as in an import, or
 a path to a file in one. The files and all that they import are one set; with --each, those of each FILE
 are one. The files of a set are given to PROGRAM in an order by chance. What protoc refuses is counted,
-and not compared. The last line is 'N passed, M failed'.
+and not compared. The last line is 'N passed, M failed'. It needs python3-protobuf.
 """
 import argparse
 import os

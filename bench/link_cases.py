@@ -8,7 +8,7 @@ The sets are those of crates/linkcases/stdin: add sets there. With --write, FOLD
 answers to the sets of FOLDER/stdin. Without, the answers of crates/linkcases/out/linkcases are compared
 with protoc's, for the same sets and for those that come of N that are made by chance (200, from seed
 1). The last line is 'N passed, M failed'. PARSED is the program of bench/parsed.cc: by what it says
-protoc's lines and columns become paths. It was written for protoc 3.21.12.
+protoc's lines and columns become paths. It needs python3-protobuf, and was written for protoc 3.21.12.
 
 A few things are told otherwise than by protoc. Faults are in the order of the files and of their
 parts. A circle is told alone. Nothing is said of imports that are there and faulty, so in no set a

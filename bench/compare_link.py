@@ -1,12 +1,12 @@
 #!/usr/bin/env python3
-"""Links .proto files by protoc and by `linkcases`, and compares types, their names, extendees and names in
-JSON of all fields, extensions and methods.
+"""Links .proto files by protoc and by `linkcases`, and compares the order of the files, and types, their
+names, extendees and names in JSON of all fields, extensions and methods.
 
 usage: compare_link.py PROTOC PROGRAM [--each] [--seed S] -I FOLDER.. FILE..
 
 PROGRAM is crates/linkcases/out/linkcases. FILE is a name within one of the folders, as in an import, or
 a path to a file in one. The files and all that they import are one set; with --each, those of each FILE
-are one. The files of a set are given to PROGRAM in an order by chance. What protoc refuses is counted,
+are one. The files of a set are given to both in an order by chance. What protoc refuses is counted,
 and not compared. The last line is 'N passed, M failed'. It needs python3-protobuf.
 """
 import argparse
@@ -47,12 +47,6 @@ def virtual(folders, file):
     return file
 
 
-def is_in_order(made, order):
-    place = {name: index for index, name in enumerate(order)}
-    return sorted(order) == sorted(file.name for file in made.file) and all(
-        place[name] < place[file.name] for file in made.file for name in file.dependency)
-
-
 def answers_of(program, text):
     done = subprocess.run([program], input=text, capture_output=True, text=True, check=True)
     return [block.splitlines()[1:] for block in ('\n' + done.stdout).split('\n== set ')[1:]]
@@ -76,6 +70,7 @@ def main():
             continue
         order = [file.name for file in made.file]
         rng.shuffle(order)
+        made = compiled(words.protoc, words.folders, order)
         files = [(name, read(words.folders, name)) for name in order]
         if any(line.startswith('== ') for _, text in files for line in text.split('\n')):
             sys.exit(f'a line of {group} begins as those that part files')
@@ -83,12 +78,12 @@ def main():
     found = answers_of(words.program, ''.join(written(group[0], files) for group, _, _, files in sets))
     wrong = lines = 0
     for (group, made, order, _), here in zip(sets, found):
-        answer = linked_lines(made, order)[1:]
+        answer = linked_lines(made, order)
         lines += len(answer)
-        if here[1:] != answer or not is_in_order(made, here[0].split()[1:]):
+        if here != answer:
             wrong += 1
             print(f'{group[0]}: differs')
-            pairs = [(one, other) for one, other in zip(answer, here[1:]) if one != other]
+            pairs = [(one, other) for one, other in zip(answer, here) if one != other]
             for one, other in pairs[:5]:
                 print(f'  protoc: {one}\n  here:   {other}')
             if not pairs:

@@ -1,6 +1,6 @@
 // Writes what protobuf's parser makes of a file as bytes, without source information.
 // build: g++ -O2 -o /tmp/parsed bench/parsed.cc -lprotobuf   (Debian: libprotobuf-dev, libprotoc-dev)
-// usage: /tmp/parsed FILE; status 1 where the file is refused
+// usage: /tmp/parsed FILE [--places]; status 1 where the file is refused; --places keeps source information
 #include <google/protobuf/compiler/parser.h>
 #include <google/protobuf/descriptor.pb.h>
 #include <google/protobuf/io/tokenizer.h>
@@ -33,7 +33,7 @@ int main(int argc, char** argv) {
   parser.RecordErrorsTo(&errors);
   pb::FileDescriptorProto descriptor;
   if (!parser.Parse(&tokenizer, &descriptor) || errors.errors > 0) return 1;
-  descriptor.clear_source_code_info();
+  if (argc < 3) descriptor.clear_source_code_info();
   descriptor.set_name(path.substr(path.rfind('/') + 1));
   const std::string bytes = descriptor.SerializeAsString();
   return std::fwrite(bytes.data(), 1, bytes.size(), stdout) == bytes.size() ? 0 : 2;

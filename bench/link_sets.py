@@ -1,0 +1,293 @@
+"""Sets of .proto files for `linkcases`, and what protoc makes of them. It needs python3-protobuf."""
+import collections
+import os
+import re
+import subprocess
+import sys
+
+from google.protobuf import descriptor_pb2
+
+TYPES = {number: name[5:].lower() for name, number in descriptor_pb2.FieldDescriptorProto.Type.items()}
+PLACED = re.compile(r'([^:]+):(\d+):(\d+): (.*)')
+CYCLE = re.compile(r'[^:]+:\d+:\d+: File recursively imports itself: (.*)')
+# The numbers that begin or end a path.
+NAME, PACKAGE, IMPORTS = 1, 2, 3
+# What protoc says of a name that is used, and the words for it here.
+OF_USES = [(re.compile(text), words) for text, words in (
+    (r'"(.*)" is not defined\.', 'not defined'),
+    (r'"(.*)" seems to be defined in ".*", which is not imported by ".*"\..*', 'not defined'),
+    (r'"(.*)" is resolved to ".*", which is not defined\..*', 'not defined'),
+    (r'"(.*)" is not a type\.', 'not a type'),
+    (r'"(.*)" is not a message type\.', 'not a message'),
+)]
+TWICE_ELSEWHERE = re.compile(r'"(.*)" is already defined in file "(.*)"\.')
+TWICE_WITHIN = re.compile(r'"(.*)" is already defined in "(.*)"\.')
+TWICE = re.compile(r'"(.*)" is already defined\.')
+NO_PACKAGE = re.compile(r'"(.*)" is already defined \(as something other than a package\) in file "(.*)"\.')
+NO_IMPORT = re.compile(r'Import "(.*)" was not found or had errors\.')
+IMPORT_TWICE = re.compile(r'Import "(.*)" was listed twice\.')
+# Told beside other faults of the same parts.
+MORE = re.compile(r'Note that enum values use C\+\+ scoping rules.*|Expanded map entry type .*')
+
+
+class Unclear(Exception):
+    """protoc tells a fault of one of several parts, and not of which."""
+
+
+def within(scope, name):
+    return f'{scope}.{name}' if scope else name
+
+
+def is_told_again(error, after):
+    """Whether the error behind this one tells the same of the same name in other words."""
+    one = re.search(r'^(\S+) "(.*)" seems to be defined in', error)
+    other = re.search(r'^(\S+) ".*" is resolved to "(.*)", which is not defined', after)
+    return one and other and one[1] == other[1] and f'{other[2]}.'.startswith(f'{one[2]}.')
+
+
+def sets_of(text):
+    """Titles, and files as pairs of names and texts."""
+    sets = []
+    for line in text.splitlines():
+        if line.startswith('== set '):
+            sets.append((line[7:], []))
+        elif line.startswith('== file '):
+            sets[-1][1].append((line[8:], []))
+        elif line != '== end':
+            sets[-1][1][-1][1].append(line)
+    return [(title, [(name, '\n'.join(lines + [''])) for name, lines in files]) for title, files in sets]
+
+
+def written(title, files):
+    """A set as `linkcases` reads it."""
+    parts = [f'== set {title}\n']
+    for name, text in files:
+        parts += [f'== file {name}\n', text, '' if not text or text.endswith('\n') else '\n']
+    return ''.join(parts + ['== end\n'])
+
+
+# ---- declarations
+
+# The lists of declarations in a descriptor, in the order of paths.
+LISTS = {
+    'FileDescriptorProto': ('message_type', 'enum_type', 'service', 'extension'),
+    'DescriptorProto': ('field', 'nested_type', 'enum_type', 'extension', 'oneof_decl'),
+    'EnumDescriptorProto': ('value',),
+    'ServiceDescriptorProto': ('method',),
+}
+# The names that a declaration uses, in the order in which they are looked at.
+USES = {'FieldDescriptorProto': ('type_name', 'extendee'), 'MethodDescriptorProto': ('input_type', 'output_type')}
+
+
+def declarations(descriptor, scope, path=()):
+    """All that is declared in a descriptor, in the order of paths: path, full name and descriptor."""
+    for part in LISTS.get(descriptor.DESCRIPTOR.name, ()):
+        number = descriptor.DESCRIPTOR.fields_by_name[part].number
+        for index, inner in enumerate(getattr(descriptor, part)):
+            inside, full = path + (number, index), within(scope, inner.name)
+            yield inside, full, inner
+            # the full name of a value is in the scope of its enum
+            yield from declarations(inner, scope if part == 'enum_type' else full, inside)
+
+
+def member(full, part):
+    """The line of a linked field, an extension or a method; None for anything else."""
+    kind = part.DESCRIPTOR.name
+    if kind == 'MethodDescriptorProto':
+        return f'method {full}: {part.input_type} to {part.output_type}'
+    if kind != 'FieldDescriptorProto':
+        return None
+    line = f'{"extension" if part.HasField("extendee") else "field"} {full}: {TYPES[part.type]}'
+    for word, name in (('', 'type_name'), ('extends ', 'extendee'), ('json ', 'json_name')):
+        line += f' {word}{getattr(part, name)}' if part.HasField(name) else ''
+    return line
+
+
+def linked_lines(made, names):
+    """The lines of a set that protoc made, for files in the order of these names."""
+    by_name = {file.name: file for file in made.file}
+    lines = [' '.join(['order:'] + [file.name for file in made.file])]
+    for name in names:
+        file = by_name[name]
+        members = (member(full, part) for _, full, part in declarations(file, file.package))
+        lines += [f'file {name}', *(line for line in members if line)]
+    return lines
+
+
+# ---- faults
+
+class Faults:
+    """Makes lines of what protoc tells of one file. What protobuf's parser makes of the file has the paths
+    of parts by their places. Where protoc gives no place, as for a map's entry, paths are found by the
+    name."""
+
+    def __init__(self, parser, folder, name, known):
+        done = subprocess.run([parser, os.path.join(folder, name), '--places'], capture_output=True, check=False)
+        if done.returncode:
+            sys.exit(f'{name} is refused by the parser')
+        self.name, self.known = name, known
+        self.file = descriptor_pb2.FileDescriptorProto.FromString(done.stdout)
+        self.declared = list(declarations(self.file, self.file.package))
+        self.places = {tuple(location.path): tuple(location.span[:2])
+                       for location in self.file.source_code_info.location}
+        self.uses = {}
+        for path, _, part in self.declared:
+            for name in USES.get(part.DESCRIPTOR.name, ()):
+                if part.HasField(name):
+                    self.uses[path + (part.DESCRIPTOR.fields_by_name[name].number,)] = getattr(part, name)
+        self.found, self.twice, self.nowhere = [], collections.Counter(), collections.Counter()
+
+    def add(self, path, words):
+        """Adds a fault. Of one name protoc may say two things."""
+        if (path, words) not in self.found:
+            self.found.append((path, words))
+
+    def add_imports(self, name, words, first):
+        """Adds a fault of the imports of this name, but for the first ones. protoc has the place of the
+        last of them alone."""
+        paths = [(IMPORTS, index) for index, other in enumerate(self.file.dependency) if other == name]
+        for path in paths[first:]:
+            self.add(path, words)
+
+    def use_at(self, place):
+        """The first path of a use at a place. Of extensions of one block protoc has the place of what the
+        first one extends. The value of a map has none, or that of something else."""
+        return next((path for path in self.uses if self.places.get(path) == place), None) if place else None
+
+    def is_meant(self, path, name, is_full):
+        """Whether what is told of a name may be told of a use. A full name may be told of its first part."""
+        used = self.uses[path]
+        parts = used.lstrip('.').split('.')
+        fronts = ('.' + '.'.join(parts[:n + 1]) for n in range(len(parts)))
+        return any(f'.{name}'.endswith(front) for front in fronts) if is_full else used == name
+
+    def take(self, place, text):
+        """Takes an error; the place is None where protoc tells none."""
+        for rule, words in OF_USES:
+            if found := rule.fullmatch(text):
+                path, is_full = self.use_at(place), 'seems to be' in text
+                if path and self.is_meant(path, found[1], is_full):
+                    self.add(path, f'{words}: {self.uses[path]}')
+                else:
+                    self.nowhere[words, found[1], is_full] += 1
+                return
+        if found := TWICE_ELSEWHERE.fullmatch(text):
+            self.twice[found[1], found[2]] += 1
+        elif found := TWICE_WITHIN.fullmatch(text):
+            self.twice[f'{found[2]}.{found[1]}', self.name] += 1
+        elif found := TWICE.fullmatch(text):
+            self.twice[found[1], self.name] += 1
+        elif found := NO_PACKAGE.fullmatch(text):
+            self.add((PACKAGE,), f'not a package: .{found[1]} in {found[2]}')
+        elif found := NO_IMPORT.fullmatch(text):
+            if found[1] not in self.known:
+                self.add_imports(found[1], 'missing import', 0)
+        elif found := IMPORT_TWICE.fullmatch(text):
+            # a missing file is told missing alone
+            if found[1] in self.known:
+                self.add_imports(found[1], 'repeated import', 1)
+        elif not MORE.fullmatch(text):
+            sys.exit(f'{self.name}: no rule for: {text}')
+
+    def add_twice(self):
+        """Of equal names protoc tells all but the one that it takes first: oneofs, fields, enums and then
+        messages. Here it is the first in the order of paths."""
+        for (full, file), count in self.twice.items():
+            paths = [path for path, name, _ in self.declared if name == full]
+            paths = paths[1:] if file == self.name else paths
+            if len(paths) != count:
+                sys.exit(f'{self.name}: {full} is told {count} times')
+            for path in paths:
+                self.add(path + (NAME,), f'already defined: .{full} in {file}')
+
+    def add_nowhere(self):
+        told = {path for path, _ in self.found}
+        for (words, name, is_full), count in sorted(self.nowhere.items(), key=lambda item: item[0][2]):
+            paths = [path for path in self.uses if self.is_meant(path, name, is_full)
+                     and path not in told and path != self.use_at(self.places.get(path))]
+            if len(paths) != count:
+                raise Unclear(f'{self.name}: {name} is told {count} times without a place')
+            for path in paths:
+                self.add(path, f'{words}: {self.uses[path]}')
+                told.add(path)
+
+    def lines(self):
+        """The lines in the order of imports, the package, and declarations: first the name of each, then
+        what it uses."""
+        self.add_twice()
+        self.add_nowhere()
+        order = [(IMPORTS, index) for index in range(len(self.file.dependency))] + [(PACKAGE,)]
+        for path, _, _ in self.declared:
+            order += [path + (NAME,)] + [use for use in self.uses if use[:-1] == path]
+        place = {path: index for index, path in enumerate(order)}
+        return [f'{self.name} {".".join(map(str, path))} {words}'
+                for path, words in sorted(self.found, key=lambda fault: place[fault[0]])]
+
+
+class Protoc:
+    """Runs protoc on a set in a folder."""
+
+    def __init__(self, program, parser, folder):
+        self.program, self.parser, self.folder = program, parser, folder
+
+    def write(self, files):
+        for name, text in files:
+            path = os.path.join(self.folder, name)
+            os.makedirs(os.path.dirname(path), exist_ok=True)
+            with open(path, 'w', encoding='utf-8') as out:
+                out.write(text)
+
+    def run(self, names):
+        """The errors for files that are given in this order. Without any there is a set."""
+        done = subprocess.run([self.program, f'-I{self.folder}', '--include_imports', f'-o{self.folder}/set', *names],
+                              capture_output=True, text=True, check=False)
+        lines = [line for line in done.stderr.split('\n')
+                 if line and 'warning:' not in line and not line.startswith('[libprotobuf WARNING')]
+        if done.returncode and not lines:
+            sys.exit(f'protoc ends with {done.returncode} and says nothing')
+        return lines
+
+    def set(self):
+        with open(os.path.join(self.folder, 'set'), 'rb') as data:
+            return descriptor_pb2.FileDescriptorSet.FromString(data.read())
+
+    def faults_of(self, name, errors, known):
+        """The lines of the faults of one file."""
+        faults = Faults(self.parser, self.folder, name, known)
+        for error, after in zip(errors, errors[1:] + ['']):
+            if error.endswith(': File not found.') or is_told_again(error, after):
+                continue
+            if part := PLACED.fullmatch(error):
+                if part[1] == name:
+                    faults.take((int(part[2]) - 1, int(part[3]) - 1), part[4])
+            elif error.startswith(f'{name}: '):
+                faults.take(None, error[len(name) + 2:])
+            elif not any(error.startswith(f'{other}: ') for other in known):
+                sys.exit(f'no file: {error}')
+        return faults.lines()
+
+    def faults(self, names):
+        """The lines of faults. protoc ends at the first file that is faulty, so it is run for each file
+        with those before it that are not."""
+        right, lines = [], []
+        for name in names:
+            if errors := self.run(right + [name]):
+                lines += self.faults_of(name, errors, names)
+            else:
+                right.append(name)
+        return lines
+
+    def ask(self, files):
+        """The lines that a set is answered with."""
+        names = [name for name, _ in files]
+        self.write(files)
+        errors = self.run(names)
+        if not errors:
+            return linked_lines(self.set(), names)
+        for error in errors:
+            if found := CYCLE.fullmatch(error):
+                # a circle is told alone, at the imports of its last file; protoc tells it at an import of
+                # the first one, and then that each import of the circle has errors
+                circle = found[1].split(' -> ')[:-1]
+                return [f'{circle[-1]} {IMPORTS} cycle: {" ".join(circle)}']
+        return self.faults(names)

@@ -1,0 +1,91 @@
+//! What is printed for a set of files.
+
+use crate::faults::write_faults;
+use crate::linked::write_linked;
+use crate::source::Source;
+use protox_descriptor::descriptor::FileDescriptorProto;
+use protox_link::link;
+use protox_link_fault::LinkFailure;
+use protox_parse::{ParseFailure, parse};
+use protox_symbols::Symbols;
+use std::alloc::Global;
+use std::io::{self, Write};
+
+/// What is done with a set.
+#[derive(Clone, Copy)]
+pub(crate) enum Mode {
+    /// The files are parsed and counted.
+    Parse,
+    /// The set is linked, and its files or faults are counted.
+    Link,
+    /// The set is linked, and what comes of it is printed.
+    Print,
+}
+
+// The descriptors of the files. If one is refused, that is printed.
+fn parsed<W: Write>(
+    alloc: Global,
+    out: &mut W,
+    sources: &[Source],
+) -> io::Result<Option<Vec<FileDescriptorProto>>> {
+    let mut files = Vec::new(alloc);
+    for source in sources {
+        match parse(alloc, source.name.as_str(), source.text.as_str()) {
+            Ok(file) => files.push(file)?,
+            Err(ParseFailure::Refused(error)) => {
+                writeln!(out, "{error:?}")?;
+                return Ok(None);
+            }
+            Err(ParseFailure::OutOfMemory) => {
+                writeln!(out, "out of memory")?;
+                return Ok(None);
+            }
+        }
+    }
+    Ok(Some(files))
+}
+
+fn write_counts<W: Write>(
+    alloc: Global,
+    out: &mut W,
+    files: Vec<FileDescriptorProto>,
+) -> io::Result<()> {
+    match link(alloc, files) {
+        Ok(set) => writeln!(out, "linked: {}", set.files.len()),
+        Err(LinkFailure::Refused(faults)) => writeln!(out, "faults: {}", faults.len()),
+        Err(LinkFailure::OutOfMemory) => writeln!(out, "out of memory"),
+    }
+}
+
+fn write_answer<W: Write>(
+    alloc: Global,
+    out: &mut W,
+    sources: &[Source],
+    files: Vec<FileDescriptorProto>,
+) -> io::Result<()> {
+    let symbols = Symbols::of(alloc, files.as_slice())?;
+    match link(alloc, files) {
+        Ok(set) => write_linked(alloc, out, &set),
+        Err(LinkFailure::Refused(faults)) => {
+            write_faults(alloc, out, sources, &symbols, faults.as_slice())
+        }
+        Err(LinkFailure::OutOfMemory) => writeln!(out, "out of memory"),
+    }
+}
+
+/// Writes what comes of a set.
+pub(crate) fn write_set<W: Write>(
+    alloc: Global,
+    out: &mut W,
+    mode: Mode,
+    sources: &[Source],
+) -> io::Result<()> {
+    let Some(files) = parsed(alloc, out, sources)? else {
+        return Ok(());
+    };
+    match mode {
+        Mode::Parse => writeln!(out, "parsed: {}", files.len()),
+        Mode::Link => write_counts(alloc, out, files),
+        Mode::Print => write_answer(alloc, out, sources, files),
+    }
+}

@@ -1,0 +1,101 @@
+//! What is wrong with a set, as lines.
+
+use crate::source::Source;
+use protox_link_fault::{LinkFault, LinkFaultKind};
+use protox_symbols::Symbols;
+use std::alloc::Global;
+use std::io::{self, Write};
+
+// The name of the file with a number.
+fn name_at(sources: &[Source], number: usize) -> &str {
+    match sources.get(number) {
+        Some(source) => source.name.as_str(),
+        None => "no file",
+    }
+}
+
+// What has a number in the table, and the file that declares it first.
+fn write_thing<W: Write>(
+    alloc: Global,
+    out: &mut W,
+    sources: &[Source],
+    symbols: &Symbols,
+    number: usize,
+) -> io::Result<()> {
+    let name = symbols.dotted(alloc, number)?;
+    match symbols.thing(number) {
+        Some(thing) => write!(out, " {name} in {}", name_at(sources, thing.file)),
+        None => write!(out, " nothing"),
+    }
+}
+
+fn write_circle<W: Write>(out: &mut W, sources: &[Source], circle: &[usize]) -> io::Result<()> {
+    for number in circle {
+        write!(out, " {}", name_at(sources, *number))?;
+    }
+    Ok(())
+}
+
+fn word(kind: &LinkFaultKind) -> &'static str {
+    match kind {
+        LinkFaultKind::MissingName => "no name",
+        LinkFaultKind::BadName => "bad name",
+        LinkFaultKind::AlreadyDefined(_) => "already defined:",
+        LinkFaultKind::NotInTable => "not in the table",
+        LinkFaultKind::NotAPackage(_) => "not a package:",
+        LinkFaultKind::NotDefined(_) => "not defined:",
+        LinkFaultKind::NotAType(_) => "not a type:",
+        LinkFaultKind::NotAMessage(_) => "not a message:",
+        LinkFaultKind::MissingImport => "missing import",
+        LinkFaultKind::RepeatedImport => "repeated import",
+        LinkFaultKind::ImportCycle(_) => "cycle:",
+    }
+}
+
+// What the kind speaks of.
+fn write_rest<W: Write>(
+    alloc: Global,
+    out: &mut W,
+    sources: &[Source],
+    symbols: &Symbols,
+    kind: &LinkFaultKind,
+) -> io::Result<()> {
+    match kind {
+        LinkFaultKind::AlreadyDefined(number) | LinkFaultKind::NotAPackage(number) => {
+            write_thing(alloc, out, sources, symbols, *number)
+        }
+        LinkFaultKind::NotDefined(name)
+        | LinkFaultKind::NotAType(name)
+        | LinkFaultKind::NotAMessage(name) => write!(out, " {name}"),
+        LinkFaultKind::ImportCycle(circle) => write_circle(out, sources, circle.as_slice()),
+        _ => Ok(()),
+    }
+}
+
+// The path, with dots.
+fn write_path<W: Write>(out: &mut W, path: &[i32]) -> io::Result<()> {
+    let mut dot = "";
+    for step in path {
+        write!(out, "{dot}{step}")?;
+        dot = ".";
+    }
+    Ok(())
+}
+
+/// Writes a line for each fault.
+pub(crate) fn write_faults<W: Write>(
+    alloc: Global,
+    out: &mut W,
+    sources: &[Source],
+    symbols: &Symbols,
+    faults: &[LinkFault],
+) -> io::Result<()> {
+    for fault in faults {
+        write!(out, "{} ", name_at(sources, fault.file))?;
+        write_path(out, fault.path.as_slice())?;
+        write!(out, " {}", word(&fault.kind))?;
+        write_rest(alloc, out, sources, symbols, &fault.kind)?;
+        writeln!(out)?;
+    }
+    Ok(())
+}

@@ -1,0 +1,69 @@
+//! `linkcases [--parse|--link]` reads sets of .proto files, and prints what linking makes of each
+//! set, or what is wrong with it.
+//!
+//! - `== set WORDS` begins a set, and is printed as it is
+//! - `== file NAME` begins a file of the set; the lines behind it are its source
+//! - `== end` ends the set
+//!
+//! For a set that is linked it prints the order of its files, and then the name of each file, and
+//! its fields, extensions and methods, each on a line: the full name, the type, the message that it
+//! extends, the name in JSON; or the types of the method. For another set it prints what is wrong, a
+//! line for each fault: the file, the path in it with dots, and the kind.
+//!
+//! With `--parse` the files of a set are only parsed, and with `--parse` and `--link` only counts are
+//! printed.
+#![tactic(auto)]
+
+mod answers;
+mod faults;
+mod linked;
+mod source;
+
+use crate::answers::{Mode, write_set};
+use crate::source::{Source, note};
+use std::alloc::Global;
+use std::env;
+use std::io::{self, BufRead, BufReader, BufWriter, Write};
+
+fn mode(rt: &HostRuntime) -> io::Result<Mode> {
+    let mut mode = Mode::Print;
+    for word in env::args(rt)?.skip(1) {
+        match word.as_str() {
+            "--parse" => mode = Mode::Parse,
+            "--link" => mode = Mode::Link,
+            _ => {}
+        }
+    }
+    Ok(mode)
+}
+
+// Takes one line: of a source, or one that begins or ends something.
+fn take<W: Write>(
+    alloc: Global,
+    out: &mut W,
+    mode: Mode,
+    sources: &mut Vec<Source>,
+    line: &str,
+) -> io::Result<()> {
+    if line == "== end" {
+        write_set(alloc, out, mode, sources.as_slice())?;
+        sources.clear();
+        return Ok(());
+    }
+    if line.starts_with("== set") {
+        return writeln!(out, "{line}");
+    }
+    note(alloc, sources, line)?;
+    Ok(())
+}
+
+fn main(rt: HostRuntime) -> io::Result<()> {
+    let alloc = rt.alloc();
+    let mode = mode(&rt)?;
+    let mut out = BufWriter::new(alloc, io::writer(&rt))?;
+    let mut sources = Vec::new(alloc);
+    for line in BufReader::new(alloc, rt.reader())?.lines(alloc) {
+        take(alloc, &mut out, mode, &mut sources, line?.as_str())?;
+    }
+    out.flush()
+}

@@ -12,6 +12,9 @@ PLACED = re.compile(r'([^:]+):(\d+):(\d+): (.*)')
 CYCLE = re.compile(r'[^:]+:\d+:\d+: File recursively imports itself: (.*)')
 # The numbers that begin or end a path.
 NAME, PACKAGE, IMPORTS = 1, 2, 3
+NUMBER = 3
+# The list of the reserved ranges of an enum.
+IN_ENUM = 4
 # What protoc says of a name that is used, and the words for it here.
 OF_USES = [(re.compile(text), words) for text, words in (
     (r'"(.*)" is not defined\.', 'not defined'),
@@ -20,6 +23,18 @@ OF_USES = [(re.compile(text), words) for text, words in (
     (r'"(.*)" is not a type\.', 'not a type'),
     (r'"(.*)" is not a message type\.', 'not a message'),
 )]
+# What protoc says at the place of a number or a range, and the words for it here.
+OF_NUMBERS = [(re.compile(text), words) for text, words in (
+    (r'Field number \d+ has already been used in ".*" by field ".*"\.', 'number used before'),
+    (r'Extension range end number must be greater than start number\.', 'empty range'),
+    (r'Field numbers 19000 through 19999 are reserved for .*\.', 'number for the implementation'),
+    (r'Enums must contain at least one value\.', 'no value'),
+)]
+# What it says without a place, or at that of another part.
+FOR_EXTENSIONS = re.compile(r'Extension range .* includes field "(.*)" \((\d+)\)\.')
+RESERVED = re.compile(r'(?:Field|Enum value) "(.*)" uses reserved number (-?\d+)\.')
+OVERLAPS = re.compile(r'(Reserved|Extension) range (-?\d+) to (-?\d+) overlaps with (already-defined|reserved) range .*\.')
+BACKWARD = re.compile(r'Reserved range end number must be greater than start number\.')
 TWICE_ELSEWHERE = re.compile(r'"(.*)" is already defined in file "(.*)"\.')
 TWICE_WITHIN = re.compile(r'"(.*)" is already defined in "(.*)"\.')
 TWICE = re.compile(r'"(.*)" is already defined\.')
@@ -27,7 +42,7 @@ NO_PACKAGE = re.compile(r'"(.*)" is already defined \(as something other than a 
 NO_IMPORT = re.compile(r'Import "(.*)" was not found or had errors\.')
 IMPORT_TWICE = re.compile(r'Import "(.*)" was listed twice\.')
 # Told beside other faults of the same parts.
-MORE = re.compile(r'Note that enum values use C\+\+ scoping rules.*|Expanded map entry type .*')
+MORE = re.compile(r'Note that enum values use C\+\+ scoping rules.*|Expanded map entry type .*|Suggested field numbers for .*')
 
 
 class Unclear(Exception):
@@ -116,6 +131,33 @@ def linked_lines(made, names):
 
 # ---- faults
 
+# The faults of numbers and ranges that a declaration may have, in order: the list, the rest of the path, and
+# the words.
+NUMBERS = {
+    'DescriptorProto': (
+        ('field', (3,), 'number used before'), ('field', (3,), 'reserved number'),
+        ('field', (3,), 'number for extensions'), ('extension_range', (), 'empty range'),
+        ('reserved_range', (), 'range overlaps'),
+        ('extension_range', (), 'range overlaps'), ('extension_range', (), 'reserved range')),
+    'EnumDescriptorProto': (
+        ('reserved_range', (), 'empty range'), ('value', (2,), 'reserved number'),
+        ('reserved_range', (), 'range overlaps')),
+}
+
+
+# The part of a descriptor that is its number.
+NUMBER_OF = {'FieldDescriptorProto': 3, 'EnumValueDescriptorProto': 2}
+
+
+def numbers_in(path, part):
+    """The faults of numbers and ranges that a declaration may have: paths and words."""
+    yield path + (NAME,), 'no value'
+    for name, rest, words in NUMBERS.get(part.DESCRIPTOR.name, ()):
+        number = part.DESCRIPTOR.fields_by_name[name].number
+        yield from ((path + (number, index) + rest, words) for index in range(len(getattr(part, name))))
+    yield path + (NUMBER,), 'number for the implementation'
+
+
 class Faults:
     """Makes lines of what protoc tells of one file. What protobuf's parser makes of the file has the paths
     of parts by their places. Where protoc gives no place, as for a map's entry, paths are found by the
@@ -136,6 +178,7 @@ class Faults:
                 if part.HasField(name):
                     self.uses[path + (part.DESCRIPTOR.fields_by_name[name].number,)] = getattr(part, name)
         self.found, self.twice, self.nowhere = [], collections.Counter(), collections.Counter()
+        self.several = collections.Counter()
 
     def add(self, path, words):
         """Adds a fault. Of one name protoc may say two things."""
@@ -161,6 +204,38 @@ class Faults:
         fronts = ('.' + '.'.join(parts[:n + 1]) for n in range(len(parts)))
         return any(f'.{name}'.endswith(front) for front in fronts) if is_full else used == name
 
+    def part_at(self, place):
+        """The shortest path of a part at a place."""
+        return min((path for path, start in self.places.items() if start == place), key=len)
+
+    def numbered(self, name, number):
+        """The paths of the numbers of the fields and values with a name and a number."""
+        for path, _, part in self.declared:
+            kind = part.DESCRIPTOR.name
+            if kind in NUMBER_OF and (part.name, part.number) == (name, number):
+                yield path + (NUMBER_OF[kind],)
+
+    def ranges(self, kind):
+        """The ranges of a kind: path, first number and last number."""
+        for path, _, part in self.declared:
+            field = part.DESCRIPTOR.fields_by_name.get(f'{kind}_range')
+            beyond = 1 if part.DESCRIPTOR.name == 'DescriptorProto' else 0
+            for index, range_ in enumerate(getattr(part, field.name) if field else ()):
+                yield path + (field.number, index), range_.start, range_.end - beyond
+
+    def among(self, place, text):
+        """The words for what is told of a number or a range without its place, and the paths that it may be
+        told of."""
+        if found := FOR_EXTENSIONS.fullmatch(text) or RESERVED.fullmatch(text):
+            words = 'number for extensions' if place else 'reserved number'
+            return words, list(self.numbered(found[1], int(found[2])))
+        if found := OVERLAPS.fullmatch(text):
+            words = 'reserved range' if found[4] == 'reserved' else 'range overlaps'
+            return words, [path for path, first, last in self.ranges(found[1].lower())
+                           if (first, last) == (int(found[2]), int(found[3]))]
+        return 'empty range', [path for path, first, last in self.ranges('reserved')
+                               if last < first and BACKWARD.fullmatch(text) and path[-2] == IN_ENUM]
+
     def take(self, place, text):
         """Takes an error; the place is None where protoc tells none."""
         for rule, words in OF_USES:
@@ -171,7 +246,13 @@ class Faults:
                 else:
                     self.nowhere[words, found[1], is_full] += 1
                 return
-        if found := TWICE_ELSEWHERE.fullmatch(text):
+        for rule, words in OF_NUMBERS:
+            if rule.fullmatch(text):
+                return self.add(self.part_at(place), words)
+        words, paths = self.among(place, text)
+        if paths:
+            self.several[text, words, tuple(paths)] += 1
+        elif found := TWICE_ELSEWHERE.fullmatch(text):
             self.twice[found[1], found[2]] += 1
         elif found := TWICE_WITHIN.fullmatch(text):
             self.twice[f'{found[2]}.{found[1]}', self.name] += 1
@@ -200,6 +281,14 @@ class Faults:
             for path in paths:
                 self.add(path + (NAME,), f'already defined: .{full} in {file}')
 
+    def add_several(self):
+        """What is told as often as there are parts that it may be told of is told of each."""
+        for (text, words, paths), count in self.several.items():
+            if len(paths) != count:
+                raise Unclear(f'{self.name}: {count} times without a place: {text}')
+            for path in paths:
+                self.add(path, words)
+
     def add_nowhere(self):
         told = {path for path, _ in self.found}
         for (words, name, is_full), count in sorted(self.nowhere.items(), key=lambda item: item[0][2]):
@@ -213,15 +302,16 @@ class Faults:
 
     def lines(self):
         """The lines in the order of imports, the package, and declarations: first the name of each, then
-        what it uses."""
+        its numbers, and then what it uses."""
         self.add_twice()
+        self.add_several()
         self.add_nowhere()
         order = [(IMPORTS, index) for index in range(len(self.file.dependency))] + [(PACKAGE,)]
-        for path, _, _ in self.declared:
-            order += [path + (NAME,)] + [use for use in self.uses if use[:-1] == path]
+        for path, _, part in self.declared:
+            order += [path + (NAME,), *numbers_in(path, part), *(use for use in self.uses if use[:-1] == path)]
         place = {path: index for index, path in enumerate(order)}
         return [f'{self.name} {".".join(map(str, path))} {words}'
-                for path, words in sorted(self.found, key=lambda fault: place[fault[0]])]
+                for path, words in sorted(self.found, key=lambda fault: place.get(fault, place.get(fault[0])))]
 
 
 class Protoc:

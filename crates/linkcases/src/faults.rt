@@ -1,7 +1,7 @@
 //! What is wrong with a set, as lines.
 
 use crate::source::Source;
-use protox_link_fault::{LinkFault, LinkFaultKind};
+use protox_link_fault::{LinkFault, LinkFaultKind, NumberFault};
 use protox_symbols::Symbols;
 use std::alloc::Global;
 use std::io::{self, Write};
@@ -36,6 +36,19 @@ fn write_circle<W: Write>(out: &mut W, sources: &[Source], circle: &[usize]) -> 
     Ok(())
 }
 
+fn word_of_clash(how: NumberFault) -> &'static str {
+    match how {
+        NumberFault::Reused => "number used before",
+        NumberFault::Reserved => "reserved number",
+        NumberFault::ForExtensions => "number for extensions",
+        NumberFault::ReservedTwice => "range overlaps",
+        NumberFault::ExtensionsTwice => "range overlaps",
+        NumberFault::ExtensionsReserved => "reserved range",
+        NumberFault::ValueReserved => "reserved number",
+        NumberFault::ValuesReservedTwice => "range overlaps",
+    }
+}
+
 fn word(kind: &LinkFaultKind) -> &'static str {
     match kind {
         LinkFaultKind::MissingName => "no name",
@@ -46,6 +59,10 @@ fn word(kind: &LinkFaultKind) -> &'static str {
         LinkFaultKind::NotDefined(_) => "not defined:",
         LinkFaultKind::NotAType(_) => "not a type:",
         LinkFaultKind::NotAMessage(_) => "not a message:",
+        LinkFaultKind::Clash(how, _) => word_of_clash(*how),
+        LinkFaultKind::ForImplementation => "number for the implementation",
+        LinkFaultKind::EmptyRange => "empty range",
+        LinkFaultKind::NoValue => "no value",
         LinkFaultKind::MissingImport => "missing import",
         LinkFaultKind::RepeatedImport => "repeated import",
         LinkFaultKind::ImportCycle(_) => "cycle:",

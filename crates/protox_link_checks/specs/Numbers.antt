@@ -15,7 +15,7 @@ use Rattle.protox_link_fault.specs.declared.NumberFault.{NumberFault}
 use Rattle.protox_link_fault.specs.declared.NumberFault.TheVariants as fault
 use Rattle.protox_numbers.specs.Enums as of_enum
 use Rattle.protox_numbers.specs.Message as of_message
-use Rattle.protox_numbers.specs.Parts.{is_backward_enum_range, is_empty_extension_range, is_empty_reserved_range, is_for_implementation}
+use Rattle.protox_numbers.specs.Parts.{is_backward_enum_range, is_empty_extension_range, is_for_implementation}
 use Rattle.protox_numbers.specs.declared.clash.Clash.{Clash as Clashing}
 use Rattle.protox_walk.specs.Declarations.{Path, nth}
 
@@ -41,10 +41,10 @@ module _ (file : ℕ) (path : Path) where
       ++ (clash_faults message_tag.EXTENSION_RANGE [] fault.ExtensionsTwice (of_message.overlapping_extension_ranges message)
       ++ clash_faults message_tag.EXTENSION_RANGE [] fault.ExtensionsReserved (of_message.extension_ranges_in_reserved message))
 
+  -- An extension range has a number. A reserved range of a message may be without.
   abbrev pub empty_ranges : DescriptorProto → List LinkFault
   empty_ranges message =
-      empty_faults file path message_tag.RESERVED_RANGE is_empty_reserved_range 0 (out-DescriptorProto message).reserved_range
-      ++ empty_faults file path message_tag.EXTENSION_RANGE is_empty_extension_range 0 (out-DescriptorProto message).extension_range
+      empty_faults file path message_tag.EXTENSION_RANGE is_empty_extension_range 0 (out-DescriptorProto message).extension_range
 
   abbrev pub message_number_faults : DescriptorProto → List LinkFault
   message_number_faults message = field_number_faults message ++ (empty_ranges message ++ clashing_ranges message)

@@ -4,10 +4,10 @@ ghost use Rattle.std.specs.Prelude.{◌≡◌, ◌++◌, Bool, OnOk, if◌then�
 ghost use Rattle.protox_link_checks.specs.Empty.{empty_fault, empty_faults};
 
 use crate::each::path_to;
-use protox_descriptor::descriptor::descriptor_proto::{ExtensionRange, ReservedRange};
+use protox_descriptor::descriptor::descriptor_proto::ExtensionRange;
 use protox_descriptor::descriptor::enum_descriptor_proto::EnumReservedRange;
 use protox_link_fault::{LinkFault, LinkFaultKind};
-use protox_numbers::{is_backward_enum_range, is_empty_extension_range, is_empty_reserved_range};
+use protox_numbers::{is_backward_enum_range, is_empty_extension_range};
 use std::alloc::{AllocError, Global};
 
 /// What may be a range without numbers.
@@ -18,16 +18,6 @@ pub(crate) trait MayBeEmpty {
     /// Whether it has no number.
     fn is_empty_range(&self) -> bool
         ensures { result ≡ is_empty_range self.now };
-}
-
-impl MayBeEmpty for ReservedRange {
-    ghost use Rattle.protox_numbers.specs.Parts.{is_empty_reserved_range};
-
-    ghost is_empty_range = { is_empty_reserved_range };
-
-    fn is_empty_range(&self) -> bool {
-        is_empty_reserved_range(self)
-    }
 }
 
 impl MayBeEmpty for ExtensionRange {

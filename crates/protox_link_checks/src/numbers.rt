@@ -126,7 +126,7 @@ fn check_clashing_ranges(
     add_clashes(alloc, &place, in_reserved.as_slice(), faults)
 }
 
-// Adds a fault for each range of a message that has no number.
+// Adds a fault for each extension range of a message that has no number.
 fn check_empty_ranges(
     alloc: Global,
     file: usize,
@@ -137,9 +137,6 @@ fn check_empty_ranges(
     ensures { OnOk result (faults.new.items
         ≡ faults.old.items ++ empty_ranges file path.now of.now) }
 {
-    let tag = message::RESERVED_RANGE;
-    let reserved = Siblings { file, path, tag };
-    check_empty(alloc, &reserved, of.reserved_range.as_slice(), faults)?;
     let tag = message::EXTENSION_RANGE;
     let extensions = Siblings { file, path, tag };
     check_empty(alloc, &extensions, of.extension_range.as_slice(), faults)

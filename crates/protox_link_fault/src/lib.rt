@@ -42,7 +42,7 @@ pub enum LinkFaultKind {
     Clash(NumberFault, usize),
     /// The number of a field is one from 19000 to 19999.
     ForImplementation,
-    /// A range has no number: in a message its end is at most its start, in an enum below it.
+    /// An extension range has no number, or a reserved range of an enum.
     EmptyRange,
     /// An enum has no value.
     NoValue,

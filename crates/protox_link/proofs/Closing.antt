@@ -4,7 +4,7 @@ use Rattle.std.specs.Prelude.{ℤ, ⊤, All, IfSome}
 use Rattle.std.specs.List.{flat_map}
 use Rattle.std.specs.Option.{option_and_then, option_map, option_map_or, option_or, unwrap_or}
 use Rattle.std.proofs.lemmas.Grind.{flat_map-append}
-use Rattle.std.proofs.lemmas.List.Elements.{All-append, All-cons, All-nil}
+use Rattle.std.proofs.lemmas.List.Elements.{All-append, All-cons, All-contains, All-nil}
 use Rattle.protox_descriptor.specs.FieldDescriptorProto.{FieldDescriptorProto}
 use Rattle.protox_descriptor.specs.declared.descriptor.DescriptorProto.{DescriptorProto, DescriptorProto-F, ind-DescriptorProto, out-DescriptorProto, out-roll-DescriptorProto, roll-DescriptorProto}
 use Rattle.protox_descriptor.specs.declared.descriptor.EnumDescriptorProto.{EnumDescriptorProto}
@@ -19,15 +19,16 @@ use Rattle.protox_descriptor.specs.declared.tag.file.TheConstants as file_tag
 use Rattle.protox_descriptor.specs.declared.tag.message.TheConstants as message_tag
 use Rattle.protox_descriptor.specs.declared.tag.method.TheConstants as method_tag
 use Rattle.protox_descriptor.specs.declared.tag.service.TheConstants as service_tag
-use Rattle.protox_link.proofs.Standing.{IsThere, declared_stands, none_of_first, none_of_second, message_itself_stands, none_used, own_is_one_part, package_there, same_text}
+use Rattle.protox_link.proofs.Standing.{IsThere, declared_itself, declared_stands, message_itself, none_of_first, none_of_second, message_itself_stands, none_used, own_is_one_part, package_there, same_text}
 use Rattle.protox_imports.specs.Rows.{named_of, rows_of}
 use Rattle.protox_link.proofs.Seeing.{same_faults, split, split_linked}
-use Rattle.protox_link.specs.Closed.{AreClosed, IsClosedField, IsClosedFile, IsClosedMethod, IsClosedPart, IsNameOf, is_message}
+use Rattle.protox_link.specs.Closed.{AreClosed, IsClosed, IsClosedField, IsClosedFile, IsClosedMethod, IsItself, IsNameOf, is_message}
 use Rattle.protox_link.specs.Files.{AreFaults, AreLinked, faults_in, linked_in}
+use Rattle.protox_link.specs.Laws.{DeclaredOnce}
 use Rattle.protox_link.specs.Seen.{IsSeenBy}
 use Rattle.protox_link_checks.specs.Faults.{all_declared_faults, declared_faults, faults_named}
 use Rattle.protox_link_checks.specs.Imports.{import_faults, package_faults}
-use Rattle.protox_link_checks.specs.Numbers.{implementation_faults}
+use Rattle.protox_link_checks.specs.Numbers.{enum_number_faults, implementation_faults}
 use Rattle.protox_link_checks.specs.Uses.{faults_at, kind_named, message_faults, type_faults, wrong_message, wrong_type}
 use Rattle.protox_link_fault.specs.declared.LinkFault.{LinkFault}
 use Rattle.protox_link_fault.specs.declared.LinkFaultKind.TheVariants.{NotAType}
@@ -50,9 +51,10 @@ use Rattle.protox_symbols.proofs.Inside.{enums_at, extensions_at, fields_at, ins
 use Rattle.protox_symbols.proofs.Standing.{full_is_within}
 use Rattle.protox_symbols.specs.Symbols.{Table}
 use Rattle.protox_symbols.specs.Things.{table_of}
+use Rattle.protox_symbols.specs.declared.thing.Thing.{Thing}
 use Rattle.protox_views.specs.Views.{is_seen, meaning, seen, target}
 use Rattle.protox_walk.specs.Declarations.{At, Path, all_in, declared, enum_at, field_at, file_declarations, full_name, message_at, method_at, nth, numbered, oneof_at, service_at, siblings_at, text_of, value_at}
-use Rattle.protox_walk.specs.Parts.{Declared, Field, Message, Method, Service}
+use Rattle.protox_walk.specs.Parts.{Declared, Enum, Field, Message, Method, Service}
 
 -- The name of the user itself plays no part.
 module _ {Thing : Type 0} (kind : Thing → Kind) (seen : List ℕ → Option Thing) (wanted : Wanted) (name : List ℕ) where
@@ -188,13 +190,13 @@ module _ (t : Table) (sees packages : List Bool) (file : ℕ) where
   abbrev meaning1 : Wanted → List ℕ → List ℕ → Option Target
   meaning1 = meaning t sees packages
 
-  abbrev pub IsClosed : Declared → Type 0
-  IsClosed d = IsClosedPart t sees packages d.part
+  abbrev IsRight : Declared → Type 0
+  IsRight = IsClosed t sees packages file
 
   user_named : (full : List ℕ) (own : Option (List ℕ)) → full_name full own ≡ within full (text_of own)
   user_named full own = sym (full_is_within full own)
 
-  field_closed : (full : List ℕ) (f : FieldDescriptorProto) (path : Path) → IsThere t sees packages file full → flat_map wrong (field_at f full path) ≡ [] → All IsClosed (field_at (linked_field meaning1 full f) full path)
+  field_closed : (full : List ℕ) (f : FieldDescriptorProto) (path : Path) → IsThere t sees packages file full → flat_map wrong (field_at f full path) ≡ [] → All IsRight (field_at (linked_field meaning1 full f) full path)
   field_closed full f path there none =
       let own = text_of f.name in
       let user = full_name full f.name in
@@ -208,13 +210,16 @@ module _ (t : Table) (sees packages : List Bool) (file : ℕ) where
       let no_extends : extends ≡ [] = none_of_second (implementation_faults file path f ++ types) extends no_uses in
       let types_right = subst (λ u. type_faults t sees packages file path field_tag.TYPE_NAME u f.type_name ≡ []) (user_named full f.name) no_types in
       let extends_right = subst (λ u. message_faults t sees packages file path field_tag.EXTENDEE u f.extendee ≡ []) (user_named full f.name) no_extends in
-      All-cons IsClosed (declared path user (Field (linked_field meaning1 full f))) [] (record {
-        of_type = type_closed t sees packages file path field_tag.TYPE_NAME full own f.type_name alone types_right;
-        typed = typed t sees packages file path field_tag.TYPE_NAME full own f.field_type f.type_name alone types_right;
-        extends = message_closed t sees packages file path field_tag.EXTENDEE full own f.extendee alone extends_right;
-      }) (All-nil IsClosed)
+      All-cons IsRight (declared path user (Field (linked_field meaning1 full f))) [] (record {
+        once = declared_itself t sees packages file path full f.name uses there right;
+        names = record {
+          of_type = type_closed t sees packages file path field_tag.TYPE_NAME full own f.type_name alone types_right;
+          typed = typed t sees packages file path field_tag.TYPE_NAME full own f.field_type f.type_name alone types_right;
+          extends = message_closed t sees packages file path field_tag.EXTENDEE full own f.extendee alone extends_right;
+        };
+      }) (All-nil IsRight)
 
-  method_closed : (full : List ℕ) (m : MethodDescriptorProto) (path : Path) → IsThere t sees packages file full → flat_map wrong (method_at m full path) ≡ [] → All IsClosed (method_at (linked_method meaning1 full m) full path)
+  method_closed : (full : List ℕ) (m : MethodDescriptorProto) (path : Path) → IsThere t sees packages file full → flat_map wrong (method_at m full path) ≡ [] → All IsRight (method_at (linked_method meaning1 full m) full path)
   method_closed full m path there none =
       let own = text_of m.name in
       let user = full_name full m.name in
@@ -225,47 +230,56 @@ module _ (t : Table) (sees packages : List Bool) (file : ℕ) where
       let no_uses = none_used t sees packages file path full m.name (takes ++ gives) there right in
       let takes_right = subst (λ u. message_faults t sees packages file path method_tag.INPUT_TYPE u m.input_type ≡ []) (user_named full m.name) (none_of_first takes gives no_uses) in
       let gives_right = subst (λ u. message_faults t sees packages file path method_tag.OUTPUT_TYPE u m.output_type ≡ []) (user_named full m.name) (none_of_second takes gives no_uses) in
-      All-cons IsClosed (declared path user (Method (linked_method meaning1 full m))) [] (record {
-        takes = message_closed t sees packages file path method_tag.INPUT_TYPE full own m.input_type alone takes_right;
-        gives = message_closed t sees packages file path method_tag.OUTPUT_TYPE full own m.output_type alone gives_right;
-      }) (All-nil IsClosed)
+      All-cons IsRight (declared path user (Method (linked_method meaning1 full m))) [] (record {
+        once = declared_itself t sees packages file path full m.name (takes ++ gives) there right;
+        names = record {
+          takes = message_closed t sees packages file path method_tag.INPUT_TYPE full own m.input_type alone takes_right;
+          gives = message_closed t sees packages file path method_tag.OUTPUT_TYPE full own m.output_type alone gives_right;
+        };
+      }) (All-nil IsRight)
 
   -- ---- siblings
 
   -- what linking changes
   all_closed : {A : Type 0} (at : A → List ℕ → At) (link : A → A) (full : List ℕ) (path : Path) (tag : ℤ) (n : ℕ) (xs : List A)
-      → ((x : A) (place : Path) → flat_map wrong (at x full place) ≡ [] → All IsClosed (at (link x) full place))
-      → flat_map wrong (numbered path tag n (all_in at full xs)) ≡ [] → All IsClosed (numbered path tag n (all_in at full (map link xs)))
-  all_closed at link full path tag n [] each none = All-nil IsClosed
+      → ((x : A) (place : Path) → flat_map wrong (at x full place) ≡ [] → All IsRight (at (link x) full place))
+      → flat_map wrong (numbered path tag n (all_in at full xs)) ≡ [] → All IsRight (numbered path tag n (all_in at full (map link xs)))
+  all_closed at link full path tag n [] each none = All-nil IsRight
   all_closed at link full path tag n (x ∷ xs) each none =
       let split : flat_map wrong (at x full (nth path tag n)) ++ flat_map wrong (numbered path tag (n + 1) (all_in at full xs)) ≡ [] = sym (flat_map-append wrong (at x full (nth path tag n)) (numbered path tag (n + 1) (all_in at full xs))) ∙ none in
-      All-append IsClosed (at (link x) full (nth path tag n)) _ (each x (nth path tag n) (none_of_first _ _ split)) (all_closed at link full path tag (n + 1) xs each (none_of_second _ _ split))
+      All-append IsRight (at (link x) full (nth path tag n)) _ (each x (nth path tag n) (none_of_first _ _ split)) (all_closed at link full path tag (n + 1) xs each (none_of_second _ _ split))
 
   -- what it leaves as it is
   all_left : {A : Type 0} (at : A → List ℕ → At) (full : List ℕ) (path : Path) (tag : ℤ) (n : ℕ) (xs : List A)
-      → ((x : A) (place : Path) → All IsClosed (at x full place)) → All IsClosed (numbered path tag n (all_in at full xs))
-  all_left at full path tag n [] each = All-nil IsClosed
-  all_left at full path tag n (x ∷ xs) each =
-      All-append IsClosed (at x full (nth path tag n)) _ (each x (nth path tag n)) (all_left at full path tag (n + 1) xs each)
+      → ((x : A) (place : Path) → flat_map wrong (at x full place) ≡ [] → All IsRight (at x full place))
+      → flat_map wrong (numbered path tag n (all_in at full xs)) ≡ [] → All IsRight (numbered path tag n (all_in at full xs))
+  all_left at full path tag n [] each none = All-nil IsRight
+  all_left at full path tag n (x ∷ xs) each none =
+      let split : flat_map wrong (at x full (nth path tag n)) ++ flat_map wrong (numbered path tag (n + 1) (all_in at full xs)) ≡ [] = sym (flat_map-append wrong (at x full (nth path tag n)) (numbered path tag (n + 1) (all_in at full xs))) ∙ none in
+      All-append IsRight (at x full (nth path tag n)) _ (each x (nth path tag n) (none_of_first _ _ split)) (all_left at full path tag (n + 1) xs each (none_of_second _ _ split))
 
-  value_left : (full : List ℕ) (v : EnumValueDescriptorProto) (path : Path) → All IsClosed (value_at v full path)
-  value_left full v path = All-cons IsClosed _ [] tt (All-nil IsClosed)
+  value_left : (full : List ℕ) (v : EnumValueDescriptorProto) (path : Path) → IsThere t sees packages file full → flat_map wrong (value_at v full path) ≡ [] → All IsRight (value_at v full path)
+  value_left full v path there none =
+      All-cons IsRight _ [] (record { once = declared_itself t sees packages file path full v.name [] there (none_of_first _ _ none); names = tt }) (All-nil IsRight)
 
-  enum_left : (full : List ℕ) (e : EnumDescriptorProto) (path : Path) → All IsClosed (enum_at e full path)
-  enum_left full e path =
-      All-cons IsClosed _ _ tt (all_left value_at full path enum_tag.VALUE 0 e.value (λ v place. value_left full v place))
+  enum_left : (full : List ℕ) (e : EnumDescriptorProto) (path : Path) → IsThere t sees packages file full → flat_map wrong (enum_at e full path) ≡ [] → All IsRight (enum_at e full path)
+  enum_left full e path there none =
+      let own = wrong (declared path (full_name full e.name) (Enum e)) in
+      All-cons IsRight _ _ (record { once = declared_itself t sees packages file path full e.name (enum_number_faults file path e) there (none_of_first own _ none); names = tt })
+      (all_left value_at full path enum_tag.VALUE 0 e.value (λ v place h. value_left full v place there h) (none_of_second own _ none))
 
-  oneof_left : (full : List ℕ) (o : OneofDescriptorProto) (path : Path) → All IsClosed (oneof_at o full path)
-  oneof_left full o path = All-cons IsClosed _ [] tt (All-nil IsClosed)
+  oneof_left : (full : List ℕ) (o : OneofDescriptorProto) (path : Path) → IsThere t sees packages file full → flat_map wrong (oneof_at o full path) ≡ [] → All IsRight (oneof_at o full path)
+  oneof_left full o path there none =
+      All-cons IsRight _ [] (record { once = declared_itself t sees packages file path full o.name [] there (none_of_first _ _ none); names = tt }) (All-nil IsRight)
 
-  service_closed : (full : List ℕ) (s : ServiceDescriptorProto) (path : Path) → IsThere t sees packages file full → flat_map wrong (service_at s full path) ≡ [] → All IsClosed (service_at (linked_service meaning1 full s) full path)
+  service_closed : (full : List ℕ) (s : ServiceDescriptorProto) (path : Path) → IsThere t sees packages file full → flat_map wrong (service_at s full path) ≡ [] → All IsRight (service_at (linked_service meaning1 full s) full path)
   service_closed full s path there none =
       let name = full_name full s.name in
       let here = wrong (declared path name (Service s)) in
       let stand : IsThere t sees packages file name = inr (declared_stands t sees packages file path full s.name [] there (none_of_first here _ none)) in
       let same : name ≡ within full (linked.text_of s.name) = user_named full s.name ∙ sym (ap (within full) (same_text s.name)) in
-      All-cons IsClosed _ _ tt
-      (subst (λ inside. All IsClosed (siblings_at path service_tag.METHOD (all_in method_at name (map (linked_method meaning1 inside) s.method)))) same
+      All-cons IsRight _ _ (record { once = declared_itself t sees packages file path full s.name [] there (none_of_first here _ none); names = tt })
+      (subst (λ inside. All IsRight (siblings_at path service_tag.METHOD (all_in method_at name (map (linked_method meaning1 inside) s.method)))) same
       (all_closed method_at (linked_method meaning1 name) name path service_tag.METHOD 0 s.method (λ m place h. method_closed name m place stand h) (none_of_second here _ none)))
 
   -- ---- messages
@@ -306,18 +320,18 @@ module _ (t : Table) (sees packages : List Bool) (file : ℕ) where
       ∙ ap (told full path (roll-DescriptorProto (linked_parts name m))) (out-roll-DescriptorProto (linked_parts name m))
 
   abbrev IsMessageClosed : DescriptorProto → Type 0
-  IsMessageClosed m = (full : List ℕ) (path : Path) → IsThere t sees packages file full → flat_map wrong (message_at m full path) ≡ [] → All IsClosed (message_at (linked_message meaning1 full m) full path)
+  IsMessageClosed m = (full : List ℕ) (path : Path) → IsThere t sees packages file full → flat_map wrong (message_at m full path) ≡ [] → All IsRight (message_at (linked_message meaning1 full m) full path)
 
   abbrev AreMessagesClosed : List DescriptorProto → Type 0
-  AreMessagesClosed ms = (full : List ℕ) (path : Path) (tag : ℤ) (n : ℕ) → IsThere t sees packages file full → flat_map wrong (numbered path tag n (all_in message_at full ms)) ≡ [] → All IsClosed (numbered path tag n (all_in message_at full (map (linked_message meaning1 full) ms)))
+  AreMessagesClosed ms = (full : List ℕ) (path : Path) (tag : ℤ) (n : ℕ) → IsThere t sees packages file full → flat_map wrong (numbered path tag n (all_in message_at full ms)) ≡ [] → All IsRight (numbered path tag n (all_in message_at full (map (linked_message meaning1 full) ms)))
 
   are_closed : (held : List ((m : DescriptorProto) × IsMessageClosed m)) → AreMessagesClosed (map (λ e. e.0) held)
-  are_closed [] full path tag n there none = All-nil IsClosed
+  are_closed [] full path tag n there none = All-nil IsRight
   are_closed (m ∷ ms) full path tag n there none =
       let first = flat_map wrong (message_at m.0 full (nth path tag n)) in
       let behind = numbered path tag (n + 1) (all_in message_at full (map (λ e. e.0) ms)) in
       let split : first ++ flat_map wrong behind ≡ [] = sym (flat_map-append wrong (message_at m.0 full (nth path tag n)) behind) ∙ none in
-      All-append IsClosed (message_at (linked_message meaning1 full m.0) full (nth path tag n)) _ (m.1 full (nth path tag n) there (none_of_first first _ split)) (are_closed ms full path tag (n + 1) there (none_of_second first _ split))
+      All-append IsRight (message_at (linked_message meaning1 full m.0) full (nth path tag n)) _ (m.1 full (nth path tag n) there (none_of_first first _ split)) (are_closed ms full path tag (n + 1) there (none_of_second first _ split))
 
   closed_inside : (m : DescriptorProto) → AreMessagesClosed (out-DescriptorProto m).nested_type → IsMessageClosed m
   closed_inside m nested full path there none =
@@ -332,13 +346,13 @@ module _ (t : Table) (sees packages : List Bool) (file : ℕ) where
       let second : messages ++ flat_map wrong (enums_at m name path ++ (extensions_at m name path ++ oneofs_at m name path)) ≡ [] = sym (flat_map-append wrong (messages_at m name path) _) ∙ none_of_second fields _ first in
       let third : enums ++ flat_map wrong (extensions_at m name path ++ oneofs_at m name path) ≡ [] = sym (flat_map-append wrong (enums_at m name path) _) ∙ none_of_second messages _ second in
       let fourth : extensions ++ flat_map wrong (oneofs_at m name path) ≡ [] = sym (flat_map-append wrong (extensions_at m name path) _) ∙ none_of_second enums _ third in
-      subst (All IsClosed) (sym (linked_declares full path m))
-      (All-cons IsClosed _ _ tt
-      (All-append IsClosed _ _ (all_closed field_at (linked_field meaning1 name) name path message_tag.FIELD 0 (out-DescriptorProto m).field (λ f place h. field_closed name f place stand h) (none_of_first fields _ first))
-      (All-append IsClosed _ _ (nested name path message_tag.NESTED_TYPE 0 stand (none_of_first messages _ second))
-      (All-append IsClosed _ _ (all_left enum_at name path message_tag.ENUM_TYPE 0 (out-DescriptorProto m).enum_type (λ e place. enum_left name e place))
-      (All-append IsClosed _ _ (all_closed field_at (linked_field meaning1 name) name path message_tag.EXTENSION 0 (out-DescriptorProto m).extension (λ f place h. field_closed name f place stand h) (none_of_first extensions _ fourth))
-      (all_left oneof_at name path message_tag.ONEOF_DECL 0 (out-DescriptorProto m).oneof_decl (λ o place. oneof_left name o place)))))))
+      subst (All IsRight) (sym (linked_declares full path m))
+      (All-cons IsRight _ _ (record { once = message_itself t sees packages file full path m there none; names = tt })
+      (All-append IsRight _ _ (all_closed field_at (linked_field meaning1 name) name path message_tag.FIELD 0 (out-DescriptorProto m).field (λ f place h. field_closed name f place stand h) (none_of_first fields _ first))
+      (All-append IsRight _ _ (nested name path message_tag.NESTED_TYPE 0 stand (none_of_first messages _ second))
+      (All-append IsRight _ _ (all_left enum_at name path message_tag.ENUM_TYPE 0 (out-DescriptorProto m).enum_type (λ e place h. enum_left name e place stand h) (none_of_first enums _ third))
+      (All-append IsRight _ _ (all_closed field_at (linked_field meaning1 name) name path message_tag.EXTENSION 0 (out-DescriptorProto m).extension (λ f place h. field_closed name f place stand h) (none_of_first extensions _ fourth))
+      (all_left oneof_at name path message_tag.ONEOF_DECL 0 (out-DescriptorProto m).oneof_decl (λ o place h. oneof_left name o place stand h) (none_of_second extensions _ fourth)))))))
 
   message_is_closed : (m : DescriptorProto) → IsMessageClosed m
   message_is_closed = ind-DescriptorProto IsMessageClosed
@@ -347,7 +361,7 @@ module _ (t : Table) (sees packages : List Bool) (file : ℕ) where
       (are_closed held.nested_type)))
 
   -- what a linked file declares
-  pub file_closed : (f : FileDescriptorProto) → IsThere t sees packages file (text_of f.«package») → flat_map wrong (file_declarations f) ≡ [] → All IsClosed (file_declarations (linked_file meaning1 f))
+  pub file_closed : (f : FileDescriptorProto) → IsThere t sees packages file (text_of f.«package») → flat_map wrong (file_declarations f) ≡ [] → All IsRight (file_declarations (linked_file meaning1 f))
   file_closed f there none =
       let package1 = text_of f.«package» in
       let in_messages = siblings_at [] file_tag.MESSAGE_TYPE (all_in message_at package1 f.message_type) in
@@ -357,15 +371,15 @@ module _ (t : Table) (sees packages : List Bool) (file : ℕ) where
       let first : flat_map wrong in_messages ++ flat_map wrong (in_enums ++ (in_services ++ in_extensions)) ≡ [] = sym (flat_map-append wrong in_messages (in_enums ++ (in_services ++ in_extensions))) ∙ none in
       let second : flat_map wrong in_enums ++ flat_map wrong (in_services ++ in_extensions) ≡ [] = sym (flat_map-append wrong in_enums (in_services ++ in_extensions)) ∙ none_of_second (flat_map wrong in_messages) _ first in
       let third : flat_map wrong in_services ++ flat_map wrong in_extensions ≡ [] = sym (flat_map-append wrong in_services in_extensions) ∙ none_of_second (flat_map wrong in_enums) _ second in
-      let all : All IsClosed (siblings_at [] file_tag.MESSAGE_TYPE (all_in message_at package1 (map (linked_message meaning1 package1) f.message_type))
+      let all : All IsRight (siblings_at [] file_tag.MESSAGE_TYPE (all_in message_at package1 (map (linked_message meaning1 package1) f.message_type))
       ++ (in_enums
       ++ (siblings_at [] file_tag.SERVICE (all_in service_at package1 (map (linked_service meaning1 package1) f.service))
       ++ siblings_at [] file_tag.EXTENSION (all_in field_at package1 (map (linked_field meaning1 package1) f.extension))))) =
-      All-append IsClosed _ _ (all_closed message_at (linked_message meaning1 package1) package1 [] file_tag.MESSAGE_TYPE 0 f.message_type (λ m place h. message_is_closed m package1 place there h) (none_of_first _ _ first))
-      (All-append IsClosed _ _ (all_left enum_at package1 [] file_tag.ENUM_TYPE 0 f.enum_type (λ e place. enum_left package1 e place))
-      (All-append IsClosed _ _ (all_closed service_at (linked_service meaning1 package1) package1 [] file_tag.SERVICE 0 f.service (λ s place h. service_closed package1 s place there h) (none_of_first _ _ third))
+      All-append IsRight _ _ (all_closed message_at (linked_message meaning1 package1) package1 [] file_tag.MESSAGE_TYPE 0 f.message_type (λ m place h. message_is_closed m package1 place there h) (none_of_first _ _ first))
+      (All-append IsRight _ _ (all_left enum_at package1 [] file_tag.ENUM_TYPE 0 f.enum_type (λ e place h. enum_left package1 e place there h) (none_of_first (flat_map wrong in_enums) _ second))
+      (All-append IsRight _ _ (all_closed service_at (linked_service meaning1 package1) package1 [] file_tag.SERVICE 0 f.service (λ s place h. service_closed package1 s place there h) (none_of_first _ _ third))
       (all_closed field_at (linked_field meaning1 package1) package1 [] file_tag.EXTENSION 0 f.extension (λ x place h. field_closed package1 x place there h) (none_of_second (flat_map wrong in_services) _ third)))) in
-      subst (λ scope. All IsClosed (siblings_at [] file_tag.MESSAGE_TYPE (all_in message_at package1 (map (linked_message meaning1 scope) f.message_type))
+      subst (λ scope. All IsRight (siblings_at [] file_tag.MESSAGE_TYPE (all_in message_at package1 (map (linked_message meaning1 scope) f.message_type))
       ++ (in_enums
       ++ (siblings_at [] file_tag.SERVICE (all_in service_at package1 (map (linked_service meaning1 scope) f.service))
       ++ siblings_at [] file_tag.EXTENSION (all_in field_at package1 (map (linked_field meaning1 scope) f.extension)))))) (sym (same_text f.«package»)) all
@@ -408,3 +422,21 @@ module _ (all : List FileDescriptorProto) where
 
   pub are_closed_all : (made : List FileDescriptorProto) → AreFaults all 0 all [] → AreLinked all 0 all made → AreClosed all made
   are_closed_all made right linked k file is = subst (λ number. IsClosedFile all number file) (omega arith) (closed_from all 0 k made file right linked is)
+
+-- ---- each full name once
+
+same_place : (t : Table) (n m : ℕ) (path path' : Path) (name name' : List ℕ) → IsItself t n path name → IsItself t m path' name' → name ≡ name' → (n ≡ m) × (path ≡ path')
+same_place t n m path path' name name' one other same =
+    let numbers : Some one.number ≡ Some other.number = sym one.numbered ∙ ap (number_of t.names) same ∙ other.numbered in
+    let number : one.number ≡ other.number = ap (λ (o : Option ℕ). unwrap_or o 0) numbers in
+    let things : Some (record { file = n; path = path }) ≡ Some (record { file = m; path = path' }) = sym one.itself ∙ ap (slice_get t.things) number ∙ other.itself in
+    let places = ap (λ (o : Option Thing). unwrap_or o (record { file = n; path = path })) things in
+    (ap (λ (thing : Thing). thing.file) places, ap (λ (thing : Thing). thing.path) places)
+
+pub declared_once : DeclaredOnce
+declared_once files made closed n m file other is is' d e here there same =
+    let one = closed n file is in
+    let two = closed m other is' in
+    let first = All-contains (IsClosed (table_of files) one.sees one.packages n) (file_declarations file) d one.closed here in
+    let second = All-contains (IsClosed (table_of files) two.sees two.packages m) (file_declarations other) e two.closed there in
+    same_place (table_of files) n m d.path e.path d.full_name e.full_name first.once second.once same

@@ -1,7 +1,11 @@
 -- Where nothing is wrong with a file, its messages and its services are in the table.
-use Rattle.std.proofs.Common.{◌≡◌, ◌≢◌, ◌⊎◌, inl, inr, ℕ, ◌+◌, ◌&&◌, Bool, true, false, cond, List, [], ◌∷◌, ◌++◌, map, Option, Some, None, is_some, refl, sym, ap, subst, ◌∙◌, ◌==◌, arith, length}
+use Rattle.std.proofs.Common.{◌≡◌, ◌≢◌, ◌⊎◌, inl, inr, ℕ, ◌+◌, ◌&&◌, Bool, true, false, cond, List, [], ◌∷◌, ◌++◌, map, Option, Some, None, is_some, refl, sym, ap, subst, ◌∙◌, ◌==◌, arith, length, slice_get}
 use Rattle.std.specs.Prelude.{ℤ}
+use Rattle.std.specs.Cmp.Lexicographic.{pointwise}
+use Rattle.std.specs.Cmp.Rules.{signed_items}
 use Rattle.std.specs.List.{flat_map, list_all}
+use Rattle.std.specs.Option.{option_map_or}
+use Rattle.std.specs.Ordering.{int_eq}
 use Rattle.std.proofs.lemmas.Bool.{and_from, false≢true}
 use Rattle.std.proofs.lemmas.Bool.Decides.{Decides-eqb}
 use Rattle.std.proofs.lemmas.Grind.{flat_map-append}
@@ -12,11 +16,13 @@ use Rattle.protox_descriptor.specs.declared.descriptor.ServiceDescriptorProto.{S
 use Rattle.protox_descriptor.specs.declared.tag.file.TheConstants.{PACKAGE}
 use Rattle.protox_descriptor.specs.declared.tag.file.TheConstants as file_tag
 use Rattle.protox_descriptor.specs.declared.tag.message.TheConstants as message_tag
-use Rattle.protox_link_checks.specs.Faults.{bad_name, clash_faults, declared_faults, faults_named}
+use Rattle.protox_link.specs.Closed.{IsItself}
+use Rattle.protox_link_checks.specs.Faults.{bad_name, clash_faults, declared_faults, faults_named, is_declared_at}
 use Rattle.protox_link_checks.specs.Imports.{package_faults, wrong_package_found}
 use Rattle.protox_link_checks.specs.Numbers.{message_number_faults}
 use Rattle.protox_link_checks.specs.Uses.{fault_at, faults_at}
 use Rattle.protox_link_fault.specs.declared.LinkFault.{LinkFault}
+use Rattle.protox_link_fault.specs.declared.LinkFaultKind.TheVariants.{AlreadyDefined}
 use Rattle.protox_linked.proofs.Nesting.{message-stands}
 use Rattle.protox_linked.specs.Linked.{file_stands, message_stands, service_stands}
 use Rattle.protox_linked.specs.Linked as linked
@@ -28,6 +34,7 @@ use Rattle.protox_names.specs.Tree.{name_of_place}
 use Rattle.protox_symbols.proofs.Inside.{enums_at, extensions_at, fields_at, inside, message_declares, messages_at, oneofs_at}
 use Rattle.protox_symbols.proofs.Standing.{full_is_within}
 use Rattle.protox_symbols.specs.Symbols.{Table}
+use Rattle.protox_symbols.specs.declared.thing.Thing.{Thing}
 use Rattle.protox_views.specs.Views.{stands}
 use Rattle.protox_walk.specs.Declarations.{At, Path, all_in, declared, enum_at, field_at, file_declarations, full_name, message_at, method_at, nth, numbered, service_at, siblings_at, text_of}
 use Rattle.protox_walk.specs.Parts.{Declared, Message, Service}
@@ -102,6 +109,38 @@ module _ (t : Table) (sees packages : List Bool) (file : ℕ) where
   none_used path full name uses there none =
       none_of_second (clash_faults t sees packages file path (number_of t.names (full_name full name))) uses (none_told path full name uses there none)
 
+  -- The table has it itself then.
+  both : (a b : Bool) → (a && b) ≡ true → (a ≡ true) × (b ≡ true)
+  both true true h = (refl, refl)
+  both true false h = cc
+  both false b h = cc
+
+  thing_is : (path : Path) (thing : Option Thing) → option_map_or (λ (own : Thing). own.file == file && pointwise int_eq own.path path) thing false ≡ true → thing ≡ Some (record { file = file; path = path })
+  thing_is path None h = absurd (false≢true h)
+  thing_is path (Some own) h =
+      let parts = both (own.file == file) (pointwise int_eq own.path path) h in
+      let same_file = (Decides-eqb own.file file).0 parts.0 in
+      let same_path = (signed_items own.path path).0 parts.1 in
+      λ i. Some (record { file = same_file i; path = same_path i })
+
+  no_clash : (path : Path) (n : ℕ) (b : Bool) → is_declared_at t sees packages file path n ≡ b → clash_faults t sees packages file path (Some n) ≡ [] → b ≡ true
+  no_clash path n true is none = refl
+  no_clash path n false is none =
+      let told : cond false [] (fault_at file path message_tag.NAME (AlreadyDefined n) ∷ []) ≡ [] = sym (ap (λ b. cond b [] (fault_at file path message_tag.NAME (AlreadyDefined n) ∷ [])) is) ∙ none in
+      cc
+
+  itself_from : (path : Path) (name : List ℕ) (number : Option ℕ) → number_of t.names name ≡ number → clash_faults t sees packages file path number ≡ [] → IsItself t file path name
+  itself_from path name None is none = cc
+  itself_from path name (Some n) is none = record {
+    number = n;
+    numbered = is;
+    itself = thing_is path (slice_get t.things n) (no_clash path n (is_declared_at t sees packages file path n) refl none);
+  }
+
+  pub declared_itself : (path : Path) (full : List ℕ) (name : Option (List ℕ)) (uses : List LinkFault) → IsThere full → faults_named t sees packages file path (full_name full name) (text_of name) uses ≡ [] → IsItself t file path (full_name full name)
+  declared_itself path full name uses there none =
+      itself_from path (full_name full name) (number_of t.names (full_name full name)) refl (none_of_first (clash_faults t sees packages file path (number_of t.names (full_name full name))) uses (none_told path full name uses there none))
+
   -- Its name is of one part then.
   pub own_is_one_part : (path : Path) (full : List ℕ) (name : Option (List ℕ)) (uses : List LinkFault) → faults_named t sees packages file path (full_name full name) (text_of name) uses ≡ [] → is_one_part (text_of name) ≡ true
   own_is_one_part path full name uses none =
@@ -124,6 +163,11 @@ module _ (t : Table) (sees packages : List Bool) (file : ℕ) where
   pub message_itself_stands : (full : List ℕ) (path : Path) (m : DescriptorProto) → IsThere full → flat_map wrong (message_at m full path) ≡ [] → stands t (full_name full (out-DescriptorProto m).name) ≡ true
   message_itself_stands full path m there none =
       declared_stands path full (out-DescriptorProto m).name (message_number_faults file path m) there
+      (none_of_first _ _ (sym (ap (flat_map wrong) (message_declares m full path)) ∙ none))
+
+  pub message_itself : (full : List ℕ) (path : Path) (m : DescriptorProto) → IsThere full → flat_map wrong (message_at m full path) ≡ [] → IsItself t file path (full_name full (out-DescriptorProto m).name)
+  message_itself full path m there none =
+      declared_itself path full (out-DescriptorProto m).name (message_number_faults file path m) there
       (none_of_first _ _ (sym (ap (flat_map wrong) (message_declares m full path)) ∙ none))
 
   abbrev IsMessageThere : DescriptorProto → Type 0

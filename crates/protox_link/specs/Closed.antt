@@ -5,15 +5,15 @@ use Rattle.protox_descriptor.specs.FieldDescriptorProto.{FieldDescriptorProto}
 use Rattle.protox_descriptor.specs.declared.descriptor.FileDescriptorProto.{FileDescriptorProto}
 use Rattle.protox_descriptor.specs.declared.descriptor.MethodDescriptorProto.{MethodDescriptorProto}
 use Rattle.protox_link.specs.Seen.{IsSeenBy}
-use Rattle.protox_name_tree.specs.Tree.{dotted, kind_at, name_at}
+use Rattle.protox_name_tree.specs.Tree.{dotted, kind_at, name_at, number_of}
 use Rattle.protox_scopes.specs.Scopes.{is_type}
 use Rattle.protox_scopes.specs.declared.kind.Kind.{Kind}
 use Rattle.protox_scopes.specs.declared.kind.Kind.TheVariants as kind
 use Rattle.protox_symbols.specs.Symbols.{Table}
 use Rattle.protox_symbols.specs.Things.{table_of}
 use Rattle.protox_views.specs.Views.{is_seen}
-use Rattle.protox_walk.specs.Declarations.{file_declarations}
-use Rattle.protox_walk.specs.Parts.{Described, Message, Field, Oneof, Enum, Value, Service, Method}
+use Rattle.protox_walk.specs.Declarations.{Path, file_declarations}
+use Rattle.protox_walk.specs.Parts.{Declared, Described, Message, Field, Oneof, Enum, Value, Service, Method}
 
 abbrev pub is_message : Kind → Bool
 is_message kind.Message = true
@@ -21,6 +21,13 @@ is_message kind.Enum = false
 is_message kind.Service = false
 is_message kind.Package = false
 is_message kind.Member = false
+
+-- The table has what this file declares at this path under this full name. So nothing else has that
+-- name.
+pub record IsItself (table : Table) (file : ℕ) (path : Path) (full_name : List ℕ) : Type 0 where
+  pub number : ℕ
+  pub numbered : number_of table.names full_name ≡ Some number
+  pub itself : slice_get table.things number ≡ Some (record { file = file; path = path })
 
 -- `sees` marks the files that a file sees, and `packages` the packages that these are in.
 module _ (table : Table) (sees packages : List Bool) where
@@ -53,12 +60,16 @@ module _ (table : Table) (sees packages : List Bool) where
   IsClosedPart (Service service) = ⊤
   IsClosedPart (Method method) = IsClosedMethod method
 
+  pub record IsClosed (file : ℕ) (d : Declared) : Type 0 where
+    pub once : IsItself table file d.path d.full_name
+    pub names : IsClosedPart d.part
+
 -- All that a linked file declares, where it has this number in the list.
 pub record IsClosedFile (files : List FileDescriptorProto) (number : ℕ) (file : FileDescriptorProto) : Type 0 where
   pub sees : List Bool
   pub packages : List Bool
   pub seen : IsSeenBy files number sees packages
-  pub closed : All (λ d. IsClosedPart (table_of files) sees packages d.part) (file_declarations file)
+  pub closed : All (IsClosed (table_of files) sees packages number) (file_declarations file)
 
 -- The given files, and the linked ones.
 abbrev pub AreClosed : List FileDescriptorProto → List FileDescriptorProto → Type 0

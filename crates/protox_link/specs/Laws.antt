@@ -1,13 +1,16 @@
 -- What holds of linking, whatever the files are.
-use Rattle.std.specs.Prelude.{◌≡◌, ℕ, List, [], length}
+use Rattle.std.specs.Prelude.{◌≡◌, ℕ, Contains, List, [], Some, length, slice_get}
 use Rattle.protox_descriptor.specs.declared.descriptor.FileDescriptorProto.{FileDescriptorProto}
 use Rattle.protox_imports.specs.Imports.{Imports}
 use Rattle.protox_imports.specs.Order.{IsInOrder}
+use Rattle.protox_link.specs.Closed.{AreClosed}
 use Rattle.protox_link.specs.Files.{AreFaults, AreLinked}
 use Rattle.protox_link.specs.Link.{IsFailureOf}
 use Rattle.protox_link_fault.specs.declared.LinkFailure.{LinkFailure}
 use Rattle.protox_link_fault.specs.declared.LinkFailure.TheVariants.{OutOfMemory}
 use Rattle.protox_link_fault.specs.declared.LinkFault.{LinkFault}
+use Rattle.protox_walk.specs.Declarations.{file_declarations}
+use Rattle.protox_walk.specs.Parts.{Declared}
 
 -- Files have one list of faults.
 abbrev pub OneListOfFaults : Type 0
@@ -20,3 +23,10 @@ OneLinking = (files made other : List FileDescriptorProto) → AreLinked files 0
 -- Files of which nothing is wrong, and which have an order, are refused only where memory runs out.
 abbrev pub OnlyWhereWrong : Type 0
 OnlyWhereWrong = (files : List FileDescriptorProto) (order : List ℕ) (failure : LinkFailure) → IsInOrder (Imports files) (length files) order → AreFaults files 0 files [] → IsFailureOf files failure → failure ≡ OutOfMemory
+
+-- In linked files each full name is declared once.
+abbrev pub DeclaredOnce : Type 0
+DeclaredOnce = (files made : List FileDescriptorProto) → AreClosed files made
+    → (n m : ℕ) (file other : FileDescriptorProto) → slice_get made n ≡ Some file → slice_get made m ≡ Some other
+    → (d e : Declared) → Contains (file_declarations file) d → Contains (file_declarations other) e
+    → d.full_name ≡ e.full_name → (n ≡ m) × (d.path ≡ e.path)

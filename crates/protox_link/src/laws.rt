@@ -1,6 +1,6 @@
 //! Laws of linking. Each is a function that does nothing. Its contract is the law.
 
-ghost use Rattle.protox_link.specs.Laws.{OneLinking, OneListOfFaults, OnlyWhereWrong};
+ghost use Rattle.protox_link.specs.Laws.{DeclaredOnce, OneLinking, OneListOfFaults, OnlyWhereWrong};
 
 /// Files have one list of faults, and linking makes one list of files of them. So the answer of
 /// `link` is the only one that its contract allows, but for circles of imports and want of memory.
@@ -13,4 +13,10 @@ pub fn one_answer()
 /// or memory ran out.
 pub fn only_where_wrong()
     ensures { OnlyWhereWrong }
+{}
+
+/// In linked files each full name is declared once, but for packages. So a name in them, which is a
+/// full name, says what it stands for by itself.
+pub fn declared_once()
+    ensures { DeclaredOnce }
 {}

@@ -105,7 +105,7 @@ module _ (t : Table) (sees packages : List Bool) where
   seen_from n (Some m) known found = seen_with n m (is_seen t sees packages m) refl (known m refl) found
 
   -- what a name stands for
-  seen_number : (wanted : Wanted) (name user : List ℕ) (n : ℕ) → here wanted name user ≡ Some n → IsNumberSeen n
+  pub seen_number : (wanted : Wanted) (name user : List ℕ) (n : ℕ) → here wanted name user ≡ Some n → IsNumberSeen n
   seen_number wanted name user n found =
       let by = seen_by_name (kind_at t.names) (seen t sees packages) wanted name user n found in
       seen_from n (number_of t.names by.0) (λ m is. found_known t.names.full_names by.0 m is) by.1
@@ -284,7 +284,7 @@ module _ (t : Table) (sees packages : List Bool) (file : ℕ) where
 
   -- ---- messages
 
-  abbrev told : List ℕ → Path → DescriptorProto → DescriptorProto-F DescriptorProto → List Declared
+  abbrev pub told : List ℕ → Path → DescriptorProto → DescriptorProto-F DescriptorProto → List Declared
   told full path whole m =
       let name = full_name full m.name in
       declared path name (Message whole)
@@ -294,7 +294,7 @@ module _ (t : Table) (sees packages : List Bool) (file : ℕ) where
       ++ (siblings_at path message_tag.EXTENSION (all_in field_at name m.extension)
       ++ siblings_at path message_tag.ONEOF_DECL (all_in oneof_at name m.oneof_decl)))))
 
-  abbrev linked_parts : List ℕ → DescriptorProto → DescriptorProto-F DescriptorProto
+  abbrev pub linked_parts : List ℕ → DescriptorProto → DescriptorProto-F DescriptorProto
   linked_parts inside m = record {
     name = (out-DescriptorProto m).name;
     field = map (linked_field meaning1 inside) (out-DescriptorProto m).field;
@@ -309,7 +309,7 @@ module _ (t : Table) (sees packages : List Bool) (file : ℕ) where
   }
 
   -- what the linked message declares
-  linked_declares : (full : List ℕ) (path : Path) (m : DescriptorProto) →
+  pub linked_declares : (full : List ℕ) (path : Path) (m : DescriptorProto) →
       let inside = full_name full (out-DescriptorProto m).name in
       message_at (linked_message meaning1 full m) full path ≡ told full path (roll-DescriptorProto (linked_parts inside m)) (linked_parts inside m)
   linked_declares full path m =

@@ -17,6 +17,21 @@ use Rattle.protox_link_fault.specs.declared.LinkFault.{LinkFault}
 use Rattle.protox_symbols.specs.Things.{table_of}
 use Rattle.protox_views.specs.Packages.{is_package_seen}
 
+-- the marks of what a file sees of what is known of the list
+pub seen_by : (all : List FileDescriptorProto) (known : Known) (n : ℕ) (sees packages : List Bool)
+    → IsKnownOf all known
+    → length sees ≡ length known.imports.files
+    → AreSeen known.imports.files n sees
+    → ((k : ℕ) → k < length known.symbols.names.full_names → slice_index_or packages k false ≡ is_package_seen known.symbols.names known.packages.items sees k)
+    → length (rows_of all) ≡ length all
+    → IsSeenBy all n sees packages
+seen_by all known n sees packages is as_many of_files of_packages rows = record {
+  as_many = as_many ∙ ap length is.rows ∙ rows;
+  of_files = subst (λ rows. AreSeen rows n sees) is.rows of_files;
+  of_packages = subst (λ ps. (k : ℕ) → k < length (table_of all).names.full_names → slice_index_or packages k false ≡ is_package_seen (table_of all).names ps sees k) is.packages
+      (subst (λ t. (k : ℕ) → k < length t.names.full_names → slice_index_or packages k false ≡ is_package_seen t.names known.packages.items sees k) is.table of_packages);
+}
+
 -- a file that was checked by what is known of the list
 pub done : {T E : Type 0} (r : Result T E) (all : List FileDescriptorProto) (known : Known) (n : ℕ) (sees packages : List Bool) (imports : List (Option ℕ)) (file made : FileDescriptorProto) (before after : List LinkFault)
     → IsKnownOf all known
@@ -36,12 +51,7 @@ done r all known n sees packages imports file made before after is as_many of_fi
     record {
       sees = sees;
       packages = packages;
-      seen = record {
-        as_many = as_many ∙ ap length is.rows ∙ rows;
-        of_files = subst (λ rows. AreSeen rows n sees) is.rows of_files;
-        of_packages = subst (λ ps. (k : ℕ) → k < length (table_of all).names.full_names → slice_index_or packages k false ≡ is_package_seen (table_of all).names ps sees k) is.packages
-            (subst (λ t. (k : ℕ) → k < length t.names.full_names → slice_index_or packages k false ≡ is_package_seen t.names known.packages.items sees k) is.table of_packages);
-      };
+      seen = seen_by all known n sees packages is as_many of_files of_packages rows;
       faults = in_all.faults;
       linked = in_all.linked;
     })

@@ -2,3 +2,8 @@ pub mod Standing
 pub mod Doing
 pub mod Seeing
 pub mod Closing
+pub mod Keeping
+pub mod Paths
+pub mod Again
+pub mod Growing
+pub mod Behind

@@ -164,7 +164,7 @@ module _ (all : List FileDescriptorProto) where
     | OneFile m file more sees packages rest seen behind ↦ (sees, packages, rest, seen, behind, refl)
   ]
 
-  same_linked : (n : ℕ) (sees other packages packages' : List Bool) (file : FileDescriptorProto) → IsSeenBy all n sees packages → IsSeenBy all n other packages' → linked_in all sees packages file ≡ linked_in all other packages' file
+  pub same_linked : (n : ℕ) (sees other packages packages' : List Bool) (file : FileDescriptorProto) → IsSeenBy all n sees packages → IsSeenBy all n other packages' → linked_in all sees packages file ≡ linked_in all other packages' file
   same_linked n sees other packages packages' file here there =
       let same = same_marks all n sees other packages packages' here there in
       linked_alike all n sees packages packages' here (subst (λ marks. IsSeenBy all n marks packages') (sym same) there) file

@@ -5,3 +5,5 @@ pub mod Link
 pub mod Closed
 pub mod Prepared
 pub mod Laws
+pub mod Stands
+pub mod Resolver

@@ -1,5 +1,5 @@
 -- Linked sets of files, and why there is none.
-use Rattle.std.specs.Prelude.{◌≡◌, ◌≢◌, ◌-◌, ◌⊎◌, ⊤, ℕ, List, [], ◌∷◌, Option, Some, length, slice_get}
+use Rattle.std.specs.Prelude.{◌≡◌, ◌≢◌, ◌-◌, ◌⊎◌, ⊤, ℕ, List, [], ◌∷◌, Option, Some, length, map, slice_get}
 use Rattle.protox_descriptor.specs.declared.descriptor.FileDescriptorProto.{FileDescriptorProto}
 use Rattle.protox_descriptor.specs.declared.tag.file.TheConstants.{DEPENDENCY}
 use Rattle.protox_imports.specs.Imports.{Imports}
@@ -10,6 +10,7 @@ use Rattle.protox_link_fault.specs.declared.LinkFailure.{LinkFailure}
 use Rattle.protox_link_fault.specs.declared.LinkFailure.TheVariants.{OutOfMemory, Refused}
 use Rattle.protox_link_fault.specs.declared.LinkFault.{LinkFault}
 use Rattle.protox_link_fault.specs.declared.LinkFaultKind.TheVariants.{ImportCycle}
+use Rattle.protox_linked.specs.Kept.{file_kept}
 
 -- The files of the set are the given ones, linked. Nothing is wrong with them, and the order is one
 -- in which each file stands behind what it imports.
@@ -17,6 +18,12 @@ pub record IsSetOf (files : List FileDescriptorProto) (set : LinkedSet) : Type 0
   pub right : AreFaults files 0 files []
   pub linked : AreLinked files 0 files set.files.items
   pub ordered : IsInOrder (Imports files) (length files) set.order.items
+
+-- Of the given files, the linked ones keep all but the names that they use, and what these tell: types
+-- of fields, and names in JSON. Numbers, names, labels, options, defaults and comments are the same,
+-- and the order of all parts.
+abbrev pub AreKept : List FileDescriptorProto → List FileDescriptorProto → Type 0
+AreKept files made = map file_kept made ≡ map file_kept files
 
 -- The fault is that of files that import one another in a circle. It is told at the last of them.
 pub record IsOfCircle (files : List FileDescriptorProto) (fault : LinkFault) : Type 0 where

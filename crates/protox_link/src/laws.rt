@@ -1,6 +1,7 @@
 //! Laws of linking. Each is a function that does nothing. Its contract is the law.
 
-ghost use Rattle.protox_link.specs.Laws.{DeclaredOnce, OneLinking, OneListOfFaults, OnlyWhereWrong};
+ghost use Rattle.protox_link.specs.Laws.{DeclaredOnce, KnownAgain, LinkedAgain, Local};
+ghost use Rattle.protox_link.specs.Laws.{OneLinking, OneListOfFaults, OnlyWhereWrong};
 
 /// Files have one list of faults, and linking makes one list of files of them. So the answer of
 /// `link` is the only one that its contract allows, but for circles of imports and want of memory.
@@ -19,4 +20,17 @@ pub fn only_where_wrong()
 /// full name, says what it stands for by itself.
 pub fn declared_once()
     ensures { DeclaredOnce }
+{}
+
+/// Linking linked files changes nothing. What is known of them is what was known of the given files,
+/// so a `Resolver` of either answers the same.
+pub fn linked_again()
+    ensures linked { LinkedAgain }
+    ensures known { KnownAgain }
+{}
+
+/// Files with which nothing is wrong are linked the same whatever files stand behind them. So what a
+/// file is linked to depends on the files that it sees alone.
+pub fn local()
+    ensures { Local }
 {}

@@ -8,7 +8,9 @@ pub mod laws;
 mod linking;
 mod packages;
 mod prepare;
+mod resolver;
 mod set;
 
 pub use crate::linking::link;
+pub use crate::resolver::{FileNames, Resolver};
 pub use crate::set::LinkedSet;

@@ -7,7 +7,8 @@ ghost use Rattle.protox_imports.specs.Order.{IsCycle, IsInOrder};
 ghost use Rattle.protox_link.specs.Closed.{AreClosed};
 ghost use Rattle.protox_link.specs.Files.{AreDone};
 ghost use Rattle.protox_link.specs.Known.{IsKnownOf};
-ghost use Rattle.protox_link.specs.Link.{IsFailureOf, IsSetOf};
+ghost use Rattle.protox_link.specs.Link.{AreKept, IsFailureOf, IsSetOf};
+ghost use Rattle.protox_link.specs.Stands.{AllStand};
 
 use crate::LinkedSet;
 use crate::files::do_files;
@@ -60,7 +61,9 @@ fn link_ready(
     requires order { IsInOrder (ImportsOf files.items) (length files.items) order.items }
     ensures linked { IfOk result (λ set. IsSetOf files.items set) }
     ensures closed { IfOk result (λ set. AreClosed files.items set.files.items) }
+    ensures kept { IfOk result (λ set. AreKept files.items set.files.items) }
     ensures refused { IfErr result (λ failure. IsFailureOf files.items failure) }
+    ensures stands { IfErr result (λ failure. AllStand files.items failure) }
 {
     let mut files = files;
     let Ok(faults) = finish(alloc, known, &mut files) else {
@@ -75,8 +78,10 @@ fn link_ready(
 // Why files that import one another in a circle are not linked.
 fn refused_circle(alloc: Global, circle: Vec<usize>) -> LinkFailure
     requires { 0 < length circle.items }
-    ensures { (files : List FileDescriptorProto) → IsCycle (ImportsOf files) circle.items
+    ensures refused { (files : List FileDescriptorProto) → IsCycle (ImportsOf files) circle.items
         → IsFailureOf files result }
+    ensures stands { (files : List FileDescriptorProto) → IsCycle (ImportsOf files) circle.items
+        → AllStand files result }
 {
     let Ok(fault) = fault_of_circle(alloc, circle) else {
         return LinkFailure::OutOfMemory;
@@ -92,13 +97,18 @@ fn refused_circle(alloc: Global, circle: Vec<usize>) -> LinkFailure
 /// for, fields of named types get the type of a message or of an enum, and each field gets a name in
 /// JSON. All else stays as it is. Files are named by their numbers in the list, from 0.
 ///
+/// In the linked files each full name is declared once. Each name that a field or a method uses is a
+/// dot and the full name of a message or an enum that its file sees: one of its own, of a file that
+/// it imports, or of one that such a file imports publicly, and so on.
+///
 /// # Errors
 /// `Refused`, with all that is wrong, where something is: an import of no file of the list, an
 /// import told twice, a circle of imports (this is told alone, at its last file), a name that is no
 /// identifier or that was declared before in any of the files, a name that stands for nothing that
 /// the file sees, or for something of another kind, a number or a range that clashes with another
 /// one, a number from 19000 to 19999, a range without numbers, and an enum without values. The
-/// faults are in the order of the files and of their parts.
+/// faults are in the order of the files and of their parts, and the path of each leads to a part of
+/// its file. What a fault names by a number has it in `Symbols::of` the same files.
 /// `OutOfMemory` where memory runs out, or where a list has more than 2,147,483,648 parts: no path
 /// can count them.
 ///
@@ -112,7 +122,9 @@ fn refused_circle(alloc: Global, circle: Vec<usize>) -> LinkFailure
 pub fn link(alloc: Global, files: Vec<FileDescriptorProto>) -> Result<LinkedSet, LinkFailure>
     ensures linked { IfOk result (λ set. IsSetOf files.items set) }
     ensures closed { IfOk result (λ set. AreClosed files.items set.files.items) }
+    ensures kept { IfOk result (λ set. AreKept files.items set.files.items) }
     ensures refused { IfErr result (λ failure. IsFailureOf files.items failure) }
+    ensures stands { IfErr result (λ failure. AllStand files.items failure) }
 {
     match prepare(alloc, files.as_slice()) {
         Ok(Prepared::Ready(known, order)) => link_ready(alloc, &known, order, files),

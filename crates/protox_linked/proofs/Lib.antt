@@ -1,1 +1,3 @@
 pub mod Nesting
+pub mod Keeping
+pub mod Twice

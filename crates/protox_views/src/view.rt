@@ -3,6 +3,7 @@
 ghost use Rattle.std.specs.Prelude.{◌≡◌, Some, None, if◌then◌else◌};
 ghost use Rattle.std.specs.Option.{option_and_then};
 ghost use Rattle.protox_name_tree.specs.Tree.{name_in, number_of};
+ghost use Rattle.protox_names.specs.Names.{within};
 ghost use Rattle.protox_views.specs.Views.{is_marked, is_seen, seen};
 
 use protox_scopes::Kind;
@@ -63,5 +64,12 @@ impl View<'_> {
             (name_in self.now.symbols.now.names scope name.now) }
     {
         self.if_seen(self.symbols.find(scope, name))
+    }
+    /// The same in the scope with this full name. The nameless scope is the empty text.
+    pub fn find_within(&self, scope: &str, name: &str) -> Option<usize>
+        ensures { result ≡ seen self.now.symbols.now self.now.sees.now self.now.packages.now
+            (within scope.now name.now) }
+    {
+        self.if_seen(self.symbols.find_within(scope, name))
     }
 }

@@ -7,6 +7,12 @@ use Rattle.protox_link.proofs.linking.link.Goals as goal
 
 pub returns-in-Ok-Circle-clause-refused : goal.returns-in-Ok-Circle-clause-refused
 returns-in-Ok-Circle-clause-refused c =
-    c.refused_circle.ensures c.args.files.items
+    c.refused_circle.ensures.refused c.args.files.items
+    (subst (λ (files : List FileDescriptorProto). IsCycle (Imports files) c.in-Ok-Circle.circle.items) c.as_slice.ensures.value
+    (subst (IsPreparedFor c.as_slice.result.now) c.in-Ok-Circle.field-0-is c.in-Ok-Circle.ensures))
+
+pub returns-in-Ok-Circle-clause-stands : goal.returns-in-Ok-Circle-clause-stands
+returns-in-Ok-Circle-clause-stands c =
+    c.refused_circle.ensures.stands c.args.files.items
     (subst (λ (files : List FileDescriptorProto). IsCycle (Imports files) c.in-Ok-Circle.circle.items) c.as_slice.ensures.value
     (subst (IsPreparedFor c.as_slice.result.now) c.in-Ok-Circle.field-0-is c.in-Ok-Circle.ensures))

@@ -9,10 +9,11 @@ use Rattle.protox_descriptor.specs.declared.descriptor.FileDescriptorProto.{File
 use Rattle.protox_imports.specs.Rows.{named_of, rows_of}
 use Rattle.protox_imports.specs.Seen.{AreSeen}
 use Rattle.protox_link.proofs.Standing.{none_of_first}
-use Rattle.protox_link.specs.Files.{AreDone, AreFaults, AreLinked, IsChecked, IsDone, NoFile, NoMore, OneFile, OneMore, faults_in, linked_in}
+use Rattle.protox_link.specs.Files.{AreDone, AreFaults, AreLinked, IsChecked, IsDone, IsToldOf, NoFile, NoMore, OneFile, OneMore, faults_in, linked_in}
 use Rattle.protox_link.specs.Known.{IsKnownOf}
 use Rattle.protox_link.specs.Seen.{IsSeenBy, packages_of}
 use Rattle.protox_link.specs.declared.known.Known.{Known}
+use Rattle.protox_link_checks.specs.File.{file_faults}
 use Rattle.protox_link_fault.specs.declared.LinkFault.{LinkFault}
 use Rattle.protox_symbols.specs.Things.{table_of}
 use Rattle.protox_views.specs.Packages.{is_package_seen}
@@ -31,6 +32,21 @@ seen_by all known n sees packages is as_many of_files of_packages rows = record 
   of_packages = subst (λ ps. (k : ℕ) → k < length (table_of all).names.full_names → slice_index_or packages k false ≡ is_package_seen (table_of all).names ps sees k) is.packages
       (subst (λ t. (k : ℕ) → k < length t.names.full_names → slice_index_or packages k false ≡ is_package_seen t.names known.packages.items sees k) is.table of_packages);
 }
+
+-- a file that was only checked
+pub told_one : {T E : Type 0} (r : Result T E) (all : List FileDescriptorProto) (known : Known) (n : ℕ) (sees packages : List Bool) (imports : List (Option ℕ)) (file : FileDescriptorProto) (before after : List LinkFault)
+    → IsKnownOf all known → IsSeenBy all n sees packages → imports ≡ named_of known.imports.files n
+    → OnOk r (after ≡ before ++ file_faults known.symbols sees packages n imports file)
+    → OnOk r (IsToldOf all n file before after)
+told_one r all known n sees packages imports file before after is seen named =
+    on_ok_weaker r (λ told. record {
+      sees = sees;
+      packages = packages;
+      seen = seen;
+      faults = told
+          ∙ ap (λ t. before ++ file_faults t sees packages n imports file) is.table
+          ∙ ap (λ i. before ++ file_faults (table_of all) sees packages n i file) (named ∙ ap (λ rows. named_of rows n) is.rows);
+    })
 
 -- a file that was checked by what is known of the list
 pub done : {T E : Type 0} (r : Result T E) (all : List FileDescriptorProto) (known : Known) (n : ℕ) (sees packages : List Bool) (imports : List (Option ℕ)) (file made : FileDescriptorProto) (before after : List LinkFault)
@@ -99,6 +115,26 @@ module _ (all : List FileDescriptorProto) where
             (subst (λ left. AreLinked all n left (linked_in all one.sees one.packages file ∷ more)) (sym first)
             (OneFile n file (drop (n + 1) all) one.sees one.packages more one.seen h)));
       }
+
+  -- ---- files that are only checked
+
+  -- Whatever is wrong with the files from the number n on stands behind the faults so far.
+  abbrev pub AreToldTo : ℕ → List LinkFault → Type 0
+  AreToldTo n faults = (rest : List LinkFault) → AreFaults all n (drop n all) rest → AreFaults all 0 all (faults ++ rest)
+
+  pub one_told : (n : ℕ) (file : FileDescriptorProto) (before after : List LinkFault) → n < length all → file ≡ get_or all n file
+      → AreToldTo n before → IsToldOf all n file before after → AreToldTo (n + 1) after
+  one_told n file before after below is so_far one rest h =
+      let first : drop n all ≡ file ∷ drop (n + 1) all = drop_more all n file below ∙ ap (λ f. f ∷ drop (n + 1) all) (sym is) in
+      subst (AreFaults all 0 all) (sym (ap (λ faults. faults ++ rest) one.faults ∙ append_assoc before (faults_in all n one.sees one.packages file) rest))
+      (so_far (faults_in all n one.sees one.packages file ++ rest)
+      (subst (λ left. AreFaults all n left (faults_in all n one.sees one.packages file ++ rest)) (sym first)
+      (OneMore n file (drop (n + 1) all) one.sees one.packages rest one.seen h)))
+
+  pub all_told : (n : ℕ) (faults : List LinkFault) → length all ≤ n → AreToldTo n faults → AreFaults all 0 all faults
+  all_told n faults end so_far =
+      subst (AreFaults all 0 all) (append-nil faults)
+      (so_far [] (subst (λ left. AreFaults all n left []) (sym (drop_all n all end)) (NoMore n)))
 
   pub all_done : (n : ℕ) (files : List FileDescriptorProto) (faults : List LinkFault) → length files ≤ n → AreDoneTo n files faults → AreDone all files faults
   all_done n files faults end so_far =

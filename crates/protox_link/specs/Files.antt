@@ -45,6 +45,13 @@ pub record IsDone (all : List FileDescriptorProto) (n : ℕ) (file made : FileDe
   pub faults : after ≡ before ++ faults_in all n sees packages file
   pub linked : after ≡ [] → made ≡ linked_in all sees packages file
 
+-- The same where the file is checked alone.
+pub record IsToldOf (all : List FileDescriptorProto) (n : ℕ) (file : FileDescriptorProto) (before after : List LinkFault) : Type 0 where
+  pub sees : List Bool
+  pub packages : List Bool
+  pub seen : IsSeenBy all n sees packages
+  pub faults : after ≡ before ++ faults_in all n sees packages file
+
 -- ---- all files
 
 -- These are all faults of the files of a list, and if there are none, the files are linked.

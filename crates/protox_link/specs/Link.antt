@@ -32,10 +32,17 @@ pub record IsOfCircle (files : List FileDescriptorProto) (fault : LinkFault) : T
   pub at_imports : fault.path ≡ DEPENDENCY ∷ []
   pub is : IsCycle (Imports files) circle
 
+-- The one fault is that of a circle.
+abbrev pub IsCircleAlone : List FileDescriptorProto → List LinkFault → Type 0
+IsCircleAlone files faults = (fault : LinkFault) × (faults ≡ fault ∷ []) × IsOfCircle files fault
+
+-- There is a circle, or these are all faults.
+abbrev pub AreWrong : List FileDescriptorProto → List LinkFault → Type 0
+AreWrong files faults = IsCircleAlone files faults ⊎ AreFaults files 0 files faults
+
 -- There is a circle, or these are all faults, and there is one.
 abbrev pub AreOfFiles : List FileDescriptorProto → List LinkFault → Type 0
-AreOfFiles files faults =
-    ((fault : LinkFault) × (faults ≡ fault ∷ []) × IsOfCircle files fault) ⊎ ((faults ≢ []) × AreFaults files 0 files faults)
+AreOfFiles files faults = IsCircleAlone files faults ⊎ ((faults ≢ []) × AreFaults files 0 files faults)
 
 abbrev pub IsFailureOf : List FileDescriptorProto → LinkFailure → Type 0
 IsFailureOf files (Refused faults) = AreOfFiles files faults.items

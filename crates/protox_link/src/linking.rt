@@ -1,6 +1,6 @@
 //! Linking.
 
-ghost use Rattle.std.specs.Prelude.{◌≡◌, ◌<◌, ◌-◌, ◌∷◌, [], Some, length, slice_get, List, IfOk, IfErr};
+ghost use Rattle.std.specs.Prelude.{◌<◌, length, List, IfOk, IfErr};
 ghost use Rattle.protox_descriptor.specs.declared.descriptor.FileDescriptorProto.{FileDescriptorProto};
 ghost use Rattle.protox_imports.specs.Imports.{Imports as ImportsOf};
 ghost use Rattle.protox_imports.specs.Order.{IsCycle, IsInOrder};
@@ -11,27 +11,13 @@ ghost use Rattle.protox_link.specs.Link.{AreKept, IsFailureOf, IsSetOf};
 ghost use Rattle.protox_link.specs.Stands.{AllStand};
 
 use crate::LinkedSet;
+use crate::circle::told_circle;
 use crate::files::do_files;
 use crate::known::Known;
 use crate::prepare::{Prepared, prepare};
 use protox_descriptor::descriptor::FileDescriptorProto;
-use protox_descriptor::tag::file::DEPENDENCY;
-use protox_descriptor::values::Numbers;
-use protox_link_fault::{LinkFailure, LinkFault, LinkFaultKind};
+use protox_link_fault::{LinkFailure, LinkFault};
 use std::alloc::{AllocError, Global};
-
-// The fault of files that import one another in a circle.
-fn fault_of_circle(alloc: Global, circle: Vec<usize>) -> Result<LinkFault, AllocError>
-    requires { 0 < length circle.items }
-    ensures file { IfOk result (λ fault. slice_get circle.items (length circle.items - 1)
-        ≡ Some fault.file) }
-    ensures path { IfOk result (λ fault. fault.path ≡ DEPENDENCY ∷ []) }
-{
-    let path = Numbers::from_slice(alloc, &[DEPENDENCY])?;
-    let file = circle[circle.len() - 1];
-    let kind = LinkFaultKind::ImportCycle(circle);
-    Ok(LinkFault { file, path, kind })
-}
 
 // All that is wrong with files that don't import one another in a circle, in order. If nothing is,
 // they are linked.
@@ -83,12 +69,8 @@ fn refused_circle(alloc: Global, circle: Vec<usize>) -> LinkFailure
     ensures stands { (files : List FileDescriptorProto) → IsCycle (ImportsOf files) circle.items
         → AllStand files result }
 {
-    let Ok(fault) = fault_of_circle(alloc, circle) else {
-        return LinkFailure::OutOfMemory;
-    };
-    let mut faults = Vec::new(alloc);
-    match faults.push(fault) {
-        Ok(()) => LinkFailure::Refused(faults),
+    match told_circle(alloc, circle) {
+        Ok(faults) => LinkFailure::Refused(faults),
         Err(_) => LinkFailure::OutOfMemory,
     }
 }

@@ -1,0 +1,77 @@
+//! What is wrong with a list of files, which stay as they are.
+
+ghost use Rattle.std.specs.Prelude.{◌<◌, length, List, IfOk, OnOk};
+ghost use Rattle.std.specs.List.{All};
+ghost use Rattle.protox_descriptor.specs.declared.descriptor.FileDescriptorProto.{FileDescriptorProto};
+ghost use Rattle.protox_link.specs.Files.{AreFaults, IsToldOf};
+ghost use Rattle.protox_link.specs.Known.{IsKnownOf};
+ghost use Rattle.protox_link.specs.Link.{AreWrong};
+ghost use Rattle.protox_link.specs.Stands.{Stands};
+
+use crate::circle::told_circle;
+use crate::known::Known;
+use crate::prepare::{Prepared, prepare};
+use protox_descriptor::descriptor::FileDescriptorProto;
+use protox_imports::sees;
+use protox_link_checks::check_file;
+use protox_link_fault::LinkFault;
+use protox_views::{View, seen_packages};
+use std::alloc::{AllocError, Global};
+
+// Adds what is wrong with the file of this number.
+fn check_one(
+    alloc: Global,
+    known: &Known,
+    number: usize,
+    file: &FileDescriptorProto,
+    faults: &mut Vec<LinkFault>,
+) -> Result<(), AllocError>
+    requires { number < length known.now.imports.files }
+    ensures { (all : List FileDescriptorProto) → IsKnownOf all known.now → OnOk result
+        (IsToldOf all number file.now faults.old.items faults.new.items) }
+{
+    let sees = sees(alloc, &known.imports, number)?;
+    let packages = known.packages.as_slice();
+    let packages = seen_packages(alloc, &known.symbols, packages, sees.as_slice())?;
+    let view = View {
+        symbols: &known.symbols,
+        sees: sees.as_slice(),
+        packages: packages.as_slice(),
+    };
+    let imports = known.imports.named(number);
+    check_file(alloc, &view, imports, number, file, faults)
+}
+
+// All that is wrong with files that don't import one another in a circle, in order.
+fn check_ready(
+    alloc: Global,
+    known: &Known,
+    files: &[FileDescriptorProto],
+) -> Result<Vec<LinkFault>, AllocError>
+    requires { IsKnownOf files.now known.now }
+    ensures faults { IfOk result (λ faults. AreFaults files.now 0 files.now faults.items) }
+    ensures stands { IfOk result (λ faults. All (Stands files.now) faults.items) }
+{
+    let mut faults = Vec::new(alloc);
+    for (number, file) in files.iter().enumerate() {
+        check_one(alloc, known, number, file, &mut faults)?;
+    }
+    Ok(faults)
+}
+
+/// All that is wrong with a list of files: what `link` tells of them where it refuses them, and
+/// nothing for files that it links. The files stay as they are, so that what a fault speaks of can be
+/// looked up in them.
+///
+/// # Errors
+/// `AllocError` where memory runs out, or where a list has more than 2,147,483,648 parts: no path
+/// can count them.
+pub fn check(alloc: Global, files: &[FileDescriptorProto]) -> Result<Vec<LinkFault>, AllocError>
+    ensures wrong { IfOk result (λ faults. AreWrong files.now faults.items) }
+    ensures stands { IfOk result (λ faults. All (Stands files.now) faults.items) }
+{
+    match prepare(alloc, files)? {
+        Prepared::Ready(known, _order) => check_ready(alloc, &known, files),
+        Prepared::Circle(circle) => told_circle(alloc, circle),
+    }
+}

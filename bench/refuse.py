@@ -30,6 +30,8 @@ RUNS += [('protocases', ['--lexemes', name]) for name in LEXED]
 RUNS += [('callcases', [])]
 RUNS += [('protoscan', words) for words in (['foo.proto'], ['foo.proto', '4.0'], ['brace_for_name.proto'])]
 RUNS += [('protoscan', [f'../../../examples/{name}.proto']) for name in ('library', 'store')]
+# A last word <FILE is the standard input.
+RUNS += [('linkcases', ['<../../../bench/two_files.txt'])]
 
 End = collections.namedtuple('End', 'status out err')
 
@@ -37,7 +39,10 @@ End = collections.namedtuple('End', 'status out err')
 def run(library, words, **wanted):
     """How the program ends, and how many requests it makes."""
     env = dict(os.environ, LD_PRELOAD=library, **{name: str(n) for name, n in wanted.items()})
-    done = subprocess.run(words, env=env, cwd=CASES, capture_output=True, check=False)
+    given = os.path.join(CASES, words[-1][1:]) if words[-1].startswith('<') else os.devnull
+    with open(given, 'rb') as text:
+        words = words if given == os.devnull else words[:-1]
+        done = subprocess.run(words, env=env, cwd=CASES, stdin=text, capture_output=True, check=False)
     lines = done.stderr.decode(errors='replace').splitlines()
     requests = [int(line.split()[1]) for line in lines if line.startswith('requests ')]
     said = [line for line in lines if not line.startswith('requests ')]
@@ -55,8 +60,9 @@ def behind(line, wanted):
     return wanted[1:]
 
 
-def changes_nothing(found, wanted):
-    """Whether each line is the wanted one, or says that memory ran out in its place."""
+def changes_nothing(found, wanted, whole=True):
+    """Whether each line is the wanted one, or says that memory ran out in its place. If the run need not be
+    whole, the last lines may be missing."""
     while found:
         if wanted and found[0] == wanted[0]:
             wanted = wanted[1:]
@@ -65,14 +71,16 @@ def changes_nothing(found, wanted):
         else:
             return False
         found = found[1:]
-    return not wanted
+    return not (whole and wanted)
 
 
 def kind_of(program, end, without):
     """How a run ended, or None where it may not end so."""
     if end == without:
         return 'as without'
-    if end.status == 2 and end.err == [f'{program}: out of memory'] and without.out.startswith(end.out):
+    said = (end.status, end.err) in ((2, [f'{program}: out of memory']), (1, ['Error: Kind(OutOfMemory)']))
+    if said and (without.out.startswith(end.out)
+                 or changes_nothing(end.out.splitlines(), without.out.splitlines(), whole=False)):
         return 'out of memory'
     if end.status == 0 and not end.err and changes_nothing(end.out.splitlines(), without.out.splitlines()):
         return 'out of memory in the place of an answer'

@@ -1,17 +1,19 @@
 #!/usr/bin/env python3
 """Tries the edits that the gate doesn't: the prover must refuse each.
 
-usage: edits.py [--dry] [--all] [CRATE..]        at the top of the repository
+usage: edits.py [--dry] [--all] [--part=I/N] [CRATE..]        at the top of the repository
 
 The gate tries the edits of `crates/CRATE/must-fail/`. All others stand in `bench/edits/CRATE/`, in the
 same form. This program copies the crates that are named, and those below them. It lays those edits
 (with --all, those of both folders) into the copy's must-fail folders, and has `rt ci` try them there.
-With --dry it tries nothing, and only says of each edit of both folders whether it can be applied:
-whether each of its `old:` texts stands once in its file. Without a CRATE all are tried.
+Each is told as it comes. With --part=I/N it tries the I-th of N parts alone, so that a long run can be
+done in pieces. With --dry it tries nothing, and only says of each edit of both folders whether it can
+be applied: whether each of its `old:` texts stands once in its file. Without a CRATE all are tried.
 
 The last line is 'N passed, M failed'.
 """
 import os
+import re
 import shutil
 import subprocess
 import sys
@@ -67,14 +69,11 @@ def look(crates):
     return passed, failed
 
 
-def lay(crate, room, both):
-    """Lays the edits of a crate into the copy's must-fail folder, and counts them."""
-    folder = f'{room}/{FOLDERS[0].format(crate)}'
-    tried = edits_of(crate) if both else edits_in(FOLDERS[1].format(crate))
-    os.makedirs(folder, exist_ok=True)
-    for edit in tried:
-        shutil.copy(edit, folder)
-    return len(tried)
+def chosen_of(crates, both, part, parts):
+    """The edits of these crates that are tried: those of one of so many parts."""
+    edits = [(crate, edit) for crate in crates
+             for edit in (edits_of(crate) if both else edits_in(FOLDERS[1].format(crate)))]
+    return edits[part * len(edits) // parts:(part + 1) * len(edits) // parts]
 
 
 def lines_of(crates):
@@ -103,17 +102,21 @@ def copy_to(room, crates):
             shutil.copy(name, f'{room}/{name}')
 
 
-def try_all(crates, both):
+def try_all(edits):
     """Has the prover try the edits in a copy of the tree, and counts those that it refused."""
-    with_edits = [crate for crate in crates if edits_of(crate)]
     with tempfile.TemporaryDirectory(prefix='edits-') as room:
-        copy_to(room, with_edits)
-        tried = {crate: lay(crate, room, both) for crate in with_edits}
-        ran = subprocess.run(['rt', 'ci'], cwd=room, stdout=subprocess.PIPE, text=True, check=False)
-        lines = [line for line in ran.stdout.splitlines() if 'must-fail ' in line or 'NOT PROVED' in line]
-        print('\n'.join(lines))
-        refused = sum(': refused, as it must be' in line for line in lines)
-        return refused, sum(tried.values()) - refused
+        copy_to(room, {crate for crate, _ in edits})
+        for crate, edit in edits:
+            folder = f'{room}/{FOLDERS[0].format(crate)}'
+            os.makedirs(folder, exist_ok=True)
+            shutil.copy(edit, folder)
+        refused = 0
+        with subprocess.Popen(['rt', 'ci'], cwd=room, stdout=subprocess.PIPE, text=True) as run:
+            for line in run.stdout:
+                if 'must-fail ' in line or 'NOT PROVED' in line:
+                    print(line, end='', flush=True)
+                refused += ': refused, as it must be' in line
+        return refused, len(edits) - refused
 
 
 def main():
@@ -121,11 +124,17 @@ def main():
     crates = [word for word in sys.argv[1:] if not word.startswith('--')]
     known = sorted(os.listdir('crates'))
     unknown = [word for word in crates if word not in known]
-    if unknown or any(flag not in ('--dry', '--all') for flag in flags):
+    part, parts = 0, 1
+    for flag in flags:
+        if found := re.fullmatch(r'--part=(\d+)/(\d+)', flag):
+            part, parts = int(found[1]) - 1, int(found[2])
+        elif flag not in ('--dry', '--all'):
+            unknown.append(flag)
+    if unknown or not 0 <= part < parts:
         print(__doc__)
         return 2
-    chosen = crates or known
-    passed, failed = look(chosen) if '--dry' in flags else try_all(chosen, '--all' in flags)
+    crates = crates or known
+    passed, failed = look(crates) if '--dry' in flags else try_all(chosen_of(crates, '--all' in flags, part, parts))
     print(f'{passed} passed, {failed} failed')
     return 1 if failed else 0
 

@@ -6,9 +6,10 @@ usage: edits.py [--dry] [--all] [--part=I/N] [CRATE..]        at the top of the 
 The gate tries the edits of `crates/CRATE/must-fail/`. All others stand in `bench/edits/CRATE/`, in the
 same form. This program copies the crates that are named, and those below them. It lays those edits
 (with --all, those of both folders) into the copy's must-fail folders, and has `rt ci` try them there.
-Each is told as it comes. With --part=I/N it tries the I-th of N parts alone, so that a long run can be
-done in pieces. With --dry it tries nothing, and only says of each edit of both folders whether it can
-be applied: whether each of its `old:` texts stands once in its file. Without a CRATE all are tried.
+Those of a crate are told when all of them are done. With --part=I/N it tries the I-th of N parts alone,
+so that a long run can be done in pieces; each piece proves the crates of its edits once more. With
+--dry it tries nothing, and only says of each edit of both folders whether it can be applied: whether
+each of its `old:` texts stands once in its file. Without a CRATE all are tried.
 
 The last line is 'N passed, M failed'.
 """

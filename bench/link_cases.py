@@ -13,8 +13,7 @@ protoc's lines and columns become paths. It needs python3-protobuf, and was writ
 A few things are told otherwise than by protoc. Faults are in the order of the files and of their
 parts. A circle is told alone. Nothing is said of imports that are there and faulty, so in no set a
 file uses what a faulty one declares. The type of an extension is looked at also where it extends no
-message, so in no set both are wrong. That a name `seems to be defined` or `is resolved to` something
-isn't told apart from `is not defined`.
+message, so in no set both are wrong.
 
 Of equal names in one file protoc takes that of a oneof first, then those of fields, enums, messages and
 extensions, and here it is the first in the order of paths; so of such sets that are made by chance the
@@ -156,11 +155,17 @@ def by_chance(protoc, seed):
 
 
 def comparable(lines):
-    """What is compared of the lines of a set that is made by chance."""
-    if any(TWICE.fullmatch(line) for line in lines):
-        lines = [line for line in lines if not USED.fullmatch(line)]
-    packages = [line for line in lines if ' not a package: ' in line]
-    return [line for line in lines if line not in packages[1:]]
+    """What is compared of the lines of a set that is made by chance: faults with their texts."""
+    faults = []
+    for line in lines:
+        if line.startswith('  '):
+            faults[-1].append(line)
+        else:
+            faults.append([line])
+    if any(TWICE.fullmatch(fault[0]) for fault in faults):
+        faults = [fault for fault in faults if not USED.fullmatch(fault[0])]
+    packages = [fault for fault in faults if ' not a package: ' in fault[0]]
+    return [line for fault in faults if fault not in packages[1:] for line in fault]
 
 
 def asked(words, sets, count):

@@ -41,8 +41,10 @@ TWICE = re.compile(r'"(.*)" is already defined\.')
 NO_PACKAGE = re.compile(r'"(.*)" is already defined \(as something other than a package\) in file "(.*)"\.')
 NO_IMPORT = re.compile(r'Import "(.*)" was not found or had errors\.')
 IMPORT_TWICE = re.compile(r'Import "(.*)" was listed twice\.')
-# Told beside other faults of the same parts.
-MORE = re.compile(r'Note that enum values use C\+\+ scoping rules.*|Expanded map entry type .*|Suggested field numbers for .*')
+# Told of a value besides, and of what nothing is told here.
+SIBLINGS = ('Note that enum values use C++ scoping rules, meaning that enum values are siblings of their type, '
+            'not children of it. ')
+MORE = re.compile(r'Expanded map entry type .*|Suggested field numbers for .*')
 
 
 class Unclear(Exception):
@@ -184,20 +186,23 @@ class Faults:
             for name in USES.get(part.DESCRIPTOR.name, ()):
                 if part.HasField(name):
                     self.uses[path + (part.DESCRIPTOR.fields_by_name[name].number,)] = getattr(part, name)
-        self.found, self.twice, self.nowhere = [], collections.Counter(), collections.Counter()
+        self.twice, self.nowhere = collections.Counter(), collections.Counter()
         self.several = collections.Counter()
+        # what protoc tells of each fault
+        self.texts = collections.defaultdict(list)
 
-    def add(self, path, words):
+    def add(self, path, words, text):
         """Adds a fault. Of one name protoc may say two things."""
-        if (path, words) not in self.found:
-            self.found.append((path, words))
+        texts = self.texts[path, words]
+        if text not in texts and not (texts and 'overlaps' in text):
+            texts.append(text)
 
-    def add_imports(self, name, words, first):
+    def add_imports(self, name, words, first, text):
         """Adds a fault of the imports of this name, but for the first ones. protoc has the place of the
         last of them alone."""
         paths = [(IMPORTS, index) for index, other in enumerate(self.file.dependency) if other == name]
         for path in paths[first:]:
-            self.add(path, words)
+            self.add(path, words, text)
 
     def use_at(self, place):
         """The first path of a use at a place. Of extensions of one block protoc has the place of what the
@@ -243,50 +248,73 @@ class Faults:
         return 'empty range', [path for path, first, last in self.ranges('reserved')
                                if last < first and BACKWARD.fullmatch(text) and path[-2] == IN_ENUM]
 
-    def take(self, place, text):
-        """Takes an error; the place is None where protoc tells none."""
+    def take(self, place, text, before):
+        """Takes an error; the place is None where protoc tells none. `before` has what was told of the same
+        name just before."""
         for rule, words in OF_USES:
             if found := rule.fullmatch(text):
                 path, is_full = self.use_at(place), 'seems to be' in text
                 if path and self.is_meant(path, found[1], is_full):
-                    self.add(path, f'{words}: {self.uses[path]}')
+                    for told in before + [text]:
+                        self.add(path, f'{words}: {self.uses[path]}', told)
                 else:
-                    self.nowhere[words, found[1], is_full] += 1
+                    self.nowhere[words, found[1], is_full, tuple(before + [text])] += 1
                 return
         for rule, words in OF_NUMBERS:
             if rule.fullmatch(text):
-                return self.add(self.part_at(place), words)
+                return self.add(self.part_at(place), words, text)
         words, paths = self.among(place, text)
         if paths:
             self.several[text, words, tuple(paths)] += 1
         elif found := TWICE_ELSEWHERE.fullmatch(text):
-            self.twice[found[1], found[2]] += 1
+            self.twice[found[1], found[2], text] += 1
         elif found := TWICE_WITHIN.fullmatch(text):
-            self.twice[f'{found[2]}.{found[1]}', self.name] += 1
+            self.twice[f'{found[2]}.{found[1]}', self.name, text] += 1
         elif found := TWICE.fullmatch(text):
-            self.twice[found[1], self.name] += 1
-        elif found := NO_PACKAGE.fullmatch(text):
-            self.add((PACKAGE,), f'not a package: .{found[1]} in {found[2]}')
+            self.twice[found[1], self.name, text] += 1
+        elif not text.startswith(SIBLINGS):
+            self.take_import(text)
+
+    def take_import(self, text):
+        """Takes an error of an import or of the package."""
+        if found := NO_PACKAGE.fullmatch(text):
+            self.add((PACKAGE,), f'not a package: .{found[1]} in {found[2]}', text)
         elif found := NO_IMPORT.fullmatch(text):
             if found[1] not in self.known:
-                self.add_imports(found[1], 'missing import', 0)
+                self.add_imports(found[1], 'missing import', 0, text)
         elif found := IMPORT_TWICE.fullmatch(text):
             # a missing file is told missing alone
             if found[1] in self.known:
-                self.add_imports(found[1], 'repeated import', 1)
+                self.add_imports(found[1], 'repeated import', 1, text)
         elif not MORE.fullmatch(text):
             sys.exit(f'{self.name}: no rule for: {text}')
 
     def add_twice(self):
         """Of equal names protoc tells all but the one that it takes first: oneofs, fields, enums and then
         messages. Here it is the first in the order of paths."""
-        for (full, file), count in self.twice.items():
+        for (full, file, text), count in self.twice.items():
             paths = [path for path, name, _ in self.declared if name == full]
             paths = paths[1:] if file == self.name else paths
             if len(paths) != count:
                 sys.exit(f'{self.name}: {full} is told {count} times')
             for path in paths:
-                self.add(path + (NAME,), f'already defined: .{full} in {file}')
+                self.add(path + (NAME,), f'already defined: .{full} in {file}', text)
+        self.add_notes()
+
+    def add_notes(self):
+        """Adds why a value clashes, unless it does with another value of its enum. protoc tells this of the
+        values that it tells twice, which may be others than here."""
+        for path, full, part in self.declared:
+            if part.DESCRIPTOR.name != 'EnumDescriptorProto':
+                continue
+            number = part.DESCRIPTOR.fields_by_name['value'].number
+            scope, names = full[:-len(part.name)].rstrip('.'), [value.name for value in part.value]
+            where = f'"{scope}"' if scope else 'the global scope'
+            for index, name in enumerate(names):
+                texts = [texts for fault, texts in self.texts.items() if fault[0] == path + (number, index, NAME)]
+                if texts and name not in names[:index]:
+                    texts[0].append(f'{SIBLINGS} Therefore, "{name}" must be unique within {where}, '
+                                    f'not just within "{part.name}".')
 
     def add_several(self):
         """What is told as often as there are parts that it may be told of is told of each."""
@@ -294,22 +322,23 @@ class Faults:
             if len(paths) != count:
                 raise Unclear(f'{self.name}: {count} times without a place: {text}')
             for path in paths:
-                self.add(path, words)
+                self.add(path, words, text)
 
     def add_nowhere(self):
-        told = {path for path, _ in self.found}
-        for (words, name, is_full), count in sorted(self.nowhere.items(), key=lambda item: item[0][2]):
+        told = {path for path, _ in self.texts}
+        for (words, name, is_full, texts), count in sorted(self.nowhere.items(), key=lambda item: item[0][2]):
             paths = [path for path in self.uses if self.is_meant(path, name, is_full)
                      and path not in told and path != self.use_at(self.places.get(path))]
             if len(paths) != count:
                 raise Unclear(f'{self.name}: {name} is told {count} times without a place')
             for path in paths:
-                self.add(path, f'{words}: {self.uses[path]}')
+                for text in texts:
+                    self.add(path, f'{words}: {self.uses[path]}', text)
                 told.add(path)
 
     def lines(self):
         """The lines in the order of imports, the package, and declarations: first the name of each, then
-        its numbers, and then what it uses."""
+        its numbers, and then what it uses. Below each line stands what protoc tells."""
         self.add_twice()
         self.add_several()
         self.add_nowhere()
@@ -317,8 +346,11 @@ class Faults:
         for path, _, part in self.declared:
             order += [path + (NAME,), *numbers_in(path, part), *(use for use in self.uses if use[:-1] == path)]
         place = {path: index for index, path in enumerate(order)}
-        return [f'{self.name} {".".join(map(str, path))} {words}'
-                for path, words in sorted(self.found, key=lambda fault: place.get(fault, place.get(fault[0])))]
+        lines = []
+        for path, words in sorted(self.texts, key=lambda fault: place.get(fault, place.get(fault[0]))):
+            lines.append(f'{self.name} {".".join(map(str, path))} {words}')
+            lines += [f'  {text}' for text in self.texts[path, words]]
+        return lines
 
 
 class Protoc:
@@ -350,15 +382,22 @@ class Protoc:
 
     def faults_of(self, name, errors, known):
         """The lines of the faults of one file."""
-        faults = Faults(self.parser, self.folder, name, known)
+        faults, before = Faults(self.parser, self.folder, name, known), []
         for error, after in zip(errors, errors[1:] + ['']):
-            if error.endswith(': File not found.') or is_told_again(error, after):
+            if error.endswith(': File not found.'):
                 continue
-            if part := PLACED.fullmatch(error):
+            part = PLACED.fullmatch(error)
+            if is_told_again(error, after):
+                if not part:
+                    raise Unclear(f'{name}: without a place: {error}')
+                before = [part[4]]
+            elif part:
                 if part[1] == name:
-                    faults.take((int(part[2]) - 1, int(part[3]) - 1), part[4])
+                    faults.take((int(part[2]) - 1, int(part[3]) - 1), part[4], before)
+                before = []
             elif error.startswith(f'{name}: '):
-                faults.take(None, error[len(name) + 2:])
+                faults.take(None, error[len(name) + 2:], before)
+                before = []
             elif not any(error.startswith(f'{other}: ') for other in known):
                 sys.exit(f'no file: {error}')
         return faults.lines()
@@ -386,5 +425,6 @@ class Protoc:
                 # a circle is told alone, at the imports of its last file; protoc tells it at an import of
                 # the first one, and then that each import of the circle has errors
                 circle = found[1].split(' -> ')[:-1]
-                return [f'{circle[-1]} {IMPORTS} cycle: {" ".join(circle)}']
+                return [f'{circle[-1]} {IMPORTS} cycle: {" ".join(circle)}',
+                        f'  File recursively imports itself: {found[1]}']
         return self.faults(names)

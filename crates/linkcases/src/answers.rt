@@ -1,6 +1,6 @@
 //! What is printed for a set of files.
 
-use crate::faults::write_faults;
+use crate::faults::{texts_of, write_faults};
 use crate::linked::write_linked;
 use crate::resolved::write_resolved;
 use crate::source::Source;
@@ -80,23 +80,32 @@ fn write_answer<W: Write>(
     files: Vec<FileDescriptorProto>,
 ) -> io::Result<()> {
     let resolver = Resolver::new(alloc, files.as_slice())?;
-    let checked = check(alloc, files.as_slice())?.len();
+    let checked = check(alloc, files.as_slice())?;
+    let texts = texts_of(alloc, files.as_slice(), &resolver, checked.as_slice())?;
     let told = match link(alloc, files) {
         Ok(set) => {
             write_set_and_names(alloc, out, sources, &resolver, &set)?;
             0
         }
         Err(LinkFailure::Refused(faults)) => {
-            write_faults(alloc, out, sources, resolver.symbols(), faults.as_slice())?;
+            let symbols = resolver.symbols();
+            write_faults(
+                alloc,
+                out,
+                sources,
+                symbols,
+                faults.as_slice(),
+                texts.as_slice(),
+            )?;
             faults.len()
         }
         Err(LinkFailure::OutOfMemory) => {
             writeln!(out, "out of memory")?;
-            checked
+            checked.len()
         }
     };
-    if told != checked {
-        writeln!(out, "checked: {checked}")?;
+    if told != checked.len() {
+        writeln!(out, "checked: {}", checked.len())?;
     }
     Ok(())
 }

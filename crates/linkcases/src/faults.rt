@@ -1,9 +1,12 @@
 //! What is wrong with a set, as lines.
 
 use crate::source::Source;
+use protox_descriptor::descriptor::FileDescriptorProto;
+use protox_link::Resolver;
 use protox_link_fault::{LinkFault, LinkFaultKind, NumberFault};
+use protox_link_text::errors_of;
 use protox_symbols::Symbols;
-use std::alloc::Global;
+use std::alloc::{AllocError, Global};
 use std::io::{self, Write};
 
 // The name of the file with a number.
@@ -89,6 +92,24 @@ fn write_rest<W: Write>(
     }
 }
 
+// What is told of a fault, in lines.
+fn text_of_fault(
+    alloc: Global,
+    files: &[FileDescriptorProto],
+    resolver: &Resolver,
+    fault: &LinkFault,
+) -> Result<String, AllocError> {
+    let mut text = String::new(alloc);
+    let Some(names) = resolver.file(alloc, fault.file)? else {
+        return Ok(text);
+    };
+    for error in &errors_of(alloc, files, &names.view(), fault)? {
+        let line = format!(in alloc; "  {error}\n")?;
+        text.push_str(line.as_str())?;
+    }
+    Ok(text)
+}
+
 // The path, with dots.
 fn write_path<W: Write>(out: &mut W, path: &[i32]) -> io::Result<()> {
     let mut dot = "";
@@ -99,20 +120,38 @@ fn write_path<W: Write>(out: &mut W, path: &[i32]) -> io::Result<()> {
     Ok(())
 }
 
-/// Writes a line for each fault.
+/// A line for each error that is told of each fault.
+pub(crate) fn texts_of(
+    alloc: Global,
+    files: &[FileDescriptorProto],
+    resolver: &Resolver,
+    faults: &[LinkFault],
+) -> Result<Vec<String>, AllocError> {
+    let mut texts = Vec::new(alloc);
+    for fault in faults {
+        texts.push(text_of_fault(alloc, files, resolver, fault)?)?;
+    }
+    Ok(texts)
+}
+
+/// Writes a line for each fault, and its text below it.
 pub(crate) fn write_faults<W: Write>(
     alloc: Global,
     out: &mut W,
     sources: &[Source],
     symbols: &Symbols,
     faults: &[LinkFault],
+    texts: &[String],
 ) -> io::Result<()> {
-    for fault in faults {
+    for (index, fault) in faults.iter().enumerate() {
         write!(out, "{} ", name_at(sources, fault.file))?;
         write_path(out, fault.path.as_slice())?;
         write!(out, " {}", word(&fault.kind))?;
         write_rest(alloc, out, sources, symbols, &fault.kind)?;
         writeln!(out)?;
+        if let Some(text) = texts.get(index) {
+            write!(out, "{text}")?;
+        }
     }
     Ok(())
 }

@@ -7,70 +7,51 @@ use Rattle.std.proofs.lemmas.List.{drop-set-lt, drop_all, drop_more, length-set,
 use Rattle.std.proofs.lemmas.Result.{on_ok_weaker}
 use Rattle.protox_descriptor.specs.declared.descriptor.FileDescriptorProto.{FileDescriptorProto}
 use Rattle.protox_imports.specs.Rows.{named_of, rows_of}
-use Rattle.protox_imports.specs.Seen.{AreSeen}
 use Rattle.protox_link.proofs.Standing.{none_of_first}
 use Rattle.protox_link.specs.Files.{AreDone, AreFaults, AreLinked, IsChecked, IsDone, IsToldOf, NoFile, NoMore, OneFile, OneMore, faults_in, linked_in}
-use Rattle.protox_link.specs.Known.{IsKnownOf}
-use Rattle.protox_link.specs.Seen.{IsSeenBy, packages_of}
-use Rattle.protox_link.specs.declared.known.Known.{Known}
+use Rattle.protox_link.specs.Seen.{IsSeenBy}
 use Rattle.protox_link_checks.specs.File.{file_faults}
 use Rattle.protox_link_fault.specs.declared.LinkFault.{LinkFault}
+use Rattle.protox_symbols.specs.Symbols.{Table}
 use Rattle.protox_symbols.specs.Things.{table_of}
-use Rattle.protox_views.specs.Packages.{is_package_seen}
-
--- the marks of what a file sees of what is known of the list
-pub seen_by : (all : List FileDescriptorProto) (known : Known) (n : ℕ) (sees packages : List Bool)
-    → IsKnownOf all known
-    → length sees ≡ length known.imports.files
-    → AreSeen known.imports.files n sees
-    → ((k : ℕ) → k < length known.symbols.names.full_names → slice_index_or packages k false ≡ is_package_seen known.symbols.names known.packages.items sees k)
-    → length (rows_of all) ≡ length all
-    → IsSeenBy all n sees packages
-seen_by all known n sees packages is as_many of_files of_packages rows = record {
-  as_many = as_many ∙ ap length is.rows ∙ rows;
-  of_files = subst (λ rows. AreSeen rows n sees) is.rows of_files;
-  of_packages = subst (λ ps. (k : ℕ) → k < length (table_of all).names.full_names → slice_index_or packages k false ≡ is_package_seen (table_of all).names ps sees k) is.packages
-      (subst (λ t. (k : ℕ) → k < length t.names.full_names → slice_index_or packages k false ≡ is_package_seen t.names known.packages.items sees k) is.table of_packages);
-}
 
 -- a file that was only checked
-pub told_one : {T E : Type 0} (r : Result T E) (all : List FileDescriptorProto) (known : Known) (n : ℕ) (sees packages : List Bool) (imports : List (Option ℕ)) (file : FileDescriptorProto) (before after : List LinkFault)
-    → IsKnownOf all known → IsSeenBy all n sees packages → imports ≡ named_of known.imports.files n
-    → OnOk r (after ≡ before ++ file_faults known.symbols sees packages n imports file)
+pub told_one : {T E : Type 0} (r : Result T E) (all : List FileDescriptorProto) (table : Table) (n : ℕ) (sees packages : List Bool) (imports : List (Option ℕ)) (file : FileDescriptorProto) (before after : List LinkFault)
+    → table ≡ table_of all → IsSeenBy all n sees packages → imports ≡ named_of (rows_of all) n
+    → OnOk r (after ≡ before ++ file_faults table sees packages n imports file)
     → OnOk r (IsToldOf all n file before after)
-told_one r all known n sees packages imports file before after is seen named =
+told_one r all table n sees packages imports file before after is seen named =
     on_ok_weaker r (λ told. record {
       sees = sees;
       packages = packages;
       seen = seen;
       faults = told
-          ∙ ap (λ t. before ++ file_faults t sees packages n imports file) is.table
-          ∙ ap (λ i. before ++ file_faults (table_of all) sees packages n i file) (named ∙ ap (λ rows. named_of rows n) is.rows);
+          ∙ ap (λ t. before ++ file_faults t sees packages n imports file) is
+          ∙ ap (λ i. before ++ file_faults (table_of all) sees packages n i file) named;
     })
 
--- a file that was checked by what is known of the list
-pub done : {T E : Type 0} (r : Result T E) (all : List FileDescriptorProto) (known : Known) (n : ℕ) (sees packages : List Bool) (imports : List (Option ℕ)) (file made : FileDescriptorProto) (before after : List LinkFault)
-    → IsKnownOf all known
-    → length sees ≡ length known.imports.files
-    → AreSeen known.imports.files n sees
-    → ((k : ℕ) → k < length known.symbols.names.full_names → slice_index_or packages k false ≡ is_package_seen known.symbols.names known.packages.items sees k)
-    → imports ≡ named_of known.imports.files n
-    → length (rows_of all) ≡ length all
-    → OnOk r (IsChecked known.symbols sees packages n imports file made before after)
+-- a file that was checked, and linked if nothing is wrong
+pub done : {T E : Type 0} (r : Result T E) (all : List FileDescriptorProto) (table : Table) (n : ℕ) (sees packages : List Bool) (imports : List (Option ℕ)) (file made : FileDescriptorProto) (before after : List LinkFault)
+    → table ≡ table_of all → IsSeenBy all n sees packages → imports ≡ named_of (rows_of all) n
+    → OnOk r (IsChecked table sees packages n imports file made before after)
     → OnOk r (IsDone all n file made before after)
-done r all known n sees packages imports file made before after is as_many of_files of_packages named rows =
+done r all table n sees packages imports file made before after is seen named =
     on_ok_weaker r (λ checked.
-    let named_all : imports ≡ named_of (rows_of all) n = named ∙ ap (λ rows. named_of rows n) is.rows in
     let in_all : IsChecked (table_of all) sees packages n (named_of (rows_of all) n) file made before after =
-    subst (λ i. IsChecked (table_of all) sees packages n i file made before after) named_all
-    (subst (λ t. IsChecked t sees packages n imports file made before after) is.table checked) in
+    subst (λ i. IsChecked (table_of all) sees packages n i file made before after) named
+    (subst (λ t. IsChecked t sees packages n imports file made before after) is checked) in
     record {
       sees = sees;
       packages = packages;
-      seen = seen_by all known n sees packages is as_many of_files of_packages rows;
+      seen = seen;
       faults = in_all.faults;
       linked = in_all.linked;
     })
+
+-- what the names of a file lend to a view of the same marks
+pub seen_in : (all : List FileDescriptorProto) (n : ℕ) (sees packages sees' packages' : List Bool) → sees' ≡ sees → packages' ≡ packages → IsSeenBy all n sees packages → IsSeenBy all n sees' packages'
+seen_in all n sees packages sees' packages' one other seen =
+    subst (λ s. IsSeenBy all n s packages') (sym one) (subst (λ p. IsSeenBy all n sees p) (sym other) seen)
 
 -- ---- the files so far
 

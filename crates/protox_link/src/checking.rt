@@ -12,10 +12,8 @@ use crate::circle::told_circle;
 use crate::known::Known;
 use crate::prepare::{Prepared, prepare};
 use protox_descriptor::descriptor::FileDescriptorProto;
-use protox_imports::sees;
 use protox_link_checks::check_file;
 use protox_link_fault::LinkFault;
-use protox_views::{View, seen_packages};
 use std::alloc::{AllocError, Global};
 
 // Adds what is wrong with the file of this number.
@@ -30,16 +28,9 @@ fn check_one(
     ensures { (all : List FileDescriptorProto) → IsKnownOf all known.now → OnOk result
         (IsToldOf all number file.now faults.old.items faults.new.items) }
 {
-    let sees = sees(alloc, &known.imports, number)?;
-    let packages = known.packages.as_slice();
-    let packages = seen_packages(alloc, &known.symbols, packages, sees.as_slice())?;
-    let view = View {
-        symbols: &known.symbols,
-        sees: sees.as_slice(),
-        packages: packages.as_slice(),
-    };
+    let names = known.names(alloc, number)?;
     let imports = known.imports.named(number);
-    check_file(alloc, &view, imports, number, file, faults)
+    check_file(alloc, &names.view(), imports, number, file, faults)
 }
 
 // All that is wrong with files that don't import one another in a circle, in order.

@@ -8,11 +8,10 @@ ghost use Rattle.protox_link.specs.Known.{IsKnownOf};
 use crate::known::Known;
 use crate::packages::text_of;
 use protox_descriptor::descriptor::FileDescriptorProto;
-use protox_imports::sees;
 use protox_link_checks::check_file;
 use protox_link_fault::LinkFault;
 use protox_linked::link_file;
-use protox_views::{View, seen_packages};
+use protox_views::View;
 use std::alloc::{AllocError, Global};
 
 // Adds what is wrong with a file that sees this, and links it if nothing is wrong so far.
@@ -48,20 +47,8 @@ pub(crate) fn do_file(
     ensures { (all : List FileDescriptorProto) → IsKnownOf all known.now → OnOk result
         (IsDone all number file.old file.new faults.old.items faults.new.items) }
 {
-    let sees = sees(alloc, &known.imports, number)?;
-    let packages = known.packages.as_slice();
-    let packages = seen_packages(alloc, &known.symbols, packages, sees.as_slice())?;
-    let view = View {
-        symbols: &known.symbols,
-        sees: sees.as_slice(),
-        packages: packages.as_slice(),
-    };
-    check_and_link(
-        alloc,
-        &view,
-        known.imports.named(number),
-        number,
-        file,
-        faults,
-    )
+    let names = known.names(alloc, number)?;
+    let view = names.view();
+    let imports = known.imports.named(number);
+    check_and_link(alloc, &view, imports, number, file, faults)
 }

@@ -29,8 +29,7 @@ pub fn linked_again()
     ensures known { KnownAgain }
 {}
 
-/// Files with which nothing is wrong are linked the same whatever files stand behind them. So what a
-/// file is linked to depends on the files that it sees alone.
+/// Files with which nothing is wrong are linked the same whatever files stand behind them.
 pub fn local()
     ensures { Local }
 {}

@@ -11,10 +11,10 @@ ghost use Rattle.protox_views.specs.Views.{seen};
 use crate::known::Known;
 use crate::packages::packages_of;
 use protox_descriptor::descriptor::FileDescriptorProto;
-use protox_imports::{Imports, sees};
+use protox_imports::Imports;
 use protox_scopes::{Wanted, resolve};
 use protox_symbols::Symbols;
-use protox_views::{View, seen_packages};
+use protox_views::View;
 use std::alloc::{AllocError, Global};
 use std::marker::Model;
 
@@ -83,19 +83,24 @@ impl Resolver {
         if number >= self.known.imports.len() {
             return Ok(None);
         }
-        let symbols = &self.known.symbols;
-        let sees = sees(alloc, &self.known.imports, number)?;
-        let packages = self.known.packages.as_slice();
-        let packages = seen_packages(alloc, symbols, packages, sees.as_slice())?;
-        Ok(Some(FileNames {
-            symbols,
-            sees,
-            packages,
-        }))
+        Ok(Some(self.known.names(alloc, number)?))
     }
 }
 
 impl FileNames<'_> {
+    /// The same as a view of the table.
+    pub fn view(&self) -> View<'_>
+        ensures table { result.symbols.now ≡ self.now.symbols.now }
+        ensures sees { result.sees.now ≡ self.now.sees.items }
+        ensures packages { result.packages.now ≡ self.now.packages.items }
+    {
+        View {
+            symbols: self.symbols,
+            sees: self.sees.as_slice(),
+            packages: self.packages.as_slice(),
+        }
+    }
+
     /// What a name stands for where something of the full name `user` uses it, by its number in
     /// `symbols`. None if it stands for nothing that the file sees. It is the name that linking
     /// finds: where a type is wanted, what is no type is passed by.
@@ -110,11 +115,6 @@ impl FileNames<'_> {
             (seen self.now.symbols.now self.now.sees.items self.now.packages.items)
             wanted name.now user.now }
     {
-        let view = View {
-            symbols: self.symbols,
-            sees: self.sees.as_slice(),
-            packages: self.packages.as_slice(),
-        };
-        resolve(&view, wanted, name, user)
+        resolve(&self.view(), wanted, name, user)
     }
 }

@@ -12,7 +12,7 @@ ghost use Rattle.protox_link_checks.specs.Uses.{message_faults, type_faults, wro
 
 use protox_descriptor::values::{Numbers, Text};
 use protox_link_fault::{LinkFault, LinkFaultKind};
-use protox_scopes::{Kind, ScopeTree, Wanted, resolve_in};
+use protox_scopes::{Kind, Wanted};
 use protox_views::View;
 use std::alloc::{AllocError, Global};
 
@@ -41,8 +41,8 @@ fn kind_named(view: &View<'_>, wanted: Wanted, scope: Option<usize>, name: &str)
         ≡ kind_named view.now.symbols.now view.now.sees.now view.now.packages.now wanted
         (names.within (name_of_place (name_at view.now.symbols.now.names) scope) user) name.now }
 {
-    let number = resolve_in(view, wanted, name, scope)?;
-    Some(view.kind(number))
+    let number = view.resolve(wanted, name, scope)?;
+    Some(view.symbols.kind(number))
 }
 
 // What is wrong with the name of a type, if it stands for something of this kind.

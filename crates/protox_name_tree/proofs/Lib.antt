@@ -1,3 +1,4 @@
+pub mod Buckets
 pub mod Numbering
 pub mod Order
 pub mod FullNames

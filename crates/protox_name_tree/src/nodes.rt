@@ -4,9 +4,9 @@ ghost use Rattle.std.specs.Prelude.{◌≡◌, ◌↔◌, ◌++◌, ◌∷◌, [
 ghost use Rattle.std.specs.List.{slice_get};
 ghost use Rattle.protox_name_tree.specs.Keys.{key_of};
 
+use crate::key_index::KeyIndex;
 use protox_scopes::Kind;
 use std::alloc::{AllocError, Global};
-use std::collections::BTreeMap;
 use std::marker::Model;
 
 /// A node: what it is in, the number of its own name, and its kind.
@@ -21,31 +21,33 @@ pub(crate) struct Node {
 #[derive(Drop)]
 pub(crate) struct Nodes {
     nodes: Vec<Node>,
-    numbers: BTreeMap<(Option<usize>, usize), usize>,
+    numbers: KeyIndex,
+    room: usize,
 }
 
 impl Model for Nodes {
     ghost use Rattle.std.specs.Prelude.{List, map};
-    ghost use Rattle.std.specs.BTreeMap.{get};
     ghost use Rattle.protox_name_tree.specs.declared.nodes.Node.{Node};
     ghost use Rattle.protox_name_tree.specs.Numbered.{IsNumbering};
-    ghost use Rattle.protox_name_tree.specs.Keys.{key_cmp, key_of};
+    ghost use Rattle.protox_name_tree.specs.Buckets.{number_of_key};
+    ghost use Rattle.protox_name_tree.specs.Keys.{key_of};
 
     ghost Value = { List Node };
 
     ghost view = { λ t. t.nodes.items };
 
-    ghost invariant = { λ t. IsNumbering (get key_cmp t.numbers) (map key_of t.nodes.items) };
+    ghost invariant = { λ t. IsNumbering (number_of_key t.numbers.buckets.items) (map key_of t.nodes.items) };
 }
 
 impl Nodes {
-    /// No nodes.
-    pub(crate) fn new(alloc: Global) -> Nodes
+    /// No nodes. Soon there may be some `room`.
+    pub(crate) fn new(alloc: Global, room: usize) -> Nodes
         ensures { result ≡ [] }
     {
         Nodes {
             nodes: Vec::new(alloc),
-            numbers: BTreeMap::new(alloc),
+            numbers: KeyIndex::new(alloc),
+            room,
         }
     }
 
@@ -68,21 +70,22 @@ impl Nodes {
         ensures { (n : ℕ) → (result ≡ Some n)
             ↔ (slice_get (map key_of self.now) n ≡ Some (place, name)) }
     {
-        self.numbers.get(&(place, name)).copied()
+        self.numbers.get((place, name))
     }
 
     /// Adds a node.
     ///
     /// # Errors
     /// `AllocError` where memory runs out. Nothing is added then.
-    pub(crate) fn push(&mut self, node: Node) -> Result<usize, AllocError>
+    pub(crate) fn push(&mut self, alloc: Global, node: Node) -> Result<usize, AllocError>
         requires { (n : ℕ) → slice_get (map key_of self.old) n ≡ Some (key_of node) → ⊥ }
         ensures ok { IfOk result (λ n. (n ≡ length self.old) × (self.new ≡ self.old ++ node ∷ [])) }
         ensures err { OnErr result (self.new ≡ self.old) }
     {
         let number = self.nodes.len();
         self.nodes.reserve(1)?;
-        self.numbers.insert((node.place, node.name), number)?;
+        let key = (node.place, node.name);
+        self.numbers.insert(alloc, self.room, key, number)?;
         self.nodes.push_reserved(node);
         Ok(number)
     }

@@ -4,37 +4,39 @@ ghost use Rattle.std.specs.Prelude.{◌≡◌, ◌↔◌, ◌++◌, ◌∷◌, [
 ghost use Rattle.std.specs.List.{slice_get};
 ghost use Rattle.std.specs.Option.{option_copied};
 
+use crate::text_index::TextIndex;
 use std::alloc::{AllocError, Global};
-use std::collections::BTreeMap;
 use std::marker::Model;
 
 /// Different texts. Each has a number, and is found by it and by what it says.
 #[derive(Drop)]
 pub(crate) struct Texts {
     texts: Vec<String>,
-    numbers: BTreeMap<String, usize>,
+    numbers: TextIndex,
+    room: usize,
 }
 
 impl Model for Texts {
     ghost use Rattle.std.specs.Prelude.{List, ℕ, map, string_bytes};
-    ghost use Rattle.std.specs.BTreeMap.{get_by_text};
+    ghost use Rattle.protox_name_tree.specs.Buckets.{number_of_text};
     ghost use Rattle.protox_name_tree.specs.Numbered.{IsNumbering};
 
     ghost Value = { List (List ℕ) };
 
     ghost view = { λ t. map string_bytes t.texts.items };
 
-    ghost invariant = { λ t. IsNumbering (get_by_text t.numbers) (map string_bytes t.texts.items) };
+    ghost invariant = { λ t. IsNumbering (number_of_text t.numbers.buckets.items) (map string_bytes t.texts.items) };
 }
 
 impl Texts {
-    /// No texts.
-    pub(crate) fn new(alloc: Global) -> Texts
+    /// No texts. Soon there may be some `room`.
+    pub(crate) fn new(alloc: Global, room: usize) -> Texts
         ensures { result ≡ [] }
     {
         Texts {
             texts: Vec::new(alloc),
-            numbers: BTreeMap::new(alloc),
+            numbers: TextIndex::new(alloc),
+            room,
         }
     }
 
@@ -42,7 +44,7 @@ impl Texts {
     pub(crate) fn number(&self, text: &str) -> Option<usize>
         ensures { (n : ℕ) → (result ≡ Some n) ↔ (slice_get self.now n ≡ Some text.now) }
     {
-        self.numbers.get(text).copied()
+        self.numbers.get(text)
     }
 
     /// The text with a number.
@@ -63,9 +65,8 @@ impl Texts {
     {
         let number = self.texts.len();
         let kept = String::from_str(alloc, text)?;
-        let key = String::from_str(alloc, text)?;
         self.texts.reserve(1)?;
-        self.numbers.insert(key, number)?;
+        self.numbers.insert(alloc, self.room, text, number)?;
         self.texts.push_reserved(kept);
         Ok(number)
     }

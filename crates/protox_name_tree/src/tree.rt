@@ -20,12 +20,13 @@ use std::marker::Model;
 /// counted from 0 in the order in which they were added, and a kind.
 ///
 /// No full name is kept as a text: a name stands in the scope that it is added to, under its own
-/// name. So a long scope with many names costs no more than a short one. Nothing is hashed, and a
-/// look-up takes as many steps as the name has parts, each of them a search in two ordered maps.
+/// name. So a long scope with many names costs no more than a short one. A look-up takes as many steps
+/// as the name has parts. Each of them is a search in two ordered maps, which are small, unless someone
+/// chooses names that all fall into one; then it is one in two maps of all names.
 #[derive(Drop)]
 pub struct NameTree {
-    texts: Texts,
-    nodes: Nodes,
+    pub(crate) texts: Texts,
+    pub(crate) nodes: Nodes,
 }
 
 impl Model for NameTree {
@@ -50,8 +51,15 @@ impl NameTree {
     pub fn new(alloc: Global) -> NameTree
         ensures { result ≡ record { full_names = []; kinds = [] } }
     {
-        let texts = Texts::new(alloc);
-        let nodes = Nodes::new(alloc);
+        NameTree::with_room(alloc, 64)
+    }
+
+    /// The same. It is quickest if it gets about as many names as it has `room` for.
+    pub fn with_room(alloc: Global, room: usize) -> NameTree
+        ensures { result ≡ record { full_names = []; kinds = [] } }
+    {
+        let texts = Texts::new(alloc, room);
+        let nodes = Nodes::new(alloc, room);
         NameTree { texts, nodes }
     }
 
@@ -112,7 +120,7 @@ impl NameTree {
             return Ok(number);
         }
         let name = self.texts.add(alloc, name)?;
-        let number = self.nodes.push(Node { place, name, kind })?;
+        let number = self.nodes.push(alloc, Node { place, name, kind })?;
         Ok(number)
     }
 

@@ -1,1 +1,3 @@
 pub mod Telling
+pub mod None
+pub mod Rising

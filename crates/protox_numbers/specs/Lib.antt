@@ -3,3 +3,4 @@ pub mod Numbers
 pub mod Message
 pub mod Enums
 pub mod Parts
+pub mod Rising

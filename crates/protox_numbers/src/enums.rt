@@ -41,6 +41,9 @@ pub fn values_in_reserved_ranges(
 ) -> Result<Vec<Clash>, AllocError>
     ensures { IfOk result (λ made. made.items ≡ words.values_in_reserved_ranges of.now) }
 {
+    if of.reserved_range.is_empty() {
+        return Ok(Vec::new(alloc));
+    }
     let values = value_spans(alloc, of)?;
     let ranges = range_spans(alloc, of)?;
     let met = first_met(alloc, ranges.as_slice(), values.as_slice())?;
@@ -58,6 +61,9 @@ pub fn overlapping_enum_ranges(
 ) -> Result<Vec<Clash>, AllocError>
     ensures { IfOk result (λ made. made.items ≡ words.overlapping_enum_ranges of.now) }
 {
+    if of.reserved_range.is_empty() {
+        return Ok(Vec::new(alloc));
+    }
     let ranges = range_spans(alloc, of)?;
     let met = first_met(alloc, ranges.as_slice(), ranges.as_slice())?;
     with_earlier(alloc, met.as_slice())

@@ -11,6 +11,7 @@ mod tree_search;
 
 pub use crate::kind::{Kind, Wanted};
 pub use crate::search::resolve;
+pub use crate::step::Step;
 pub use crate::table::Table;
 pub use crate::tree::ScopeTree;
 pub use crate::tree_search::resolve_in;

@@ -2,7 +2,7 @@
 
 /// What comes of a search in one scope.
 #[derive(Clone, Copy)]
-pub(crate) enum Step<Thing> {
+pub enum Step<Thing> {
     /// The search ends, with what it found.
     Ends(Option<Thing>),
     /// The next scope outwards is searched.

@@ -12,6 +12,24 @@ use protox_descriptor::values::Numbers;
 use protox_scopes::Kind;
 use std::alloc::{AllocError, Global};
 
+// About how many full names a file declares: its messages, and their fields.
+fn room_of(file: &FileDescriptorProto) -> usize {
+    let mut room: usize = 1;
+    for message in &file.message_type {
+        room = room.saturating_add(message.field.len()).saturating_add(1);
+    }
+    room
+}
+
+// About how many full names files declare.
+fn room_for(files: &[FileDescriptorProto]) -> usize {
+    let mut room: usize = 1;
+    for file in files {
+        room = room.saturating_add(room_of(file));
+    }
+    room
+}
+
 impl Symbols {
     // Adds the package with this full name, and those around it, from the outside in. It returns
     // the package's scope, or None if that can't stand in the table.
@@ -85,7 +103,7 @@ impl Symbols {
     pub fn of(alloc: Global, files: &[FileDescriptorProto]) -> Result<Symbols, AllocError>
         ensures { IfOk result (λ made. made ≡ table_of files.now) }
     {
-        let mut symbols = Symbols::new(alloc);
+        let mut symbols = Symbols::with_room(alloc, room_for(files));
         for (number, file) in files.iter().enumerate() {
             symbols.declare_file(alloc, number, file)?;
         }

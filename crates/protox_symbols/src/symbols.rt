@@ -3,7 +3,7 @@
 ghost use Rattle.std.specs.Prelude.{◌≡◌, [], true, length, IfOk, OnErr, OnOk};
 ghost use Rattle.std.specs.List.{slice_get};
 ghost use Rattle.std.specs.Option.{option_copied};
-ghost use Rattle.protox_names.specs.Names.{is_identifier, within};
+ghost use Rattle.protox_names.specs.Names.{is_identifier, is_one_part, within};
 ghost use Rattle.protox_name_tree.specs.Tree.{IsNameTree, dotted, kind_at, name_at};
 ghost use Rattle.protox_name_tree.specs.Tree.{name_in, number_of};
 ghost use Rattle.protox_scopes.specs.Scopes.{IsOuter};
@@ -11,7 +11,7 @@ ghost use Rattle.protox_symbols.specs.Symbols.{with_added, with_thing};
 
 use crate::Thing;
 use protox_descriptor::values::{Numbers, Text};
-use protox_name_tree::NameTree;
+use protox_name_tree::{NameTree, Word};
 use protox_scopes::Kind;
 use std::alloc::{AllocError, Global};
 use std::marker::Model;
@@ -43,7 +43,15 @@ impl Symbols {
         ensures { result
             ≡ record { names = record { full_names = []; kinds = [] }; things = [] } }
     {
-        let names = NameTree::new(alloc);
+        Symbols::with_room(alloc, 64)
+    }
+
+    /// The same. It is quickest if it gets about as many full names as it has `room` for.
+    pub fn with_room(alloc: Global, room: usize) -> Symbols
+        ensures { result
+            ≡ record { names = record { full_names = []; kinds = [] }; things = [] } }
+    {
+        let names = NameTree::with_room(alloc, room);
         let things = Vec::new(alloc);
         Symbols { names, things }
     }
@@ -167,6 +175,15 @@ impl Symbols {
         ensures { result ≡ number_of self.now.names (name_in self.now.names scope name.now) }
     {
         self.names.find(scope, name)
+    }
+
+    /// A name without dots, to look for in many scopes.
+    pub fn word<'a>(&'a self, name: &'a str) -> Word<'a>
+        requires { is_one_part name.now ≡ true }
+        ensures tree { result.tree ≡ self.now.names }
+        ensures name { result.name ≡ name.now }
+    {
+        self.names.word(name)
     }
 
     /// The number of what has this name in the scope with this full name, if anything has it. The

@@ -1,2 +1,3 @@
 mod Found
 pub mod Ways
+mod Resolved

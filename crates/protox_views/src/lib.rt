@@ -3,6 +3,7 @@
 
 mod names;
 mod packages;
+mod resolve;
 mod scopes;
 mod view;
 

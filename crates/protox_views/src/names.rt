@@ -2,7 +2,7 @@
 
 use crate::View;
 use protox_linked::{Names, Target};
-use protox_scopes::{Wanted, resolve_in};
+use protox_scopes::Wanted;
 use std::alloc::{AllocError, Global};
 
 impl Names for View<'_> {
@@ -26,7 +26,7 @@ impl Names for View<'_> {
         scope: Option<usize>,
         name: &str,
     ) -> Result<Option<Target>, AllocError> {
-        let Some(number) = resolve_in(self, wanted, name, scope) else {
+        let Some(number) = self.resolve(wanted, name, scope) else {
             return Ok(None);
         };
         let name = self.symbols.dotted(alloc, number)?;

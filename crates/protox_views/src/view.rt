@@ -46,7 +46,7 @@ impl View<'_> {
     }
 
     // The number, if what has it is seen.
-    fn if_seen(&self, number: Option<usize>) -> Option<usize>
+    pub(crate) fn if_seen(&self, number: Option<usize>) -> Option<usize>
         ensures { result ≡ option_and_then (λ n. if is_seen self.now.symbols.now self.now.sees.now self.now.packages.now n then Some n else None) number }
     {
         let number = number?;

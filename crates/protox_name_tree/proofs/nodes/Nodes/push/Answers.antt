@@ -1,6 +1,7 @@
 use Rattle.std.proofs.Common.{◌≡◌, [], ◌∷◌, ◌++◌, cond, map, Some, sym, ap, subst, ◌∙◌}
-use Rattle.std.specs.BTreeMap.{get, is_at}
+use Rattle.std.specs.BTreeMap.{is_at}
 use Rattle.std.proofs.lemmas.List.{length-map, map-append}
+use Rattle.protox_name_tree.specs.Buckets.{number_of_key}
 use Rattle.protox_name_tree.specs.Keys.{key_cmp, key_of}
 use Rattle.protox_name_tree.specs.Numbered.{IsNumbering}
 use Rattle.protox_name_tree.proofs.Numbering.{not_there, numbering_pushed}
@@ -15,12 +16,12 @@ listed c =
 
 pub invariant_of-self-2 : goal.invariant_of-self-2
 invariant_of-self-2 c =
-    let number = get key_cmp c.self.inside.numbers in
+    let number = number_of_key c.self.inside.numbers.buckets.items in
     let keys = map key_of c.self.inside.nodes.items in
     let key = key_of c.args.node in
-    subst (IsNumbering (get key_cmp c.insert.new.self)) (sym (listed c))
-    (numbering_pushed (is_at (key_cmp key)) number (get key_cmp c.insert.new.self) keys key c.self.invariant
+    subst (IsNumbering (number_of_key c.insert.new.self.buckets.items)) (sym (listed c))
+    (numbering_pushed (is_at (key_cmp key)) number (number_of_key c.insert.new.self.buckets.items) keys key c.self.invariant
     (not_there number keys (map key_of c.args.self.now) key c.self.invariant (ap (map key_of) c.self.view_is) c.requires)
     (same_key key)
-    (λ q. c.in_ok-insert.ensures.updates.0 q
+    (λ q. c.in_ok-insert.ensures.ok q
     ∙ ap (λ n. cond (is_at (key_cmp key) q) (Some n) (number q)) (c.len-number.ensures ∙ c.self.inside.nodes.ok.0 ∙ sym (length-map c.self.inside.nodes.items key_of))))

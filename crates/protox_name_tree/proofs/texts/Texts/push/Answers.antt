@@ -1,9 +1,8 @@
 use Rattle.std.proofs.Common.{◌≡◌, [], ◌∷◌, ◌++◌, cond, length, map, Some, sym, ap, subst, ◌∙◌, bytes_eq, string_bytes}
-use Rattle.std.specs.BTreeMap.{get_by_text}
 use Rattle.std.specs.List.{slice_get}
 use Rattle.std.proofs.lemmas.List.{length-map, map-append}
-use Rattle.std.proofs.lemmas.Map.Text.{btree_map_updates_text}
 use Rattle.std.proofs.lemmas.Slice.Eq.{bytes_eq-Decides}
+use Rattle.protox_name_tree.specs.Buckets.{number_of_text}
 use Rattle.protox_name_tree.specs.Numbered.{IsNumbering}
 use Rattle.protox_name_tree.proofs.Numbering.{not_there, numbering_pushed, slice_get-last}
 use Rattle.protox_name_tree.proofs.texts.Texts.push.Goals as goal
@@ -20,15 +19,14 @@ last c = c.len-number.ensures ∙ c.self.inside.texts.ok.0 ∙ sym (length-map c
 
 pub invariant_of-self-2 : goal.invariant_of-self-2
 invariant_of-self-2 c =
-    let number = get_by_text c.self.inside.numbers in
+    let number = number_of_text c.self.inside.numbers.buckets.items in
     let texts = map string_bytes c.self.inside.texts.items in
     let text = c.args.text.now in
-    subst (IsNumbering (get_by_text c.insert.new.self)) (sym (listed c))
-    (numbering_pushed (bytes_eq text) number (get_by_text c.insert.new.self) texts text c.self.invariant
+    subst (IsNumbering (number_of_text c.insert.new.self.buckets.items)) (sym (listed c))
+    (numbering_pushed (bytes_eq text) number (number_of_text c.insert.new.self.buckets.items) texts text c.self.invariant
     (not_there number texts c.args.self.now text c.self.invariant c.self.view_is c.requires)
     (bytes_eq-Decides text)
-    (λ q. btree_map_updates_text (string_bytes c.in_ok-key.key) c.self.inside.numbers c.insert.new.self (Some c.len-number.result) c.in_ok-insert.ensures.updates q
-    ∙ ap (λ key. cond (bytes_eq key q) (Some c.len-number.result) (number q)) c.in_ok-key.ensures.ok
+    (λ q. c.in_ok-insert.ensures.ok q
     ∙ ap (λ n. cond (bytes_eq text q) (Some n) (number q)) (last c)))
 
 pub returns-clause-ok : goal.returns-clause-ok

@@ -1,0 +1,3 @@
+pub mod Searching
+pub mod Naming
+pub mod Placing

@@ -1,0 +1,61 @@
+-- The names and the numbers that errors speak of.
+use Rattle.std.specs.Prelude.{ℕ, ℤ, List, [], ◌∷◌, slice_get, if◌then◌else◌}
+use Rattle.std.specs.Option.{option_and_then, unwrap_or}
+use Rattle.std.specs.Ordering.{int_eq}
+use Rattle.protox_descriptor.specs.FieldDescriptorProto.{FieldDescriptorProto}
+use Rattle.protox_descriptor.specs.declared.descriptor.DescriptorProto.{DescriptorProto, out-DescriptorProto}
+use Rattle.protox_descriptor.specs.declared.descriptor.EnumDescriptorProto.{EnumDescriptorProto}
+use Rattle.protox_descriptor.specs.declared.descriptor.EnumValueDescriptorProto.{EnumValueDescriptorProto}
+use Rattle.protox_descriptor.specs.declared.descriptor.FileDescriptorProto.{FileDescriptorProto}
+use Rattle.protox_descriptor.specs.declared.descriptor.MethodDescriptorProto.{MethodDescriptorProto}
+use Rattle.protox_descriptor.specs.declared.descriptor.OneofDescriptorProto.{OneofDescriptorProto}
+use Rattle.protox_descriptor.specs.declared.descriptor.ServiceDescriptorProto.{ServiceDescriptorProto}
+use Rattle.protox_descriptor.specs.declared.tag.message.TheConstants as message_tag
+use Rattle.protox_link_text.specs.Places.{Holder, OfEnum, OfFile, OfMessage, OfService, at_index, text_of}
+
+-- the name of the file with a number
+abbrev pub file_name : List FileDescriptorProto → ℕ → List ℕ
+file_name files n = text_of (option_and_then (λ file. file.name) (slice_get files n))
+
+-- ---- parts with an index: an unset name is empty, and so is that of no part
+
+abbrev pub field_named : List FieldDescriptorProto → ℤ → List ℕ
+field_named fields n = text_of (option_and_then (λ field. field.name) (at_index fields n))
+
+abbrev pub value_named : List EnumValueDescriptorProto → ℤ → List ℕ
+value_named values n = text_of (option_and_then (λ value. value.name) (at_index values n))
+
+abbrev pub oneof_named : List OneofDescriptorProto → ℤ → List ℕ
+oneof_named oneofs n = text_of (option_and_then (λ oneof. oneof.name) (at_index oneofs n))
+
+abbrev pub method_named : List MethodDescriptorProto → ℤ → List ℕ
+method_named methods n = text_of (option_and_then (λ method. method.name) (at_index methods n))
+
+-- ---- the name of the declaration at the end of a path
+
+-- in a message: of a field, an extension or a oneof
+abbrev pub named_in_message : DescriptorProto → ℤ → ℤ → List ℕ
+named_in_message m tag n =
+    if int_eq tag message_tag.FIELD then field_named (out-DescriptorProto m).field n
+    else if int_eq tag message_tag.EXTENSION then field_named (out-DescriptorProto m).extension n
+    else oneof_named (out-DescriptorProto m).oneof_decl n
+
+-- of the holder itself, or of what stands in it
+abbrev pub named_in : Holder → List ℤ → List ℕ
+named_in (OfFile f) (tag ∷ n ∷ rest) = field_named f.extension n
+named_in (OfFile f) (tag ∷ []) = text_of f.«package»
+named_in (OfFile f) [] = text_of f.«package»
+named_in (OfMessage m) (tag ∷ n ∷ rest) = named_in_message m tag n
+named_in (OfMessage m) (tag ∷ []) = text_of (out-DescriptorProto m).name
+named_in (OfMessage m) [] = text_of (out-DescriptorProto m).name
+named_in (OfEnum e) (tag ∷ n ∷ rest) = value_named e.value n
+named_in (OfEnum e) (tag ∷ []) = text_of e.name
+named_in (OfEnum e) [] = text_of e.name
+named_in (OfService s) (tag ∷ n ∷ rest) = method_named s.method n
+named_in (OfService s) (tag ∷ []) = text_of s.name
+named_in (OfService s) [] = text_of s.name
+
+-- the import at the end of a path
+abbrev pub import_named : Holder → List ℤ → List ℕ
+import_named (OfFile f) (tag ∷ n ∷ rest) = unwrap_or (at_index f.dependency n) []
+import_named _ _ = []

@@ -1,0 +1,10 @@
+use Rattle.std.proofs.Common.{◌∙◌, sym}
+use Rattle.protox_descriptor.specs.declared.descriptor.DescriptorProto.{out-DescriptorProto}
+use Rattle.protox_numbers.proofs.None.{none_if_empty}
+use Rattle.protox_numbers.specs.Numbers.{of_reserved_range}
+use Rattle.protox_numbers.specs.Message.{extension_spans}
+use Rattle.protox_numbers.proofs.message.extension_ranges_in_reserved.Goals as goal
+
+pub returns-then-is_empty : goal.returns-then-is_empty
+returns-then-is_empty c =
+    c.new.ensures.items ∙ sym (none_if_empty of_reserved_range (out-DescriptorProto c.args.message.now).reserved_range (extension_spans c.args.message.now) c.is_empty.result c.is_empty.ensures c.if-is_empty.true)

@@ -1,0 +1,36 @@
+use Rattle.std.proofs.Common.{None, ap, lit<, ◌∙◌, true}
+use Rattle.std.proofs.lemmas.Str.Pattern.{strip_prefix_char}
+use Rattle.protox_name_tree.specs.Tree.{kind_at, name_at}
+use Rattle.protox_names.specs.Names.{is_one_part}
+use Rattle.protox_scopes.proofs.Outwards.{relative}
+use Rattle.protox_scopes.proofs.TreeSearch.{at_top, by_user, nearer_from, stopped}
+use Rattle.protox_views.specs.Views.{seen}
+use Rattle.protox_views.proofs.Resolved.{front_is_one_part}
+use Rattle.protox_views.proofs.view.View.resolve.Goals as goal
+
+pub word-first-requires : goal.word-first-requires
+word-first-requires c = ap is_one_part c.front.ensures ∙ front_is_one_part c.args.name.now
+
+pub returns-in-Ends : goal.returns-in-Ends
+returns-in-Ends c =
+    let table = c.args.self.now.symbols.now in
+    let kind = kind_at table.names in
+    let sees = seen table c.args.self.now.sees.now c.args.self.now.packages.now in
+    let name = c.args.name.now in
+    by_user kind sees c.args.wanted name (name_at table.names) c.args.scope c.in-Ends.found
+    (relative name (strip_prefix_char 46 name None c.in_default.ensures.cases (lit< tt)))
+    (stopped kind sees c.args.wanted name (name_at table.names) c.args.scope c.loop-place.place c.in-Some-place.here c.in-Ends.found c.in-Some-place.is c.in-Ends.ensures c.loop-place.invariant)
+
+pub loop-place-smaller : goal.loop-place-smaller
+loop-place-smaller c =
+    nearer_from (name_at c.args.self.now.symbols.now.names) c.loop-place.place c.in-Some-place.here c.outer-place.result c.in-Some-place.is c.outer-place.ensures
+
+pub returns : goal.returns
+returns c =
+    let table = c.args.self.now.symbols.now in
+    let kind = kind_at table.names in
+    let sees = seen table c.args.self.now.sees.now c.args.self.now.packages.now in
+    let name = c.args.name.now in
+    by_user kind sees c.args.wanted name (name_at table.names) c.args.scope c.find-2.result
+    (relative name (strip_prefix_char 46 name None c.in_default.ensures.cases (lit< tt)))
+    (at_top kind sees c.args.wanted name (name_at table.names) c.args.scope c.loop-place.place c.find-2.result c.in_default-place.is c.find-2.ensures c.loop-place.invariant)

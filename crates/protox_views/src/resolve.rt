@@ -1,0 +1,61 @@
+//! What a name stands for in what a file sees.
+
+ghost use Rattle.std.specs.Prelude.{◌≡◌, ℕ, List, true};
+ghost use Rattle.protox_name_tree.specs.Tree.{kind_at, name_at};
+ghost use Rattle.protox_names.specs.Names as names;
+ghost use Rattle.protox_names.specs.Tree.{name_of_place};
+ghost use Rattle.protox_scopes.specs.Scopes as words;
+ghost use Rattle.protox_views.specs.Views.{seen};
+
+use crate::View;
+use protox_name_tree::Word;
+use protox_names::{front, is_one_part};
+use protox_scopes::{Step, Wanted};
+
+impl View<'_> {
+    // Searches one scope for a name, of which `first` is the first part.
+    fn step(&self, wanted: Wanted, name: &str, first: &Word<'_>, scope: usize) -> Step<usize>
+        requires tree { first.now.tree ≡ self.now.symbols.now.names }
+        requires first { first.now.name ≡ names.front name.now }
+        ensures { result ≡ words.step (kind_at self.now.symbols.now.names)
+            (seen self.now.symbols.now self.now.sees.now self.now.packages.now)
+            wanted name.now (name_at self.now.symbols.now.names scope) }
+    {
+        let Some(thing) = self.if_seen(first.find(Some(scope))) else {
+            return Step::GoesOn;
+        };
+        let kind = self.symbols.kind(thing);
+        if is_one_part(name) {
+            if wanted.fits(kind) {
+                return Step::Ends(Some(thing));
+            }
+        } else if kind.holds_names() {
+            return Step::Ends(self.find(Some(scope), name));
+        }
+        Step::GoesOn
+    }
+
+    /// What a name stands for where something that stands in this scope uses it: the same as
+    /// `resolve_in`. The text of the first part is looked up once for all scopes.
+    ///
+    /// It takes no memory. For each scope around the user it makes one step.
+    pub fn resolve(&self, wanted: Wanted, name: &str, scope: Option<usize>) -> Option<usize>
+        ensures { (user : List ℕ) → names.is_one_part user ≡ true → result
+            ≡ words.resolve (kind_at self.now.symbols.now.names)
+            (seen self.now.symbols.now self.now.sees.now self.now.packages.now) wanted name.now
+            (names.within (name_of_place (name_at self.now.symbols.now.names) scope) user) }
+    {
+        if let Some(full_name) = name.strip_prefix('.') {
+            return self.find(None, full_name);
+        }
+        let first = self.symbols.word(front(name));
+        let mut place = scope;
+        while let Some(here) = place {
+            if let Step::Ends(found) = self.step(wanted, name, &first, here) {
+                return found;
+            }
+            place = self.symbols.outer(here);
+        }
+        self.find(None, name)
+    }
+}

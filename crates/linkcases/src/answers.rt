@@ -8,7 +8,7 @@ use protox_descriptor::descriptor::FileDescriptorProto;
 use protox_link::{LinkedSet, Resolver, check, link};
 use protox_link_fault::LinkFailure;
 use protox_parse::{ParseFailure, parse};
-use std::alloc::Global;
+use std::alloc::{AllocError, Global};
 use std::io::{self, Write};
 
 /// What is done with a set.
@@ -22,27 +22,28 @@ pub(crate) enum Mode {
     Print,
 }
 
-// The descriptors of the files. If one is refused, that is printed.
-fn parsed<W: Write>(
+// Parses the sources, and adds their descriptors. If one is refused, that is printed, and it answers
+// false. Who calls it has the descriptors, so no `?` in it lets them go.
+fn parse_into<W: Write>(
     alloc: Global,
     out: &mut W,
     sources: &[Source],
-) -> io::Result<Option<Vec<FileDescriptorProto>>> {
-    let mut files = Vec::new(alloc);
+    files: &mut Vec<FileDescriptorProto>,
+) -> io::Result<bool> {
     for source in sources {
         match parse(alloc, source.name.as_str(), source.text.as_str()) {
             Ok(file) => files.push(file)?,
             Err(ParseFailure::Refused(error)) => {
                 writeln!(out, "{error:?}")?;
-                return Ok(None);
+                return Ok(false);
             }
             Err(ParseFailure::OutOfMemory) => {
                 writeln!(out, "out of memory")?;
-                return Ok(None);
+                return Ok(false);
             }
         }
     }
-    Ok(Some(files))
+    Ok(true)
 }
 
 fn write_counts<W: Write>(
@@ -57,7 +58,23 @@ fn write_counts<W: Write>(
     }
 }
 
-// The linked set, and how many of its names are what the names of the same sources stand for.
+// How many names of the linked set are what the names of the same sources stand for. The files are
+// those of the sources; there are none before.
+fn write_names<W: Write>(
+    alloc: Global,
+    out: &mut W,
+    sources: &[Source],
+    resolver: &Resolver,
+    files: &mut Vec<FileDescriptorProto>,
+    set: &LinkedSet,
+) -> io::Result<()> {
+    if parse_into(alloc, out, sources, files)? {
+        write_resolved(alloc, out, resolver, files.as_slice(), set)?;
+    }
+    Ok(())
+}
+
+// The linked set, and how many of its names are what they stand for.
 fn write_set_and_names<W: Write>(
     alloc: Global,
     out: &mut W,
@@ -66,48 +83,92 @@ fn write_set_and_names<W: Write>(
     set: &LinkedSet,
 ) -> io::Result<()> {
     write_linked(alloc, out, set)?;
-    let Some(files) = parsed(alloc, out, sources)? else {
-        return Ok(());
-    };
-    write_resolved(alloc, out, resolver, files.as_slice(), set)
+    let mut files = Vec::new(alloc);
+    write_names(alloc, out, sources, resolver, &mut files, set)
 }
 
-// What comes of linking. If `check` tells another number of faults, that is printed too.
+// What is known of files before they are linked: what names stand for, and what is wrong, in words.
+#[derive(Drop)]
+struct Known {
+    resolver: Resolver,
+    texts: Vec<String>,
+}
+
+fn learn(alloc: Global, files: &[FileDescriptorProto]) -> Result<Known, AllocError> {
+    let resolver = Resolver::new(alloc, files)?;
+    let checked = check(alloc, files)?;
+    let texts = texts_of(alloc, files, &resolver, checked.as_slice())?;
+    Ok(Known { resolver, texts })
+}
+
+// What comes of linking. It answers how many faults `link` tells.
+fn write_linking<W: Write>(
+    alloc: Global,
+    out: &mut W,
+    sources: &[Source],
+    known: &Known,
+    linked: &Result<LinkedSet, LinkFailure>,
+) -> io::Result<usize> {
+    let (resolver, texts) = (&known.resolver, known.texts.as_slice());
+    match linked {
+        Ok(set) => {
+            write_set_and_names(alloc, out, sources, resolver, set)?;
+            Ok(0)
+        }
+        Err(LinkFailure::Refused(faults)) => {
+            let symbols = resolver.symbols();
+            write_faults(alloc, out, sources, symbols, faults.as_slice(), texts)?;
+            Ok(faults.len())
+        }
+        Err(LinkFailure::OutOfMemory) => {
+            writeln!(out, "out of memory")?;
+            Ok(texts.len())
+        }
+    }
+}
+
+// The same. If `check` tells another number of faults, that is printed too.
+fn write_both<W: Write>(
+    alloc: Global,
+    out: &mut W,
+    sources: &[Source],
+    known: &Result<Known, AllocError>,
+    linked: &Result<LinkedSet, LinkFailure>,
+) -> io::Result<()> {
+    let Ok(known) = known else {
+        return Err(AllocError.into());
+    };
+    let count = write_linking(alloc, out, sources, known, linked)?;
+    if count != known.texts.len() {
+        writeln!(out, "checked: {}", known.texts.len())?;
+    }
+    Ok(())
+}
+
+// What comes of linking the files.
 fn write_answer<W: Write>(
     alloc: Global,
     out: &mut W,
     sources: &[Source],
     files: Vec<FileDescriptorProto>,
 ) -> io::Result<()> {
-    let resolver = Resolver::new(alloc, files.as_slice())?;
-    let checked = check(alloc, files.as_slice())?;
-    let texts = texts_of(alloc, files.as_slice(), &resolver, checked.as_slice())?;
-    let told = match link(alloc, files) {
-        Ok(set) => {
-            write_set_and_names(alloc, out, sources, &resolver, &set)?;
-            0
-        }
-        Err(LinkFailure::Refused(faults)) => {
-            let symbols = resolver.symbols();
-            write_faults(
-                alloc,
-                out,
-                sources,
-                symbols,
-                faults.as_slice(),
-                texts.as_slice(),
-            )?;
-            faults.len()
-        }
-        Err(LinkFailure::OutOfMemory) => {
-            writeln!(out, "out of memory")?;
-            checked.len()
-        }
-    };
-    if told != checked.len() {
-        writeln!(out, "checked: {}", checked.len())?;
+    let known = learn(alloc, files.as_slice());
+    let linked = link(alloc, files);
+    write_both(alloc, out, sources, &known, &linked)
+}
+
+fn write_files<W: Write>(
+    alloc: Global,
+    out: &mut W,
+    mode: Mode,
+    sources: &[Source],
+    files: Vec<FileDescriptorProto>,
+) -> io::Result<()> {
+    match mode {
+        Mode::Parse => writeln!(out, "parsed: {}", files.len()),
+        Mode::Link => write_counts(alloc, out, files),
+        Mode::Print => write_answer(alloc, out, sources, files),
     }
-    Ok(())
 }
 
 /// Writes what comes of a set.
@@ -117,12 +178,10 @@ pub(crate) fn write_set<W: Write>(
     mode: Mode,
     sources: &[Source],
 ) -> io::Result<()> {
-    let Some(files) = parsed(alloc, out, sources)? else {
-        return Ok(());
-    };
-    match mode {
-        Mode::Parse => writeln!(out, "parsed: {}", files.len()),
-        Mode::Link => write_counts(alloc, out, files),
-        Mode::Print => write_answer(alloc, out, sources, files),
+    let mut files = Vec::new(alloc);
+    match parse_into(alloc, out, sources, &mut files) {
+        Ok(true) => write_files(alloc, out, mode, sources, files),
+        Ok(false) => Ok(()),
+        Err(error) => Err(error),
     }
 }

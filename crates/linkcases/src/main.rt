@@ -62,6 +62,19 @@ fn take<W: Write>(
     Ok(())
 }
 
+fn take_all<W: Write>(
+    rt: &HostRuntime,
+    alloc: Global,
+    out: &mut W,
+    mode: Mode,
+    sources: &mut Vec<Source>,
+) -> io::Result<()> {
+    for line in BufReader::new(alloc, rt.reader())?.lines(alloc) {
+        take(alloc, out, mode, sources, line?.as_str())?;
+    }
+    Ok(())
+}
+
 // The two numbers behind `--made`, if that is the first word.
 fn wanted(rt: &HostRuntime) -> io::Result<Option<(u64, usize)>> {
     let mut words = env::args(rt)?.skip(1);
@@ -86,8 +99,6 @@ fn main(rt: HostRuntime) -> io::Result<()> {
         return out.flush();
     }
     let mut sources = Vec::new(alloc);
-    for line in BufReader::new(alloc, rt.reader())?.lines(alloc) {
-        take(alloc, &mut out, mode, &mut sources, line?.as_str())?;
-    }
+    take_all(&rt, alloc, &mut out, mode, &mut sources)?;
     out.flush()
 }

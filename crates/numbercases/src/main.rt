@@ -13,43 +13,44 @@ use protox_numbers::{
     overlapping_extension_ranges, overlapping_reserved_ranges, reused_numbers,
     values_in_reserved_ranges,
 };
-use std::alloc::Global;
+use std::alloc::{AllocError, Global};
 use std::io;
 
-fn tell(rt: &impl Print, what: &str, clashes: &[Clash]) -> io::Result<()> {
-    for clash in clashes {
+// The clashes of one kind. They are let go here, so that the function that asks for them is cheap to
+// prove.
+fn tell(rt: &impl Print, what: &str, clashes: Result<Vec<Clash>, AllocError>) -> io::Result<()> {
+    for clash in clashes?.as_slice() {
         rt.println(format_args!("{what}: {} with {}", clash.part, clash.with))?;
     }
     Ok(())
 }
 
-fn tell_message(rt: &impl Print, alloc: Global, message: &DescriptorProto) -> io::Result<()> {
-    tell(rt, "reused", reused_numbers(alloc, message)?.as_slice())?;
-    tell(
-        rt,
-        "reserved",
-        fields_in_reserved_ranges(alloc, message)?.as_slice(),
-    )?;
+fn tell_clashes(rt: &impl Print, alloc: Global, message: &DescriptorProto) -> io::Result<()> {
+    tell(rt, "reused", reused_numbers(alloc, message))?;
+    tell(rt, "reserved", fields_in_reserved_ranges(alloc, message))?;
     tell(
         rt,
         "for extensions",
-        fields_in_extension_ranges(alloc, message)?.as_slice(),
+        fields_in_extension_ranges(alloc, message),
     )?;
     tell(
         rt,
         "reserved overlap",
-        overlapping_reserved_ranges(alloc, message)?.as_slice(),
+        overlapping_reserved_ranges(alloc, message),
     )?;
     tell(
         rt,
         "extensions overlap",
-        overlapping_extension_ranges(alloc, message)?.as_slice(),
+        overlapping_extension_ranges(alloc, message),
     )?;
     tell(
         rt,
         "reserved extensions",
-        extension_ranges_in_reserved(alloc, message)?.as_slice(),
-    )?;
+        extension_ranges_in_reserved(alloc, message),
+    )
+}
+
+fn tell_parts(rt: &impl Print, message: &DescriptorProto) -> io::Result<()> {
     for field in message.field.as_slice() {
         if is_for_implementation(field) {
             rt.println("for the implementation")?;
@@ -68,17 +69,14 @@ fn tell_message(rt: &impl Print, alloc: Global, message: &DescriptorProto) -> io
     Ok(())
 }
 
+fn tell_message(rt: &impl Print, alloc: Global, message: &DescriptorProto) -> io::Result<()> {
+    tell_clashes(rt, alloc, message)?;
+    tell_parts(rt, message)
+}
+
 fn tell_enum(rt: &impl Print, alloc: Global, of: &EnumDescriptorProto) -> io::Result<()> {
-    tell(
-        rt,
-        "reserved",
-        values_in_reserved_ranges(alloc, of)?.as_slice(),
-    )?;
-    tell(
-        rt,
-        "reserved overlap",
-        overlapping_enum_ranges(alloc, of)?.as_slice(),
-    )?;
+    tell(rt, "reserved", values_in_reserved_ranges(alloc, of))?;
+    tell(rt, "reserved overlap", overlapping_enum_ranges(alloc, of))?;
     if !begins_with_zero(of) {
         rt.println("does not begin with zero")?;
     }
@@ -90,32 +88,53 @@ fn tell_enum(rt: &impl Print, alloc: Global, of: &EnumDescriptorProto) -> io::Re
     Ok(())
 }
 
+// Makes a message, and tells of it. It is let go here.
+fn made_message(
+    rt: &impl Print,
+    alloc: Global,
+    fields: &[i32],
+    reserved: &[(i32, i32)],
+    extensions: &[(i32, i32)],
+) -> io::Result<()> {
+    let message = message_of(alloc, fields, reserved, extensions)?;
+    tell_message(rt, alloc, &message)
+}
+
+fn made_enum(
+    rt: &impl Print,
+    alloc: Global,
+    values: &[i32],
+    reserved: &[(i32, i32)],
+) -> io::Result<()> {
+    let of = enum_of(alloc, values, reserved)?;
+    tell_enum(rt, alloc, &of)
+}
+
 fn main(rt: HostRuntime) -> io::Result<()> {
     let alloc = rt.alloc();
     rt.println("message with extensions")?;
-    let first = message_of(
+    made_message(
+        &rt,
         alloc,
         &[1, 2, 1, 5, 1],
         &[(5, 8), (1, 2)],
         &[(2, 4), (3, 5), (7, 9)],
     )?;
-    tell_message(&rt, alloc, &first)?;
     rt.println("message with reserved ranges")?;
-    let second = message_of(
+    made_message(
+        &rt,
         alloc,
         &[10, 11, 21, 18999, 19000, 19999, 20000],
         &[(1, 11), (20, 21), (5, 6), (20, 21), (11, 20), (15, 15)],
         &[(9, 8)],
     )?;
-    tell_message(&rt, alloc, &second)?;
     rt.println("enum")?;
-    let third = enum_of(
+    made_enum(
+        &rt,
         alloc,
         &[0, -1, 2, 5],
         &[(-5, -1), (2, 2), (3, 4), (4, 9), (20, 19)],
     )?;
-    tell_enum(&rt, alloc, &third)?;
     rt.println("enum that begins with one")?;
-    let fourth = enum_of(alloc, &[1, 0], &[])?;
-    tell_enum(&rt, alloc, &fourth)
+    made_enum(&rt, alloc, &[1, 0], &[])
 }

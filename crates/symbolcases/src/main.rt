@@ -25,7 +25,24 @@ mod set;
 use crate::answers::answer;
 use crate::set::Set;
 use protox_symbols::Symbols;
+use std::alloc::Global;
 use std::io;
+
+// Answers all lines. Who calls it has the table and the files, so no `?` in it lets them go.
+fn answer_all(
+    rt: &HostRuntime,
+    alloc: Global,
+    symbols: &mut Symbols,
+    set: &mut Set,
+) -> io::Result<()> {
+    let mut count: usize = 0;
+    for line in rt.lines(alloc) {
+        let text = answer(alloc, symbols, set, line?.as_str(), count)?;
+        count = count.saturating_add(1);
+        println!(rt; "{text}")?;
+    }
+    Ok(())
+}
 
 fn main(rt: HostRuntime) -> io::Result<()> {
     let alloc = rt.alloc();
@@ -34,11 +51,5 @@ fn main(rt: HostRuntime) -> io::Result<()> {
         files: Vec::new(alloc),
         open: Vec::new(alloc),
     };
-    let mut count: usize = 0;
-    for line in rt.lines(alloc) {
-        let text = answer(alloc, &mut symbols, &mut set, line?.as_str(), count)?;
-        count = count.saturating_add(1);
-        println!(rt; "{text}")?;
-    }
-    Ok(())
+    answer_all(&rt, alloc, &mut symbols, &mut set)
 }

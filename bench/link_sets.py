@@ -190,6 +190,7 @@ class Faults:
         self.several = collections.Counter()
         # what protoc tells of each fault
         self.texts = collections.defaultdict(list)
+        self.notes = set()
 
     def add(self, path, words, text):
         """Adds a fault. Of one name protoc may say two things."""
@@ -272,7 +273,9 @@ class Faults:
             self.twice[f'{found[2]}.{found[1]}', self.name, text] += 1
         elif found := TWICE.fullmatch(text):
             self.twice[found[1], self.name, text] += 1
-        elif not text.startswith(SIBLINGS):
+        elif text.startswith(SIBLINGS):
+            self.notes.add(text)
+        else:
             self.take_import(text)
 
     def take_import(self, text):
@@ -303,7 +306,10 @@ class Faults:
 
     def add_notes(self):
         """Adds why a value clashes, unless it does with another value of its enum. protoc tells this of the
-        values that it tells twice, which may be others than here."""
+        values that it tells twice. Where a name is declared as a value and as something else, that may be
+        another part than here, and then the text is made here, in protoc's words. Else it has to be
+        protoc's own."""
+        made = {}
         for path, full, part in self.declared:
             if part.DESCRIPTOR.name != 'EnumDescriptorProto':
                 continue
@@ -312,9 +318,18 @@ class Faults:
             where = f'"{scope}"' if scope else 'the global scope'
             for index, name in enumerate(names):
                 texts = [texts for fault, texts in self.texts.items() if fault[0] == path + (number, index, NAME)]
-                if texts and name not in names[:index]:
-                    texts[0].append(f'{SIBLINGS} Therefore, "{name}" must be unique within {where}, '
-                                    f'not just within "{part.name}".')
+                note = f'{SIBLINGS} Therefore, "{name}" must be unique within {where}, not just within "{part.name}".'
+                if name in names[:index]:
+                    continue
+                made[note] = (within(scope, name), bool(texts))
+                if texts:
+                    texts[0].append(note)
+        for note, (full, is_told) in made.items():
+            kinds = {part.DESCRIPTOR.name for _, name, part in self.declared if name == full}
+            if is_told != (note in self.notes) and kinds == {'EnumValueDescriptorProto'}:
+                sys.exit(f'{self.name}: protoc tells otherwise: {note}')
+        if unknown := self.notes - set(made):
+            sys.exit(f'{self.name}: no such value: {unknown}')
 
     def add_several(self):
         """What is told as often as there are parts that it may be told of is told of each."""

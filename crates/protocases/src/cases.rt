@@ -1,6 +1,7 @@
 //! One case: a file's name, and what the parser answers.
 
 use crate::locations::write_locations;
+use protox_parse::descriptor::FileDescriptorProto;
 use protox_parse::error::ParseErrorKind;
 use protox_parse::{ParseError, ParseFailure, parse};
 use protox_text::descriptors::write_file;
@@ -32,6 +33,16 @@ fn write_refusal<W: Write>(alloc: Global, out: &mut W, error: &ParseError) -> io
     Ok(())
 }
 
+// The descriptor, and its locations.
+fn write_answer<W: Write>(
+    alloc: Global,
+    out: &mut W,
+    file: &FileDescriptorProto,
+) -> io::Result<()> {
+    write_file(alloc, out, file, false)?;
+    write_locations(alloc, out, file)
+}
+
 /// Writes the name, and what the parser answers for these bytes under that name.
 pub fn write_case<W: Write>(
     alloc: Global,
@@ -44,10 +55,7 @@ pub fn write_case<W: Write>(
         return writeln!(out, "no UTF-8");
     };
     match parse(alloc, name, source) {
-        Ok(file) => {
-            write_file(alloc, out, &file, false)?;
-            write_locations(alloc, out, &file)
-        }
+        Ok(file) => write_answer(alloc, out, &file),
         Err(ParseFailure::Refused(error)) => write_refusal(alloc, out, &error),
         Err(ParseFailure::OutOfMemory) => writeln!(out, "out of memory"),
     }

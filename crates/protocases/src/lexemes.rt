@@ -2,6 +2,7 @@
 
 use crate::shown::{show_faults, show_lexeme};
 use crate::table::show_table;
+use protox_parse::error::Span;
 use protox_parse::lex::{Lexer, Token};
 use std::alloc::{AllocError, Global};
 use std::io::{self, Write};
@@ -12,16 +13,30 @@ fn lexer(alloc: Global, source: &str, text_format: bool) -> Lexer<'_> {
     lexer
 }
 
+// A line for a lexeme.
+fn show_at<W: Write>(span: &Span, token: Option<&Token<'_>>, out: &mut W) -> io::Result<()> {
+    write!(out, "{}..{} ", span.start, span.end)?;
+    show_lexeme(token, out)?;
+    writeln!(out)
+}
+
 // Writes a line for the next lexeme. Answers whether there was one.
 fn show_next<W: Write>(lexer: &mut Lexer<'_>, out: &mut W) -> io::Result<bool> {
     let Some(token) = lexer.next()? else {
         return Ok(false);
     };
-    let span = lexer.span();
-    write!(out, "{}..{} ", span.start, span.end)?;
-    show_lexeme(token.as_ref().ok(), out)?;
-    writeln!(out)?;
+    show_at(&lexer.span(), token.as_ref().ok(), out)?;
     Ok(true)
+}
+
+// Writes the lexemes, and then their faults.
+fn show_left<W: Write>(alloc: Global, lexer: &mut Lexer<'_>, out: &mut W) -> io::Result<()> {
+    for _ in 0..u64::MAX {
+        if !show_next(lexer, out)? {
+            break;
+        }
+    }
+    show_faults(alloc, lexer.errors(), out)
 }
 
 // Writes the lexemes in a mode, and then their faults.
@@ -32,23 +47,23 @@ fn show_all<W: Write>(
     out: &mut W,
 ) -> io::Result<()> {
     let mut lexer = lexer(alloc, source, text_format);
-    for _ in 0..u64::MAX {
-        if !show_next(&mut lexer, out)? {
-            break;
-        }
-    }
-    show_faults(alloc, lexer.errors(), out)
+    show_left(alloc, &mut lexer, out)
 }
 
-// How many faults there are in a mode.
-fn count_faults(alloc: Global, source: &str, text_format: bool) -> Result<usize, AllocError> {
-    let mut lexer = lexer(alloc, source, text_format);
+// How many faults the lexemes have.
+fn count_left(lexer: &mut Lexer<'_>) -> Result<usize, AllocError> {
     for _ in 0..u64::MAX {
         if lexer.next()?.is_none() {
             break;
         }
     }
     Ok(lexer.errors().len())
+}
+
+// How many faults there are in a mode.
+fn count_faults(alloc: Global, source: &str, text_format: bool) -> Result<usize, AllocError> {
+    let mut lexer = lexer(alloc, source, text_format);
+    count_left(&mut lexer)
 }
 
 // Writes the lexemes and faults of a source; once more in text format if that makes a difference.

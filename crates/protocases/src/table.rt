@@ -2,9 +2,10 @@
 
 use crate::shown::{show_faults, show_gap, show_lexeme};
 use protox_parse::comments::{GapComments, gap_comments};
+use protox_parse::error::ParseErrorKind;
 use protox_parse::lex::{Token, TokenTable};
 use protox_parse::values::{Items, Text};
-use std::alloc::Global;
+use std::alloc::{AllocError, Global};
 use std::io::{self, Write};
 
 fn show_comment<W: Write>(place: &str, text: &Option<Text>, out: &mut W) -> io::Result<()> {
@@ -50,6 +51,32 @@ fn show_comments<W: Write>(
     show_attributed(&comments, out)
 }
 
+// The faults at row `k` in a mode.
+fn released(
+    alloc: Global,
+    table: &TokenTable<'_>,
+    k: usize,
+    text_format: bool,
+) -> Result<Vec<ParseErrorKind>, AllocError> {
+    let mut faults = Vec::new(alloc);
+    table.release(alloc, k, text_format, &mut faults)?;
+    Ok(faults)
+}
+
+fn show_both<W: Write>(
+    alloc: Global,
+    outside: &[ParseErrorKind],
+    inside: &[ParseErrorKind],
+    out: &mut W,
+) -> io::Result<()> {
+    show_faults(alloc, outside, out)?;
+    if inside.len() != outside.len() {
+        writeln!(out, "in text format faults: {}", inside.len())?;
+        show_faults(alloc, inside, out)?;
+    }
+    Ok(())
+}
+
 // The faults at row `k`; once more in text format if that makes a difference.
 fn show_released<W: Write>(
     alloc: Global,
@@ -57,16 +84,9 @@ fn show_released<W: Write>(
     k: usize,
     out: &mut W,
 ) -> io::Result<()> {
-    let mut outside = Vec::new(alloc);
-    table.release(alloc, k, false, &mut outside)?;
-    show_faults(alloc, &outside, out)?;
-    let mut inside = Vec::new(alloc);
-    table.release(alloc, k, true, &mut inside)?;
-    if inside.len() != outside.len() {
-        writeln!(out, "in text format faults: {}", inside.len())?;
-        show_faults(alloc, &inside, out)?;
-    }
-    Ok(())
+    let outside = released(alloc, table, k, false)?;
+    let inside = released(alloc, table, k, true)?;
+    show_both(alloc, &outside, &inside, out)
 }
 
 fn show_row<W: Write>(table: &TokenTable<'_>, k: usize, out: &mut W) -> io::Result<()> {
@@ -78,15 +98,19 @@ fn show_row<W: Write>(table: &TokenTable<'_>, k: usize, out: &mut W) -> io::Resu
     writeln!(out)
 }
 
+fn show_rows<W: Write>(alloc: Global, table: &TokenTable<'_>, out: &mut W) -> io::Result<()> {
+    for k in 0..=table.rows() {
+        show_comments(alloc, table, k, out)?;
+        show_released(alloc, table, k, out)?;
+        show_row(table, k, out)?;
+    }
+    Ok(())
+}
+
 /// Writes the rows of a source's table, and before each its gap, the comments there, and the faults
 /// of both.
 pub fn show_table<W: Write>(alloc: Global, source: &str, out: &mut W) -> io::Result<()> {
-    let table = TokenTable::new(alloc, source)?;
     writeln!(out, "-- table")?;
-    for k in 0..=table.rows() {
-        show_comments(alloc, &table, k, out)?;
-        show_released(alloc, &table, k, out)?;
-        show_row(&table, k, out)?;
-    }
-    Ok(())
+    let table = TokenTable::new(alloc, source)?;
+    show_rows(alloc, &table, out)
 }

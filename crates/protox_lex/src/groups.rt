@@ -3,6 +3,7 @@ ghost use Rattle.std.specs.Prelude.{◌≡◌, ◌↔◌, IsTrue, ◌<◌, ◌�
 ghost use Rattle.std.specs.List.{All};
 ghost use Rattle.std.specs.Option.{option_copied};
 
+use crate::row_list::with_room;
 use std::alloc::{AllocError, Global};
 use std::marker::Model;
 
@@ -44,6 +45,25 @@ impl<T> Groups<T> {
             items: Vec::new(alloc),
             ends: Vec::new(alloc),
         }
+    }
+
+    /// No lists, and an empty list that has begun, with room for so many lists of two items if
+    /// memory allows.
+    pub(crate) fn with_room(alloc: Global, room: usize) -> Groups<T>
+        ensures { result ≡ record { ended = []; begun = [] } }
+    {
+        Groups {
+            items: with_room(alloc, room.saturating_add(room)),
+            ends: with_room(alloc, room),
+        }
+    }
+
+    /// Gives back the room that no item takes.
+    pub(crate) fn shrink_to_fit(&mut self)
+        ensures { self.new ≡ self.old }
+    {
+        self.items.shrink_to_fit();
+        self.ends.shrink_to_fit();
     }
 
     /// True only if nothing was ever added, not even an end.

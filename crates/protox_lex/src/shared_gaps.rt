@@ -15,6 +15,9 @@ use std::marker::Model;
 // A gap of fewer newlines than this, and nothing else, is not kept.
 const LINES: usize = 8;
 
+// About every 16th gap has a comment.
+const GAPS_A_COMMENT: usize = 16;
+
 /// Gaps. Most have only a few newlines, and take 4 bytes. As soon as a number needs more than 4
 /// bytes, each later gap is kept and has a wide number.
 #[derive(Drop)]
@@ -107,7 +110,7 @@ impl<'a> SharedGaps<'a> {
             lines: newlines(alloc)?,
             numbers: with_room(alloc, room),
             wide: Vec::new(alloc),
-            kept: Groups::new(alloc),
+            kept: Groups::with_room(alloc, room / GAPS_A_COMMENT),
             keeps: false,
             newlines: 0,
         })
@@ -118,6 +121,7 @@ impl<'a> SharedGaps<'a> {
         ensures { self.new ≡ self.old }
     {
         self.numbers.shrink_to_fit();
+        self.kept.shrink_to_fit();
     }
 
     /// Gap `index`, counted from 0. None if that gap hasn't ended.

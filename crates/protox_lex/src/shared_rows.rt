@@ -10,7 +10,7 @@ ghost use Rattle.protox_lex.specs.TableView.{shape_of_lent, borrowed_of_lent};
 ghost use Rattle.protox_lexeme.specs.Tokens.{shape_of, shape_of_result, borrowed_of_result, holds_none};
 
 use crate::laws::tokens_are_equal_by_shape;
-use crate::row_list::{NumberedRow, RowList};
+use crate::row_list::{NumberedRow, RowList, with_room};
 use protox_fault::error::Span;
 use protox_lexeme::bytes::byte_at;
 use protox_lexeme::class::class_of_result;
@@ -26,6 +26,9 @@ pub(crate) struct KeptToken<'a> {
     pub len: u32,
     pub class: u8,
 }
+
+// About every eighth row has a token that is not kept yet.
+const ROWS_A_TOKEN: usize = 8;
 
 // How many words and integers are remembered.
 const SLOTS: usize = 4096;
@@ -194,17 +197,18 @@ impl<'a> SharedRows<'a> {
     {
         Ok(SharedRows {
             rows: RowList::new(alloc, room),
-            tokens: Vec::new(alloc),
+            tokens: with_room(alloc, room / ROWS_A_TOKEN),
             marks: vec![in alloc; None; 256]?,
             recent: vec![in alloc; 0; SLOTS]?,
         })
     }
 
-    /// Gives back the room that no row takes.
+    /// Gives back the room that no row and no token takes.
     pub(crate) fn shrink_to_fit(&mut self)
         ensures { self.new ≡ self.old }
     {
         self.rows.shrink_to_fit();
+        self.tokens.shrink_to_fit();
     }
 
     /// The number of rows.

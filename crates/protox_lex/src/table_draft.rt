@@ -29,8 +29,8 @@ use std::alloc::{AllocError, Global};
 /// takes no row.
 const AT_ONCE: usize = 0x10_0000;
 
-/// A source of the usual kind has a row for 6 to 12 bytes.
-const BYTES_A_ROW: usize = 8;
+/// A source of the usual kind has a row for 6 to 12 bytes. Room that no row takes is given back.
+const BYTES_A_ROW: usize = 6;
 
 /// A table, as far as the source has been cut.
 #[derive(Drop)]

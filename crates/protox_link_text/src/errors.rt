@@ -83,10 +83,10 @@ fn told_at(
 
 /// What is told of a fault of one of these files, in protoc's words. It is one error; but two, where
 /// a value clashes with something beside its enum, or where the search for a name came upon two things.
-/// None, if there is no file with the number.
+/// The list is empty if there is no file with the number.
 ///
 /// `view` is what the fault's file sees of the table of the files (`FileNames::view` of protox_link).
-/// For a fault that `check` tells of the files, the errors are those that protoc tells at its place.
+/// The fault may be any. Where its path leads to no part of the file, a name that is told may be empty.
 ///
 /// # Errors
 /// `AllocError` where memory runs out.

@@ -74,17 +74,38 @@ fn write_files<W: Write>(
     Ok(())
 }
 
+// Writes the bytes of a file's descriptor, and adds the descriptor.
+fn write_read<W: Write>(
+    rt: &HostRuntime,
+    out: &mut W,
+    name: &str,
+    files: &mut Vec<FileDescriptorProto>,
+) -> io::Result<()> {
+    let source = fs::read_to_string(rt, name)?;
+    write_one(rt.alloc(), out, name, source.as_str())?;
+    if let Ok(file) = parse(rt.alloc(), name, source.as_str()) {
+        files.push(file)?;
+    }
+    Ok(())
+}
+
+fn write_each<W: Write>(
+    rt: &HostRuntime,
+    out: &mut W,
+    list: &str,
+    files: &mut Vec<FileDescriptorProto>,
+) -> io::Result<()> {
+    for name in list.lines() {
+        write_read(rt, out, name, files)?;
+    }
+    Ok(())
+}
+
 /// Writes bytes for the files that the lines of a list name: those of each file's descriptor; those
 /// of the set of all files; and those of each file as an entry of a set, made at once, and made in
 /// a buffer that is used again.
 pub fn write_bytes<W: Write>(rt: &HostRuntime, out: &mut W, list: &str) -> io::Result<()> {
     let mut files = Vec::new(rt.alloc());
-    for name in list.lines() {
-        let source = fs::read_to_string(rt, name)?;
-        write_one(rt.alloc(), out, name, source.as_str())?;
-        if let Ok(file) = parse(rt.alloc(), name, source.as_str()) {
-            files.push(file)?;
-        }
-    }
+    write_each(rt, out, list, &mut files)?;
     write_files(rt.alloc(), out, files.as_slice())
 }

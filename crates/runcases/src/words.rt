@@ -3,7 +3,7 @@
 use protoparse_run::set::add_to_set;
 use protoparse_run::{Host, run};
 use protox_parse::descriptor::{FileDescriptorProto, FileOptions, UninterpretedOption};
-use protox_parse::values::Text;
+use protox_parse::values::{Items, Text};
 use protox_shown::shown::{Brief, Shown};
 use std::alloc::{AllocError, Global};
 use std::fs;
@@ -58,24 +58,42 @@ pub fn write_lines<W: Write>(out: &mut W, mark: char, bytes: &[u8]) -> io::Resul
     }
 }
 
+// An option that is a double of this text.
+fn double(alloc: Global, text: &str) -> Result<UninterpretedOption, AllocError> {
+    let value = Text::copy(alloc, text)?;
+    let mut option = UninterpretedOption::new(alloc);
+    option.double_value = Some(value);
+    Ok(option)
+}
+
 // A file with an option that is a double of this text.
 fn file_with_double(alloc: Global, text: &str) -> Result<FileDescriptorProto, AllocError> {
-    let mut option = UninterpretedOption::new(alloc);
-    option.double_value = Some(Text::copy(alloc, text)?);
+    let mut list = Items::new(alloc);
+    list.push(double(alloc, text)?)?;
     let mut options = FileOptions::new(alloc);
-    options.uninterpreted_option.push(option)?;
+    options.uninterpreted_option = list;
     let mut file = FileDescriptorProto::new(alloc);
     file.options = Some(options);
     Ok(file)
 }
 
+// Adds a file with a double to a set.
+fn add_double(
+    alloc: Global,
+    text: &str,
+    err: &mut Vec<u8>,
+    set: &mut Vec<u8>,
+) -> Result<bool, AllocError> {
+    let file = file_with_double(alloc, text)?;
+    Ok(add_to_set(alloc, err, set, "a.proto", &file))
+}
+
 // What is said where a double is to be added to a set.
 fn write_double(rt: &HostRuntime, text: &str) -> io::Result<()> {
     let alloc = rt.alloc();
-    let file = file_with_double(alloc, text)?;
     let mut err = Vec::new(alloc);
     let mut set = Vec::new(alloc);
-    let added = add_to_set(alloc, &mut err, &mut set, "a.proto", &file);
+    let added = add_double(alloc, text, &mut err, &mut set)?;
     println!(rt; "$ double {text}")?;
     let mut lines = BufWriter::new(alloc, rt.stdout())?;
     write_lines(&mut lines, '>', set.as_slice())?;

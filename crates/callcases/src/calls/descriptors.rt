@@ -41,33 +41,56 @@ pub fn equal_messages(alloc: Global) -> Result<String, AllocError> {
     format!(in alloc; "{same} {other}")
 }
 
-pub fn fields(alloc: Global) -> Result<String, AllocError> {
-    let name = Some(Text::copy(alloc, "a")?);
-    let plain = FieldDescriptorProto::plain(None, Some(1), None, None, None, Some(0), None);
-    let field = plain.with_rare_parts(alloc, None, None, name, None)?;
+// A field, and two of its parts.
+fn told_field(alloc: Global, field: &FieldDescriptorProto) -> Result<String, AllocError> {
     let (oneof, options) = (field.oneof_index(), field.options().is_none());
     format!(in alloc; "{field:?} {oneof:?} {options}")
 }
 
-// A field with each part that most fields lack.
-fn full_field(alloc: Global) -> Result<FieldDescriptorProto, AllocError> {
-    let mut field = FieldDescriptorProto::new(alloc);
+pub fn fields(alloc: Global) -> Result<String, AllocError> {
+    let name = Some(Text::copy(alloc, "a")?);
+    let plain = FieldDescriptorProto::plain(None, Some(1), None, None, None, Some(0), None);
+    let field = plain.with_rare_parts(alloc, None, None, name, None)?;
+    told_field(alloc, &field)
+}
+
+// Gives a field each part that most fields lack.
+fn fill_field(alloc: Global, field: &mut FieldDescriptorProto) -> Result<(), AllocError> {
     field.set_oneof_index(Some(2));
     field.set_json_name(alloc, Some(Text::copy(alloc, "a")?))?;
     field.set_extendee(alloc, Some(Text::copy(alloc, "b")?))?;
     field.set_default_value(alloc, Some(Text::copy(alloc, "c")?))?;
     field.set_options(alloc, Some(FieldOptions::new(alloc)))?;
     field.set_proto3_optional(Some(true));
-    field.set_json_name(alloc, Some(Text::copy(alloc, "d")?))?;
-    Ok(field)
+    field.set_json_name(alloc, Some(Text::copy(alloc, "d")?))
+}
+
+// What is taken out of a field, and what is left.
+fn emptied_field(alloc: Global, field: &mut FieldDescriptorProto) -> Result<String, AllocError> {
+    let names = (field.take_json_name(), field.take_extendee());
+    let others = (field.take_default_value(), field.take_options());
+    format!(in alloc; "{names:?} {others:?} {field:?}")
+}
+
+fn filled_and_emptied_field(
+    alloc: Global,
+    field: &mut FieldDescriptorProto,
+) -> Result<String, AllocError> {
+    fill_field(alloc, field)?;
+    let full = format!(in alloc; "{field:?}")?;
+    let left = emptied_field(alloc, field)?;
+    format!(in alloc; "{full} {left}")
 }
 
 pub fn changed_fields(alloc: Global) -> Result<String, AllocError> {
-    let mut field = full_field(alloc)?;
-    let full = format!(in alloc; "{field:?}")?;
-    let names = (field.take_json_name(), field.take_extendee());
-    let others = (field.take_default_value(), field.take_options());
-    format!(in alloc; "{full} {names:?} {others:?} {field:?}")
+    let mut field = FieldDescriptorProto::new(alloc);
+    filled_and_emptied_field(alloc, &mut field)
+}
+
+// A location, and whether it is the same as another.
+fn told_beside(alloc: Global, found: &Location, bare: &Location) -> Result<String, AllocError> {
+    let same = *found == *bare;
+    format!(in alloc; "{found:?} {same}")
 }
 
 pub fn locations(alloc: Global) -> Result<String, AllocError> {
@@ -75,30 +98,41 @@ pub fn locations(alloc: Global) -> Result<String, AllocError> {
     let (path, span) = (Numbers::few(&[4, 0]), Numbers::few(&[1, 2, 3]));
     let found = Location::commented(alloc, path, span, leading, None, Items::new(alloc))?;
     let bare = Location::bare(Numbers::few(&[4, 0]), Numbers::few(&[1, 2, 3]));
-    let same = found == bare;
-    format!(in alloc; "{found:?} {same}")
+    told_beside(alloc, &found, &bare)
 }
 
-// A location with each comment.
-fn full_location(alloc: Global) -> Result<Location, AllocError> {
-    let mut location = Location::bare(Numbers::few(&[4, 0]), Numbers::few(&[1, 2, 3, 4]));
+// Gives a location each comment.
+fn fill_location(alloc: Global, location: &mut Location) -> Result<(), AllocError> {
     location.set_leading_comments(alloc, Some(Text::copy(alloc, "a")?))?;
     location.set_trailing_comments(alloc, Some(Text::copy(alloc, "b")?))?;
     let mut detached = Items::new(alloc);
     detached.push(Text::copy(alloc, "c")?)?;
-    location.set_leading_detached_comments(alloc, detached)?;
-    Ok(location)
+    location.set_leading_detached_comments(alloc, detached)
 }
 
-pub fn changed_locations(alloc: Global) -> Result<String, AllocError> {
-    let mut location = full_location(alloc)?;
-    let full = format!(in alloc; "{location:?}")?;
+// What is taken out of a location, and what is left.
+fn emptied_location(alloc: Global, location: &mut Location) -> Result<String, AllocError> {
     let taken = (
         location.take_leading_comments(),
         location.take_trailing_comments(),
     );
     let detached = location.take_leading_detached_comments(alloc);
-    format!(in alloc; "{full} {taken:?} {detached:?} {location:?}")
+    format!(in alloc; "{taken:?} {detached:?} {location:?}")
+}
+
+fn filled_and_emptied_location(
+    alloc: Global,
+    location: &mut Location,
+) -> Result<String, AllocError> {
+    fill_location(alloc, location)?;
+    let full = format!(in alloc; "{location:?}")?;
+    let left = emptied_location(alloc, location)?;
+    format!(in alloc; "{full} {left}")
+}
+
+pub fn changed_locations(alloc: Global) -> Result<String, AllocError> {
+    let mut location = Location::bare(Numbers::few(&[4, 0]), Numbers::few(&[1, 2, 3, 4]));
+    filled_and_emptied_location(alloc, &mut location)
 }
 
 // Which of five places a location of one line holds, and one of three.

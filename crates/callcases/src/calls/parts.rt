@@ -57,16 +57,25 @@ fn faults(alloc: Global, items: &mut Items<FileItem>) -> Result<Vec<ParseErrorKi
     }
 }
 
-// The head of the source, and its items in a list; and what is wrong with another source.
-pub fn read(alloc: Global) -> Result<String, AllocError> {
-    let mut items = Items::new(alloc);
-    let Ok(head) = read_source(alloc, SOURCE, &mut items) else {
-        return Err(AllocError);
-    };
-    let faults = faults(alloc, &mut items)?;
+// The head of the source, and the number of its items; and what is wrong with another source.
+fn told(alloc: Global, head: &File, items: &mut Items<FileItem>) -> Result<String, AllocError> {
+    let faults = faults(alloc, items)?;
     let count = items.len();
     format!(in alloc;
         "{count} items, {:?}, {:?}; {faults:?}",
         head.syntax, head.span
     )
+}
+
+// Reads the source into a list, and tells of it.
+fn read_into(alloc: Global, items: &mut Items<FileItem>) -> Result<String, AllocError> {
+    match read_source(alloc, SOURCE, items) {
+        Ok(head) => told(alloc, &head, items),
+        Err(_) => Err(AllocError),
+    }
+}
+
+pub fn read(alloc: Global) -> Result<String, AllocError> {
+    let mut items = Items::new(alloc);
+    read_into(alloc, &mut items)
 }

@@ -9,6 +9,8 @@ use Rattle.protox_name_tree.specs.declared.nodes.Node.{Node}
 use Rattle.protox_name_tree.specs.Keys.{key_of, kinds_of, names_of}
 use Rattle.protox_name_tree.specs.Sound.{IsSound}
 use Rattle.protox_name_tree.specs.Tree.{IsKnown, Names, name_at_place, name_in, number_of, place_of_name, with_name}
+use Rattle.protox_names.proofs.Joining.{identifiers_are_one_part}
+use Rattle.protox_name_tree.proofs.Children.{child_some}
 use Rattle.protox_name_tree.proofs.Growing.{names_kept, names_pushed, no_such_key, sound_kept, sound_pushed}
 use Rattle.protox_name_tree.proofs.Numbering.{slice_get-last}
 
@@ -43,6 +45,17 @@ module _ (texts texts' more : List (List ℕ)) (nodes : List Node) (sound : AreS
 
   pub sound_with_texts : AreSound texts' nodes
   sound_with_texts = subst (IsSound texts' keys) (sym same_names) still_sound
+
+  -- what has the name in the place, if anything has it, is found by its key
+  pub child_found : (tree : Names) → seen texts nodes ≡ tree → (place : Option ℕ) → IsKnown tree.full_names place → (name : List ℕ) → is_identifier name ≡ true → (text : ℕ) → slice_get texts' text ≡ Some name → ((other : ℕ) → slice_get texts' other ≡ Some name → other ≡ text) → (found : Option ℕ) → ((n : ℕ) → (found ≡ Some n → slice_get keys n ≡ Some (place, text)) × (slice_get keys n ≡ Some (place, text) → found ≡ Some n)) → found ≡ number_of tree (name_in tree place name)
+  child_found tree view place known name identifier text is single found says =
+      subst (λ t. found ≡ number_of t (name_in t place name)) view
+      (child_some texts' keys names still_sound place (subst (λ t. IsKnown t.full_names place) (sym view) known) name (identifiers_are_one_part name identifier) text is single found says)
+
+  -- the tree has the name already
+  pub seen_with_old : (tree : Names) → seen texts nodes ≡ tree → (full : List ℕ) (kind : Kind) (n : ℕ) → number_of tree full ≡ Some n → seen texts' nodes ≡ with_name tree full kind
+  seen_with_old tree view full kind n found =
+      same_seen ∙ view ∙ sym (ap (λ f. cond (is_some f) tree (record { full_names = tree.full_names ++ full ∷ []; kinds = tree.kinds ++ kind ∷ [] })) found)
 
   module _ (tree : Names) (view : seen texts nodes ≡ tree) (place : Option ℕ) (known : IsKnown tree.full_names place) (name : List ℕ) (identifier : is_identifier name ≡ true) (missing : number_of tree (name_in tree place name) ≡ None) (text : ℕ) (is : slice_get texts' text ≡ Some name) where
     in_place : IsKnown names place

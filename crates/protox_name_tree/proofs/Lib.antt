@@ -1,4 +1,3 @@
-pub mod Buckets
 pub mod Numbering
 pub mod Order
 pub mod FullNames

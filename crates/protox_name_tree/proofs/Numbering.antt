@@ -1,11 +1,12 @@
 -- Keys that have numbers, and one more.
-use Rattle.std.proofs.Common.{◌≡◌, ◌⊎◌, inl, inr, ℕ, zero, suc, Bool, true, false, cond, List, [], ◌∷◌, ◌++◌, length, Option, Some, None, refl, sym, ap, ◌∙◌, arith, length-append}
+use Rattle.std.proofs.Common.{◌≡◌, ◌⊎◌, inl, inr, ℕ, zero, suc, Bool, true, false, cond, List, [], ◌∷◌, ◌++◌, length, Option, Some, None, refl, sym, ap, subst, ◌∙◌, arith, length-append}
 use Rattle.std.specs.Bool.{Decides}
 use Rattle.std.specs.List.{slice_get}
 use Rattle.std.proofs.lemmas.List.{get_or_append_left}
 use Rattle.std.proofs.lemmas.Option.{none-some, same_Some, slice_get-get_or, slice_get_within}
 use Rattle.std.proofs.Math.Seq.{get_or-append_seam}
-use Rattle.protox_name_tree.specs.Numbered.{IsNumbering}
+use Rattle.protox_name_tree.specs.Numbered.{IsIndexed}
+use Rattle.protox_name_tree.specs.Slots.{IsInWindow}
 
 -- nothing was found, as nothing can be
 pub none_if_never : (found : Option ℕ) → ((n : ℕ) → found ≡ Some n → ⊥) → found ≡ None
@@ -38,38 +39,72 @@ module _ {X : Type 0} where
   slice_get-push (y ∷ xs) last (suc n) x h =
       elim (slice_get-push xs last n x h) [ inl before ↦ inl before | inr at ↦ inr (omega (arith, at.0), at.1) ]
 
--- what a search says of the keys
-pub says_key : {K : Type 0} (number : K → Option ℕ) (inside keys : List K) (key : K) (found : Option ℕ) → IsNumbering number inside → inside ≡ keys → found ≡ number key → (n : ℕ) → (found ≡ Some n → slice_get keys n ≡ Some key) × (slice_get keys n ≡ Some key → found ≡ Some n)
-says_key number inside keys key found index is by n = (
-  λ h. sym (ap (λ l. slice_get l n) is) ∙ index.key_at key n (sym by ∙ h),
-  λ h. by ∙ index.number_of key n (ap (λ l. slice_get l n) is ∙ h),
-)
+-- ---- keys in windows
 
--- no key is there, so the search finds none
-pub not_there : {K : Type 0} (number : K → Option ℕ) (inside keys : List K) (key : K) → IsNumbering number inside → inside ≡ keys → ((n : ℕ) → slice_get keys n ≡ Some key → ⊥) → number key ≡ None
-not_there number inside keys key index is never =
-    none_if_never (number key) (λ n h. never n (sym (ap (λ l. slice_get l n) is) ∙ index.key_at key n h))
+module _ {K : Type 0} (mixed : K → ℕ) (slots : List (Option ℕ)) (elsewhere : K → Option ℕ) (inside keys : List K) (key : K) (index : IsIndexed mixed slots elsewhere inside) (is : inside ≡ keys) where
+  -- what a search says that found a number in the window
+  pub says_found : (number : ℕ) → slice_get inside number ≡ Some key → (n : ℕ) → (Some number ≡ Some n → slice_get keys n ≡ Some key) × (slice_get keys n ≡ Some key → Some number ≡ Some n)
+  says_found number at n = (
+    λ h. sym (ap (λ l. slice_get l n) is) ∙ ap (slice_get inside) (sym (same_Some number n h)) ∙ at,
+    λ h. ap (λ m. Some m) (index.once number n key at (ap (λ l. slice_get l n) is ∙ h)),
+  )
 
-module _ {K : Type 0} (same : K → Bool) (number number' : K → Option ℕ) (keys : List K) (key : K) (index : IsNumbering number keys) (fresh : number key ≡ None) (decides : (q : K) → Decides (same q) (key ≡ q)) (after : (q : K) → number' q ≡ cond (same q) (Some (length keys)) (number q)) where
-  found_at : (q : K) (n : ℕ) (test : Bool) → same q ≡ test → number' q ≡ cond test (Some (length keys)) (number q) → number' q ≡ Some n → slice_get (keys ++ key ∷ []) n ≡ Some q
-  found_at q n true is by h =
-      ap (λ m. slice_get (keys ++ key ∷ []) m) (sym (same_Some (length keys) n (sym by ∙ h)))
-      ∙ slice_get-last keys key ∙ ap (λ k. Some k) ((decides q).0 is)
-  found_at q n false is by h = slice_get-append keys (key ∷ []) n q (index.key_at q n (sym by ∙ h))
+  -- what one says that found none there
+  pub says_elsewhere : (found : Option ℕ) → ((n : ℕ) → IsInWindow slots (mixed key) n → slice_get inside n ≡ Some key → ⊥) → found ≡ elsewhere key → (n : ℕ) → (found ≡ Some n → slice_get keys n ≡ Some key) × (slice_get keys n ≡ Some key → found ≡ Some n)
+  says_elsewhere found none by n = (
+    λ h. sym (ap (λ l. slice_get l n) is) ∙ index.kept n key (sym by ∙ h),
+    λ h. let at = ap (λ l. slice_get l n) is ∙ h in
+        elim (index.found n key at) [
+          | inl window ↦ absurd (none n window at)
+          | inr there ↦ by ∙ there
+        ],
+  )
 
-  found_old : (q : K) (n : ℕ) (test : Bool) → same q ≡ test → number' q ≡ cond test (Some (length keys)) (number q) → number q ≡ Some n → number' q ≡ Some n
-  found_old q n true is by h = absurd (none-some n (sym fresh ∙ ap number ((decides q).0 is) ∙ h))
-  found_old q n false is by h = by ∙ h
+-- One more key. Its number is put into its window, or elsewhere.
+module _ {K : Type 0} (mixed : K → ℕ) (slots slots' : List (Option ℕ)) (elsewhere elsewhere' : K → Option ℕ) (keys : List K) (key : K) (index : IsIndexed mixed slots elsewhere keys) (fresh : (n : ℕ) → slice_get keys n ≡ Some key → ⊥) (held : (m n : ℕ) → IsInWindow slots m n → IsInWindow slots' m n) where
+  abbrev IsNew : K → ℕ → Type 0
+  IsNew q n = (n ≡ length keys) × (key ≡ q)
 
-  found_new : (q : K) (n : ℕ) → n ≡ length keys → key ≡ q → number' q ≡ Some n
-  found_new q n last is =
-      after q ∙ ap (λ b. cond b (Some (length keys)) (number q)) ((decides q).1 is) ∙ ap (λ m. Some m) (sym last)
+  once_more : (q : K) (m n : ℕ) → (slice_get keys m ≡ Some q) ⊎ IsNew q m → (slice_get keys n ≡ Some q) ⊎ IsNew q n → m ≡ n
+  once_more q m n (inl at) (inl at') = index.once m n q at at'
+  once_more q m n (inl at) (inr new) = absurd (fresh m (at ∙ ap (λ k. Some k) (sym new.1)))
+  once_more q m n (inr new) (inl at) = absurd (fresh n (at ∙ ap (λ k. Some k) (sym new.1)))
+  once_more q m n (inr new) (inr new') = new.0 ∙ sym new'.0
 
-  pub numbering_pushed : IsNumbering number' (keys ++ key ∷ [])
-  numbering_pushed = record {
-    key_at = λ q n h. found_at q n (same q) refl (after q) h;
-    number_of = λ q n h. elim (slice_get-push keys key n q h) [
-      | inl before ↦ found_old q n (same q) refl (after q) (index.number_of q n before)
-      | inr at ↦ found_new q n at.0 at.1
+  pub indexed_pushed : ((q : K) (n : ℕ) → elsewhere q ≡ Some n → elsewhere' q ≡ Some n) → ((q : K) (n : ℕ) → elsewhere' q ≡ Some n → (elsewhere q ≡ Some n) ⊎ IsNew q n) → IsInWindow slots' (mixed key) (length keys) ⊎ (elsewhere' key ≡ Some (length keys)) → IsIndexed mixed slots' elsewhere' (keys ++ key ∷ [])
+  indexed_pushed more back here = record {
+    once = λ m n q at at'. once_more q m n (slice_get-push keys key m q at) (slice_get-push keys key n q at');
+    found = λ n q at. elim (slice_get-push keys key n q at) [
+      | inl before ↦ elim (index.found n q before) [
+        | inl window ↦ inl (held (mixed q) n window)
+        | inr there ↦ inr (more q n there)
+      ]
+      | inr new ↦ subst (λ k. IsInWindow slots' (mixed k) n ⊎ (elsewhere' k ≡ Some n)) new.1 (subst (λ m. IsInWindow slots' (mixed key) m ⊎ (elsewhere' key ≡ Some m)) (sym new.0) here)
+    ];
+    kept = λ n q h. elim (back q n h) [
+      | inl before ↦ slice_get-append keys (key ∷ []) n q (index.kept n q before)
+      | inr new ↦ ap (slice_get (keys ++ key ∷ [])) new.0 ∙ slice_get-last keys key ∙ ap (λ k. Some k) new.1
     ];
   }
+
+  -- its number is in its window
+  pub pushed_in_window : elsewhere' ≡ elsewhere → IsInWindow slots' (mixed key) (length keys) → IsIndexed mixed slots' elsewhere' (keys ++ key ∷ [])
+  pushed_in_window same here = indexed_pushed (λ q n h. ap (λ f. f q) same ∙ h) (λ q n h. inl (sym (ap (λ f. f q) same) ∙ h)) (inl here)
+
+  -- its number is elsewhere
+  module _ (same : K → Bool) (decides : (q : K) → Decides (same q) (key ≡ q)) (after : (q : K) → elsewhere' q ≡ cond (same q) (Some (length keys)) (elsewhere q)) where
+    none_before : (q : K) (n : ℕ) → key ≡ q → elsewhere q ≡ Some n → ⊥
+    none_before q n is h = fresh n (index.kept n q h ∙ ap (λ k. Some k) (sym is))
+
+    still : (q : K) (n : ℕ) (test : Bool) → same q ≡ test → elsewhere' q ≡ cond test (Some (length keys)) (elsewhere q) → elsewhere q ≡ Some n → elsewhere' q ≡ Some n
+    still q n true is by h = absurd (none_before q n ((decides q).0 is) h)
+    still q n false is by h = by ∙ h
+
+    new_or_before : (q : K) (n : ℕ) (test : Bool) → same q ≡ test → elsewhere' q ≡ cond test (Some (length keys)) (elsewhere q) → elsewhere' q ≡ Some n → (elsewhere q ≡ Some n) ⊎ IsNew q n
+    new_or_before q n true is by h = inr (sym (same_Some (length keys) n (sym by ∙ h)), (decides q).0 is)
+    new_or_before q n false is by h = inl (sym by ∙ h)
+
+    pub pushed_elsewhere : IsIndexed mixed slots' elsewhere' (keys ++ key ∷ [])
+    pushed_elsewhere =
+        indexed_pushed (λ q n h. still q n (same q) refl (after q) h) (λ q n h. new_or_before q n (same q) refl (after q) h)
+        (inr (after key ∙ ap (λ b. cond b (Some (length keys)) (elsewhere key)) ((decides key).1 refl)))

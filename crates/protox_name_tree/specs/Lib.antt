@@ -1,4 +1,4 @@
-pub mod Buckets
+pub mod Slots
 pub mod Numbered
 pub mod Keys
 pub mod Sound

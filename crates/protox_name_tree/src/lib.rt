@@ -2,10 +2,10 @@
 #![tactic(auto)]
 
 mod dotted;
-mod key_index;
 mod nodes;
 mod scopes;
-mod text_index;
+mod slots;
+mod sought;
 mod texts;
 mod tree;
 mod word;

@@ -3,10 +3,13 @@
 ghost use Rattle.std.specs.Prelude.{◌≡◌, ◌↔◌, ◌++◌, ◌∷◌, [], ℕ, Some, IfOk, OnErr, map, length};
 ghost use Rattle.std.specs.List.{slice_get};
 ghost use Rattle.protox_name_tree.specs.Keys.{key_of};
+ghost use Rattle.protox_name_tree.specs.Slots.{mixed_key};
 
-use crate::key_index::KeyIndex;
+use crate::slots::Slots;
+use crate::sought::Sought;
 use protox_scopes::Kind;
 use std::alloc::{AllocError, Global};
+use std::collections::BTreeMap;
 use std::marker::Model;
 
 /// A node: what it is in, the number of its own name, and its kind.
@@ -17,26 +20,64 @@ pub(crate) struct Node {
     pub(crate) kind: Kind,
 }
 
+// How a node is found: by what it is in, and the number of its own name.
+type Key = (Option<usize>, usize);
+
+fn mixed_key(key: Key) -> u64
+    ensures { result ≡ mixed_key key }
+{
+    let (place, name) = key;
+    let low = name as u64 % 4_294_967_296;
+    match place {
+        None => low,
+        Some(place) => place as u64 % 4_294_967_296 * 33 + low + 1,
+    }
+}
+
+// A node that is looked for.
+#[derive(Drop)]
+struct SoughtNode<'a> {
+    nodes: &'a [Node],
+    key: Key,
+}
+
+impl Sought for SoughtNode<'_> {
+    ghost use Rattle.std.specs.Prelude.{◌≡◌, Some, map};
+    ghost use Rattle.std.specs.List.{slice_get};
+    ghost use Rattle.protox_name_tree.specs.Keys.{key_of};
+
+    ghost is_at = { λ s n. slice_get (map key_of s.nodes.now) n ≡ Some s.key };
+
+    fn is_at(&self, number: usize) -> bool {
+        match self.nodes.get(number) {
+            Some(node) => node.place == self.key.0 && node.name == self.key.1,
+            None => false,
+        }
+    }
+}
+
 /// Nodes, of which no two have the same name in the same place.
 #[derive(Drop)]
 pub(crate) struct Nodes {
     nodes: Vec<Node>,
-    numbers: KeyIndex,
+    slots: Slots,
+    elsewhere: BTreeMap<Key, usize>,
     room: usize,
 }
 
 impl Model for Nodes {
     ghost use Rattle.std.specs.Prelude.{List, map};
     ghost use Rattle.protox_name_tree.specs.declared.nodes.Node.{Node};
-    ghost use Rattle.protox_name_tree.specs.Numbered.{IsNumbering};
-    ghost use Rattle.protox_name_tree.specs.Buckets.{number_of_key};
-    ghost use Rattle.protox_name_tree.specs.Keys.{key_of};
+    ghost use Rattle.std.specs.BTreeMap.{get};
+    ghost use Rattle.protox_name_tree.specs.Numbered.{IsIndexed};
+    ghost use Rattle.protox_name_tree.specs.Slots.{mixed_key};
+    ghost use Rattle.protox_name_tree.specs.Keys.{key_cmp, key_of};
 
     ghost Value = { List Node };
 
     ghost view = { λ t. t.nodes.items };
 
-    ghost invariant = { λ t. IsNumbering (number_of_key t.numbers.buckets.items) (map key_of t.nodes.items) };
+    ghost invariant = { λ t. IsIndexed mixed_key t.slots (get key_cmp t.elsewhere) (map key_of t.nodes.items) };
 }
 
 impl Nodes {
@@ -46,7 +87,8 @@ impl Nodes {
     {
         Nodes {
             nodes: Vec::new(alloc),
-            numbers: KeyIndex::new(alloc),
+            slots: Slots::new(alloc),
+            elsewhere: BTreeMap::new(alloc),
             room,
         }
     }
@@ -70,7 +112,13 @@ impl Nodes {
         ensures { (n : ℕ) → (result ≡ Some n)
             ↔ (slice_get (map key_of self.now) n ≡ Some (place, name)) }
     {
-        self.numbers.get((place, name))
+        let key = (place, name);
+        let nodes = self.nodes.as_slice();
+        let sought = SoughtNode { nodes, key };
+        match self.slots.search(mixed_key(key), &sought) {
+            Some(number) => Some(number),
+            None => self.elsewhere.get(&key).copied(),
+        }
     }
 
     /// Adds a node.
@@ -85,7 +133,10 @@ impl Nodes {
         let number = self.nodes.len();
         self.nodes.reserve(1)?;
         let key = (node.place, node.name);
-        self.numbers.insert(alloc, self.room, key, number)?;
+        self.slots.open(alloc, self.room)?;
+        if !self.slots.put(mixed_key(key), number) {
+            self.elsewhere.insert(key, number)?;
+        }
         self.nodes.push_reserved(node);
         Ok(number)
     }

@@ -1,31 +1,77 @@
 //! Texts that have numbers.
 
-ghost use Rattle.std.specs.Prelude.{◌≡◌, ◌↔◌, ◌++◌, ◌∷◌, [], ℕ, List, Some, IfOk, OnErr};
+ghost use Rattle.std.specs.Prelude.{◌≡◌, ◌↔◌, ◌++◌, ◌∷◌, [], ℕ, List, Some, IfOk, OnErr, map, string_bytes};
 ghost use Rattle.std.specs.List.{slice_get};
 ghost use Rattle.std.specs.Option.{option_copied};
+ghost use Rattle.protox_name_tree.specs.Slots.{mixed_text};
 
-use crate::text_index::TextIndex;
+use crate::slots::Slots;
+use crate::sought::Sought;
 use std::alloc::{AllocError, Global};
+use std::collections::BTreeMap;
 use std::marker::Model;
 
 /// Different texts. Each has a number, and is found by it and by what it says.
 #[derive(Drop)]
 pub(crate) struct Texts {
     texts: Vec<String>,
-    numbers: TextIndex,
+    slots: Slots,
+    elsewhere: BTreeMap<String, usize>,
     room: usize,
 }
 
 impl Model for Texts {
     ghost use Rattle.std.specs.Prelude.{List, ℕ, map, string_bytes};
-    ghost use Rattle.protox_name_tree.specs.Buckets.{number_of_text};
-    ghost use Rattle.protox_name_tree.specs.Numbered.{IsNumbering};
+    ghost use Rattle.std.specs.BTreeMap.{get_by_text};
+    ghost use Rattle.protox_name_tree.specs.Numbered.{IsIndexed};
+    ghost use Rattle.protox_name_tree.specs.Slots.{mixed_text};
 
     ghost Value = { List (List ℕ) };
 
     ghost view = { λ t. map string_bytes t.texts.items };
 
-    ghost invariant = { λ t. IsNumbering (number_of_text t.numbers.buckets.items) (map string_bytes t.texts.items) };
+    ghost invariant = { λ t. IsIndexed mixed_text t.slots (get_by_text t.elsewhere) (map string_bytes t.texts.items) };
+}
+
+fn mixed_text(text: &str) -> u64
+    ensures { result ≡ mixed_text text.now }
+{
+    let mut mixed = 5381;
+    for byte in text.as_bytes() {
+        mixed = (mixed * 33 + *byte as u64) % 4_294_967_296;
+    }
+    mixed
+}
+
+// The text with a number.
+fn text_at(texts: &[String], number: usize) -> Option<&str>
+    ensures { option_copied result ≡ slice_get (map string_bytes texts.now) number }
+{
+    match texts.get(number) {
+        Some(text) => Some(text.as_str()),
+        None => None,
+    }
+}
+
+// A text that is looked for.
+#[derive(Drop)]
+struct SoughtText<'a> {
+    texts: &'a [String],
+    text: &'a str,
+}
+
+impl Sought for SoughtText<'_> {
+    ghost use Rattle.std.specs.Prelude.{◌≡◌, Some, map, string_bytes};
+    ghost use Rattle.std.specs.List.{slice_get};
+
+    ghost is_at = { λ s n. slice_get (map string_bytes s.texts.now) n ≡ Some s.text.now };
+
+    fn is_at(&self, number: usize) -> bool {
+        match text_at(self.texts, number) {
+            Some(known) => known == self.text,
+            None => false,
+        }
+    }
 }
 
 impl Texts {
@@ -35,7 +81,8 @@ impl Texts {
     {
         Texts {
             texts: Vec::new(alloc),
-            numbers: TextIndex::new(alloc),
+            slots: Slots::new(alloc),
+            elsewhere: BTreeMap::new(alloc),
             room,
         }
     }
@@ -44,29 +91,36 @@ impl Texts {
     pub(crate) fn number(&self, text: &str) -> Option<usize>
         ensures { (n : ℕ) → (result ≡ Some n) ↔ (slice_get self.now n ≡ Some text.now) }
     {
-        self.numbers.get(text)
+        let texts = self.texts.as_slice();
+        let sought = SoughtText { texts, text };
+        match self.slots.search(mixed_text(text), &sought) {
+            Some(number) => Some(number),
+            None => self.elsewhere.get(text).copied(),
+        }
     }
 
     /// The text with a number.
     pub(crate) fn get(&self, number: usize) -> Option<&str>
         ensures { option_copied result ≡ slice_get self.now number }
     {
-        match self.texts.get(number) {
-            Some(text) => Some(text.as_str()),
-            None => None,
-        }
+        text_at(&self.texts, number)
     }
 
     fn push(&mut self, alloc: Global, text: &str) -> Result<usize, AllocError>
         requires { (n : ℕ) → slice_get self.old n ≡ Some text.now → ⊥ }
         ensures ok { IfOk result (λ n. slice_get self.new n ≡ Some text.now) }
+        ensures single { IfOk result (λ n. (m : ℕ) → slice_get self.new m ≡ Some text.now → m ≡ n) }
         ensures grown { IfOk result (λ _. self.new ≡ self.old ++ text.now ∷ []) }
         ensures err { OnErr result (self.new ≡ self.old) }
     {
         let number = self.texts.len();
         let kept = String::from_str(alloc, text)?;
         self.texts.reserve(1)?;
-        self.numbers.insert(alloc, self.room, text, number)?;
+        self.slots.open(alloc, self.room)?;
+        if !self.slots.put(mixed_text(text), number) {
+            let key = String::from_str(alloc, text)?;
+            self.elsewhere.insert(key, number)?;
+        }
         self.texts.push_reserved(kept);
         Ok(number)
     }
@@ -77,6 +131,7 @@ impl Texts {
     /// `AllocError` where memory runs out. Nothing is added then.
     pub(crate) fn add(&mut self, alloc: Global, text: &str) -> Result<usize, AllocError>
         ensures ok { IfOk result (λ n. slice_get self.new n ≡ Some text.now) }
+        ensures single { IfOk result (λ n. (m : ℕ) → slice_get self.new m ≡ Some text.now → m ≡ n) }
         ensures grown { (more : List (List ℕ)) × (self.new ≡ self.old ++ more) }
     {
         match self.number(text) {

@@ -116,10 +116,10 @@ impl NameTree {
         ensures err { OnErr result (self.new ≡ self.old) }
     {
         let place = self.known(place);
-        if let Some(number) = self.child(place, name) {
+        let name = self.texts.add(alloc, name)?;
+        if let Some(number) = self.nodes.number(place, name) {
             return Ok(number);
         }
-        let name = self.texts.add(alloc, name)?;
         let number = self.nodes.push(alloc, Node { place, name, kind })?;
         Ok(number)
     }
@@ -138,22 +138,15 @@ impl NameTree {
             (λ x. name_in self.now x.0 x.1.now ≡ name_in self.now place name.now) }
     {
         let place = self.known(place);
-        match name.rsplit_once('.') {
-            None => {
-                if is_identifier(name) {
-                    Some((place, name))
-                } else {
-                    None
-                }
-            }
-            Some((scope, own)) => {
-                let place = self.find(place, scope)?;
-                if is_identifier(own) {
-                    Some((Some(place), own))
-                } else {
-                    None
-                }
-            }
+        if is_identifier(name) {
+            return Some((place, name));
+        }
+        let (scope, own) = name.rsplit_once('.')?;
+        let place = self.find(place, scope)?;
+        if is_identifier(own) {
+            Some((Some(place), own))
+        } else {
+            None
         }
     }
 

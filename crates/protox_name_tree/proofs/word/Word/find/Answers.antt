@@ -1,10 +1,9 @@
-use Rattle.std.proofs.Common.{◌≡◌, ℕ, List, Option, length, map, sym, ap, subst, ◌∙◌}
+use Rattle.std.proofs.Common.{◌≡◌, length, map, sym, ap, subst, ◌∙◌}
 use Rattle.std.proofs.lemmas.List.{length-map}
 use Rattle.std.proofs.lemmas.Option.{none-some, same_Some}
 use Rattle.protox_names.specs.Names.{within}
-use Rattle.protox_names.specs.Tree.{name_of_place}
 use Rattle.protox_name_tree.specs.Keys.{key_of, names_of}
-use Rattle.protox_name_tree.specs.Tree.{name_at_place, name_in, number_of, place_of_name}
+use Rattle.protox_name_tree.specs.Tree.{name_in, number_of, place_of_name}
 use Rattle.protox_name_tree.specs.Word.{Sought}
 use Rattle.protox_name_tree.proofs.Children.{child_none, child_some}
 use Rattle.protox_name_tree.proofs.word.Word.find.Goals as goal

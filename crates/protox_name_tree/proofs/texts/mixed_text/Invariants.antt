@@ -1,7 +1,7 @@
 use Rattle.std.proofs.Common.{◌≡◌, ◌<◌, drop}
 use Rattle.std.specs.List.{fold}
-use Rattle.protox_name_tree.specs.Buckets.{mixed}
-use Rattle.protox_name_tree.proofs.text_index.mixed_text.Given as goal
+use Rattle.protox_name_tree.specs.Slots.{mixed}
+use Rattle.protox_name_tree.proofs.texts.mixed_text.Given as goal
 
 abbrev pub invariant-loop-byte : goal.invariant-loop-byte
 invariant-loop-byte l =

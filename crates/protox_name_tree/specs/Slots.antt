@@ -1,0 +1,40 @@
+-- Slots that hold numbers.
+use Rattle.std.specs.Prelude.{◌≡◌, ◌<◌, ◌+◌, ◌-◌, ◌*◌, ◌%◌, ℕ, zero, suc, List, Option, Some, None, fold, length, slice_index_or}
+
+-- what the slot at an index holds
+abbrev pub held : List (Option ℕ) → ℕ → Option ℕ
+held slots index = slice_index_or slots index None
+
+-- where a window begins, if it may begin at so many indices
+abbrev pub start_among : ℕ → ℕ → ℕ
+start_among zero mixed = 0
+start_among (suc n) mixed = mixed % suc n
+
+-- where the window begins of what is mixed to a number
+abbrev pub window_start : ℕ → ℕ → ℕ
+window_start count mixed = start_among (count - 8) mixed
+
+-- One of the eight slots of a window holds the number.
+pub record IsInWindow (slots : List (Option ℕ)) (mixed n : ℕ) : Type 0 where
+  pub step : ℕ
+  pub near : step < 8
+  pub holds : held slots (window_start (length slots) mixed + step) ≡ Some n
+
+-- There is a slot, and it holds nothing.
+pub record IsFree (slots : List (Option ℕ)) (index : ℕ) : Type 0 where
+  pub there : index < length slots
+  pub nothing : held slots index ≡ None
+
+-- ---- how texts and keys are mixed
+
+-- a number below 2 to the 32nd, from all bytes of a text
+abbrev pub mixed : ℕ → ℕ → ℕ
+mixed so_far byte = (so_far * 33 + byte) % 4294967296
+
+abbrev pub mixed_text : List ℕ → ℕ
+mixed_text text = fold mixed 5381 text
+
+-- a number below 2 to the 38th, from both parts of a key
+abbrev pub mixed_key : Option ℕ × ℕ → ℕ
+mixed_key (None, name) = name % 4294967296
+mixed_key (Some place, name) = (place % 4294967296) * 33 + name % 4294967296 + 1

@@ -1,0 +1,127 @@
+//! Slots in which numbers are looked for.
+
+ghost use Rattle.std.specs.Prelude.{◌≡◌, ◌<◌, ◌≤◌, ◌+◌, ◌^◌, ℕ, Some, None, [], true, length, IfNone, IfSome};
+ghost use Rattle.protox_name_tree.specs.Slots.{IsFree, IsInWindow, held, window_start};
+
+use crate::sought::Sought;
+use std::alloc::{AllocError, Global};
+use std::marker::Model;
+
+/// How many slots are looked at for a number.
+const WINDOW: usize = 8;
+
+/// Slots that hold numbers. What has a number is mixed to another one, which tells a window of eight
+/// slots, and one of these holds its number. If all eight were taken, none does: its number is kept
+/// elsewhere. So a search takes few steps, whatever is looked for.
+#[derive(Drop)]
+pub(crate) struct Slots {
+    slots: Vec<Option<usize>>,
+}
+
+impl Model for Slots {
+    ghost use Rattle.std.specs.Prelude.{List, Option, ℕ};
+
+    ghost Value = { List (Option ℕ) };
+
+    ghost view = { λ s. s.slots.items };
+}
+
+impl Slots {
+    /// No slots.
+    pub(crate) fn new(alloc: Global) -> Slots
+        ensures { result ≡ [] }
+    {
+        Slots {
+            slots: Vec::new(alloc),
+        }
+    }
+
+    /// Makes slots for about `room` numbers, if there are none: two for each.
+    ///
+    /// # Errors
+    /// `AllocError` where memory runs out.
+    pub(crate) fn open(&mut self, alloc: Global, room: usize) -> Result<(), AllocError>
+        ensures { (mixed n : ℕ) → IsInWindow self.old mixed n → IsInWindow self.new mixed n }
+    {
+        if self.slots.is_empty() {
+            let count = room.saturating_add(room).saturating_add(WINDOW);
+            self.slots = vec![in alloc; None; count]?;
+        }
+        Ok(())
+    }
+
+    // Where the window begins of what is mixed to a number.
+    fn window(&self, mixed: u64) -> usize
+        ensures start { result ≡ window_start (length self.now) mixed }
+        ensures small { result < 2 ^ 62 }
+    {
+        let slots: &[Option<usize>] = &self.slots;
+        match slots.len().saturating_sub(WINDOW) {
+            0 => 0,
+            count => (mixed % count as u64) as usize,
+        }
+    }
+
+    // What the slot at an index holds.
+    fn get(&self, index: usize) -> Option<usize>
+        ensures { result ≡ held self.now index }
+    {
+        match self.slots.get(index) {
+            Some(slot) => *slot,
+            None => None,
+        }
+    }
+
+    // Whether there is a slot at an index, and it holds nothing.
+    fn is_free(&self, index: usize) -> bool
+        ensures { result ≡ true → IsFree self.now index }
+    {
+        index < self.slots.len() && self.slots[index].is_none()
+    }
+
+    // The index of a slot in the window that holds nothing.
+    fn free(&self, mixed: u64) -> Option<usize>
+        ensures free { IfSome result (λ index. IsFree self.now index) }
+        ensures near { IfSome result (λ index. (step : ℕ) × (step < 8)
+            × (index ≡ window_start (length self.now) mixed + step)) }
+    {
+        let start = self.window(mixed);
+        for step in 0..WINDOW {
+            if self.is_free(start + step) {
+                return Some(start + step);
+            }
+        }
+        None
+    }
+
+    /// Puts a number into a slot of the window, if one holds nothing. Answers whether it did.
+    pub(crate) fn put(&mut self, mixed: u64, number: usize) -> bool
+        ensures kept { (m n : ℕ) → IsInWindow self.old m n → IsInWindow self.new m n }
+        ensures put { result ≡ true → IsInWindow self.new mixed number }
+    {
+        match self.free(mixed) {
+            Some(index) => {
+                self.slots[index] = Some(number);
+                true
+            }
+            None => false,
+        }
+    }
+
+    /// The number of what is looked for, if a slot of its window holds it.
+    pub(crate) fn search<S: Sought>(&self, mixed: u64, sought: &S) -> Option<usize>
+        ensures some { IfSome result (λ n. S.is_at sought.now n) }
+        ensures none { IfNone result ((n : ℕ) → IsInWindow self.now mixed n
+            → S.is_at sought.now n → ⊥) }
+    {
+        let start = self.window(mixed);
+        for step in 0..WINDOW {
+            if let Some(number) = self.get(start + step) {
+                if sought.is_at(number) {
+                    return Some(number);
+                }
+            }
+        }
+        None
+    }
+}

@@ -115,7 +115,7 @@ pub(crate) fn check_name(
     };
     // for the proof: a full name has one number
     let _count = view.symbols.len();
-    let number = view.symbols.find(scope, name);
+    let number = view.symbols.word(name).find(scope);
     check_clash(alloc, view, file, path, number, faults)?;
     Ok(Some(scope))
 }

@@ -90,6 +90,9 @@ fn link_extendee<N: Names>(
     ensures { OnOk result (field.new ≡ with_linked_extendee (N.meaning names.now)
         (name_of_place (N.name_of names.now) scope) field.old) }
 {
+    if field.extendee().is_none() {
+        return Ok(());
+    }
     let extendee = field.take_extendee();
     let extendee = link_name(alloc, names, Wanted::Anything, scope, extendee)?;
     field.set_extendee(alloc, extendee)

@@ -21,8 +21,8 @@ use std::marker::Model;
 ///
 /// No full name is kept as a text: a name stands in the scope that it is added to, under its own
 /// name. So a long scope with many names costs no more than a short one. A look-up takes as many steps
-/// as the name has parts. Each of them is a search in two ordered maps, which are small, unless someone
-/// chooses names that all fall into one; then it is one in two maps of all names.
+/// as the name has parts, and each of them looks at a few slots. If someone chooses names that share
+/// their slots, each is a search in two ordered maps of all names.
 #[derive(Drop)]
 pub struct NameTree {
     pub(crate) texts: Texts,

@@ -29,7 +29,8 @@ pub fn json_name(alloc: Global, name: &str) -> Result<String, AllocError>
     let Some((first, mut rest)) = name.split_once('_') else {
         return String::from_str(alloc, name);
     };
-    let mut made = String::from_str(alloc, first)?;
+    let mut made = String::with_capacity(alloc, name.len())?;
+    made.push_str(first)?;
     while let Some((piece, more)) = rest.split_once('_') {
         push_capitalized(&mut made, piece)?;
         rest = more;

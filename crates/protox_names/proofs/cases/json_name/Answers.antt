@@ -1,4 +1,4 @@
-use Rattle.std.proofs.Common.{◌≡◌, None, Some, IfOk, string_bytes, subst, rules}
+use Rattle.std.proofs.Common.{◌≡◌, ◌++◌, None, Some, IfOk, string_bytes, ap, subst, ◌∙◌, rules}
 use Rattle.protox_names.proofs.Pieces.{camel_alone, camel_first, camel_last, camel_more, cut}
 use Rattle.protox_names.proofs.cases.json_name.Goals as goal
 
@@ -11,7 +11,7 @@ pub loop-piece-init : goal.loop-piece-init
 loop-piece-init c =
     let name = c.args.name.now in
     let at = cut name (Some (c.in-Some.first, c.in-Some.rest)) c.in-Some.ensures.cases in
-    record { text = search rules; made = camel_first name _ _ _ at c.in_ok-made.ensures.ok }
+    record { text = search rules; made = camel_first name _ _ _ at (c.in_ok-push_str.ensures.bytes ∙ ap (λ made. made ++ c.in-Some.first.now) c.in_ok-made.ensures.bytes) }
 
 pub loop-piece-smaller : goal.loop-piece-smaller
 loop-piece-smaller c = (cut c.loop-piece.rest.now (Some (c.in-Some-split_once.piece, c.in-Some-split_once.more)) c.in-Some-split_once.ensures.cases).shorter

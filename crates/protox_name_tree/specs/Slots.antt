@@ -14,16 +14,21 @@ start_among (suc n) mixed = mixed % suc n
 abbrev pub window_start : ℕ → ℕ → ℕ
 window_start count mixed = start_among (count - 8) mixed
 
--- One of the eight slots of a window holds the number.
-pub record IsInWindow (slots : List (Option ℕ)) (mixed n : ℕ) : Type 0 where
-  pub step : ℕ
-  pub near : step < 8
-  pub holds : held slots (window_start (length slots) mixed + step) ≡ Some n
-
 -- There is a slot, and it holds nothing.
 pub record IsFree (slots : List (Option ℕ)) (index : ℕ) : Type 0 where
   pub there : index < length slots
   pub nothing : held slots index ≡ None
+
+-- The first slots of a window are not free.
+abbrev pub AreTaken : List (Option ℕ) → ℕ → ℕ → Type 0
+AreTaken slots mixed count = (step : ℕ) → step < count → IsFree slots (window_start (length slots) mixed + step) → ⊥
+
+-- One of the eight slots of a window holds the number, and none before it is free.
+pub record IsInWindow (slots : List (Option ℕ)) (mixed n : ℕ) : Type 0 where
+  pub step : ℕ
+  pub near : step < 8
+  pub holds : held slots (window_start (length slots) mixed + step) ≡ Some n
+  pub taken : AreTaken slots mixed step
 
 -- ---- how texts and keys are mixed
 

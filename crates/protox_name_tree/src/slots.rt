@@ -1,7 +1,7 @@
 //! Slots in which numbers are looked for.
 
 ghost use Rattle.std.specs.Prelude.{◌≡◌, ◌<◌, ◌≤◌, ◌+◌, ◌^◌, ℕ, Some, None, [], true, length, IfNone, IfSome};
-ghost use Rattle.protox_name_tree.specs.Slots.{IsFree, IsInWindow, held, window_start};
+ghost use Rattle.protox_name_tree.specs.Slots.{AreTaken, IsFree, IsInWindow, held, window_start};
 
 use crate::sought::Sought;
 use std::alloc::{AllocError, Global};
@@ -11,8 +11,9 @@ use std::marker::Model;
 const WINDOW: usize = 8;
 
 /// Slots that hold numbers. What has a number is mixed to another one, which tells a window of eight
-/// slots, and one of these holds its number. If all eight were taken, none does: its number is kept
-/// elsewhere. So a search takes few steps, whatever is looked for.
+/// slots. Its number is in the first of these that was free, so a search ends at the first that is
+/// free. If all eight were taken, its number is kept elsewhere. So a search takes few steps, whatever
+/// is looked for.
 #[derive(Drop)]
 pub(crate) struct Slots {
     slots: Vec<Option<usize>>,
@@ -74,16 +75,18 @@ impl Slots {
 
     // Whether there is a slot at an index, and it holds nothing.
     fn is_free(&self, index: usize) -> bool
-        ensures { result ≡ true → IsFree self.now index }
+        ensures yes { result ≡ true → IsFree self.now index }
+        ensures no { IsFree self.now index → result ≡ true }
     {
         index < self.slots.len() && self.slots[index].is_none()
     }
 
-    // The index of a slot in the window that holds nothing.
+    // The index of the first slot in the window that holds nothing.
     fn free(&self, mixed: u64) -> Option<usize>
         ensures free { IfSome result (λ index. IsFree self.now index) }
         ensures near { IfSome result (λ index. (step : ℕ) × (step < 8)
-            × (index ≡ window_start (length self.now) mixed + step)) }
+            × (index ≡ window_start (length self.now) mixed + step)
+            × AreTaken self.now mixed step) }
     {
         let start = self.window(mixed);
         for step in 0..WINDOW {
@@ -116,6 +119,9 @@ impl Slots {
     {
         let start = self.window(mixed);
         for step in 0..WINDOW {
+            if self.is_free(start + step) {
+                return None;
+            }
             if let Some(number) = self.get(start + step) {
                 if sought.is_at(number) {
                     return Some(number);

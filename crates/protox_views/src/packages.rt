@@ -2,6 +2,7 @@
 
 ghost use Rattle.std.specs.Prelude.{◌≡◌, ◌<◌, ◌||◌, ◌&&◌, ℕ, length, slice_index_or, false, IfOk};
 ghost use Rattle.protox_views.specs.Packages.{is_on_the_way, is_package_seen};
+ghost use Rattle.protox_views.specs.Views.{is_marked};
 
 use crate::view::is_marked;
 use protox_symbols::Symbols;
@@ -25,13 +26,20 @@ fn mark(symbols: &Symbols, marks: &mut [bool], whole: Option<usize>)
     }
 }
 
-// The same, if the package is seen.
-fn mark_if_seen(symbols: &Symbols, marks: &mut [bool], seen: bool, whole: Option<usize>)
+// The same for the package of a file, if the file has one and is seen.
+fn mark_if_seen(
+    symbols: &Symbols,
+    marks: &mut [bool],
+    sees: &[bool],
+    file: usize,
+    whole: Option<usize>,
+)
     requires { length marks.old ≡ length symbols.now.names.full_names }
-    ensures { (n : ℕ) → n < length marks.old → slice_index_or marks.new n false ≡
-        (slice_index_or marks.old n false || (seen && is_on_the_way symbols.now.names n whole)) }
+    ensures { (n : ℕ) → n < length marks.old → slice_index_or marks.new n false
+        ≡ (slice_index_or marks.old n false
+        || (is_marked sees.now file && is_on_the_way symbols.now.names n whole)) }
 {
-    if seen {
+    if whole.is_some() && is_marked(sees, file) {
         mark(symbols, marks, whole);
     }
 }
@@ -54,7 +62,7 @@ pub fn seen_packages(
 {
     let mut marks = vec![in alloc; false; symbols.len()]?;
     for (file, package) in packages.iter().enumerate() {
-        mark_if_seen(symbols, &mut marks, is_marked(sees, file), *package);
+        mark_if_seen(symbols, &mut marks, sees, file, *package);
     }
     Ok(marks)
 }

@@ -15,7 +15,7 @@ loop-file-preserved c =
     let all = λ (n : ℕ). is_package_seen names packages sees n in
     let as_many : length marked ≡ length names.full_names = omega (arith, c.mark_if_seen.auto.marks, c.deref_mut.ensures.len, c.loop-file.marks.ok, c.loop-file.invariant.0) in
     let mark : (n : ℕ) → n < length names.full_names → get_or marked n false ≡ (get_or c.loop-file.marks.items n false || (get_or sees i false && is_on_the_way names n whole)) = λ n below.
-    rw (← c.deref_mut.ensures.value, ← c.is_marked.ensures) (c.mark_if_seen.ensures n (omega (arith, below, c.mark_if_seen.auto.marks, as_many))) in
+    rw (← c.deref_mut.ensures.value) (c.mark_if_seen.ensures n (omega (arith, below, c.mark_if_seen.auto.marks, as_many))) in
     rw (written_whole marked c.loop-file.marks.items c.loop-file.marks.len (omega (arith, c.mark_if_seen.auto.marks, c.deref_mut.ensures.len, c.loop-file.marks.ok)) (omega (arith, c.loop-file.marks.ok))) (
       as_many,
       λ n below. package_marked names c.loop-file.marks.items marked whole (drop (i + 1) packages) sees i n (all n) (mark n below)

@@ -7,3 +7,7 @@ pub mod Paths
 pub mod Again
 pub mod Growing
 pub mod Behind
+pub mod WrongClashes
+pub mod WrongImports
+pub mod WrongTold
+pub mod WrongListed

@@ -57,10 +57,10 @@ module _ {X : Type 0} (P : X → Type 0) where
   all_if true xs ys here there = here
   all_if false xs ys here there = there
 
-  one : (x : X) → P x → All P (x ∷ [])
+  pub one : (x : X) → P x → All P (x ∷ [])
   one x is = All-cons P x [] is (All-nil P)
 
-  all_flat : {A : Type 0} (f : A → List X) (xs : List A) → All (λ x. All P (f x)) xs → All P (flat_map f xs)
+  pub all_flat : {A : Type 0} (f : A → List X) (xs : List A) → All (λ x. All P (f x)) xs → All P (flat_map f xs)
   all_flat f [] each = All-nil P
   all_flat f (x ∷ xs) each = All-append P (f x) (flat_map f xs) (All-head (λ x. All P (f x)) x xs each) (all_flat f xs (All-tail (λ x. All P (f x)) x xs each))
 

@@ -115,7 +115,7 @@ module _ (t : Table) (sees packages : List Bool) (file : ℕ) where
   both true false h = cc
   both false b h = cc
 
-  thing_is : (path : Path) (thing : Option Thing) → option_map_or (λ (own : Thing). own.file == file && pointwise int_eq own.path path) thing false ≡ true → thing ≡ Some (record { file = file; path = path })
+  pub thing_is : (path : Path) (thing : Option Thing) → option_map_or (λ (own : Thing). own.file == file && pointwise int_eq own.path path) thing false ≡ true → thing ≡ Some (record { file = file; path = path })
   thing_is path None h = absurd (false≢true h)
   thing_is path (Some own) h =
       let parts = both (own.file == file) (pointwise int_eq own.path path) h in

@@ -1,5 +1,5 @@
 -- What holds of linking, whatever the files are.
-use Rattle.std.specs.Prelude.{◌≡◌, ◌++◌, ℕ, Contains, List, [], Some, length, slice_get, take}
+use Rattle.std.specs.Prelude.{◌≡◌, ◌↔◌, ◌++◌, ℕ, Contains, List, [], Some, length, slice_get, take}
 use Rattle.protox_descriptor.specs.declared.descriptor.FileDescriptorProto.{FileDescriptorProto}
 use Rattle.protox_imports.specs.Imports.{Imports}
 use Rattle.protox_imports.specs.Order.{IsInOrder}
@@ -7,6 +7,7 @@ use Rattle.protox_link.specs.Closed.{AreClosed}
 use Rattle.protox_link.specs.Files.{AreFaults, AreLinked}
 use Rattle.protox_link.specs.Known.{IsKnownOf}
 use Rattle.protox_link.specs.Link.{IsFailureOf}
+use Rattle.protox_link.specs.Wrong.{WrongLink}
 use Rattle.protox_link.specs.declared.known.Known.{Known}
 use Rattle.protox_link_fault.specs.declared.LinkFailure.{LinkFailure}
 use Rattle.protox_link_fault.specs.declared.LinkFailure.TheVariants.{OutOfMemory}
@@ -17,6 +18,10 @@ use Rattle.protox_walk.specs.Parts.{Declared}
 -- Files have one list of faults.
 abbrev pub OneListOfFaults : Type 0
 OneListOfFaults = (files : List FileDescriptorProto) (faults other : List LinkFault) → AreFaults files 0 files faults → AreFaults files 0 files other → faults ≡ other
+
+-- The faults of files are what is wrong with them, each told of by itself.
+abbrev pub WrongAgrees : Type 0
+WrongAgrees = (files : List FileDescriptorProto) (faults : List LinkFault) → AreFaults files 0 files faults → (fault : LinkFault) → Contains faults fault ↔ WrongLink files fault
 
 -- Linking makes one list of files of them.
 abbrev pub OneLinking : Type 0

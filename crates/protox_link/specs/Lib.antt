@@ -4,6 +4,7 @@ pub mod Known
 pub mod Link
 pub mod Closed
 pub mod Prepared
+pub mod Wrong
 pub mod Laws
 pub mod Stands
 pub mod Resolver

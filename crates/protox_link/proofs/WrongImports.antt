@@ -18,7 +18,6 @@ use Rattle.protox_imports.specs.Imports.{name_at}
 use Rattle.protox_imports.specs.Names.{is_named, number_of}
 use Rattle.protox_imports.specs.Rows.{named_of, row_by, rows_of}
 use Rattle.protox_imports.specs.declared.row.FileImports.{FileImports}
-use Rattle.protox_link.proofs.Standing.{true_or_false}
 use Rattle.protox_link.specs.Wrong.{NamesItAgain, NamesNoFile, WrongImport}
 use Rattle.protox_link_checks.specs.Imports.{import_faults, import_faults_from, wrong_import}
 use Rattle.protox_link_checks.specs.Uses.{fault_at, faults_at}

@@ -1,5 +1,5 @@
 -- What is wrong with files is in the list of faults.
-use Rattle.std.proofs.Common.{◌≡◌, ◌≢◌, ◌<◌, ◌+◌, ◌==◌, ◌&&◌, ◌⊎◌, inl, inr, is_some, ℕ, zero, suc, Bool, true, false, cond, List, [], ◌∷◌, ◌++◌, length, map, Option, Some, None, refl, sym, ap, subst, ◌∙◌, arith, slice_get}
+use Rattle.std.proofs.Common.{◌≡◌, ◌≢◌, ◌+◌, ◌==◌, inl, inr, is_some, ℕ, zero, suc, Bool, true, false, cond, List, [], ◌∷◌, ◌++◌, length, map, Option, Some, None, refl, sym, ap, subst, ◌∙◌, arith, slice_get}
 use Rattle.std.specs.Prelude.{ℤ, pos, Contains}
 use Rattle.std.specs.Option.{option_map}
 use Rattle.std.proofs.lemmas.Bool.{false≢true}
@@ -8,7 +8,6 @@ use Rattle.std.proofs.lemmas.List.{append_assoc}
 use Rattle.std.specs.List.{flat_map}
 use Rattle.std.proofs.lemmas.Option.{same_Some}
 use Rattle.protox_ast.proofs.Membership.{Among, among-flat, among-from, among-left, among-right, contains-from, somewhere-at}
-use Rattle.protox_descriptor.specs.FieldDescriptorProto.{FieldDescriptorProto}
 use Rattle.protox_descriptor.specs.declared.descriptor.DescriptorProto.{DescriptorProto, out-DescriptorProto}
 use Rattle.protox_descriptor.specs.declared.descriptor.EnumDescriptorProto.{EnumDescriptorProto}
 use Rattle.protox_descriptor.specs.declared.descriptor.EnumValueDescriptorProto.{EnumValueDescriptorProto}
@@ -30,9 +29,9 @@ use Rattle.protox_link.specs.Seen.{IsSeenBy}
 use Rattle.protox_link.specs.Wrong.{AsExtendee, AsInput, AsOutput, AsType, Clashes, Clashing, HasBadName, HasNameOfOther, HasNoName, HasNoNumber, HasNoNumbers, HasNoValue, IsBackward, IsNamed, IsNoPackage, IsNotThere, IsTaken, OfExtensions, OfExtensionsReserved, OfExtensionsTwice, OfImport, OfName, OfNumber, OfPackage, OfReserved, OfReservedTwice, OfReused, OfUse, OfValues, OfValuesTwice, StandsForNoMessage, StandsForNoType, StandsForNothing, Uses, WrongImport, WrongLink, WrongName, WrongNumber, WrongPackage, WrongUse, stands_for}
 use Rattle.protox_link_checks.specs.Empty.{empty_fault, empty_faults}
 use Rattle.protox_link_checks.specs.Faults.{bad_name, clash_faults, declared_faults, is_declared_at}
-use Rattle.protox_link_checks.specs.Imports.{if_found, if_no_package, import_faults, is_package, no_packages, package_faults, wrong_package, wrong_package_found}
+use Rattle.protox_link_checks.specs.Imports.{if_found, import_faults, is_package, no_packages, package_faults, wrong_package, wrong_package_found}
 use Rattle.protox_link_checks.specs.Numbers as numbers
-use Rattle.protox_link_checks.specs.Uses.{fault_at, faults_at, message_faults, type_faults, uses_of, wrong_message, wrong_type}
+use Rattle.protox_link_checks.specs.Uses.{fault_at, message_faults, type_faults, uses_of, wrong_message, wrong_type}
 use Rattle.protox_link_fault.specs.declared.LinkFault.{LinkFault}
 use Rattle.protox_link_fault.specs.declared.LinkFaultKind.{LinkFaultKind}
 use Rattle.protox_link_fault.specs.declared.LinkFaultKind.TheVariants as told
@@ -44,7 +43,7 @@ use Rattle.protox_numbers.specs.Enums as of_enum
 use Rattle.protox_numbers.specs.Enums.{range_spans, value_spans}
 use Rattle.protox_numbers.specs.Message as of_message
 use Rattle.protox_numbers.specs.Message.{extension_spans, field_spans, reserved_spans}
-use Rattle.protox_numbers.specs.Parts.{is_backward_enum_range, is_empty_extension_range, is_for_implementation}
+use Rattle.protox_numbers.specs.Parts.{is_backward_enum_range, is_empty_extension_range}
 use Rattle.protox_numbers.specs.declared.clash.Clash.{Clash}
 use Rattle.protox_scopes.specs.Scopes.{is_type}
 use Rattle.protox_scopes.specs.declared.kind.Kind.{Kind}
@@ -53,11 +52,9 @@ use Rattle.protox_scopes.specs.declared.kind.Wanted.{Wanted}
 use Rattle.protox_scopes.specs.declared.kind.Wanted.TheVariants.{AType, Anything}
 use Rattle.protox_symbols.specs.Symbols.{Table}
 use Rattle.protox_symbols.specs.Things.{table_of}
-use Rattle.protox_views.specs.Views.{stands}
-use Rattle.protox_walk.specs.Declarations.{Path, file_declarations, nth, text_of}
-use Rattle.protox_walk.specs.Parts.{Declared, Described, Enum, Field, Message, Method, Oneof, Service, Value}
+use Rattle.protox_walk.specs.Declarations.{Path, file_declarations, text_of}
+use Rattle.protox_walk.specs.Parts.{Declared, Described, Enum, Message}
 use Rattle.protox_walk.specs.Words.{name_of}
-
 
 -- ---- lists
 
@@ -328,8 +325,8 @@ module _ (all : List FileDescriptorProto) where
         parts.1,
         parts.3,
         λ fault there. subst (λ (fs : List LinkFault). Among fs fault) (sym parts.5)
-        (among-left (faults_in all n parts.0 parts.1 first) parts.2 fault
-        (subst (λ (f : FileDescriptorProto). Among (faults_in all n parts.0 parts.1 f) fault) (sym (same_Some first file is)) there)),
+            (among-left (faults_in all n parts.0 parts.1 first) parts.2 fault
+            (subst (λ (f : FileDescriptorProto). Among (faults_in all n parts.0 parts.1 f) fault) (sym (same_Some first file is)) there)),
       )
   file_listed (first ∷ more) n faults (suc k) m file same is told =
       let parts = split all n (first ∷ more) faults told in
@@ -338,7 +335,7 @@ module _ (all : List FileDescriptorProto) where
         rest.1,
         rest.2,
         λ fault there. subst (λ (fs : List LinkFault). Among fs fault) (sym parts.5)
-        (among-right (faults_in all n parts.0 parts.1 first) parts.2 fault (rest.3 fault there)),
+            (among-right (faults_in all n parts.0 parts.1 first) parts.2 fault (rest.3 fault there)),
       )
 
   -- What is wrong with the files is a fault of the list.

@@ -1,5 +1,5 @@
 -- What the list of faults has is wrong.
-use Rattle.std.proofs.Common.{◌≡◌, ◌≢◌, ◌<◌, ◌+◌, ◌==◌, ◌&&◌, ◌⊎◌, inl, inr, is_some, ℕ, zero, suc, Bool, true, false, cond, List, [], ◌∷◌, ◌++◌, length, map, Option, Some, None, refl, sym, ap, subst, ◌∙◌, arith, slice_get}
+use Rattle.std.proofs.Common.{◌≡◌, ◌≢◌, ◌+◌, ◌==◌, ◌&&◌, inl, inr, is_some, ℕ, suc, Bool, true, false, cond, List, [], ◌∷◌, ◌++◌, length, map, Option, Some, None, refl, sym, ap, subst, ◌∙◌, arith, slice_get}
 use Rattle.std.specs.Prelude.{ℤ, pos, All, Contains}
 use Rattle.std.specs.Cmp.Lexicographic.{pointwise}
 use Rattle.std.specs.Cmp.Rules.{signed_items}
@@ -31,7 +31,7 @@ use Rattle.protox_link.specs.Seen.{IsSeenBy}
 use Rattle.protox_link.specs.Wrong.{AsExtendee, AsInput, AsOutput, AsType, Clashes, Clashing, Declares, HasBadName, HasNameOfOther, HasNoName, HasNoNumber, HasNoNumbers, HasNoValue, IsBackward, IsNamed, IsNoPackage, IsNotThere, IsTaken, MeetsEarlier, MeetsFirst, OfExtensions, OfExtensionsReserved, OfExtensionsTwice, OfImport, OfName, OfNumber, OfPackage, OfReserved, OfReservedTwice, OfReused, OfUse, OfValues, OfValuesTwice, StandsForNoMessage, StandsForNoType, StandsForNothing, Uses, WrongLink, WrongName, WrongNumber, WrongPackage, WrongUse, stands_for}
 use Rattle.protox_link_checks.specs.Empty.{empty_fault, empty_faults}
 use Rattle.protox_link_checks.specs.Faults.{bad_name, clash_faults, declared_faults, is_declared_at}
-use Rattle.protox_link_checks.specs.Imports.{if_found, if_no_package, import_faults, is_package, no_packages, package_faults, wrong_package, wrong_package_found}
+use Rattle.protox_link_checks.specs.Imports.{if_found, import_faults, is_package, no_packages, package_faults, wrong_package, wrong_package_found}
 use Rattle.protox_link_checks.specs.Numbers as numbers
 use Rattle.protox_link_checks.specs.Uses.{fault_at, faults_at, message_faults, type_faults, uses_of, wrong_message, wrong_type}
 use Rattle.protox_link_fault.specs.declared.LinkFault.{LinkFault}
@@ -56,7 +56,7 @@ use Rattle.protox_symbols.specs.Symbols.{Table}
 use Rattle.protox_symbols.specs.Things.{table_of}
 use Rattle.protox_symbols.specs.declared.thing.Thing.{Thing}
 use Rattle.protox_views.specs.Views.{stands}
-use Rattle.protox_walk.specs.Declarations.{Path, file_declarations, nth, text_of}
+use Rattle.protox_walk.specs.Declarations.{Path, file_declarations, text_of}
 use Rattle.protox_walk.specs.Parts.{Declared, Described, Enum, Field, Message, Method, Oneof, Service, Value}
 use Rattle.protox_walk.specs.Words.{name_of}
 

@@ -1,6 +1,6 @@
--- What can be wrong with files that are linked, a line for each kind of fault. It says of one fault
--- when it is one, and nothing of the list that linking tells or of its order. Circles of imports are
--- told by themselves: `IsOfCircle` is their line.
+-- What can be wrong with files that are linked, a line for each kind of fault. It says when a fault
+-- is one of the files. It says nothing of the list that linking tells, or of its order. Circles of
+-- imports are told by themselves, and `IsOfCircle` has their line.
 use Rattle.std.specs.Prelude.{◌≡◌, ◌≢◌, ◌<◌, ℕ, ℤ, pos, Bool, true, false, Contains, List, [], ◌∷◌, ◌++◌, Option, Some, None, slice_get}
 use Rattle.protox_descriptor.specs.FieldDescriptorProto.{FieldDescriptorProto}
 use Rattle.protox_descriptor.specs.declared.descriptor.DescriptorProto.{DescriptorProto, out-DescriptorProto}
@@ -45,21 +45,25 @@ use Rattle.protox_walk.specs.Words.{name_of}
 -- ---- imports and packages
 
 -- This is wrong with the import that has an index among those of a file.
-pub data WrongImport (files : List FileDescriptorProto) (imports : List (List ℕ)) : ℕ → LinkFaultKind → Type 0 where
+pub data WrongImport (files : List FileDescriptorProto) (imports : List (List ℕ))
+    : ℕ → LinkFaultKind → Type 0 where
   -- No file has the name of the import.
   NamesNoFile : (i : ℕ) (name : List ℕ) → slice_get imports i ≡ Some name
-      → ((g : ℕ) → name_at files g ≢ Some name) → WrongImport files imports i told.MissingImport
+      → ((g : ℕ) → name_at files g ≢ Some name)
+      → WrongImport files imports i told.MissingImport
   -- A file has the name of the import, and an earlier import has the same name.
-  NamesItAgain : (i earlier g : ℕ) (name : List ℕ) → slice_get imports i ≡ Some name → name_at files g ≡ Some name
-      → earlier < i → slice_get imports earlier ≡ Some name → WrongImport files imports i told.RepeatedImport
+  NamesItAgain : (i earlier g : ℕ) (name : List ℕ) → slice_get imports i ≡ Some name
+      → name_at files g ≡ Some name → earlier < i → slice_get imports earlier ≡ Some name
+      → WrongImport files imports i told.RepeatedImport
 
 -- This is wrong with the package that has this name.
 pub data WrongPackage (table : Table) (name : List ℕ) : LinkFaultKind → Type 0 where
   -- The table doesn't have the package.
   IsNotThere : number_of table.names name ≡ None → WrongPackage table name told.BadName
   -- The table has it. It, or a package around it, has the full name of what is no package.
-  IsNoPackage : (around : List ℕ) (n : ℕ) → stands table name ≡ true → Contains (name ∷ scopes name) around
-      → number_of table.names around ≡ Some n → is_package (kind_at table.names n) ≡ false
+  IsNoPackage : (around : List ℕ) (n : ℕ) → stands table name ≡ true
+      → Contains (name ∷ scopes name) around → number_of table.names around ≡ Some n
+      → is_package (kind_at table.names n) ≡ false
       → WrongPackage table name (told.NotAPackage n)
 
 -- ---- the names of declarations
@@ -70,8 +74,8 @@ pub record Declares (files : List FileDescriptorProto) (number : ℕ) (d : Decla
   pub is_there : slice_get files number ≡ Some file
   pub declares : Contains (file_declarations file) d
 
--- The own name of a declaration is an identifier, and the table has the scope that it stands in. Else
--- nothing but that is told of it.
+-- The own name of a declaration is an identifier, and the table has the scope that it stands in. Of
+-- all other declarations no more is told than that their own names are bad.
 pub record IsNamed (table : Table) (d : Declared) : Type 0 where
   pub identifier : is_identifier (text_of (name_of d.part)) ≡ true
   pub scope : has_innermost table.names (scopes d.full_name) ≡ true
@@ -88,23 +92,29 @@ pub data WrongName (table : Table) (number : ℕ) (d : Declared) : LinkFaultKind
       → slice_get table.things n ≢ Some (record { file = number; path = d.path })
       → WrongName table number d (told.AlreadyDefined n)
   -- The table has nothing under its full name. In the table of the files this can't be.
-  HasNoNumber : IsNamed table d → number_of table.names d.full_name ≡ None → WrongName table number d told.NotInTable
+  HasNoNumber : IsNamed table d → number_of table.names d.full_name ≡ None
+      → WrongName table number d told.NotInTable
 
 -- ---- the names that declarations use
 
 -- A declaration uses a name, at its part with this tag. It wants a type there, or anything.
 pub data Uses : Described → ℤ → Wanted → List ℕ → Type 0 where
-  AsType : (f : FieldDescriptorProto) (name : List ℕ) → f.type_name ≡ Some name → Uses (Field f) field_tag.TYPE_NAME AType name
-  AsExtendee : (f : FieldDescriptorProto) (name : List ℕ) → f.extendee ≡ Some name → Uses (Field f) field_tag.EXTENDEE Anything name
-  AsInput : (m : MethodDescriptorProto) (name : List ℕ) → m.input_type ≡ Some name → Uses (Method m) method_tag.INPUT_TYPE Anything name
-  AsOutput : (m : MethodDescriptorProto) (name : List ℕ) → m.output_type ≡ Some name → Uses (Method m) method_tag.OUTPUT_TYPE Anything name
+  AsType : (f : FieldDescriptorProto) (name : List ℕ) → f.type_name ≡ Some name
+      → Uses (Field f) field_tag.TYPE_NAME AType name
+  AsExtendee : (f : FieldDescriptorProto) (name : List ℕ) → f.extendee ≡ Some name
+      → Uses (Field f) field_tag.EXTENDEE Anything name
+  AsInput : (m : MethodDescriptorProto) (name : List ℕ) → m.input_type ≡ Some name
+      → Uses (Method m) method_tag.INPUT_TYPE Anything name
+  AsOutput : (m : MethodDescriptorProto) (name : List ℕ) → m.output_type ≡ Some name
+      → Uses (Method m) method_tag.OUTPUT_TYPE Anything name
 
--- `sees` and `packages` mark what a file sees of the table. Something in it, which has the full name
--- `user`, uses names.
+-- `sees` and `packages` mark what a file sees of the table. Something in it has the full name `user`,
+-- and uses names.
 module _ (table : Table) (sees packages : List Bool) (user : List ℕ) where
   -- the number of what a name stands for there
   abbrev pub stands_for : Wanted → List ℕ → Option ℕ
-  stands_for wanted name = resolve (kind_at table.names) (seen table sees packages) wanted name user
+  stands_for wanted name =
+      resolve (kind_at table.names) (seen table sees packages) wanted name user
 
   -- This is wrong with a name that a declaration uses at its part with this tag.
   pub data WrongUse (part : Described) : ℤ → LinkFaultKind → Type 0 where
@@ -113,30 +123,33 @@ module _ (table : Table) (sees packages : List Bool) (user : List ℕ) where
         → stands_for wanted name ≡ None → WrongUse part tag (told.NotDefined name)
     -- A type is wanted, and it stands for what is none.
     StandsForNoType : (tag : ℤ) (name : List ℕ) (n : ℕ) → Uses part tag AType name
-        → stands_for AType name ≡ Some n → is_type (kind_at table.names n) ≡ false → WrongUse part tag (told.NotAType name)
+        → stands_for AType name ≡ Some n → is_type (kind_at table.names n) ≡ false
+        → WrongUse part tag (told.NotAType name)
     -- An extendee, or what a method takes or gives, is a message. It stands for what is none.
     StandsForNoMessage : (tag : ℤ) (name : List ℕ) (n : ℕ) → Uses part tag Anything name
-        → stands_for Anything name ≡ Some n → is_message (kind_at table.names n) ≡ false → WrongUse part tag (told.NotAMessage name)
+        → stands_for Anything name ≡ Some n → is_message (kind_at table.names n) ≡ false
+        → WrongUse part tag (told.NotAMessage name)
 
 -- ---- numbers
 
--- A number or a range meets another one, and none of the others that stand before that. `part` is the
--- index of the one, and `with` that of the other.
+-- A number or a range meets another one, and none of the others that stand before that. `part` is
+-- the index of the one, and `with` that of the other.
 pub record MeetsFirst (spans others : List Span) (clash : Clash) : Type 0 where
   pub span : Span
   pub other : Span
   pub is_there : slice_get spans clash.part ≡ Some span
   pub is_other : slice_get others clash.«with» ≡ Some other
   pub they_meet : meets span other ≡ true
-  pub first : (k : ℕ) (earlier : Span) → k < clash.«with» → slice_get others k ≡ Some earlier → meets span earlier ≡ false
+  pub first : (k : ℕ) (earlier : Span) → k < clash.«with» → slice_get others k ≡ Some earlier
+      → meets span earlier ≡ false
 
 -- What it meets first stands before it in the same list.
 pub record MeetsEarlier (spans : List Span) (clash : Clash) : Type 0 where
   pub meets_it : MeetsFirst spans spans clash
   pub before : clash.«with» < clash.part
 
--- In a declaration one of like siblings with a tag clashes in this way, and it is told at this part of
--- the sibling.
+-- In a declaration one of like siblings with a tag clashes in this way. This is told at a part of
+-- the sibling, to which the path leads.
 pub data Clashes : Described → NumberFault → ℤ → Path → Clash → Type 0 where
   -- An earlier field has the number of a field.
   OfReused : (m : DescriptorProto) (c : Clash) → MeetsEarlier (field_spans m) c
@@ -145,7 +158,8 @@ pub data Clashes : Described → NumberFault → ℤ → Path → Clash → Type
   OfReserved : (m : DescriptorProto) (c : Clash) → MeetsFirst (field_spans m) (reserved_spans m) c
       → Clashes (Message m) how.Reserved message_tag.FIELD (field_tag.NUMBER ∷ []) c
   -- It is in an extension range.
-  OfExtensions : (m : DescriptorProto) (c : Clash) → MeetsFirst (field_spans m) (extension_spans m) c
+  OfExtensions : (m : DescriptorProto) (c : Clash)
+      → MeetsFirst (field_spans m) (extension_spans m) c
       → Clashes (Message m) how.ForExtensions message_tag.FIELD (field_tag.NUMBER ∷ []) c
   -- A reserved range overlaps an earlier one.
   OfReservedTwice : (m : DescriptorProto) (c : Clash) → MeetsEarlier (reserved_spans m) c
@@ -154,7 +168,8 @@ pub data Clashes : Described → NumberFault → ℤ → Path → Clash → Type
   OfExtensionsTwice : (m : DescriptorProto) (c : Clash) → MeetsEarlier (extension_spans m) c
       → Clashes (Message m) how.ExtensionsTwice message_tag.EXTENSION_RANGE [] c
   -- It overlaps a reserved range.
-  OfExtensionsReserved : (m : DescriptorProto) (c : Clash) → MeetsFirst (extension_spans m) (reserved_spans m) c
+  OfExtensionsReserved : (m : DescriptorProto) (c : Clash)
+      → MeetsFirst (extension_spans m) (reserved_spans m) c
       → Clashes (Message m) how.ExtensionsReserved message_tag.EXTENSION_RANGE [] c
   -- The number of a value is in a reserved range.
   OfValues : (e : EnumDescriptorProto) (c : Clash) → MeetsFirst (value_spans e) (range_spans e) c
@@ -169,38 +184,42 @@ pub data WrongNumber : Described → Path → LinkFaultKind → Type 0 where
   IsTaken : (f : FieldDescriptorProto) → is_for_implementation f ≡ true
       → WrongNumber (Field f) (field_tag.NUMBER ∷ []) told.ForImplementation
   -- An enum has no value.
-  HasNoValue : (e : EnumDescriptorProto) → e.value ≡ [] → WrongNumber (Enum e) (enum_tag.NAME ∷ []) told.NoValue
+  HasNoValue : (e : EnumDescriptorProto) → e.value ≡ []
+      → WrongNumber (Enum e) (enum_tag.NAME ∷ []) told.NoValue
   -- An extension range has no number.
   HasNoNumbers : (m : DescriptorProto) (i : ℕ) (range : ExtensionRange)
-      → slice_get (out-DescriptorProto m).extension_range i ≡ Some range → is_empty_extension_range range ≡ true
+      → slice_get (out-DescriptorProto m).extension_range i ≡ Some range
+      → is_empty_extension_range range ≡ true
       → WrongNumber (Message m) (message_tag.EXTENSION_RANGE ∷ pos i ∷ []) told.EmptyRange
   -- A reserved range of an enum has none.
   IsBackward : (e : EnumDescriptorProto) (i : ℕ) (range : EnumReservedRange)
       → slice_get e.reserved_range i ≡ Some range → is_backward_enum_range range ≡ true
       → WrongNumber (Enum e) (enum_tag.RESERVED_RANGE ∷ pos i ∷ []) told.EmptyRange
   -- A number or a range clashes with another one.
-  Clashing : (part : Described) (kind : NumberFault) (tag : ℤ) (at : Path) (clash : Clash) → Clashes part kind tag at clash
-      → WrongNumber part (tag ∷ pos clash.part ∷ at) (told.Clash kind clash.«with»)
+  Clashing : (part : Described) (kind : NumberFault) (tag : ℤ) (at : Path) (c : Clash)
+      → Clashes part kind tag at c
+      → WrongNumber part (tag ∷ pos c.part ∷ at) (told.Clash kind c.«with»)
 
 -- ---- all that can be wrong
 
 -- The fault is one of these files.
 pub data WrongLink (files : List FileDescriptorProto) : LinkFault → Type 0 where
   -- It is that of an import of a file.
-  OfImport : (n : ℕ) (file : FileDescriptorProto) (i : ℕ) (kind : LinkFaultKind) → slice_get files n ≡ Some file
-      → WrongImport files file.dependency i kind
+  OfImport : (n : ℕ) (file : FileDescriptorProto) (i : ℕ) (kind : LinkFaultKind)
+      → slice_get files n ≡ Some file → WrongImport files file.dependency i kind
       → WrongLink files (record { file = n; path = file_tag.DEPENDENCY ∷ pos i ∷ []; kind = kind })
   -- It is that of the package of a file, where that isn't the nameless one.
-  OfPackage : (n : ℕ) (file : FileDescriptorProto) (name : List ℕ) (kind : LinkFaultKind) → slice_get files n ≡ Some file
-      → file.«package» ≡ Some name → name ≢ [] → WrongPackage (table_of files) name kind
+  OfPackage : (n : ℕ) (file : FileDescriptorProto) (name : List ℕ) (kind : LinkFaultKind)
+      → slice_get files n ≡ Some file → file.«package» ≡ Some name → name ≢ []
+      → WrongPackage (table_of files) name kind
       → WrongLink files (record { file = n; path = file_tag.PACKAGE ∷ []; kind = kind })
   -- It is that of the name of a declaration.
   OfName : (n : ℕ) (d : Declared) (kind : LinkFaultKind) → Declares files n d
       → WrongName (table_of files) n d kind
       → WrongLink files (record { file = n; path = d.path ++ message_tag.NAME ∷ []; kind = kind })
   -- It is that of a name that a declaration uses.
-  OfUse : (n : ℕ) (d : Declared) (sees packages : List Bool) (tag : ℤ) (kind : LinkFaultKind) → Declares files n d
-      → IsNamed (table_of files) d → IsSeenBy files n sees packages
+  OfUse : (n : ℕ) (d : Declared) (sees packages : List Bool) (tag : ℤ) (kind : LinkFaultKind)
+      → Declares files n d → IsNamed (table_of files) d → IsSeenBy files n sees packages
       → WrongUse (table_of files) sees packages d.full_name d.part tag kind
       → WrongLink files (record { file = n; path = d.path ++ tag ∷ []; kind = kind })
   -- It is that of a number of a declaration.

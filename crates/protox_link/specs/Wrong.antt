@@ -91,7 +91,7 @@ pub data WrongName (table : Table) (number : ℕ) (d : Declared) : LinkFaultKind
   HasNameOfOther : (n : ℕ) → IsNamed table d → number_of table.names d.full_name ≡ Some n
       → slice_get table.things n ≢ Some (record { file = number; path = d.path })
       → WrongName table number d (told.AlreadyDefined n)
-  -- The table has nothing under its full name. In the table of the files this can't be.
+  -- The table has nothing under its full name.
   HasNoNumber : IsNamed table d → number_of table.names d.full_name ≡ None
       → WrongName table number d told.NotInTable
 
@@ -108,8 +108,8 @@ pub data Uses : Described → ℤ → Wanted → List ℕ → Type 0 where
   AsOutput : (m : MethodDescriptorProto) (name : List ℕ) → m.output_type ≡ Some name
       → Uses (Method m) method_tag.OUTPUT_TYPE Anything name
 
--- `sees` and `packages` mark what a file sees of the table. Something in it has the full name `user`,
--- and uses names.
+-- `sees` and `packages` mark what a file sees of the table. In that file something with the full
+-- name `user` uses names.
 module _ (table : Table) (sees packages : List Bool) (user : List ℕ) where
   -- the number of what a name stands for there
   abbrev pub stands_for : Wanted → List ℕ → Option ℕ

@@ -10,9 +10,13 @@ abbrev pub start_among : ℕ → ℕ → ℕ
 start_among zero mixed = 0
 start_among (suc n) mixed = mixed % suc n
 
+-- numbers that are close to one another are scattered over all below 2 to the 32nd
+abbrev pub scattered : ℕ → ℕ
+scattered mixed = ((mixed % 4294967296) * 2654435769) % 4294967296
+
 -- where the window begins of what is mixed to a number
 abbrev pub window_start : ℕ → ℕ → ℕ
-window_start count mixed = start_among (count - 8) mixed
+window_start count mixed = start_among (count - 8) (scattered mixed)
 
 -- There is a slot, and it holds nothing.
 pub record IsFree (slots : List (Option ℕ)) (index : ℕ) : Type 0 where
@@ -39,7 +43,7 @@ mixed so_far byte = (so_far * 33 + byte) % 4294967296
 abbrev pub mixed_text : List ℕ → ℕ
 mixed_text text = fold mixed 5381 text
 
--- a number below 2 to the 38th, from both parts of a key
+-- a number below 2 to the 49th, from both parts of a key
 abbrev pub mixed_key : Option ℕ × ℕ → ℕ
 mixed_key (None, name) = name % 4294967296
-mixed_key (Some place, name) = (place % 4294967296) * 33 + name % 4294967296 + 1
+mixed_key (Some place, name) = (place % 4294967296) * 65537 + name % 4294967296 + 1

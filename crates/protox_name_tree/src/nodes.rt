@@ -30,7 +30,7 @@ fn mixed_key(key: Key) -> u64
     let low = name as u64 % 4_294_967_296;
     match place {
         None => low,
-        Some(place) => place as u64 % 4_294_967_296 * 33 + low + 1,
+        Some(place) => place as u64 % 4_294_967_296 * 65_537 + low + 1,
     }
 }
 

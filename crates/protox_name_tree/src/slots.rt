@@ -1,7 +1,7 @@
 //! Slots in which numbers are looked for.
 
 ghost use Rattle.std.specs.Prelude.{◌≡◌, ◌<◌, ◌≤◌, ◌+◌, ◌^◌, ℕ, Some, None, [], true, length, IfNone, IfSome};
-ghost use Rattle.protox_name_tree.specs.Slots.{AreTaken, IsFree, IsInWindow, held, window_start};
+ghost use Rattle.protox_name_tree.specs.Slots.{AreTaken, IsFree, IsInWindow, held, scattered, window_start};
 
 use crate::sought::Sought;
 use std::alloc::{AllocError, Global};
@@ -27,6 +27,13 @@ impl Model for Slots {
     ghost view = { λ s. s.slots.items };
 }
 
+// Numbers that are close to one another are scattered, as names are often numbered.
+fn scattered(mixed: u64) -> u64
+    ensures { result ≡ scattered mixed }
+{
+    mixed % 4_294_967_296 * 2_654_435_769 % 4_294_967_296
+}
+
 impl Slots {
     /// No slots.
     pub(crate) fn new(alloc: Global) -> Slots
@@ -37,7 +44,7 @@ impl Slots {
         }
     }
 
-    /// Makes slots for about `room` numbers, if there are none: two for each.
+    /// Makes slots for about `room` numbers, if there are none: three for each.
     ///
     /// # Errors
     /// `AllocError` where memory runs out.
@@ -45,7 +52,8 @@ impl Slots {
         ensures { (mixed n : ℕ) → IsInWindow self.old mixed n → IsInWindow self.new mixed n }
     {
         if self.slots.is_empty() {
-            let count = room.saturating_add(room).saturating_add(WINDOW);
+            let count = room.saturating_add(room).saturating_add(room);
+            let count = count.saturating_add(WINDOW);
             self.slots = vec![in alloc; None; count]?;
         }
         Ok(())
@@ -59,7 +67,7 @@ impl Slots {
         let slots: &[Option<usize>] = &self.slots;
         match slots.len().saturating_sub(WINDOW) {
             0 => 0,
-            count => (mixed % count as u64) as usize,
+            count => (scattered(mixed) % count as u64) as usize,
         }
     }
 

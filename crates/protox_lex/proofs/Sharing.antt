@@ -1,5 +1,5 @@
 -- Rows that refer to their tokens by number, and gaps that are kept by number.
-use Rattle.std.proofs.Common.{◌≡◌, ℕ, zero, suc, ◌+◌, ◌-◌, ◌^◌, ◌<◌, ◌≤◌, inl, inr, List, [], ◌∷◌, ◌++◌, length, length-append, append_assoc, map, set, take, replicate, refl, sym, ap, subst, ◌∙◌, arith, Option, Some, None, Err, eqb, nat_lt, true, false, Result, Ok}
+use Rattle.std.proofs.Common.{◌≡◌, ℕ, zero, suc, ◌+◌, ◌-◌, ◌^◌, ◌<◌, ◌≤◌, inl, inr, List, [], ◌∷◌, ◌++◌, length, length-append, map, set, take, replicate, refl, sym, ap, subst, ◌∙◌, arith, Option, Some, None, Err, eqb, nat_lt, true, false, Result, Ok}
 use Rattle.std.proofs.Math.ListN.{get_or-append}
 use Rattle.std.proofs.Math.Seq.{get_or-append_seam}
 use Rattle.std.proofs.lemmas.Bool.{cases_Bool, eqb-true, eqb-false, ltb-false, le-ltb, lt-ltb}
@@ -16,8 +16,10 @@ use Rattle.protox_lexeme.specs.declared.token.Token.{Token}
 use Rattle.protox_lexeme.specs.declared.token.Token.TheVariants as variant
 use Rattle.protox_fault.specs.Faults.{Span, span_from}
 use Rattle.protox_lexeme.specs.Shapes.{Shape, Mark, Newline, Row}
-use Rattle.protox_lex.specs.inner.Sharing.{kept_at, shape_at, borrowed_at, borrowed_by, rows_seen, and_row, kept_len, own_len, len_by, row_by, rows_by, IsKept, AreKept, AreMarks, AreClassed, AreShared, AreLines, AreThere, gap_at}
+use Rattle.protox_lex.specs.inner.Sharing.{kept_at, shape_at, borrowed_at, borrowed_by, rows_seen, and_row, kept_len, own_len, len_by, row_by, rows_by, IsKept, AreKept, AreMarks, AreClassed, AreShared, AddsNewlines, AreLines, AreThere, gap_at}
 use Rattle.protox_lex.specs.TableView.{shapes_of_lent}
+use Rattle.protox_lex.specs.inner.Grouping.{EndWithin, grouped}
+use Rattle.protox_lex.proofs.Splitting.{append_within, grouped_append}
 use Rattle.protox_lexeme.specs.TokenClass.{class, no_token}
 use Rattle.protox_lexeme.specs.Tokens.{shape_of, shape_of_result, borrowed_of, borrowed_of_result, holds_none}
 
@@ -255,11 +257,21 @@ there_more numbers kept gap h k d l = let below = h k d l in omega (arith, lengt
 pub there_push : (numbers : List ℕ) (kept : List (List Token)) (number : ℕ) → AreThere numbers kept → number < 8 + length kept → AreThere (numbers ++ number ∷ []) kept
 there_push numbers kept number h l = All-push (λ n. n < 8 + length kept) numbers number h l
 
--- A newline that is kept was among the newlines after what is kept.
-pub newline_kept : (begun : List Token) (token : Token) (count : ℕ) → 0 < count → shape_of token ≡ Newline
-    → map shape_of (begun ++ token ∷ []) ++ replicate (count - 1) Newline ≡ map shape_of begun ++ replicate count Newline
-newline_kept begun token zero l e = absurd (omega arith)
-newline_kept begun token (suc count) l e = let less : suc count - 1 ≡ count = omega arith in rw (less, map-append shape_of begun (token ∷ []), e) (append_assoc (map shape_of begun) (Newline ∷ []) (replicate count Newline))
+-- Lists end where they did when newlines are appended.
+pub newlines_within : (tokens all : List Token) (ends : List ℕ) (count : ℕ) → EndWithin 0 (length tokens) ends → AddsNewlines tokens count all
+    → EndWithin 0 (length all) ends
+newlines_within tokens all ends count within added = rw added.appended (append_within tokens added.more ends within)
+
+-- The list that has begun gets the newlines.
+pub newlines_grouped : (tokens all : List Token) (ends : List ℕ) (count : ℕ) → EndWithin 0 (length tokens) ends → AddsNewlines tokens count all
+    → ((grouped all ends).ended ≡ (grouped tokens ends).ended)
+    × (map shape_of (grouped all ends).begun ≡ map shape_of (grouped tokens ends).begun ++ replicate count Newline)
+newlines_grouped tokens all ends count within added =
+    let same = ap (λ all. grouped all ends) added.appended ∙ grouped_append tokens added.more ends within in (
+      ap (λ g. g.ended) same,
+      ap (λ g. map shape_of g.begun) same ∙ map-append shape_of (grouped tokens ends).begun added.more
+          ∙ ap (λ newlines. map shape_of (grouped tokens ends).begun ++ newlines) added.newlines,
+    )
 
 -- no row yet
 pub nothing_shared : (tokens : List KeptToken) (rows : List NumberedRow) (marks : List (Option ℕ)) (recent : List ℕ) → tokens ≡ [] → rows ≡ [] → marks ≡ replicate 256 None → length recent ≡ 4096

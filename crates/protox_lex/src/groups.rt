@@ -1,9 +1,13 @@
 //! Several lists in one vector.
-ghost use Rattle.std.specs.Prelude.{◌≡◌, ◌↔◌, IsTrue, ◌<◌, ◌≤◌, ◌^◌, ◌++◌, ◌∷◌, [], length, slice_get, slice_index, true, OnOk, OnErr};
+ghost use Rattle.std.specs.Prelude.{◌≡◌, ◌↔◌, IsTrue, ◌<◌, ◌≤◌, ◌^◌, ◌++◌, ◌∷◌, [], length, map, replicate, slice_get, slice_index, true, OnOk, OnErr};
+ghost use Rattle.protox_lexeme.specs.Shapes.{Newline};
+ghost use Rattle.protox_lexeme.specs.Tokens.{shape_of};
+ghost use Rattle.protox_lex.specs.inner.Sharing.{AddsNewlines};
 ghost use Rattle.std.specs.List.{All};
 ghost use Rattle.std.specs.Option.{option_copied};
 
 use crate::row_list::with_room;
+use protox_lexeme::token::Token;
 use std::alloc::{AllocError, Global};
 use std::marker::Model;
 
@@ -133,5 +137,30 @@ impl<T: Drop> Groups<T> {
     {
         self.items.append(&mut items)?;
         Ok(())
+    }
+}
+
+// Appends newlines. On `AllocError` nothing changes.
+fn add_newlines(items: &mut Vec<Token<'_>>, count: usize) -> Result<(), AllocError>
+    ensures err { OnErr result (items.new.items ≡ items.old.items) }
+    ensures ok { OnOk result (AddsNewlines items.old.items count items.new.items) }
+{
+    items.reserve(count)?;
+    let mut left = count;
+    'newlines: while 0 < left {
+        items.push_reserved(Token::Newline);
+        left -= 1;
+    }
+    Ok(())
+}
+
+impl Groups<Token<'_>> {
+    #[tactic(auto, using(crate::proofs::Sharing::newlines_within, crate::proofs::Sharing::newlines_grouped))]
+    /// Appends newlines to the list that has begun. On `AllocError` nothing changes.
+    pub(crate) fn push_newlines(&mut self, count: usize) -> Result<(), AllocError>
+        ensures ended { self.new.ended ≡ self.old.ended }
+        ensures begun { OnOk result (map shape_of self.new.begun ≡ map shape_of self.old.begun ++ replicate count Newline) }
+    {
+        add_newlines(&mut self.items, count)
     }
 }

@@ -59,20 +59,6 @@ fn newlines<'a>(alloc: Global) -> Result<Vec<Token<'a>>, AllocError>
     ]?)
 }
 
-// Keeps `count` newlines.
-#[tactic(auto, using(crate::proofs::Sharing::newline_kept))]
-fn keep_newlines(kept: &mut Groups<Token<'_>>, count: usize) -> Result<(), AllocError>
-    ensures ended { kept.new.ended ≡ kept.old.ended }
-    ensures begun { OnOk result (map shape_of kept.new.begun ≡ map shape_of kept.old.begun ++ replicate count Newline) }
-{
-    let mut left = count;
-    'newlines: while 0 < left {
-        kept.push(Token::Newline)?;
-        left -= 1;
-    }
-    Ok(())
-}
-
 // The number at `index`, counted from 0. None after the last.
 #[inline(always)]
 fn number_at(narrow: &[u32], wide: &[usize], index: usize) -> Option<usize>
@@ -163,7 +149,7 @@ impl<'a> SharedGaps<'a> {
         ensures { OnOk result (self.new ≡ record self.old { begun = self.old.begun ++ shape_of token.entry ∷ [] }) }
     {
         self.keeps = true;
-        keep_newlines(&mut self.kept, self.newlines)?;
+        self.kept.push_newlines(self.newlines)?;
         self.newlines = 0;
         self.kept.push(token)
     }
@@ -175,7 +161,7 @@ impl<'a> SharedGaps<'a> {
         ensures { OnOk result (self.new ≡ record { ended = self.old.ended ++ self.old.begun ∷ []; begun = [] }) }
     {
         self.keeps = true;
-        keep_newlines(&mut self.kept, self.newlines)?;
+        self.kept.push_newlines(self.newlines)?;
         self.newlines = 0;
         let number = self.kept.len() + LINES;
         self.kept.end()?;

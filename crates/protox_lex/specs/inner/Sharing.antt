@@ -118,3 +118,9 @@ pub record AreGaps (lines : List Token) (numbers : List ℕ) (kept : Grouped Tok
   pub there : AreThere numbers kept.ended
   pub begun : keeps ≡ false → kept.begun ≡ []
   pub narrow : keeps ≡ false → wide ≡ []
+
+-- So many newlines are appended to tokens.
+pub record AddsNewlines (tokens : List Token) (count : ℕ) (all : List Token) : Type 0 where
+  pub more : List Token
+  pub appended : all ≡ tokens ++ more
+  pub newlines : map shape_of more ≡ replicate count Newline

@@ -1,5 +1,5 @@
 -- Linking linked files changes nothing.
-use Rattle.std.proofs.Common.{◌≡◌, ◌≢◌, ◌⊎◌, inl, inr, ◌<◌, ◌&&◌, ℕ, ◌+◌, Bool, true, false, cond, List, [], ◌∷◌, ◌++◌, drop, fold, map, Option, Some, None, is_some, refl, sym, ap, subst, ◌∙◌, arith, length, slice_get, suc}
+use Rattle.std.proofs.Common.{◌≡◌, ◌≢◌, ◌<◌, ℕ, ◌+◌, Bool, true, false, cond, List, [], ◌∷◌, ◌++◌, fold, map, Option, Some, None, is_some, refl, sym, ap, subst, ◌∙◌, length, suc}
 use Rattle.std.specs.Prelude.{ℤ, All}
 use Rattle.std.specs.List.{position_from}
 use Rattle.std.specs.Option.{option_and_then, option_map, option_map_or, unwrap_or}
@@ -7,7 +7,6 @@ use Rattle.std.proofs.lemmas.Iterator.Adapters.{position_from-zero}
 use Rattle.std.proofs.lemmas.List.{map-append}
 use Rattle.std.proofs.lemmas.List.Elements.{All-append, All-cons, All-nil}
 use Rattle.std.proofs.lemmas.Option.{get_or_from_slice_get}
-use Rattle.protox_descriptor.specs.FieldDescriptorProto.{FieldDescriptorProto}
 use Rattle.protox_descriptor.specs.declared.descriptor.DescriptorProto.{DescriptorProto, DescriptorProto-F, ind-DescriptorProto, out-DescriptorProto, out-roll-DescriptorProto, roll-DescriptorProto}
 use Rattle.protox_descriptor.specs.declared.descriptor.FileDescriptorProto.{FileDescriptorProto}
 use Rattle.protox_descriptor.specs.declared.descriptor.ServiceDescriptorProto.{ServiceDescriptorProto}
@@ -17,12 +16,10 @@ use Rattle.protox_descriptor.specs.declared.tag.service.TheConstants as service_
 use Rattle.protox_imports.specs.Names.{is_named, number_of as number_of_file}
 use Rattle.protox_imports.specs.Rows.{row_by, rows_of}
 use Rattle.protox_imports.specs.Seen.{AreSeen}
-use Rattle.protox_imports.specs.declared.row.FileImports.{FileImports}
-use Rattle.protox_link.proofs.Closing.{linked_declares, linked_parts, seen_by_name, told}
+use Rattle.protox_link.proofs.Closing.{linked_declares, linked_parts, seen_by_name}
 use Rattle.protox_link.proofs.Seeing.{same_linked, split_linked}
 use Rattle.protox_link.proofs.Standing.{same_text}
 use Rattle.protox_link.specs.Files.{AreLinked, linked_in}
-use Rattle.protox_link.specs.Known.{IsKnownOf}
 use Rattle.protox_link.specs.Laws.{KnownAgain, LinkedAgain}
 use Rattle.protox_link.specs.Seen.{IsSeenBy, packages_of}
 use Rattle.protox_linked.proofs.Twice.{file_twice}
@@ -36,7 +33,7 @@ use Rattle.protox_scopes.specs.Scopes.{resolve}
 use Rattle.protox_scopes.specs.declared.kind.Kind.{Kind}
 use Rattle.protox_scopes.specs.declared.kind.Wanted.{Wanted}
 use Rattle.protox_symbols.proofs.Inside.{inside, message_declares}
-use Rattle.protox_symbols.specs.Symbols.{Table, with_thing}
+use Rattle.protox_symbols.specs.Symbols.{Table}
 use Rattle.protox_symbols.specs.Things.{Entry, entries, entries_from, entry_of, file_entries, no_things, package_entries, table_of, with_entry}
 use Rattle.protox_views.specs.Packages.{is_package_seen}
 use Rattle.protox_views.specs.Views.{is_seen, meaning, seen, target}

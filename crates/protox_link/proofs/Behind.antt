@@ -1,12 +1,12 @@
 -- Files that stand behind others change nothing of what these are linked to.
-use Rattle.std.proofs.Common.{◌≡◌, ◌≢◌, ◌⊎◌, inl, inr, ◌<◌, ◌≤◌, ◌&&◌, ◌||◌, ◌↔◌, ℕ, ◌+◌, Bool, true, false, cond, List, [], ◌∷◌, ◌++◌, append-nil, drop, map, Option, Some, None, bytes_eq, get_or, is_some, refl, sym, ap, subst, ◌∙◌, arith, length, length-append, nat_lt, slice_get, suc, take, zero}
-use Rattle.std.specs.Prelude.{ℤ, pos, All, Contains}
+use Rattle.std.proofs.Common.{◌≡◌, ◌≢◌, ◌⊎◌, inl, inr, ◌<◌, ◌≤◌, ◌&&◌, ◌||◌, ℕ, ◌+◌, Bool, true, false, cond, List, [], ◌∷◌, ◌++◌, map, Option, Some, None, bytes_eq, get_or, is_some, refl, sym, ap, subst, ◌∙◌, arith, length, length-append, nat_lt, slice_get, suc, take, zero}
+use Rattle.std.specs.Prelude.{pos, All, Contains}
 use Rattle.std.specs.List.{filter_map, list_any}
 use Rattle.std.specs.Option.{option_and_then, option_map, option_map_or, unwrap_or}
 use Rattle.std.proofs.lemmas.Bool.{false≢true, le-ltb, lt-ltb}
 use Rattle.std.proofs.lemmas.List.{get_or_append_left, get_or_past, length-map}
 use Rattle.std.proofs.lemmas.List.Elements.{All-cons, All-head, All-nil, All-tail}
-use Rattle.std.proofs.lemmas.Option.{get_or_from_slice_get, none-some, same_Some, slice_get_cases, slice_get-get_or, slice_get-map, slice_get_past, slice_get_within}
+use Rattle.std.proofs.lemmas.Option.{get_or_from_slice_get, none-some, same_Some, slice_get_cases, slice_get-get_or, slice_get-map}
 use Rattle.std.proofs.lemmas.Slice.Eq.{bytes_eq-Decides}
 use Rattle.std.proofs.lemmas.Iterator.Adapters.{position_from-zero}
 use Rattle.protox_descriptor.specs.declared.descriptor.FileDescriptorProto.{FileDescriptorProto}
@@ -41,7 +41,7 @@ use Rattle.protox_symbols.specs.Symbols.{Table}
 use Rattle.protox_symbols.specs.Things.{table_of}
 use Rattle.protox_symbols.specs.declared.thing.Thing.{Thing}
 use Rattle.protox_views.specs.Packages.{is_front, is_on_the_way, is_package_seen}
-use Rattle.protox_views.specs.Views.{is_marked, is_seen, is_seen_as, meaning, seen, stands, target}
+use Rattle.protox_views.specs.Views.{is_marked, is_seen, is_seen_as, meaning, seen, target}
 use Rattle.protox_walk.specs.Declarations.{text_of}
 
 -- ---- marks

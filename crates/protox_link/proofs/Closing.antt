@@ -1,6 +1,6 @@
 -- Where nothing is wrong with a file, each name in what linking makes of it stands for something.
-use Rattle.std.proofs.Common.{◌≡◌, ◌⊎◌, inl, inr, ◌<◌, ℕ, ◌+◌, Bool, true, false, cond, List, [], ◌∷◌, ◌++◌, map, Option, Some, None, is_some, refl, sym, ap, subst, ◌∙◌, arith, drop, length, slice_get, suc, zero}
-use Rattle.std.specs.Prelude.{ℤ, ⊤, All, IfSome}
+use Rattle.std.proofs.Common.{◌≡◌, inr, ◌<◌, ℕ, ◌+◌, Bool, true, false, cond, List, [], ◌∷◌, ◌++◌, map, Option, Some, None, is_some, refl, sym, ap, subst, ◌∙◌, arith, drop, length, slice_get, suc, zero}
+use Rattle.std.specs.Prelude.{ℤ, All, IfSome}
 use Rattle.std.specs.List.{flat_map}
 use Rattle.std.specs.Option.{option_and_then, option_map, option_map_or, option_or, unwrap_or}
 use Rattle.std.proofs.lemmas.Grind.{flat_map-append}
@@ -22,22 +22,22 @@ use Rattle.protox_descriptor.specs.declared.tag.service.TheConstants as service_
 use Rattle.protox_link.proofs.Standing.{IsThere, declared_itself, declared_stands, message_itself, none_of_first, none_of_second, message_itself_stands, none_used, own_is_one_part, package_there, same_text}
 use Rattle.protox_imports.specs.Rows.{named_of, rows_of}
 use Rattle.protox_link.proofs.Seeing.{same_faults, split, split_linked}
-use Rattle.protox_link.specs.Closed.{AreClosed, IsClosed, IsClosedField, IsClosedFile, IsClosedMethod, IsItself, IsNameOf, is_message}
+use Rattle.protox_link.specs.Closed.{AreClosed, IsClosed, IsClosedFile, IsItself, IsNameOf, is_message}
 use Rattle.protox_link.specs.Files.{AreFaults, AreLinked, faults_in, linked_in}
 use Rattle.protox_link.specs.Laws.{DeclaredOnce}
 use Rattle.protox_link.specs.Seen.{IsSeenBy}
 use Rattle.protox_link_checks.specs.Faults.{all_declared_faults, declared_faults, faults_named}
 use Rattle.protox_link_checks.specs.Imports.{import_faults, package_faults}
 use Rattle.protox_link_checks.specs.Numbers.{enum_number_faults, implementation_faults}
-use Rattle.protox_link_checks.specs.Uses.{faults_at, kind_named, message_faults, type_faults, wrong_message, wrong_type}
+use Rattle.protox_link_checks.specs.Uses.{faults_at, message_faults, type_faults, wrong_message, wrong_type}
 use Rattle.protox_link_fault.specs.declared.LinkFault.{LinkFault}
 use Rattle.protox_link_fault.specs.declared.LinkFaultKind.TheVariants.{NotAType}
 use Rattle.protox_linked.proofs.Nesting.{message-linked, name_of_message}
-use Rattle.protox_linked.specs.Linked.{linked_field, linked_file, linked_message, linked_method, linked_name, linked_service, linked_type, type_of_kind}
+use Rattle.protox_linked.specs.Linked.{linked_field, linked_file, linked_message, linked_method, linked_name, linked_service, type_of_kind}
 use Rattle.protox_linked.specs.Linked as linked
 use Rattle.protox_linked.specs.declared.target.Target.{Target}
 use Rattle.protox_name_tree.proofs.FullNames.{found_known}
-use Rattle.protox_name_tree.specs.Tree.{dotted, kind_at, name_at, number_of}
+use Rattle.protox_name_tree.specs.Tree.{kind_at, number_of}
 use Rattle.protox_names.specs.Names.{is_absolute, is_one_part, scopes, within}
 use Rattle.protox_scopes.proofs.Meaning.{meaning_of_found}
 use Rattle.protox_scopes.proofs.TreeSearch.{by_user}

@@ -1,5 +1,5 @@
 -- What more files make of a table: what it has stays, and what comes is told of the later files.
-use Rattle.std.proofs.Common.{◌≡◌, ◌≢◌, ◌⊎◌, inl, inr, ◌<◌, ◌≤◌, ◌&&◌, ◌||◌, ℕ, ◌+◌, Bool, true, false, cond, not, List, [], ◌∷◌, ◌++◌, add-zero, append-nil, append_assoc, drop, fold, map, Option, Some, None, bytes_eq, get_or, is_some, refl, sym, ap, subst, ◌∙◌, arith, length, length-append, slice_get, suc, zero}
+use Rattle.std.proofs.Common.{◌≡◌, ◌≤◌, ◌&&◌, ◌||◌, ℕ, ◌+◌, Bool, true, false, cond, not, List, [], ◌∷◌, ◌++◌, add-zero, append-nil, append_assoc, drop, fold, map, Option, Some, None, bytes_eq, get_or, is_some, refl, sym, ap, subst, ◌∙◌, arith, length, length-append, slice_get, suc, zero}
 use Rattle.std.specs.Prelude.{All, Contains}
 use Rattle.std.specs.List.{AllPass, list_any, position_from}
 use Rattle.std.specs.Option.{unwrap_or}
@@ -12,15 +12,14 @@ use Rattle.std.proofs.lemmas.Option.{slice_get-get_or}
 use Rattle.protox_descriptor.specs.declared.descriptor.FileDescriptorProto.{FileDescriptorProto}
 use Rattle.protox_name_tree.proofs.FullNames.{all_contained, contains_at, found_name, no_empty_name}
 use Rattle.protox_name_tree.proofs.Growing.{tree_pushed}
-use Rattle.protox_name_tree.specs.Tree.{AreTreeNames, Names, can_stand, has_innermost, number_of, own_name, place_of_name, with_declared, with_name}
+use Rattle.protox_name_tree.specs.Tree.{AreTreeNames, Names, can_stand, has_innermost, number_of, own_name, place_of_name}
 use Rattle.protox_names.proofs.Joining.{identifiers_are_one_part, parts_of_joined, parts_within, scopes_at_dot}
-use Rattle.protox_names.specs.Names.{is_dot, is_identifier, is_one_part, parts, scopes, within}
+use Rattle.protox_names.specs.Names.{is_dot, is_identifier, is_one_part, parts, scopes}
 use Rattle.protox_scopes.specs.declared.kind.Kind.{Kind}
-use Rattle.protox_symbols.specs.Symbols.{Table, is_new, with_thing}
+use Rattle.protox_symbols.specs.Symbols.{Table}
 use Rattle.protox_symbols.specs.Things.{Entry, entries, entries_from, entry_of, file_entries, no_things, package_entries, package_entry, packages, table_of, with_entry}
 use Rattle.protox_symbols.specs.declared.thing.Thing.{Thing}
 use Rattle.protox_walk.specs.Declarations.{file_declarations, text_of}
-use Rattle.protox_walk.specs.Parts.{Declared}
 
 -- ---- the first that passes a test
 

@@ -1,5 +1,5 @@
 -- Linking keeps all that it doesn't set, of each file.
-use Rattle.std.proofs.Common.{◌≡◌, ◌+◌, ◌∙◌, ℕ, List, [], ◌∷◌, ap, map, refl}
+use Rattle.std.proofs.Common.{◌+◌, ◌∙◌, ℕ, List, [], ◌∷◌, ap, map}
 use Rattle.protox_descriptor.specs.declared.descriptor.FileDescriptorProto.{FileDescriptorProto}
 use Rattle.protox_link.proofs.Seeing.{split_linked}
 use Rattle.protox_link.specs.Files.{AreLinked}

@@ -4,20 +4,18 @@ use Rattle.std.specs.Prelude.{ℤ, pos, All, Contains}
 use Rattle.std.specs.List.{flat_map}
 use Rattle.std.specs.Option.{option_and_then, option_map, option_map_or}
 use Rattle.std.proofs.lemmas.List.{append_assoc, length-map}
-use Rattle.std.proofs.lemmas.List.Elements.{All-append, All-cons, All-contains_itself, All-head, All-map, All-nil, All-tail, All-weaker}
+use Rattle.std.proofs.lemmas.List.Elements.{All-append, All-cons, All-contains_itself, All-head, All-nil, All-tail, All-weaker}
 use Rattle.std.proofs.lemmas.Option.{slice_get-map}
-use Rattle.protox_descriptor.specs.FieldDescriptorProto.{FieldDescriptorProto}
 use Rattle.protox_descriptor.specs.declared.descriptor.DescriptorProto.{DescriptorProto, out-DescriptorProto}
 use Rattle.protox_descriptor.specs.declared.descriptor.EnumDescriptorProto.{EnumDescriptorProto}
 use Rattle.protox_descriptor.specs.declared.descriptor.FileDescriptorProto.{FileDescriptorProto}
-use Rattle.protox_descriptor.specs.declared.descriptor.MethodDescriptorProto.{MethodDescriptorProto}
 use Rattle.protox_descriptor.specs.declared.tag.enum_.TheConstants as enum_tag
 use Rattle.protox_descriptor.specs.declared.tag.enum_value.TheConstants as value_tag
 use Rattle.protox_descriptor.specs.declared.tag.field.TheConstants as field_tag
 use Rattle.protox_descriptor.specs.declared.tag.file.TheConstants as file_tag
 use Rattle.protox_descriptor.specs.declared.tag.message.TheConstants as message_tag
 use Rattle.protox_descriptor.specs.declared.tag.method.TheConstants as method_tag
-use Rattle.protox_imports.specs.Imports.{Imports, IsFirstNamed, dependency_at}
+use Rattle.protox_imports.specs.Imports.{Imports}
 use Rattle.protox_imports.specs.Names.{number_of as number_of_file}
 use Rattle.protox_imports.specs.Order.{IsCycle}
 use Rattle.protox_imports.specs.Rows.{named_of, row_by, rows_of}

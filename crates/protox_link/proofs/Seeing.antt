@@ -1,9 +1,8 @@
 -- What a file sees tells one list of faults, and one linked file.
-use Rattle.std.proofs.Common.{◌≡◌, ◌≢◌, ◌<◌, ◌+◌, ◌⊎◌, ◌↔◌, inl, inr, ℕ, Bool, true, false, cond, List, [], ◌∷◌, ◌++◌, get_or, length, map, Option, Some, None, refl, sym, ap, subst, ◌∙◌}
+use Rattle.std.proofs.Common.{◌≡◌, ◌<◌, ◌+◌, ◌⊎◌, inl, inr, ℕ, Bool, true, false, cond, List, [], ◌∷◌, ◌++◌, get_or, length, Option, Some, None, refl, sym, ap, subst, ◌∙◌}
 use Rattle.std.specs.Prelude.{ℤ}
 use Rattle.std.specs.List.{flat_map, slice_get}
 use Rattle.std.specs.Option.{option_and_then, option_map}
-use Rattle.std.proofs.lemmas.Bool.{false≢true}
 use Rattle.std.proofs.lemmas.List.{ext_get_or}
 use Rattle.std.proofs.lemmas.Option.{get_or_from_slice_get, slice_get-get_or}
 use Rattle.protox_descriptor.specs.declared.descriptor.FileDescriptorProto.{FileDescriptorProto}
@@ -16,7 +15,7 @@ use Rattle.protox_imports.specs.Rows.{named_of, rows_of}
 use Rattle.protox_imports.specs.Seen.{AreSeen}
 use Rattle.protox_link.specs.Files.{AreFaults, AreLinked, NoFile, NoMore, OneFile, OneMore, faults_in, linked_in}
 use Rattle.protox_link.specs.Link.{IsFailureOf}
-use Rattle.protox_link.specs.Seen.{IsSeenBy, packages_of}
+use Rattle.protox_link.specs.Seen.{IsSeenBy}
 use Rattle.protox_link_checks.specs.Faults.{declared_faults, faults_named}
 use Rattle.protox_link_checks.specs.Imports.{import_faults, package_faults}
 use Rattle.protox_link_checks.specs.Numbers.{implementation_faults}
@@ -36,8 +35,7 @@ use Rattle.protox_scopes.specs.declared.kind.Wanted.{Wanted}
 use Rattle.protox_scopes.specs.declared.kind.Wanted.TheVariants.{AType, Anything}
 use Rattle.protox_symbols.specs.Symbols.{Table}
 use Rattle.protox_symbols.specs.Things.{table_of}
-use Rattle.protox_views.specs.Packages.{is_package_seen}
-use Rattle.protox_views.specs.Views.{is_marked, is_seen, is_seen_as, meaning, seen, target}
+use Rattle.protox_views.specs.Views.{is_seen, is_seen_as, meaning, seen, target}
 use Rattle.protox_walk.specs.Declarations.{Path, file_declarations, text_of}
 use Rattle.protox_walk.specs.Parts.{Declared, Described, Message, Field, Oneof, Enum, Value, Service, Method}
 use Rattle.protox_walk.specs.Words.{name_of}

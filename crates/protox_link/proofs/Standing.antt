@@ -36,8 +36,8 @@ use Rattle.protox_symbols.proofs.Standing.{full_is_within}
 use Rattle.protox_symbols.specs.Symbols.{Table}
 use Rattle.protox_symbols.specs.declared.thing.Thing.{Thing}
 use Rattle.protox_views.specs.Views.{stands}
-use Rattle.protox_walk.specs.Declarations.{At, Path, all_in, declared, enum_at, field_at, file_declarations, full_name, message_at, method_at, nth, numbered, service_at, siblings_at, text_of}
-use Rattle.protox_walk.specs.Parts.{Declared, Message, Service}
+use Rattle.protox_walk.specs.Declarations.{At, Path, all_in, declared, enum_at, field_at, file_declarations, full_name, message_at, nth, numbered, service_at, siblings_at, text_of}
+use Rattle.protox_walk.specs.Parts.{Declared, Message}
 
 -- ---- lists without elements
 

@@ -1,5 +1,5 @@
 -- Linked sets of files, and why there is none.
-use Rattle.std.specs.Prelude.{◌≡◌, ◌≢◌, ◌-◌, ◌⊎◌, ⊤, ℕ, List, [], ◌∷◌, Option, Some, length, map, slice_get}
+use Rattle.std.specs.Prelude.{◌≡◌, ◌≢◌, ◌-◌, ◌⊎◌, ⊤, ℕ, List, [], ◌∷◌, Some, length, map, slice_get}
 use Rattle.protox_descriptor.specs.declared.descriptor.FileDescriptorProto.{FileDescriptorProto}
 use Rattle.protox_descriptor.specs.declared.tag.file.TheConstants.{DEPENDENCY}
 use Rattle.protox_imports.specs.Imports.{Imports}
@@ -9,7 +9,6 @@ use Rattle.protox_link.specs.declared.set.LinkedSet.{LinkedSet}
 use Rattle.protox_link_fault.specs.declared.LinkFailure.{LinkFailure}
 use Rattle.protox_link_fault.specs.declared.LinkFailure.TheVariants.{OutOfMemory, Refused}
 use Rattle.protox_link_fault.specs.declared.LinkFault.{LinkFault}
-use Rattle.protox_link_fault.specs.declared.LinkFaultKind.TheVariants.{ImportCycle}
 use Rattle.protox_linked.specs.Kept.{file_kept}
 
 -- The files of the set are the given ones, linked. Nothing is wrong with them, and the order is one

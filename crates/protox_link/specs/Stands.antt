@@ -1,5 +1,5 @@
 -- Where faults are told: the path of each leads to a part of its file.
-use Rattle.std.specs.Prelude.{◌≡◌, ◌<◌, ⊤, ℕ, ℤ, pos, true, All, Contains, List, [], ◌∷◌, ◌++◌, Some, is_some, length, slice_get}
+use Rattle.std.specs.Prelude.{◌≡◌, ◌<◌, ⊤, ℕ, pos, true, All, Contains, List, [], ◌∷◌, ◌++◌, Some, is_some, length, slice_get}
 use Rattle.protox_descriptor.specs.FieldDescriptorProto.{FieldDescriptorProto}
 use Rattle.protox_descriptor.specs.declared.descriptor.DescriptorProto.{DescriptorProto, out-DescriptorProto}
 use Rattle.protox_descriptor.specs.declared.descriptor.EnumDescriptorProto.{EnumDescriptorProto}

@@ -1,7 +1,7 @@
 -- Imports, one behind another.
-use Rattle.std.proofs.Common.{◌≡◌, ◌<◌, ◌+◌, ◌++◌, ◌==◌, ℕ, Bool, List, [], ◌∷◌, drop, false, get_or, length, Option, Some, None, IfSome, option_to_list, refl, sym, ap, ◌∙◌, arith, append_assoc}
+use Rattle.std.proofs.Common.{◌≡◌, ◌<◌, ◌+◌, ◌++◌, ℕ, List, [], ◌∷◌, drop, get_or, length, Option, Some, None, IfSome, option_to_list, refl, sym, ap, ◌∙◌, append_assoc}
 use Rattle.std.specs.Prelude.{pos}
-use Rattle.std.specs.List.{Contains, list_any}
+use Rattle.std.specs.List.{Contains}
 use Rattle.std.proofs.lemmas.List.{drop_more, get_or_default}
 use Rattle.protox_descriptor.specs.declared.tag.file.TheConstants.{DEPENDENCY}
 use Rattle.protox_link_checks.specs.Imports.{import_faults_from, wrong_import}

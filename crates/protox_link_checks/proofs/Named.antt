@@ -1,6 +1,5 @@
 -- Names of declarations, and the scopes that they are.
-use Rattle.std.proofs.Common.{◌≡◌, ◌≢◌, ◌==◌, ◌&&◌, ℕ, Bool, true, false, cond, List, [], ◌∷◌, ◌++◌, length, Option, Some, None, OnOk, Result, is_some, refl, sym, ap, subst, ◌∙◌, append-nil, append_assoc}
-use Rattle.std.proofs.lemmas.Bool.{false≢true}
+use Rattle.std.proofs.Common.{◌≡◌, ◌==◌, ℕ, Bool, true, false, cond, List, [], ◌∷◌, ◌++◌, length, Option, Some, None, OnOk, Result, is_some, refl, sym, ap, subst, ◌∙◌, append-nil, append_assoc}
 use Rattle.std.proofs.lemmas.Result.{on_ok_weaker}
 use Rattle.protox_link_fault.specs.declared.LinkFault.{LinkFault}
 use Rattle.protox_link_fault.specs.declared.LinkFaultKind.TheVariants.{AlreadyDefined}
@@ -9,9 +8,9 @@ use Rattle.protox_link_checks.specs.Checked.{MayUse}
 use Rattle.protox_link_checks.specs.Faults.{bad_name, clash_faults, faults_named, is_declared_at}
 use Rattle.protox_link_checks.specs.Uses.{fault_at}
 use Rattle.protox_name_tree.proofs.FullNames.{known_name, known_some}
-use Rattle.protox_name_tree.specs.Tree.{IsKnown, IsNameTree, has_innermost, name_at, name_in, number_of}
+use Rattle.protox_name_tree.specs.Tree.{IsNameTree, has_innermost, name_at, name_in, number_of}
 use Rattle.protox_names.proofs.Joining.{identifiers_are_one_part, scopes_of_one_part, scopes_within}
-use Rattle.protox_names.specs.Names.{is_identifier, is_one_part, scopes, within}
+use Rattle.protox_names.specs.Names.{is_identifier, scopes, within}
 use Rattle.protox_symbols.proofs.Found.{no_scope_in, no_scope_of, with_number}
 use Rattle.protox_symbols.proofs.Growing.{IsKept}
 use Rattle.protox_symbols.proofs.Standing.{full_is_within, no_inner_scope}

@@ -1,5 +1,5 @@
 -- From a package outwards, one step each time.
-use Rattle.std.proofs.Common.{◌≡◌, ◌≢◌, ◌<◌, ◌≤◌, ◌==◌, ◌⊎◌, inl, inr, ℕ, false, List, [], ◌∷◌, ◌++◌, length, map, Option, Some, None, OnOk, Result, refl, sym, ap, subst, ◌∙◌, arith, append_assoc}
+use Rattle.std.proofs.Common.{◌≡◌, ◌≢◌, ◌<◌, ◌==◌, inl, inr, ℕ, false, List, [], ◌∷◌, ◌++◌, length, map, Option, Some, None, OnOk, Result, sym, ap, subst, ◌∙◌, append_assoc}
 use Rattle.std.specs.List.{All, Contains}
 use Rattle.std.proofs.lemmas.Bool.{false≢true}
 use Rattle.std.proofs.lemmas.List.{map-append}
@@ -10,7 +10,6 @@ use Rattle.protox_descriptor.specs.declared.tag.file.TheConstants.{PACKAGE}
 use Rattle.protox_link_checks.specs.Imports.{if_found, if_no_package, no_packages, outwards, package_faults, wrong_package_found}
 use Rattle.protox_link_checks.specs.Uses.{fault_at, faults_at}
 use Rattle.protox_link_fault.specs.declared.LinkFault.{LinkFault}
-use Rattle.protox_link_fault.specs.declared.LinkFaultKind.{LinkFaultKind}
 use Rattle.protox_link_fault.specs.declared.LinkFaultKind.TheVariants.{NotAPackage}
 use Rattle.protox_name_tree.proofs.FullNames.{all_at, known_name, no_empty_name}
 use Rattle.protox_name_tree.proofs.Outwards.{name_of_found}

@@ -1,8 +1,8 @@
 -- What is wrong with the imports of a file, and with its package.
-use Rattle.std.specs.Prelude.{ℕ, ◌+◌, ◌==◌, ℤ, pos, Bool, true, false, List, [], ◌∷◌, ◌++◌, map, option_to_list, Option, Some, None, if◌then◌else◌}
+use Rattle.std.specs.Prelude.{ℕ, ◌+◌, ◌==◌, pos, Bool, true, false, List, [], ◌∷◌, ◌++◌, map, option_to_list, Option, Some, None, if◌then◌else◌}
 use Rattle.std.specs.List.{list_any}
 use Rattle.protox_descriptor.specs.declared.tag.file.TheConstants.{DEPENDENCY, PACKAGE}
-use Rattle.protox_link_checks.specs.Uses.{fault_at, faults_at}
+use Rattle.protox_link_checks.specs.Uses.{faults_at}
 use Rattle.protox_link_fault.specs.declared.LinkFault.{LinkFault}
 use Rattle.protox_link_fault.specs.declared.LinkFaultKind.{LinkFaultKind}
 use Rattle.protox_link_fault.specs.declared.LinkFaultKind.TheVariants.{BadName, MissingImport, NotAPackage, RepeatedImport}

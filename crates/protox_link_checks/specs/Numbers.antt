@@ -1,5 +1,5 @@
 -- What is wrong with the numbers of a message, and of an enum.
-use Rattle.std.specs.Prelude.{ℕ, ◌+◌, ◌==◌, ℤ, pos, Bool, length, List, [], ◌∷◌, ◌++◌, map, if◌then◌else◌}
+use Rattle.std.specs.Prelude.{ℕ, ◌+◌, ◌==◌, ℤ, length, List, [], ◌∷◌, ◌++◌, map, if◌then◌else◌}
 use Rattle.protox_descriptor.specs.FieldDescriptorProto.{FieldDescriptorProto}
 use Rattle.protox_descriptor.specs.declared.descriptor.DescriptorProto.{DescriptorProto, out-DescriptorProto}
 use Rattle.protox_descriptor.specs.declared.descriptor.EnumDescriptorProto.{EnumDescriptorProto}
@@ -9,7 +9,6 @@ use Rattle.protox_descriptor.specs.declared.tag.field.TheConstants as field_tag
 use Rattle.protox_descriptor.specs.declared.tag.message.TheConstants as message_tag
 use Rattle.protox_link_checks.specs.Empty.{empty_faults}
 use Rattle.protox_link_fault.specs.declared.LinkFault.{LinkFault}
-use Rattle.protox_link_fault.specs.declared.LinkFaultKind.{LinkFaultKind}
 use Rattle.protox_link_fault.specs.declared.LinkFaultKind.TheVariants.{Clash, ForImplementation, NoValue}
 use Rattle.protox_link_fault.specs.declared.NumberFault.{NumberFault}
 use Rattle.protox_link_fault.specs.declared.NumberFault.TheVariants as fault

@@ -1,5 +1,5 @@
 -- A path that is followed step by step.
-use Rattle.std.proofs.Common.{◌≡◌, ◌<◌, ◌+◌, ℕ, ℤ, Bool, true, false, cond, Bor, List, [], ◌∷◌, length, Option, Some, None, IfOk, Result, option_map, refl, sym, ap, subst, ◌∙◌, arith, string_bytes}
+use Rattle.std.proofs.Common.{◌≡◌, ◌<◌, ℕ, ℤ, Bool, true, false, cond, List, [], ◌∷◌, length, Option, Some, None, refl, sym, ap, ◌∙◌, arith}
 use Rattle.std.specs.Ordering.{int_eq}
 use Rattle.std.proofs.lemmas.Option.{none-some, same_Some}
 use Rattle.protox_descriptor.specs.declared.descriptor.DescriptorProto.{DescriptorProto, out-DescriptorProto}
@@ -7,8 +7,7 @@ use Rattle.protox_descriptor.specs.declared.descriptor.EnumDescriptorProto.{Enum
 use Rattle.protox_descriptor.specs.declared.descriptor.ServiceDescriptorProto.{ServiceDescriptorProto}
 use Rattle.protox_descriptor.specs.declared.tag.file.TheConstants as file_tag
 use Rattle.protox_descriptor.specs.declared.tag.message.TheConstants as message_tag
-use Rattle.protox_link_text.specs.Places.{Holder, OfEnum, OfFile, OfMessage, OfService, Place, at_index, holder_of, into_enum, into_message, into_service, next, place_from, step}
-use Rattle.protox_link_text.specs.declared.place.Place.{Place as Reached}
+use Rattle.protox_link_text.specs.Places.{Holder, OfEnum, OfFile, OfMessage, OfService, Place, at_index, into_enum, into_message, into_service, next, place_from, step}
 
 module _ (rest : List ℤ) where
   -- what a step leaves of the path

@@ -1,5 +1,5 @@
 -- A search that goes outwards from scope to scope.
-use Rattle.std.proofs.Common.{◌≡◌, ◌+◌, ℕ, Bool, true, false, cond, Bor, List, [], ◌∷◌, drop, length, Option, Some, None, sym, ap, ◌∙◌}
+use Rattle.std.proofs.Common.{◌≡◌, ◌+◌, ℕ, Bool, true, false, cond, Bor, List, drop, length, Option, Some, None, sym, ap, ◌∙◌}
 use Rattle.protox_link_text.specs.Search.{Searched, ends_in, later, scopes_at, search, search_in, searched_scopes, unseen, unseen_in}
 use Rattle.protox_names.specs.Names.{is_absolute, scopes, within}
 use Rattle.protox_scopes.specs.declared.kind.Wanted.{Wanted}

@@ -10,7 +10,7 @@ use Rattle.protox_descriptor.specs.declared.descriptor.descriptor_proto.Reserved
 use Rattle.protox_descriptor.specs.declared.descriptor.enum_descriptor_proto.EnumReservedRange.{EnumReservedRange}
 use Rattle.protox_link_fault.specs.declared.NumberFault.{NumberFault}
 use Rattle.protox_link_fault.specs.declared.NumberFault.TheVariants as how
-use Rattle.protox_link_text.specs.Places.{Holder, OfEnum, OfFile, OfMessage, OfService, at_index, text_of}
+use Rattle.protox_link_text.specs.Places.{Holder, OfEnum, OfMessage, at_index, text_of}
 use Rattle.protox_link_text.specs.declared.clash.Stretch.{Stretch}
 use Rattle.protox_link_text.specs.declared.error.LinkError.{LinkError}
 use Rattle.protox_link_text.specs.declared.error.LinkError.TheVariants.{ExtensionsReserved, ExtensionsTwice, FieldReserved, ForExtensions, NumberReused, ReservedTwice, ValueReserved}

@@ -12,7 +12,7 @@ use Rattle.protox_scopes.specs.declared.kind.Wanted.{Wanted}
 use Rattle.protox_scopes.specs.declared.kind.Wanted.TheVariants.{AType, Anything}
 use Rattle.protox_linked.proofs.Nesting.{message-linked, name_of_message}
 use Rattle.protox_linked.specs.Kept.{any_name, field_kept, file_kept, kept_step, message_kept, method_kept, service_kept, unnamed_type}
-use Rattle.protox_linked.specs.Linked.{linked_field, linked_file, linked_message, linked_method, linked_name, linked_service, linked_type, text_of, type_of_kind}
+use Rattle.protox_linked.specs.Linked.{linked_field, linked_file, linked_message, linked_method, linked_name, linked_service, text_of, type_of_kind}
 use Rattle.protox_linked.specs.declared.target.Target.{Target}
 use Rattle.protox_names.specs.Names.{within}
 

@@ -9,3 +9,4 @@ pub mod Outwards
 pub mod Missing
 pub mod Standing
 pub mod Parts
+pub mod Mixing

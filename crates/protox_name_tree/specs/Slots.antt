@@ -1,5 +1,5 @@
 -- Slots that hold numbers.
-use Rattle.std.specs.Prelude.{◌≡◌, ◌<◌, ◌+◌, ◌-◌, ◌*◌, ◌%◌, ℕ, zero, suc, List, Option, Some, None, fold, length, slice_index_or}
+use Rattle.std.specs.Prelude.{◌≡◌, ◌<◌, ◌+◌, ◌-◌, ◌*◌, ◌%◌, ℕ, zero, suc, List, [], ◌∷◌, Option, Some, None, fold, length, slice_index_or}
 
 -- what the slot at an index holds
 abbrev pub held : List (Option ℕ) → ℕ → Option ℕ
@@ -36,12 +36,21 @@ pub record IsInWindow (slots : List (Option ℕ)) (mixed n : ℕ) : Type 0 where
 
 -- ---- how texts and keys are mixed
 
--- a number below 2 to the 32nd, from all bytes of a text
+-- a number below 2 to the 32nd, from one so far and what comes next
 abbrev pub mixed : ℕ → ℕ → ℕ
-mixed so_far byte = (so_far * 33 + byte) % 4294967296
+mixed so_far next = (so_far * 2654435769 + next) % 4294967296
+
+-- four bytes as one number
+abbrev pub word : ℕ → ℕ → ℕ → ℕ → ℕ
+word a b c d = a + b * 256 + (c + d * 256) * 65536
+
+-- a number from one so far and a text: four bytes at a time, and what is left one by one
+abbrev pub mixed_on : ℕ → List ℕ → ℕ
+mixed_on so_far (a ∷ b ∷ c ∷ d ∷ more) = mixed_on (mixed so_far (word a b c d)) more
+mixed_on so_far left = fold mixed so_far left
 
 abbrev pub mixed_text : List ℕ → ℕ
-mixed_text text = fold mixed 5381 text
+mixed_text text = mixed_on 5381 text
 
 -- a number below 2 to the 49th, from both parts of a key
 abbrev pub mixed_key : Option ℕ × ℕ → ℕ

@@ -2,6 +2,7 @@
 #![tactic(auto)]
 
 mod dotted;
+mod mixed;
 mod nodes;
 mod scopes;
 mod slots;

@@ -3,8 +3,8 @@
 ghost use Rattle.std.specs.Prelude.{◌≡◌, ◌↔◌, ◌++◌, ◌∷◌, [], ℕ, List, Some, IfOk, OnErr, map, string_bytes};
 ghost use Rattle.std.specs.List.{slice_get};
 ghost use Rattle.std.specs.Option.{option_copied};
-ghost use Rattle.protox_name_tree.specs.Slots.{mixed_text};
 
+use crate::mixed::mixed_text;
 use crate::slots::Slots;
 use crate::sought::Sought;
 use std::alloc::{AllocError, Global};
@@ -31,16 +31,6 @@ impl Model for Texts {
     ghost view = { λ t. map string_bytes t.texts.items };
 
     ghost invariant = { λ t. IsIndexed mixed_text t.slots (get_by_text t.elsewhere) (map string_bytes t.texts.items) };
-}
-
-fn mixed_text(text: &str) -> u64
-    ensures { result ≡ mixed_text text.now }
-{
-    let mut mixed = 5381;
-    for byte in text.as_bytes() {
-        mixed = (mixed * 33 + *byte as u64) % 4_294_967_296;
-    }
-    mixed
 }
 
 // The text with a number.

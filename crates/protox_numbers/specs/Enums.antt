@@ -1,5 +1,5 @@
 -- Numbers and ranges of an enum that clash.
-use Rattle.std.specs.Prelude.{ℤ, pos, ◌==◌, nat_eq, Bool, false, List, map, slice_get}
+use Rattle.std.specs.Prelude.{◌==◌, Bool, false, List, map, slice_get}
 use Rattle.std.specs.Option.{option_map_or}
 use Rattle.protox_spans.specs.declared.span.Span.{Span}
 use Rattle.protox_spans.specs.Spans.{first_met_in}

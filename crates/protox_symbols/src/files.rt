@@ -6,19 +6,41 @@ ghost use Rattle.protox_symbols.specs.Scopes.{IsFoundScope};
 
 use crate::declares::{declare_each, text_of};
 use crate::{Symbols, Thing};
-use protox_descriptor::descriptor::FileDescriptorProto;
+use protox_descriptor::descriptor::{DescriptorProto, EnumDescriptorProto, FileDescriptorProto};
 use protox_descriptor::tag::file::{ENUM_TYPE, EXTENSION, MESSAGE_TYPE, SERVICE};
 use protox_descriptor::values::Numbers;
 use protox_scopes::Kind;
 use std::alloc::{AllocError, Global};
 
-// About how many full names a file declares: its messages, and their fields.
-fn room_of(file: &FileDescriptorProto) -> usize {
-    let mut room: usize = 1;
-    for message in &file.message_type {
-        room = room.saturating_add(message.field.len()).saturating_add(1);
+// About how many full names enums declare: their own, and those of their values.
+fn room_of_enums(enums: &[EnumDescriptorProto]) -> usize {
+    let mut room: usize = 0;
+    for declared in enums {
+        room = room.saturating_add(declared.value.len()).saturating_add(1);
     }
     room
+}
+
+// About how many full names messages declare: their own, and those of what stands in them.
+#[cycle(nested)]
+fn room_of_messages(messages: &[DescriptorProto]) -> usize {
+    let mut room: usize = 0;
+    for message in messages {
+        room = room.saturating_add(message.field.len()).saturating_add(1);
+        room = room.saturating_add(room_of_enums(message.enum_type.as_slice()));
+        room = room.saturating_add(room_of_messages(message.nested_type.as_slice()));
+    }
+    room
+}
+
+// About how many full names a file declares. Each dot in the name of its package ends a part, which
+// is declared too.
+fn room_of(file: &FileDescriptorProto) -> usize {
+    let package = text_of(file.package.as_ref());
+    let parts = package.split('.').count();
+    let messages = room_of_messages(file.message_type.as_slice());
+    let enums = room_of_enums(file.enum_type.as_slice());
+    parts.saturating_add(messages).saturating_add(enums)
 }
 
 // About how many full names files declare.

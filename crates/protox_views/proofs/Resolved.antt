@@ -1,5 +1,5 @@
 -- A search in one scope.
-use Rattle.std.proofs.Common.{◌≡◌, ◌+◌, ◌||◌, ℕ, suc, Bool, true, false, not, cond, if◌then◌else◌, List, [], ◌∷◌, Option, Some, None, arith, take, refl, sym, ap, ◌∙◌}
+use Rattle.std.proofs.Common.{◌≡◌, ◌+◌, ◌||◌, ℕ, suc, Bool, true, false, not, cond, List, [], ◌∷◌, arith, take, refl, ap, ◌∙◌}
 use Rattle.std.specs.List.{list_any, prefix_len}
 use Rattle.protox_names.specs.Names.{front, is_dot, is_one_part}
 

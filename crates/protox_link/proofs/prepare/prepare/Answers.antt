@@ -1,8 +1,7 @@
-use Rattle.std.proofs.Common.{◌≡◌, length, subst, sym, ap, ◌∙◌}
+use Rattle.std.proofs.Common.{length, subst, ap, ◌∙◌}
 use Rattle.protox_imports.specs.Answer.{IsAnswer}
 use Rattle.protox_imports.specs.Rows.{ImportsIn}
 use Rattle.protox_imports.specs.declared.sorted.Order.{Order}
-use Rattle.protox_descriptor.specs.declared.descriptor.FileDescriptorProto.{FileDescriptorProto}
 use Rattle.protox_link.specs.Seen.{packages_of}
 use Rattle.protox_symbols.specs.Symbols.{Table}
 use Rattle.protox_link.proofs.prepare.prepare.Goals as goal

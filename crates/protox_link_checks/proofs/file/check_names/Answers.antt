@@ -1,5 +1,4 @@
-use Rattle.std.proofs.Common.{◌≡◌, [], List, ℕ, Option, None, refl, subst}
-use Rattle.std.specs.Option.{option_copied}
+use Rattle.std.proofs.Common.{[], List, ℕ, Option, refl, subst}
 use Rattle.protox_symbols.specs.Scopes.{IsFoundScope}
 use Rattle.protox_walk.specs.Declarations.{text_of}
 use Rattle.protox_link_checks.proofs.Checking.{file_checked}

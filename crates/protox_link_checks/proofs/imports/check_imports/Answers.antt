@@ -1,4 +1,4 @@
-use Rattle.std.proofs.Common.{◌≡◌, ◌<◌, ◌++◌, ◌==◌, ◌+◌, ℕ, List, None, option_to_list, false, drop, get_or, length, arith, sym, ap, ◌∙◌}
+use Rattle.std.proofs.Common.{◌≡◌, ◌<◌, ◌++◌, ◌==◌, ◌+◌, ℕ, None, option_to_list, false, get_or, length, arith, ◌∙◌}
 use Rattle.std.specs.List.{list_any}
 use Rattle.protox_link_checks.proofs.Imported.{import_below, import_checked}
 use Rattle.protox_views.proofs.Ways.{written_whole}

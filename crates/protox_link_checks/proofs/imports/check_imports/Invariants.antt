@@ -1,4 +1,4 @@
-use Rattle.std.proofs.Common.{◌≡◌, ◌<◌, ◌++◌, ◌==◌, ℕ, List, false, drop, get_or, length, take}
+use Rattle.std.proofs.Common.{◌≡◌, ◌<◌, ◌++◌, ◌==◌, ℕ, List, false, drop, get_or, length}
 use Rattle.std.specs.List.{list_any}
 use Rattle.protox_link_checks.specs.Imports.{import_faults, import_faults_from}
 use Rattle.protox_link_checks.proofs.imports.check_imports.Given as goal

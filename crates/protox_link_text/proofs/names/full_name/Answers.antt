@@ -1,4 +1,4 @@
-use Rattle.std.proofs.Common.{◌≡◌, IfOk, List, ℕ, [], None, lit<, subst, sym, ap, ◌∙◌, false}
+use Rattle.std.proofs.Common.{◌≡◌, IfOk, List, ℕ, None, lit<, subst, ◌∙◌, false}
 use Rattle.std.proofs.lemmas.Str.Pattern.{strip_prefix_char}
 use Rattle.protox_link_text.proofs.Naming.{no_name}
 use Rattle.protox_name_tree.specs.Tree.{name_at}

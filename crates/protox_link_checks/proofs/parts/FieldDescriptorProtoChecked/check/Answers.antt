@@ -1,4 +1,4 @@
-use Rattle.std.proofs.Common.{◌≡◌, ◌++◌, List, ℕ, Option, None, Some, refl, sym, ap, append_assoc, subst, ◌∙◌}
+use Rattle.std.proofs.Common.{◌++◌, List, ℕ, None, Some, ap, append_assoc, ◌∙◌}
 use Rattle.std.specs.Option.{option_copied}
 use Rattle.protox_descriptor.specs.FieldDescriptorProto.{FieldDescriptorProto}
 use Rattle.protox_descriptor.specs.declared.tag.field.TheConstants.{EXTENDEE, TYPE_NAME}

@@ -1,4 +1,4 @@
-use Rattle.std.proofs.Common.{◌≡◌, List, ℕ, Option, None, Some, refl, sym, ap, subst, ◌∙◌}
+use Rattle.std.proofs.Common.{List, ℕ, None, Some}
 use Rattle.std.specs.Option.{option_copied}
 use Rattle.protox_descriptor.specs.declared.tag.method.TheConstants.{INPUT_TYPE, OUTPUT_TYPE}
 use Rattle.protox_walk.specs.Declarations.{declared, full_name, text_of}

@@ -1,4 +1,4 @@
-use Rattle.std.proofs.Common.{None, ap, lit<, ◌∙◌, true}
+use Rattle.std.proofs.Common.{None, ap, lit<, ◌∙◌}
 use Rattle.std.proofs.lemmas.Str.Pattern.{strip_prefix_char}
 use Rattle.protox_name_tree.specs.Tree.{kind_at, name_at}
 use Rattle.protox_names.specs.Names.{is_one_part}

@@ -1,6 +1,6 @@
 //! Slots in which numbers are looked for.
 
-ghost use Rattle.std.specs.Prelude.{◌≡◌, ◌<◌, ◌≤◌, ◌+◌, ◌^◌, ℕ, Some, None, [], true, length, IfNone, IfSome};
+ghost use Rattle.std.specs.Prelude.{◌≡◌, ◌<◌, ◌≤◌, ◌+◌, ◌*◌, ◌^◌, ℕ, Some, None, [], false, true, length, IfNone, IfSome, OnOk};
 ghost use Rattle.protox_name_tree.specs.Slots.{AreTaken, IsFree, IsInWindow, held, scattered, window_start};
 
 use crate::sought::Sought;
@@ -49,7 +49,9 @@ impl Slots {
     /// # Errors
     /// `AllocError` where memory runs out.
     pub(crate) fn open(&mut self, alloc: Global, room: usize) -> Result<(), AllocError>
-        ensures { (mixed n : ℕ) → IsInWindow self.old mixed n → IsInWindow self.new mixed n }
+        ensures made { OnOk result (0 < length self.new) }
+        ensures room { self.old ≡ [] → room * 3 + 8 < 2 ^ 64 → OnOk result (length self.new ≡ room * 3 + 8) }
+        ensures kept { (mixed n : ℕ) → IsInWindow self.old mixed n → IsInWindow self.new mixed n }
     {
         if self.slots.is_empty() {
             let count = room.saturating_add(room).saturating_add(room);
@@ -91,6 +93,7 @@ impl Slots {
 
     // The index of the first slot in the window that holds nothing.
     fn free(&self, mixed: u64) -> Option<usize>
+        ensures none { IfNone result (AreTaken self.now mixed 8) }
         ensures free { IfSome result (λ index. IsFree self.now index) }
         ensures near { IfSome result (λ index. (step : ℕ) × (step < 8)
             × (index ≡ window_start (length self.now) mixed + step)
@@ -107,6 +110,7 @@ impl Slots {
 
     /// Puts a number into a slot of the window, if one holds nothing. Answers whether it did.
     pub(crate) fn put(&mut self, mixed: u64, number: usize) -> bool
+        ensures full { result ≡ false → AreTaken self.old mixed 8 }
         ensures kept { (m n : ℕ) → IsInWindow self.old m n → IsInWindow self.new m n }
         ensures put { result ≡ true → IsInWindow self.new mixed number }
     {

@@ -29,7 +29,7 @@ fresh : (c : goal.After-push_reserved) (n : ℕ) → slice_get (map key_of c.sel
 fresh c n at = c.requires n (sym (ap (λ l. slice_get (map key_of l) n) c.self.view_is) ∙ at)
 
 held : (c : goal.After-push_reserved) (m n : ℕ) → IsInWindow c.self.inside.slots m n → IsInWindow c.put.new.self m n
-held c m n h = c.put.ensures.kept m n (c.open.ensures m n h)
+held c m n h = c.put.ensures.kept m n (c.open.ensures.kept m n h)
 
 in_window : (c : goal.After-push_reserved) → c.put.result ≡ true → IsInWindow c.put.new.self (mixed_key (key_of c.args.node)) (length (map key_of c.self.inside.nodes.items))
 in_window c did =

@@ -158,6 +158,7 @@ impl Groups<Token<'_>> {
     #[tactic(auto, using(crate::proofs::Sharing::newlines_within, crate::proofs::Sharing::newlines_grouped))]
     /// Appends newlines to the list that has begun. On `AllocError` nothing changes.
     pub(crate) fn push_newlines(&mut self, count: usize) -> Result<(), AllocError>
+        ensures err { OnErr result (self.new ≡ self.old) }
         ensures ended { self.new.ended ≡ self.old.ended }
         ensures begun { OnOk result (map shape_of self.new.begun ≡ map shape_of self.old.begun ++ replicate count Newline) }
     {

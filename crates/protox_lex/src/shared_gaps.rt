@@ -149,8 +149,10 @@ impl<'a> SharedGaps<'a> {
         ensures { OnOk result (self.new ≡ record self.old { begun = self.old.begun ++ shape_of token.entry ∷ [] }) }
     {
         self.keeps = true;
-        self.kept.push_newlines(self.newlines)?;
-        self.newlines = 0;
+        if 0 < self.newlines {
+            self.kept.push_newlines(self.newlines)?;
+            self.newlines = 0;
+        }
         self.kept.push(token)
     }
 

@@ -35,7 +35,9 @@ from link_sets import Protoc, Unclear, linked_lines, sets_of, within, written
 PROGRAM = 'crates/linkcases/out/linkcases'
 PACKAGES = ['', 'a', 'b', 'a.b', 'b.a', 'a.b.c', 'c.a']
 # A line of one declaration that uses names.
-USE = re.compile(r'(optional .*;|map<.*;|rpc .*;|extend .*|oneof .*|import .*)')
+USE = re.compile(r'(optional .*;|[\w.]+ \w+ = \d+;|map<.*;|rpc .*;|extend .*|oneof .*|import .*)')
+# What is wrong in proto3 alone.
+PROTO3 = ('first value not zero', 'extensions in proto3')
 # A fault of a name that is declared twice in a file, and one of a name that is used.
 TWICE = re.compile(r'(\S+) \S+ already defined: \S+ in \1')
 USED = re.compile(r'\S+ \S+ not (defined|a type|a message): .*')
@@ -47,8 +49,9 @@ class Chance:
     def __init__(self, rng, name, others, taken):
         self.rng, self.taken, self.number, self.in_maps = rng, taken, 0, set()
         self.twice = rng.random() < 0.2
+        self.proto3 = rng.random() < 0.2
         package = rng.choice(PACKAGES)
-        self.lines = ['syntax = "proto2";'] + ([f'package {package};'] if package else [])
+        self.lines = [f'syntax = "proto{3 if self.proto3 else 2}";'] + ([f'package {package};'] if package else [])
         for other in others:
             if rng.random() < 0.6:
                 self.lines.append(f'import {rng.choice(["", "", "public ", "weak "])}"{other}";')
@@ -95,24 +98,29 @@ class Chance:
     def message(self, scope, depth=0):
         full = within(scope, self.own(scope))
         self.lines.append(f'message {full.rpartition(".")[2]} {{')
-        self.lines.append('extensions 1000 to max;')
+        if not self.proto3 or self.rng.random() < 0.1:
+            self.lines.append('extensions 1000 to max;')
+        optional = '' if self.proto3 else 'optional '
         if depth < 3:
             for _ in range(self.rng.choice([0, 0, 1, 1, 2])):
                 self.message(full, depth + 1)
         for _ in range(self.rng.randint(0, 3)):
             name = self.own(full) if self.rng.random() < 0.4 else f'f_{self.next()}'
             self.lines.append(self.rng.choice([
-                f'optional {self.used()} {name} = {self.next()};',
-                f'optional {self.used()} {name} = {self.next()};',
+                f'{optional}{self.used()} {name} = {self.next()};',
+                f'{optional}{self.used()} {name} = {self.next()};',
                 f'map<string, {self.used_in_map()}> {name} = {self.next()};',
                 f'oneof {self.own(full)} {{ {self.used()} {name} = {self.next()}; }}']))
         if self.rng.random() < 0.3:
             self.enum(full)
+        if self.rng.random() < 0.2:
+            self.lines.append(f'reserved "{self.rng.choice("abcd")}", "f_{self.number}";')
         self.extend(full)
         self.lines.append('}')
 
     def enum(self, scope):
-        self.lines.append(f'enum {self.own(scope)} {{ {self.own(scope)} = 0; }}')
+        number = self.rng.choice([0, 0, 0, 0, 7]) if self.proto3 else 0
+        self.lines.append(f'enum {self.own(scope)} {{ {self.own(scope)} = {number}; }}')
 
     def service(self, scope):
         full = within(scope, self.own(scope))
@@ -122,6 +130,9 @@ class Chance:
         self.lines.append('}')
 
     def extend(self, scope):
+        # in proto3 only messages of options may be extended, which isn't checked yet
+        if self.proto3:
+            return
         for _ in range(self.rng.choice([0, 0, 0, 1, 2])):
             number = self.rng.randint(1000, 400000000)
             self.lines.append(f'extend {self.used()} {{ optional int32 {self.own(scope)} = {number}; }}')
@@ -155,7 +166,8 @@ def by_chance(protoc, seed):
 
 
 def comparable(lines):
-    """What is compared of the lines of a set that is made by chance: faults with their texts."""
+    """What is compared of the lines of a set that is made by chance: faults with their texts. What is
+    wrong in proto3 alone is told by protoc only where nothing else is wrong."""
     faults = []
     for line in lines:
         if line.startswith('  '):
@@ -164,6 +176,7 @@ def comparable(lines):
             faults.append([line])
     if any(TWICE.fullmatch(fault[0]) for fault in faults):
         faults = [fault for fault in faults if not USED.fullmatch(fault[0])]
+    faults = [fault for fault in faults if not fault[0].endswith(PROTO3)] or faults
     packages = [fault for fault in faults if ' not a package: ' in fault[0]]
     return [line for fault in faults if fault not in packages[1:] for line in fault]
 

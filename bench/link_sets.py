@@ -29,12 +29,20 @@ OF_NUMBERS = [(re.compile(text), words) for text, words in (
     (r'Extension range end number must be greater than start number\.', 'empty range'),
     (r'Field numbers 19000 through 19999 are reserved for .*\.', 'number for the implementation'),
     (r'Enums must contain at least one value\.', 'no value'),
+    (r'Package name is too long', 'long package'),
+    (r'Exceeds Maximum Package Depth', 'deep package'),
+    (r'The first enum value must be zero in proto3\.', 'first value not zero'),
+    (r'Extension ranges are not allowed in proto3\.', 'extensions in proto3'),
 )]
 # What it says without a place, or at that of another part.
 FOR_EXTENSIONS = re.compile(r'Extension range .* includes field "(.*)" \((\d+)\)\.')
 RESERVED = re.compile(r'(?:Field|Enum value) "(.*)" uses reserved number (-?\d+)\.')
 OVERLAPS = re.compile(r'(Reserved|Extension) range (-?\d+) to (-?\d+) overlaps with (already-defined|reserved) range .*\.')
 BACKWARD = re.compile(r'Reserved range end number must be greater than start number\.')
+# What it says of reserved names: of one that is reserved again, at the name of what reserves it.
+RESERVED_AGAIN = re.compile(r'(?:Field name|Enum value) ".*" is reserved multiple times\.')
+RESERVED_NAME = re.compile(r'(?:Field name|Enum value) ".*" is reserved\.')
+AGAIN = 'name reserved before'
 TWICE_ELSEWHERE = re.compile(r'"(.*)" is already defined in file "(.*)"\.')
 TWICE_WITHIN = re.compile(r'"(.*)" is already defined in "(.*)"\.')
 TWICE = re.compile(r'"(.*)" is already defined\.')
@@ -44,11 +52,14 @@ IMPORT_TWICE = re.compile(r'Import "(.*)" was listed twice\.')
 # Told of a value besides, and of what nothing is told here.
 SIBLINGS = ('Note that enum values use C++ scoping rules, meaning that enum values are siblings of their type, '
             'not children of it. ')
+# What isn't checked here yet.
+NOT_YET = re.compile(r'Enum type ".*" is not a proto3 enum, .*|The JSON camel-case name of field .*'
+                     r'|Enum name .* has the same name as .*|Enum value in map must define 0 as the first value\.')
 MORE = re.compile(r'Expanded map entry type .*|Suggested field numbers for .*')
 
 
 class Unclear(Exception):
-    """protoc tells a fault of one of several parts, and not of which."""
+    """protoc tells a fault of one of several parts, and not of which; or one that isn't checked here yet."""
 
 
 def within(scope, name):
@@ -167,6 +178,26 @@ def numbers_in(path, part):
     yield path + (NUMBER,), 'number for the implementation'
 
 
+# The lists of what may have a reserved name.
+NAMED = {'DescriptorProto': 'field', 'EnumDescriptorProto': 'value'}
+
+
+def reserved_in(path, part):
+    """The faults of reserved names that a declaration may have: paths and words."""
+    yield path + (NAME,), AGAIN
+    if name := NAMED.get(part.DESCRIPTOR.name):
+        number = part.DESCRIPTOR.fields_by_name[name].number
+        yield from ((path + (number, index, NAME), 'reserved name') for index in range(len(getattr(part, name))))
+
+
+def in_proto3(path, part):
+    """What may be wrong with a declaration in proto3 alone: paths and words."""
+    if part.DESCRIPTOR.name == 'EnumDescriptorProto':
+        yield path + (2, 0, 2), 'first value not zero'
+    elif part.DESCRIPTOR.name == 'DescriptorProto':
+        yield path + (5, 0), 'extensions in proto3'
+
+
 class Faults:
     """Makes lines of what protoc tells of one file. What protobuf's parser makes of the file has the paths
     of parts by their places. Where protoc gives no place, as for a map's entry, paths are found by the
@@ -221,6 +252,10 @@ class Faults:
         """The shortest path of a part at a place."""
         return min((path for path, start in self.places.items() if start == place), key=len)
 
+    def name_at(self, place):
+        """The shortest path of a name at a place."""
+        return min((path for path, start in self.places.items() if start == place and path[-1:] == (NAME,)), key=len)
+
     def numbered(self, name, number):
         """The paths of the numbers of the fields and values with a name and a number."""
         for path, _, part in self.declared:
@@ -264,6 +299,11 @@ class Faults:
         for rule, words in OF_NUMBERS:
             if rule.fullmatch(text):
                 return self.add(self.part_at(place), words, text)
+        if RESERVED_AGAIN.fullmatch(text):
+            # one name may be told several times
+            return self.texts[self.name_at(place), AGAIN].append(text)
+        if RESERVED_NAME.fullmatch(text):
+            return self.add(self.name_at(place), 'reserved name', text)
         words, paths = self.among(place, text)
         if paths:
             self.several[text, words, tuple(paths)] += 1
@@ -289,6 +329,8 @@ class Faults:
             # a missing file is told missing alone
             if found[1] in self.known:
                 self.add_imports(found[1], 'repeated import', 1, text)
+        elif NOT_YET.fullmatch(text):
+            raise Unclear(f'{self.name}: not checked yet: {text}')
         elif not MORE.fullmatch(text):
             sys.exit(f'{self.name}: no rule for: {text}')
 
@@ -317,7 +359,8 @@ class Faults:
             scope, names = full[:-len(part.name)].rstrip('.'), [value.name for value in part.value]
             where = f'"{scope}"' if scope else 'the global scope'
             for index, name in enumerate(names):
-                texts = [texts for fault, texts in self.texts.items() if fault[0] == path + (number, index, NAME)]
+                texts = [texts for (at, words), texts in self.texts.items()
+                         if at == path + (number, index, NAME) and words.startswith('already defined')]
                 note = f'{SIBLINGS} Therefore, "{name}" must be unique within {where}, not just within "{part.name}".'
                 if name in names[:index]:
                     continue
@@ -353,18 +396,23 @@ class Faults:
 
     def lines(self):
         """The lines in the order of imports, the package, and declarations: first the name of each, then
-        its numbers, and then what it uses. Below each line stands what protoc tells."""
+        its numbers, the names that it reserves, and then what it uses. At the end stands what is wrong in
+        proto3 alone. Below each line stands what protoc tells."""
         self.add_twice()
         self.add_several()
         self.add_nowhere()
         order = [(IMPORTS, index) for index in range(len(self.file.dependency))] + [(PACKAGE,)]
         for path, _, part in self.declared:
-            order += [path + (NAME,), *numbers_in(path, part), *(use for use in self.uses if use[:-1] == path)]
+            order += [path + (NAME,), *numbers_in(path, part), *reserved_in(path, part)]
+            order += [use for use in self.uses if use[:-1] == path]
+        for path, _, part in self.declared:
+            order += in_proto3(path, part)
         place = {path: index for index, path in enumerate(order)}
         lines = []
         for path, words in sorted(self.texts, key=lambda fault: place.get(fault, place.get(fault[0]))):
-            lines.append(f'{self.name} {".".join(map(str, path))} {words}')
-            lines += [f'  {text}' for text in self.texts[path, words]]
+            fault, texts = f'{self.name} {".".join(map(str, path))} {words}', self.texts[path, words]
+            for told in [texts[n:n + 1] for n in range(len(texts))] if words == AGAIN else [texts]:
+                lines += [fault, *(f'  {text}' for text in told)]
         return lines
 
 

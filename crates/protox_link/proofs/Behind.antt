@@ -20,11 +20,10 @@ use Rattle.protox_imports.specs.Sees.Passes.{Itself, Publicly}
 use Rattle.protox_imports.specs.declared.row.FileImports.{FileImports}
 use Rattle.protox_link.proofs.Growing.{Grows, from_front, place_behind, place_front, table_even, table_grows, table_tree}
 use Rattle.protox_link.proofs.Seeing.{split, split_linked}
-use Rattle.protox_link.proofs.Standing.{none_of_first, none_of_second, package_there}
+use Rattle.protox_link.proofs.Standing.{none_of_first, none_of_second, package_right, package_there}
 use Rattle.protox_link.specs.Files.{AreFaults, AreLinked, faults_in, linked_in}
 use Rattle.protox_link.specs.Laws.{Local}
 use Rattle.protox_link.specs.Seen.{IsSeenBy, packages_of}
-use Rattle.protox_link_checks.specs.Faults.{all_declared_faults}
 use Rattle.protox_link_checks.specs.Imports.{import_faults, import_faults_from, package_faults, wrong_import}
 use Rattle.protox_link_checks.specs.Uses.{faults_at}
 use Rattle.protox_linked.specs.Linked.{linked_file}
@@ -316,8 +315,7 @@ module _ (files more : List FileDescriptorProto) (right : AreFaults files 0 file
   package_same k file is =
       let at = right_at files more right k file is in
       let pkg = text_of file.«package» in
-      let rest : package_faults table k pkg ++ all_declared_faults table at.0 at.1 k file ≡ [] = none_of_second (import_faults k (named_of (rows_of files) k)) _ at.2 in
-      package_kept pkg (number_of table.names pkg) refl (package_there table k pkg (none_of_first (package_faults table k pkg) _ rest))
+      package_kept pkg (number_of table.names pkg) refl (package_there table k pkg (package_right table at.0 at.1 k (named_of (rows_of files) k) file at.2))
 
   number_at : (t : Table) (all : List FileDescriptorProto) (k : ℕ) (file : FileDescriptorProto) → slice_get all k ≡ Some file → get_or (packages_of t all) k None ≡ number_of t.names (text_of file.«package»)
   number_at t all k file is =

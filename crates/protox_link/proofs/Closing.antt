@@ -19,17 +19,16 @@ use Rattle.protox_descriptor.specs.declared.tag.file.TheConstants as file_tag
 use Rattle.protox_descriptor.specs.declared.tag.message.TheConstants as message_tag
 use Rattle.protox_descriptor.specs.declared.tag.method.TheConstants as method_tag
 use Rattle.protox_descriptor.specs.declared.tag.service.TheConstants as service_tag
-use Rattle.protox_link.proofs.Standing.{IsThere, declared_itself, declared_stands, message_itself, none_of_first, none_of_second, message_itself_stands, none_used, own_is_one_part, package_there, same_text}
+use Rattle.protox_link.proofs.Standing.{IsThere, declared_itself, declared_right, declared_stands, message_itself, none_of_first, none_of_second, message_itself_stands, none_used, own_is_one_part, package_right, package_there, same_text}
 use Rattle.protox_imports.specs.Rows.{named_of, rows_of}
 use Rattle.protox_link.proofs.Seeing.{same_faults, split, split_linked}
 use Rattle.protox_link.specs.Closed.{AreClosed, IsClosed, IsClosedFile, IsItself, IsNameOf, is_message}
 use Rattle.protox_link.specs.Files.{AreFaults, AreLinked, faults_in, linked_in}
 use Rattle.protox_link.specs.Laws.{DeclaredOnce}
 use Rattle.protox_link.specs.Seen.{IsSeenBy}
-use Rattle.protox_link_checks.specs.Faults.{all_declared_faults, declared_faults, faults_named}
-use Rattle.protox_link_checks.specs.Imports.{import_faults, package_faults}
-use Rattle.protox_link_checks.specs.Numbers.{enum_number_faults, implementation_faults}
-use Rattle.protox_link_checks.specs.Uses.{faults_at, message_faults, type_faults, wrong_message, wrong_type}
+use Rattle.protox_link_checks.specs.Faults.{declared_faults, faults_named}
+use Rattle.protox_link_checks.specs.Numbers.{implementation_faults}
+use Rattle.protox_link_checks.specs.Uses.{enum_itself, faults_at, message_faults, type_faults, wrong_message, wrong_type}
 use Rattle.protox_link_fault.specs.declared.LinkFault.{LinkFault}
 use Rattle.protox_link_fault.specs.declared.LinkFaultKind.TheVariants.{NotAType}
 use Rattle.protox_linked.proofs.Nesting.{message-linked, name_of_message}
@@ -265,7 +264,7 @@ module _ (t : Table) (sees packages : List Bool) (file : ℕ) where
   enum_left : (full : List ℕ) (e : EnumDescriptorProto) (path : Path) → IsThere t sees packages file full → flat_map wrong (enum_at e full path) ≡ [] → All IsRight (enum_at e full path)
   enum_left full e path there none =
       let own = wrong (declared path (full_name full e.name) (Enum e)) in
-      All-cons IsRight _ _ (record { once = declared_itself t sees packages file path full e.name (enum_number_faults file path e) there (none_of_first own _ none); names = tt })
+      All-cons IsRight _ _ (record { once = declared_itself t sees packages file path full e.name (enum_itself file path e) there (none_of_first own _ none); names = tt })
       (all_left value_at full path enum_tag.VALUE 0 e.value (λ v place h. value_left full v place there h) (none_of_second own _ none))
 
   oneof_left : (full : List ℕ) (o : OneofDescriptorProto) (path : Path) → IsThere t sees packages file full → flat_map wrong (oneof_at o full path) ≡ [] → All IsRight (oneof_at o full path)
@@ -401,13 +400,13 @@ module _ (all : List FileDescriptorProto) where
   closed_in : (n : ℕ) (sees packages : List Bool) (file : FileDescriptorProto) → IsSeenBy all n sees packages → faults_in all n sees packages file ≡ [] → IsClosedFile all n (linked_in all sees packages file)
   closed_in n sees packages file seen_by none =
       let t = table_of all in
-      let behind : package_faults t n (text_of file.«package») ++ all_declared_faults t sees packages n file ≡ [] = none_of_second (import_faults n (named_of (rows_of all) n)) _ none in
-      let there = package_there t n (text_of file.«package») (none_of_first (package_faults t n (text_of file.«package»)) _ behind) in
+      let imports = named_of (rows_of all) n in
+      let there = package_there t n (text_of file.«package») (package_right t sees packages n imports file none) in
       record {
         sees = sees;
         packages = packages;
         seen = seen_by;
-        closed = file_closed t sees packages n file there (none_of_second (package_faults t n (text_of file.«package»)) _ behind);
+        closed = file_closed t sees packages n file there (declared_right t sees packages n imports file none);
       }
 
   -- the files from the number n on

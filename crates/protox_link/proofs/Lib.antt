@@ -9,5 +9,6 @@ pub mod Growing
 pub mod Behind
 pub mod WrongClashes
 pub mod WrongImports
+pub mod WrongNames
 pub mod WrongTold
 pub mod WrongListed

@@ -8,7 +8,9 @@ use Rattle.std.proofs.lemmas.List.Elements.{All-append, All-cons, All-contains_i
 use Rattle.std.proofs.lemmas.Option.{slice_get-map}
 use Rattle.protox_descriptor.specs.declared.descriptor.DescriptorProto.{DescriptorProto, out-DescriptorProto}
 use Rattle.protox_descriptor.specs.declared.descriptor.EnumDescriptorProto.{EnumDescriptorProto}
+use Rattle.protox_descriptor.specs.declared.descriptor.EnumValueDescriptorProto.{EnumValueDescriptorProto}
 use Rattle.protox_descriptor.specs.declared.descriptor.FileDescriptorProto.{FileDescriptorProto}
+use Rattle.protox_descriptor.specs.declared.descriptor.descriptor_proto.ExtensionRange.{ExtensionRange}
 use Rattle.protox_descriptor.specs.declared.tag.enum_.TheConstants as enum_tag
 use Rattle.protox_descriptor.specs.declared.tag.enum_value.TheConstants as value_tag
 use Rattle.protox_descriptor.specs.declared.tag.field.TheConstants as field_tag
@@ -22,20 +24,23 @@ use Rattle.protox_imports.specs.Rows.{named_of, row_by, rows_of}
 use Rattle.protox_imports.specs.declared.row.FileImports.{FileImports}
 use Rattle.protox_link.proofs.Seeing.{split}
 use Rattle.protox_link.specs.Files.{AreFaults, faults_in}
-use Rattle.protox_link.specs.Stands.{LeadsInto, LeadsWithin, Stands, ToDeclared, ToExtendee, ToExtensionRange, ToImport, ToImports, ToInput, ToName, ToNumber, ToNumberOfField, ToNumberOfValue, ToOutput, ToPackage, ToRangeOfEnum, ToReservedRange, ToType}
+use Rattle.protox_link.specs.Stands.{LeadsInto, LeadsWithin, Stands, ToDeclared, ToExtendee, ToExtensionRange, ToImport, ToImports, ToInput, ToName, ToNameOfField, ToNameOfValue, ToNumber, ToNumberOfField, ToNumberOfValue, ToOutput, ToPackage, ToRangeOfEnum, ToReservedRange, ToType}
 use Rattle.protox_link_checks.specs.Empty.{empty_fault, empty_faults}
 use Rattle.protox_link_checks.specs.Faults.{bad_name, clash_faults, declared_faults, is_declared_at}
 use Rattle.protox_link_checks.specs.Imports.{import_faults, import_faults_from, package_faults, wrong_import, wrong_package}
 use Rattle.protox_link_checks.specs.Numbers as numbers
-use Rattle.protox_link_checks.specs.Uses.{fault_at, faults_at, kind_named, message_faults, type_faults, uses_of, wrong_message, wrong_type}
+use Rattle.protox_link_checks.specs.Proto3.{extension_faults, faults_of_proto3, first_value_faults, is_proto3, part_faults, proto3_faults}
+use Rattle.protox_link_checks.specs.Reserved.{again_fault, again_faults, is_among, name_of_field, name_of_value, reserved_fault, reserved_faults}
+use Rattle.protox_link_checks.specs.Uses.{enum_itself, fault_at, faults_at, kind_named, message_faults, message_itself, type_faults, uses_of, wrong_message, wrong_type}
 use Rattle.protox_link_fault.specs.declared.LinkFault.{LinkFault}
 use Rattle.protox_link_fault.specs.declared.LinkFaultKind.{LinkFaultKind}
-use Rattle.protox_link_fault.specs.declared.LinkFaultKind.TheVariants.{AlreadyDefined, EmptyRange, ForImplementation, NoValue, NotInTable}
+use Rattle.protox_link_fault.specs.declared.LinkFaultKind.TheVariants.{AlreadyDefined, EmptyRange, ExtensionsInProto3, FirstNotZero, ForImplementation, NoValue, NotInTable, ReservedAgain, ReservedName}
 use Rattle.protox_link_fault.specs.declared.NumberFault.{NumberFault}
 use Rattle.protox_name_tree.specs.Tree.{has_innermost, number_of}
 use Rattle.protox_names.specs.Names.{is_identifier, scopes}
 use Rattle.protox_numbers.specs.Clashes.{clash_of, clashes_from, with_earlier, with_first}
 use Rattle.protox_numbers.specs.Enums as of_enum
+use Rattle.protox_numbers.specs.Enums.{begins_with_zero}
 use Rattle.protox_numbers.specs.Message as of_message
 use Rattle.protox_numbers.specs.Parts.{is_backward_enum_range, is_empty_extension_range, is_for_implementation}
 use Rattle.protox_numbers.specs.declared.clash.Clash.{Clash}
@@ -112,6 +117,20 @@ module _ (P : LinkFault → Type 0) (file : ℕ) (path : Path) (part : Described
       (all_if P (is_empty range) (empty_fault file path tag n ∷ []) [] (one P (empty_fault file path tag n) (told (tag ∷ pos n ∷ []) EmptyRange (leads n (omega (arith, is))))) (All-nil P))
       (all_empty tag is_empty count leads (n + 1) more (omega (arith, is)))
 
+  all_again : (earlier : List (List ℕ)) (n : ℕ) (names : List (List ℕ)) → All P (again_faults file path earlier n names)
+  all_again earlier n [] = All-nil P
+  all_again earlier n (name ∷ more) =
+      All-append P _ (again_faults file path (earlier ++ name ∷ []) (n + 1) more)
+      (all_if P (is_among earlier name) (again_fault file path n ∷ []) [] (one P (again_fault file path n) (told (message_tag.NAME ∷ []) (ReservedAgain n) (ToName part))) (All-nil P))
+      (all_again (earlier ++ name ∷ []) (n + 1) more)
+
+  all_reserved : (tag : ℤ) (is_reserved : List ℕ → Bool) (count : ℕ) → ((n : ℕ) → n < count → LeadsWithin part (tag ∷ pos n ∷ message_tag.NAME ∷ [])) → (n : ℕ) (names : List (List ℕ)) → n + length names ≡ count → All P (reserved_faults file path tag is_reserved n names)
+  all_reserved tag is_reserved count leads n [] is = All-nil P
+  all_reserved tag is_reserved count leads n (name ∷ more) is =
+      All-append P _ (reserved_faults file path tag is_reserved (n + 1) more)
+      (all_if P (is_reserved name) (reserved_fault file path tag n ∷ []) [] (one P (reserved_fault file path tag n) (told_below tag n (message_tag.NAME ∷ []) ReservedName (leads n (omega (arith, is))))) (All-nil P))
+      (all_reserved tag is_reserved count leads (n + 1) more (omega (arith, is)))
+
   module _ (t : Table) (sees packages : List Bool) where
     type_told : (tag : ℤ) (user : List ℕ) (name : Option (List ℕ)) → (is_some name ≡ true → LeadsWithin part (tag ∷ [])) → All P (type_faults t sees packages file path tag user name)
     type_told tag user None leads = All-nil P
@@ -157,9 +176,24 @@ module _ (P : LinkFault → Type 0) (file : ℕ) (path : Path) where
       (all_clashes P file path (Enum e) told enum_tag.VALUE (value_tag.NUMBER ∷ []) _ (length e.value) (λ n below. ToNumberOfValue e n below) (of_enum.values_in_reserved_ranges e) (with_first_below _ _ e.value))
       (all_clashes P file path (Enum e) told enum_tag.RESERVED_RANGE [] _ (length e.reserved_range) (λ n below. ToRangeOfEnum e n below) (of_enum.overlapping_enum_ranges e) (with_earlier_below _ _ e.reserved_range))))
 
+  message_itself_told : (m : DescriptorProto) → IsToldAt (Message m) → All P (message_itself file path m)
+  message_itself_told m told =
+      let parts = out-DescriptorProto m in
+      All-append P (numbers.message_number_faults file path m) _ (message_numbers_told m told)
+      (All-append P (again_faults file path [] 0 parts.reserved_name) _
+      (all_again P file path (Message m) told [] 0 parts.reserved_name)
+      (all_reserved P file path (Message m) told message_tag.FIELD (is_among parts.reserved_name) (length parts.field) (λ n below. ToNameOfField m n below) 0 (map name_of_field parts.field) (omega (arith, length-map parts.field name_of_field))))
+
+  enum_itself_told : (e : EnumDescriptorProto) → IsToldAt (Enum e) → All P (enum_itself file path e)
+  enum_itself_told e told =
+      All-append P (numbers.enum_number_faults file path e) _ (enum_numbers_told e told)
+      (All-append P (again_faults file path [] 0 e.reserved_name) _
+      (all_again P file path (Enum e) told [] 0 e.reserved_name)
+      (all_reserved P file path (Enum e) told enum_tag.VALUE (is_among e.reserved_name) (length e.value) (λ n below. ToNameOfValue e n below) 0 (map name_of_value e.value) (omega (arith, length-map e.value name_of_value))))
+
   module _ (t : Table) (sees packages : List Bool) where
     uses_told : (user : List ℕ) (part : Described) → IsToldAt part → All P (uses_of t sees packages file path user part)
-    uses_told user (Message m) told = message_numbers_told m told
+    uses_told user (Message m) told = message_itself_told m told
     uses_told user (Field f) told =
         All-append P (numbers.implementation_faults file path f ++ type_faults t sees packages file path field_tag.TYPE_NAME user f.type_name) _
         (All-append P (numbers.implementation_faults file path f) _
@@ -167,7 +201,7 @@ module _ (P : LinkFault → Type 0) (file : ℕ) (path : Path) where
         (type_told P file path (Field f) told t sees packages field_tag.TYPE_NAME user f.type_name (λ is. ToType f is)))
         (message_told P file path (Field f) told t sees packages field_tag.EXTENDEE user f.extendee (λ is. ToExtendee f is))
     uses_told user (Oneof o) told = All-nil P
-    uses_told user (Enum e) told = enum_numbers_told e told
+    uses_told user (Enum e) told = enum_itself_told e told
     uses_told user (Value v) told = All-nil P
     uses_told user (Service s) told = All-nil P
     uses_told user (Method m) told =
@@ -195,6 +229,34 @@ module _ (number : ℕ) (file : FileDescriptorProto) where
       (uses_told IsTold number d.path t sees packages d.full_name d.part told))
       (All-nil IsTold))
       (one IsTold (fault_at number d.path message_tag.NAME (bad_name own)) (told (message_tag.NAME ∷ []) (bad_name own) (ToName d.part)))
+
+  first_value_told : (path : Path) (e : EnumDescriptorProto) (values : List EnumValueDescriptorProto) → (0 < length values → LeadsInto file (path ++ (enum_tag.VALUE ∷ pos 0 ∷ value_tag.NUMBER ∷ []))) → All IsTold (first_value_faults number path e values)
+  first_value_told path e [] leads = All-nil IsTold
+  first_value_told path e (value ∷ more) leads =
+      all_if IsTold (begins_with_zero e) [] _ (All-nil IsTold)
+      (one IsTold (record { file = number; path = nth path enum_tag.VALUE 0 ++ value_tag.NUMBER ∷ []; kind = FirstNotZero })
+      (record { of_file = refl; leads = subst (LeadsInto file) (sym (append_assoc path (enum_tag.VALUE ∷ pos 0 ∷ []) (value_tag.NUMBER ∷ []))) (leads (omega arith)) }))
+
+  extensions_told : (path : Path) (ranges : List ExtensionRange) → (0 < length ranges → LeadsInto file (path ++ (message_tag.EXTENSION_RANGE ∷ pos 0 ∷ []))) → All IsTold (extension_faults number path ranges)
+  extensions_told path [] leads = All-nil IsTold
+  extensions_told path (range ∷ more) leads =
+      one IsTold (record { file = number; path = nth path message_tag.EXTENSION_RANGE 0; kind = ExtensionsInProto3 }) (record { of_file = refl; leads = leads (omega arith) })
+
+  part_told : (path : Path) (part : Described) → ((rest : Path) → LeadsWithin part rest → LeadsInto file (path ++ rest)) → All IsTold (part_faults number path part)
+  part_told path (Message m) leads = extensions_told path (out-DescriptorProto m).extension_range (λ some. leads _ (ToExtensionRange m 0 some))
+  part_told path (Field f) leads = All-nil IsTold
+  part_told path (Oneof o) leads = All-nil IsTold
+  part_told path (Enum e) leads = first_value_told path e e.value (λ some. leads _ (ToNumberOfValue e 0 some))
+  part_told path (Value v) leads = All-nil IsTold
+  part_told path (Service s) leads = All-nil IsTold
+  part_told path (Method m) leads = All-nil IsTold
+
+  proto3_told : All IsTold (proto3_faults number file)
+  proto3_told =
+      all_if IsTold (is_proto3 file) _ []
+      (all_flat IsTold (faults_of_proto3 number) (file_declarations file)
+      (All-weaker (Contains (file_declarations file)) (λ d. All IsTold (faults_of_proto3 number d)) (λ d here. part_told d.path d.part (λ rest leads. ToDeclared d rest here leads)) (file_declarations file) (All-contains_itself (file_declarations file))))
+      (All-nil IsTold)
 
   package_told_at : (kinds : List LinkFaultKind) → is_some file.«package» ≡ true → All IsTold (faults_at number [] file_tag.PACKAGE kinds)
   package_told_at [] there = All-nil IsTold
@@ -226,8 +288,10 @@ module _ (number : ℕ) (file : FileDescriptorProto) where
       (imports_told 0 [] (named_of (rows_of all) number) (omega (arith, as_many)))
       (All-append IsTold (package_faults t number (text_of file.«package»)) _
       (package_told t file.«package» refl)
+      (All-append IsTold (flat_map (declared_faults t sees packages number) (file_declarations file)) _
       (all_flat IsTold (declared_faults t sees packages number) (file_declarations file)
-      (All-weaker (Contains (file_declarations file)) (λ d. All IsTold (declared_faults t sees packages number d)) (λ d here. declared_told t sees packages d here) (file_declarations file) (All-contains_itself (file_declarations file)))))
+      (All-weaker (Contains (file_declarations file)) (λ d. All IsTold (declared_faults t sees packages number d)) (λ d here. declared_told t sees packages d here) (file_declarations file) (All-contains_itself (file_declarations file))))
+      proto3_told))
 
 -- ---- all files
 

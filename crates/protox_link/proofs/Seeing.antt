@@ -18,6 +18,7 @@ use Rattle.protox_link.specs.Link.{IsFailureOf}
 use Rattle.protox_link.specs.Seen.{IsSeenBy}
 use Rattle.protox_link_checks.specs.Faults.{declared_faults, faults_named}
 use Rattle.protox_link_checks.specs.Imports.{import_faults, package_faults}
+use Rattle.protox_link_checks.specs.Proto3.{proto3_faults}
 use Rattle.protox_link_checks.specs.Numbers.{implementation_faults}
 use Rattle.protox_link_checks.specs.Uses.{faults_at, kind_named, message_faults, type_faults, uses_of, wrong_message, wrong_type}
 use Rattle.protox_link_fault.specs.declared.LinkFailure.{LinkFailure}
@@ -121,7 +122,7 @@ module _ (all : List FileDescriptorProto) (n : ℕ) (sees packages packages' : L
   declared_alike file d = ap (faults_named table sees packages file d.path d.full_name (text_of (name_of d.part))) (uses_alike file d.path d.full_name d.part)
 
   pub faults_alike : (file : FileDescriptorProto) → faults_in all n sees packages file ≡ faults_in all n sees packages' file
-  faults_alike file = λ i. import_faults n (named_of (rows_of all) n) ++ (package_faults table n (text_of file.«package») ++ flat_map (λ d. declared_alike n d i) (file_declarations file))
+  faults_alike file = λ i. import_faults n (named_of (rows_of all) n) ++ (package_faults table n (text_of file.«package») ++ (flat_map (λ d. declared_alike n d i) (file_declarations file) ++ proto3_faults n file))
 
 -- ---- file by file
 

@@ -9,6 +9,7 @@ use Rattle.std.specs.Ordering.{int_eq}
 use Rattle.std.proofs.lemmas.Bool.{and_from, false≢true}
 use Rattle.std.proofs.lemmas.Bool.Decides.{Decides-eqb}
 use Rattle.std.proofs.lemmas.Grind.{flat_map-append}
+use Rattle.std.proofs.lemmas.List.{map-append}
 use Rattle.std.proofs.lemmas.Option.{get_or_from_slice_get}
 use Rattle.protox_descriptor.specs.declared.descriptor.DescriptorProto.{DescriptorProto, DescriptorProto-F, ind-DescriptorProto, out-DescriptorProto, out-roll-DescriptorProto, roll-DescriptorProto}
 use Rattle.protox_descriptor.specs.declared.descriptor.FileDescriptorProto.{FileDescriptorProto}
@@ -17,9 +18,11 @@ use Rattle.protox_descriptor.specs.declared.tag.file.TheConstants.{PACKAGE}
 use Rattle.protox_descriptor.specs.declared.tag.file.TheConstants as file_tag
 use Rattle.protox_descriptor.specs.declared.tag.message.TheConstants as message_tag
 use Rattle.protox_link.specs.Closed.{IsItself}
-use Rattle.protox_link_checks.specs.Faults.{bad_name, clash_faults, declared_faults, faults_named, is_declared_at}
-use Rattle.protox_link_checks.specs.Imports.{package_faults, wrong_package_found}
-use Rattle.protox_link_checks.specs.Numbers.{message_number_faults}
+use Rattle.protox_link_checks.specs.Faults.{all_declared_faults, bad_name, clash_faults, declared_faults, faults_named, is_declared_at}
+use Rattle.protox_link_checks.specs.File.{file_faults}
+use Rattle.protox_link_checks.specs.Imports.{import_faults, package_faults, wrong_length, wrong_package_found}
+use Rattle.protox_link_checks.specs.Proto3.{proto3_faults}
+use Rattle.protox_link_checks.specs.Uses as uses
 use Rattle.protox_link_checks.specs.Uses.{fault_at, faults_at}
 use Rattle.protox_link_fault.specs.declared.LinkFault.{LinkFault}
 use Rattle.protox_link_fault.specs.declared.LinkFaultKind.TheVariants.{AlreadyDefined}
@@ -162,12 +165,12 @@ module _ (t : Table) (sees packages : List Bool) (file : ℕ) where
 
   pub message_itself_stands : (full : List ℕ) (path : Path) (m : DescriptorProto) → IsThere full → flat_map wrong (message_at m full path) ≡ [] → stands t (full_name full (out-DescriptorProto m).name) ≡ true
   message_itself_stands full path m there none =
-      declared_stands path full (out-DescriptorProto m).name (message_number_faults file path m) there
+      declared_stands path full (out-DescriptorProto m).name (uses.message_itself file path m) there
       (none_of_first _ _ (sym (ap (flat_map wrong) (message_declares m full path)) ∙ none))
 
   pub message_itself : (full : List ℕ) (path : Path) (m : DescriptorProto) → IsThere full → flat_map wrong (message_at m full path) ≡ [] → IsItself t file path (full_name full (out-DescriptorProto m).name)
   message_itself full path m there none =
-      declared_itself path full (out-DescriptorProto m).name (message_number_faults file path m) there
+      declared_itself path full (out-DescriptorProto m).name (uses.message_itself file path m) there
       (none_of_first _ _ (sym (ap (flat_map wrong) (message_declares m full path)) ∙ none))
 
   abbrev IsMessageThere : DescriptorProto → Type 0
@@ -218,6 +221,19 @@ module _ (t : Table) (sees packages : List Bool) (file : ℕ) where
       (all_there message_at (message_stands (stands t) package1) package1 [] file_tag.MESSAGE_TYPE 0 f.message_type (λ m place h. message_there m package1 place there h) (none_of_first _ _ all))
       (all_there service_at (service_stands (stands t) package1) package1 [] file_tag.SERVICE 0 f.service (λ s place h. service_there package1 place s there h) (none_of_first _ _ last))
 
+-- ---- where nothing is wrong with a file
+
+module _ (t : Table) (sees packages : List Bool) (n : ℕ) (imports : List (Option ℕ)) (f : FileDescriptorProto) (none : file_faults t sees packages n imports f ≡ []) where
+  behind_imports : package_faults t n (text_of f.«package») ++ (all_declared_faults t sees packages n f ++ proto3_faults n f) ≡ []
+  behind_imports = none_of_second (import_faults n imports) _ none
+
+  pub package_right : package_faults t n (text_of f.«package») ≡ []
+  package_right = none_of_first (package_faults t n (text_of f.«package»)) _ behind_imports
+
+  pub declared_right : all_declared_faults t sees packages n f ≡ []
+  declared_right =
+      none_of_first (all_declared_faults t sees packages n f) _ (none_of_second (package_faults t n (text_of f.«package»)) _ behind_imports)
+
 -- ---- the package
 
 module _ (t : Table) (file : ℕ) where
@@ -228,7 +244,10 @@ module _ (t : Table) (file : ℕ) where
   -- where nothing is wrong with a package, it is in the table
   pub package_there : (name : List ℕ) → package_faults t file name ≡ [] → (name ≡ []) ⊎ (stands t name ≡ true)
   package_there [] none = inl refl
-  package_there (byte ∷ rest) none = inr (found_there (byte ∷ rest) (number_of t.names (byte ∷ rest)) none)
+  package_there (byte ∷ rest) none =
+      let name = byte ∷ rest in
+      inr (found_there name (number_of t.names name)
+      (none_of_second (faults_at file [] PACKAGE (wrong_length name)) _ (sym (map-append (fault_at file [] PACKAGE) (wrong_length name) (wrong_package_found t name (number_of t.names name))) ∙ none)))
 
   named_by : (name : List ℕ) (number : Option ℕ) → number ≡ number_of t.names name → (name ≡ []) ⊎ (is_some number ≡ true) → name_of_place (name_at t.names) number ≡ name
   named_by name None is (inl top) = sym top

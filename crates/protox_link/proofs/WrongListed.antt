@@ -1,9 +1,9 @@
 -- What is wrong with files is in the list of faults.
-use Rattle.std.proofs.Common.{◌≡◌, ◌≢◌, ◌+◌, ◌==◌, inl, inr, is_some, ℕ, zero, suc, Bool, true, false, cond, List, [], ◌∷◌, ◌++◌, length, map, Option, Some, None, refl, sym, ap, subst, ◌∙◌, arith, slice_get}
-use Rattle.std.specs.Prelude.{ℤ, pos, Contains}
+use Rattle.std.proofs.Common.{◌≡◌, ◌≢◌, ◌+◌, ◌==◌, inl, inr, is_some, ℕ, zero, suc, Bool, true, false, cond, List, [], ◌∷◌, ◌++◌, length, map, Option, Some, None, refl, sym, ap, subst, ◌∙◌, arith, slice_get, ◌<◌, ◌≤◌, nat_lt, ◌⊎◌}
+use Rattle.std.specs.Prelude.{ℤ, pos, Contains, count_by}
 use Rattle.std.specs.Option.{option_map}
 use Rattle.std.proofs.lemmas.Bool.{false≢true}
-use Rattle.std.proofs.lemmas.Bool.Decides.{Decides-eqb}
+use Rattle.std.proofs.lemmas.Bool.Decides.{Decides-eqb, Decides-ltb}
 use Rattle.std.proofs.lemmas.List.{append_assoc}
 use Rattle.std.specs.List.{flat_map}
 use Rattle.std.proofs.lemmas.Option.{same_Some}
@@ -12,6 +12,7 @@ use Rattle.protox_descriptor.specs.declared.descriptor.DescriptorProto.{Descript
 use Rattle.protox_descriptor.specs.declared.descriptor.EnumDescriptorProto.{EnumDescriptorProto}
 use Rattle.protox_descriptor.specs.declared.descriptor.EnumValueDescriptorProto.{EnumValueDescriptorProto}
 use Rattle.protox_descriptor.specs.declared.descriptor.FileDescriptorProto.{FileDescriptorProto}
+use Rattle.protox_descriptor.specs.declared.descriptor.descriptor_proto.ExtensionRange.{ExtensionRange}
 use Rattle.protox_descriptor.specs.declared.tag.enum_.TheConstants as enum_tag
 use Rattle.protox_descriptor.specs.declared.tag.enum_value.TheConstants as value_tag
 use Rattle.protox_descriptor.specs.declared.tag.field.TheConstants as field_tag
@@ -23,14 +24,17 @@ use Rattle.protox_link.proofs.Seeing.{same_faults, split}
 use Rattle.protox_link.proofs.Standing.{thing_is, true_or_false}
 use Rattle.protox_link.proofs.WrongClashes.{earlier_listed, first_listed}
 use Rattle.protox_link.proofs.WrongImports.{import_listed, named_by}
+use Rattle.protox_link.proofs.WrongNames.{again_listed, own_listed}
 use Rattle.protox_link.specs.Closed.{is_message}
 use Rattle.protox_link.specs.Files.{AreFaults, faults_in}
 use Rattle.protox_link.specs.Seen.{IsSeenBy}
-use Rattle.protox_link.specs.Wrong.{AsExtendee, AsInput, AsOutput, AsType, Clashes, Clashing, HasBadName, HasNameOfOther, HasNoName, HasNoNumber, HasNoNumbers, HasNoValue, IsBackward, IsNamed, IsNoPackage, IsNotThere, IsTaken, OfExtensions, OfExtensionsReserved, OfExtensionsTwice, OfImport, OfName, OfNumber, OfPackage, OfReserved, OfReservedTwice, OfReused, OfUse, OfValues, OfValuesTwice, StandsForNoMessage, StandsForNoType, StandsForNothing, Uses, WrongImport, WrongLink, WrongName, WrongNumber, WrongPackage, WrongUse, stands_for}
+use Rattle.protox_link.specs.Wrong.{AsExtendee, AsInput, AsOutput, AsType, BeginsOtherwise, Clashes, Clashing, EnumReservesAgain, FieldIsReserved, HasBadName, HasExtensions, HasNameOfOther, HasNoName, HasNoNumber, HasNoNumbers, HasNoValue, IsBackward, IsNamed, IsNoPackage, IsNotThere, IsTaken, IsTooDeep, IsTooLong, MessageReservesAgain, OfExtensions, OfExtensionsReserved, OfExtensionsTwice, OfImport, OfName, OfNumber, OfPackage, OfProto3, OfReserved, OfReservedName, OfReservedTwice, OfReused, OfUse, OfValues, OfValuesTwice, StandsForNoMessage, StandsForNoType, StandsForNothing, Uses, ValueIsReserved, WrongImport, WrongInProto3, WrongLink, WrongName, WrongNumber, WrongPackage, WrongReserved, WrongUse, stands_for}
 use Rattle.protox_link_checks.specs.Empty.{empty_fault, empty_faults}
-use Rattle.protox_link_checks.specs.Faults.{bad_name, clash_faults, declared_faults, is_declared_at}
-use Rattle.protox_link_checks.specs.Imports.{if_found, import_faults, is_package, no_packages, package_faults, wrong_package, wrong_package_found}
+use Rattle.protox_link_checks.specs.Faults.{all_declared_faults, bad_name, clash_faults, declared_faults, is_declared_at}
+use Rattle.protox_link_checks.specs.Imports.{if_found, import_faults, is_package, no_packages, package_faults, wrong_length, wrong_package, wrong_package_found}
 use Rattle.protox_link_checks.specs.Numbers as numbers
+use Rattle.protox_link_checks.specs.Proto3.{extension_faults, faults_of_proto3, first_value_faults, is_proto3, part_faults, proto3_faults}
+use Rattle.protox_link_checks.specs.Reserved.{again_faults, enum_name_faults, message_name_faults, name_of_field, name_of_value}
 use Rattle.protox_link_checks.specs.Uses.{fault_at, message_faults, type_faults, uses_of, wrong_message, wrong_type}
 use Rattle.protox_link_fault.specs.declared.LinkFault.{LinkFault}
 use Rattle.protox_link_fault.specs.declared.LinkFaultKind.{LinkFaultKind}
@@ -40,7 +44,7 @@ use Rattle.protox_link_fault.specs.declared.NumberFault.TheVariants as how
 use Rattle.protox_name_tree.specs.Tree.{has_innermost, kind_at, number_of}
 use Rattle.protox_names.specs.Names.{is_identifier, scopes}
 use Rattle.protox_numbers.specs.Enums as of_enum
-use Rattle.protox_numbers.specs.Enums.{range_spans, value_spans}
+use Rattle.protox_numbers.specs.Enums.{begins_with_zero, range_spans, value_spans}
 use Rattle.protox_numbers.specs.Message as of_message
 use Rattle.protox_numbers.specs.Message.{extension_spans, field_spans, reserved_spans}
 use Rattle.protox_numbers.specs.Parts.{is_backward_enum_range, is_empty_extension_range}
@@ -52,7 +56,7 @@ use Rattle.protox_scopes.specs.declared.kind.Wanted.{Wanted}
 use Rattle.protox_scopes.specs.declared.kind.Wanted.TheVariants.{AType, Anything}
 use Rattle.protox_symbols.specs.Symbols.{Table}
 use Rattle.protox_symbols.specs.Things.{table_of}
-use Rattle.protox_walk.specs.Declarations.{Path, file_declarations, text_of}
+use Rattle.protox_walk.specs.Declarations.{Path, file_declarations, nth, text_of}
 use Rattle.protox_walk.specs.Parts.{Declared, Described, Enum, Message}
 use Rattle.protox_walk.specs.Words.{name_of}
 
@@ -66,6 +70,12 @@ among_map f (first ∷ more) x (inr there) = inr (among_map f more x there)
 among_flat : {X Y : Type 0} (f : X → List Y) (xs : List X) (x : X) (y : Y) → Contains xs x → Among (f x) y → Among (flat_map f xs) y
 among_flat f xs x y has there =
     among-flat (λ a. Among (f a) y) f y (λ a is. is) xs (somewhere-at (λ a. Among (f a) y) xs has.0 x has.1 has.2 there)
+
+not_less : (a b : ℕ) → b ≤ a → nat_lt a b ≡ false
+not_less a b below = elim (true_or_false (nat_lt a b)) [
+  | inl less ↦ let above = (Decides-ltb a b).0 less in absurd (omega (arith, above, below))
+  | inr not ↦ not
+]
 
 -- ---- packages
 
@@ -82,12 +92,28 @@ module _ (t : Table) where
   found_listed name None kind there listed = absurd (false≢true there)
   found_listed name (Some n) kind there listed = listed
 
-  package_found : (name : List ℕ) (kind : LinkFaultKind) → WrongPackage t name kind → Among (wrong_package_found t name (number_of t.names name)) kind
-  package_found name kind wrong = elim wrong as (λ kind _. Among (wrong_package_found t name (number_of t.names name)) kind) [
-    | IsNotThere is ↦ subst (λ o. Among (wrong_package_found t name o) told.BadName) (sym is) (inl refl)
+  -- first what is wrong with its length
+  abbrev of_package : List ℕ → List LinkFaultKind
+  of_package name = wrong_length name ++ wrong_package_found t name (number_of t.names name)
+
+  long_told : (name : List ℕ) → 511 < length name → Among (wrong_length name) told.LongPackage
+  long_told name long =
+      subst (λ b. Among (cond b (told.LongPackage ∷ []) (cond (nat_lt 100 (count_by (λ byte. byte == 46) name)) (told.DeepPackage ∷ []) [])) told.LongPackage) (sym ((Decides-ltb 511 (length name)).1 long)) (inl refl)
+
+  deep_told : (name : List ℕ) → length name ≤ 511 → 100 < count_by (λ byte. byte == 46) name → Among (wrong_length name) told.DeepPackage
+  deep_told name short deep =
+      let dots = count_by (λ byte. byte == 46) name in
+      subst (λ b. Among (cond b (told.LongPackage ∷ []) (cond (nat_lt 100 dots) (told.DeepPackage ∷ []) [])) told.DeepPackage) (sym (not_less 511 (length name) short))
+      (subst (λ b. Among (cond b (told.DeepPackage ∷ []) []) told.DeepPackage) (sym ((Decides-ltb 100 dots).1 deep)) (inl refl))
+
+  package_found : (name : List ℕ) (kind : LinkFaultKind) → WrongPackage t name kind → Among (of_package name) kind
+  package_found name kind wrong = elim wrong as (λ kind _. Among (of_package name) kind) [
+    | IsNotThere is ↦ among-right (wrong_length name) _ _ (subst (λ o. Among (wrong_package_found t name o) told.BadName) (sym is) (inl refl))
+    | IsTooLong long ↦ among-left (wrong_length name) _ _ (long_told name long)
+    | IsTooDeep short deep ↦ among-left (wrong_length name) _ _ (deep_told name short deep)
     | IsNoPackage around n there has is not ↦
-        found_listed name (number_of t.names name) (told.NotAPackage n) there
-        (among_map told.NotAPackage (no_packages t (name ∷ scopes name)) n (no_package_listed (name ∷ scopes name) around n (among-from (name ∷ scopes name) around has) is not))
+        among-right (wrong_length name) _ _ (found_listed name (number_of t.names name) (told.NotAPackage n) there
+        (among_map told.NotAPackage (no_packages t (name ∷ scopes name)) n (no_package_listed (name ∷ scopes name) around n (among-from (name ∷ scopes name) around has) is not)))
   ]
 
   package_listed : (name : List ℕ) (kind : LinkFaultKind) → name ≢ [] → WrongPackage t name kind → Among (wrong_package t name) kind
@@ -120,17 +146,23 @@ module _ (file : ℕ) (path : Path) where
     faults part = uses_of t sees packages file path user part
 
     -- the places of these faults among all of a declaration
+    in_message : (m : DescriptorProto) (fault : LinkFault) → Among (numbers.message_number_faults file path m) fault → Among (faults (Message m)) fault
+    in_message m fault there = among-left (numbers.message_number_faults file path m) (message_name_faults file path m) fault there
+
+    in_enum : (e : EnumDescriptorProto) (fault : LinkFault) → Among (numbers.enum_number_faults file path e) fault → Among (faults (Enum e)) fault
+    in_enum e fault there = among-left (numbers.enum_number_faults file path e) (enum_name_faults file path e) fault there
+
     fields_in : (m : DescriptorProto) (fault : LinkFault) → Among (numbers.field_number_faults file path m) fault → Among (faults (Message m)) fault
-    fields_in m fault there = among-left (numbers.field_number_faults file path m) _ fault there
+    fields_in m fault there = in_message m fault (among-left (numbers.field_number_faults file path m) _ fault there)
 
     empty_in : (m : DescriptorProto) (fault : LinkFault) → Among (numbers.empty_ranges file path m) fault → Among (faults (Message m)) fault
-    empty_in m fault there = among-right (numbers.field_number_faults file path m) _ fault (among-left (numbers.empty_ranges file path m) _ fault there)
+    empty_in m fault there = in_message m fault (among-right (numbers.field_number_faults file path m) _ fault (among-left (numbers.empty_ranges file path m) _ fault there))
 
     ranges_in : (m : DescriptorProto) (fault : LinkFault) → Among (numbers.clashing_ranges file path m) fault → Among (faults (Message m)) fault
-    ranges_in m fault there = among-right (numbers.field_number_faults file path m) _ fault (among-right (numbers.empty_ranges file path m) _ fault there)
+    ranges_in m fault there = in_message m fault (among-right (numbers.field_number_faults file path m) _ fault (among-right (numbers.empty_ranges file path m) _ fault there))
 
     values_in : (e : EnumDescriptorProto) (fault : LinkFault) → Among (numbers.clashing_values file path e) fault → Among (faults (Enum e)) fault
-    values_in e fault there = among-right (numbers.no_value file path e) _ fault (among-right (empty_faults file path enum_tag.RESERVED_RANGE is_backward_enum_range 0 e.reserved_range) _ fault there)
+    values_in e fault there = in_enum e fault (among-right (numbers.no_value file path e) _ fault (among-right (empty_faults file path enum_tag.RESERVED_RANGE is_backward_enum_range 0 e.reserved_range) _ fault there))
 
     abbrev reused : DescriptorProto → List LinkFault
     reused m = numbers.clash_faults file path message_tag.FIELD (field_tag.NUMBER ∷ []) how.Reused (of_message.reused_numbers m)
@@ -166,13 +198,31 @@ module _ (file : ℕ) (path : Path) where
           (among-left (numbers.implementation_faults file path f) _ _
           (subst (λ b. Among (cond b (at (field_tag.NUMBER ∷ []) told.ForImplementation ∷ []) []) (at (field_tag.NUMBER ∷ []) told.ForImplementation)) (sym is) (inl refl)))
       | HasNoValue e is ↦
-          among-left (numbers.no_value file path e) _ _
-          (subst (λ (values : List EnumValueDescriptorProto). Among (cond (length values == 0) (at (enum_tag.NAME ∷ []) told.NoValue ∷ []) []) (at (enum_tag.NAME ∷ []) told.NoValue)) (sym is) (inl refl))
+          in_enum e _ (among-left (numbers.no_value file path e) _ _
+          (subst (λ (values : List EnumValueDescriptorProto). Among (cond (length values == 0) (at (enum_tag.NAME ∷ []) told.NoValue ∷ []) []) (at (enum_tag.NAME ∷ []) told.NoValue)) (sym is) (inl refl)))
       | HasNoNumbers m i range is empty ↦ empty_in m _ (range_listed message_tag.EXTENSION_RANGE is_empty_extension_range 0 (out-DescriptorProto m).extension_range i i range (omega arith) is empty)
       | IsBackward e i range is empty ↦
-          among-right (numbers.no_value file path e) _ _ (among-left (empty_faults file path enum_tag.RESERVED_RANGE is_backward_enum_range 0 e.reserved_range) _ _
-          (range_listed enum_tag.RESERVED_RANGE is_backward_enum_range 0 e.reserved_range i i range (omega arith) is empty))
+          in_enum e _ (among-right (numbers.no_value file path e) _ _ (among-left (empty_faults file path enum_tag.RESERVED_RANGE is_backward_enum_range 0 e.reserved_range) _ _
+          (range_listed enum_tag.RESERVED_RANGE is_backward_enum_range 0 e.reserved_range i i range (omega arith) is empty)))
       | Clashing part fault tag rest clash are ↦ clashing_listed part fault tag rest clash are
+    ]
+
+    -- ---- reserved names
+
+    reserved_listed : (part : Described) (rest : Path) (kind : LinkFaultKind) → WrongReserved part rest kind → Among (faults part) (at rest kind)
+    reserved_listed part rest kind wrong = elim wrong as (λ part rest kind _. Among (faults part) (at rest kind)) [
+      | MessageReservesAgain m i earlier name is before same ↦
+          among-right (numbers.message_number_faults file path m) (message_name_faults file path m) _
+          (among-left (again_faults file path [] 0 (out-DescriptorProto m).reserved_name) _ _ (again_listed file path (out-DescriptorProto m).reserved_name i earlier name is before same))
+      | EnumReservesAgain e i earlier name is before same ↦
+          among-right (numbers.enum_number_faults file path e) (enum_name_faults file path e) _
+          (among-left (again_faults file path [] 0 e.reserved_name) _ _ (again_listed file path e.reserved_name i earlier name is before same))
+      | FieldIsReserved m i f is has ↦
+          among-right (numbers.message_number_faults file path m) (message_name_faults file path m) _
+          (among-right (again_faults file path [] 0 (out-DescriptorProto m).reserved_name) _ _ (own_listed file path message_tag.FIELD name_of_field (out-DescriptorProto m).reserved_name (out-DescriptorProto m).field i f is has))
+      | ValueIsReserved e i v is has ↦
+          among-right (numbers.enum_number_faults file path e) (enum_name_faults file path e) _
+          (among-right (again_faults file path [] 0 e.reserved_name) _ _ (own_listed file path enum_tag.VALUE name_of_value e.reserved_name e.value i v is has))
     ]
 
     -- ---- the names that it uses
@@ -302,7 +352,34 @@ module _ (files : List FileDescriptorProto) (n : ℕ) (file : FileDescriptorProt
   declared_in d fault has there =
       among-right (import_faults n (named_of (rows_of files) n)) _ fault
       (among-right (package_faults table n (text_of file.«package»)) _ fault
-      (among_flat (declared_faults table sees packages n) (file_declarations file) d fault has there))
+      (among-left (all_declared_faults table sees packages n file) (proto3_faults n file) fault
+      (among_flat (declared_faults table sees packages n) (file_declarations file) d fault has there)))
+
+  first_told : (path : Path) (e : EnumDescriptorProto) (values : List EnumValueDescriptorProto) (v : EnumValueDescriptorProto) → slice_get values 0 ≡ Some v → begins_with_zero e ≡ false → Among (first_value_faults n path e values) (record { file = n; path = path ++ (enum_tag.VALUE ∷ pos 0 ∷ value_tag.NUMBER ∷ []); kind = told.FirstNotZero })
+  first_told path e [] v is not = cc
+  first_told path e (first ∷ more) v is not =
+      let fault : LinkFault = record { file = n; path = path ++ (enum_tag.VALUE ∷ pos 0 ∷ value_tag.NUMBER ∷ []); kind = told.FirstNotZero } in
+      let listed : LinkFault = record { file = n; path = nth path enum_tag.VALUE 0 ++ value_tag.NUMBER ∷ []; kind = told.FirstNotZero } in
+      let same : listed ≡ fault = ap (λ (p : Path). record { file = n; path = p; kind = told.FirstNotZero }) (append_assoc path (enum_tag.VALUE ∷ pos 0 ∷ []) (value_tag.NUMBER ∷ [])) in
+      subst (λ (b : Bool). Among {A = LinkFault} (cond b [] (listed ∷ [])) fault) (sym not) (inl same)
+
+  extensions_listed : (path : Path) (ranges : List ExtensionRange) (range : ExtensionRange) → slice_get ranges 0 ≡ Some range → Among (extension_faults n path ranges) (record { file = n; path = path ++ (message_tag.EXTENSION_RANGE ∷ pos 0 ∷ []); kind = told.ExtensionsInProto3 })
+  extensions_listed path [] range is = cc
+  extensions_listed path (first ∷ more) range is = inl refl
+
+  part_listed : (path : Path) (part : Described) (rest : Path) (kind : LinkFaultKind) → WrongInProto3 part rest kind → Among (part_faults n path part) (record { file = n; path = path ++ rest; kind = kind })
+  part_listed path part rest kind wrong = elim wrong as (λ part rest kind _. Among (part_faults n path part) (record { file = n; path = path ++ rest; kind = kind })) [
+    | BeginsOtherwise e v is not ↦ first_told path e e.value v is not
+    | HasExtensions m range is ↦ extensions_listed path (out-DescriptorProto m).extension_range range is
+  ]
+
+  proto3_in : (d : Declared) (rest : Path) (kind : LinkFaultKind) → Contains (file_declarations file) d → is_proto3 file ≡ true → WrongInProto3 d.part rest kind → Among told_in (record { file = n; path = d.path ++ rest; kind = kind })
+  proto3_in d rest kind has is wrong =
+      among-right (import_faults n (named_of (rows_of files) n)) _ _
+      (among-right (package_faults table n (text_of file.«package»)) _ _
+      (among-right (all_declared_faults table sees packages n file) (proto3_faults n file) _
+      (subst (λ b. Among (cond b (flat_map (faults_of_proto3 n) (file_declarations file)) []) (record { file = n; path = d.path ++ rest; kind = kind })) (sym is)
+      (among_flat (faults_of_proto3 n) (file_declarations file) d _ has (part_listed d.path d.part rest kind wrong)))))
 
   within_in : (d : Declared) (fault : LinkFault) → Contains (file_declarations file) d → IsNamed table d → Among (uses_of table sees packages n d.path d.full_name d.part) fault → Among told_in fault
   within_in d fault has named there =
@@ -358,4 +435,10 @@ module _ (all : List FileDescriptorProto) where
     | OfNumber n d rest kind in_file named wrong ↦
         let listed = file_listed all 0 faults n n in_file.file (omega arith) in_file.is_there told in
         contains-from faults _ (listed.3 _ (within_in all n in_file.file listed.0 listed.1 d _ in_file.declares named (number_listed n d.path (table_of all) listed.0 listed.1 d.full_name d.part rest kind wrong)))
+    | OfReservedName n d rest kind in_file named wrong ↦
+        let listed = file_listed all 0 faults n n in_file.file (omega arith) in_file.is_there told in
+        contains-from faults _ (listed.3 _ (within_in all n in_file.file listed.0 listed.1 d _ in_file.declares named (reserved_listed n d.path (table_of all) listed.0 listed.1 d.full_name d.part rest kind wrong)))
+    | OfProto3 n d rest kind in_file is wrong ↦
+        let listed = file_listed all 0 faults n n in_file.file (omega arith) in_file.is_there told in
+        contains-from faults _ (listed.3 _ (proto3_in all n in_file.file listed.0 listed.1 d rest kind in_file.declares is wrong))
   ]

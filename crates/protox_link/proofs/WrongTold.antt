@@ -1,12 +1,13 @@
 -- What the list of faults has is wrong.
-use Rattle.std.proofs.Common.{◌≡◌, ◌≢◌, ◌+◌, ◌==◌, ◌&&◌, inl, inr, is_some, ℕ, suc, Bool, true, false, cond, List, [], ◌∷◌, ◌++◌, length, map, Option, Some, None, refl, sym, ap, subst, ◌∙◌, arith, slice_get}
-use Rattle.std.specs.Prelude.{ℤ, pos, All, Contains}
+use Rattle.std.proofs.Common.{◌≡◌, ◌≢◌, ◌+◌, ◌==◌, ◌&&◌, inl, inr, is_some, ℕ, suc, Bool, true, false, cond, List, [], ◌∷◌, ◌++◌, length, map, Option, Some, None, refl, sym, ap, subst, ◌∙◌, arith, slice_get, ◌<◌, ◌≤◌, nat_lt, ◌⊎◌}
+use Rattle.std.specs.Prelude.{ℤ, pos, All, Contains, count_by}
 use Rattle.std.specs.Cmp.Lexicographic.{pointwise}
 use Rattle.std.specs.Cmp.Rules.{signed_items}
+use Rattle.std.specs.List.{flat_map}
 use Rattle.std.specs.Option.{option_map, option_map_or}
 use Rattle.std.specs.Ordering.{int_eq}
 use Rattle.std.proofs.lemmas.Bool.{and_from, false≢true}
-use Rattle.std.proofs.lemmas.Bool.Decides.{Decides-eqb}
+use Rattle.std.proofs.lemmas.Bool.Decides.{Decides-eqb, Decides-ltb}
 use Rattle.std.proofs.lemmas.List.{append_assoc}
 use Rattle.std.proofs.lemmas.List.Elements.{All-append, All-contains, All-contains_itself, All-map, All-nil, All-weaker}
 use Rattle.protox_ast.proofs.Membership.{Among, contains-from}
@@ -14,6 +15,8 @@ use Rattle.protox_descriptor.specs.FieldDescriptorProto.{FieldDescriptorProto}
 use Rattle.protox_descriptor.specs.declared.descriptor.DescriptorProto.{DescriptorProto, out-DescriptorProto}
 use Rattle.protox_descriptor.specs.declared.descriptor.EnumDescriptorProto.{EnumDescriptorProto}
 use Rattle.protox_descriptor.specs.declared.descriptor.FileDescriptorProto.{FileDescriptorProto}
+use Rattle.protox_descriptor.specs.declared.descriptor.EnumValueDescriptorProto.{EnumValueDescriptorProto}
+use Rattle.protox_descriptor.specs.declared.descriptor.descriptor_proto.ExtensionRange.{ExtensionRange}
 use Rattle.protox_descriptor.specs.declared.tag.enum_.TheConstants as enum_tag
 use Rattle.protox_descriptor.specs.declared.tag.enum_value.TheConstants as value_tag
 use Rattle.protox_descriptor.specs.declared.tag.field.TheConstants as field_tag
@@ -25,15 +28,18 @@ use Rattle.protox_link.proofs.Paths.{all_flat, one}
 use Rattle.protox_link.proofs.Seeing.{split}
 use Rattle.protox_link.proofs.WrongClashes.{earlier_told, first_told}
 use Rattle.protox_link.proofs.WrongImports.{all_imports_wrong, named_by}
+use Rattle.protox_link.proofs.WrongNames.{again_wrong, own_wrong}
 use Rattle.protox_link.specs.Closed.{is_message}
 use Rattle.protox_link.specs.Files.{AreFaults, faults_in}
 use Rattle.protox_link.specs.Seen.{IsSeenBy}
-use Rattle.protox_link.specs.Wrong.{AsExtendee, AsInput, AsOutput, AsType, Clashes, Clashing, Declares, HasBadName, HasNameOfOther, HasNoName, HasNoNumber, HasNoNumbers, HasNoValue, IsBackward, IsNamed, IsNoPackage, IsNotThere, IsTaken, MeetsEarlier, MeetsFirst, OfExtensions, OfExtensionsReserved, OfExtensionsTwice, OfImport, OfName, OfNumber, OfPackage, OfReserved, OfReservedTwice, OfReused, OfUse, OfValues, OfValuesTwice, StandsForNoMessage, StandsForNoType, StandsForNothing, Uses, WrongLink, WrongName, WrongNumber, WrongPackage, WrongUse, stands_for}
+use Rattle.protox_link.specs.Wrong.{AsExtendee, AsInput, AsOutput, AsType, BeginsOtherwise, Clashes, Clashing, Declares, EnumReservesAgain, FieldIsReserved, HasBadName, HasExtensions, HasNameOfOther, HasNoName, HasNoNumber, HasNoNumbers, HasNoValue, IsBackward, IsNamed, IsNoPackage, IsNotThere, IsTaken, IsTooDeep, IsTooLong, MeetsEarlier, MeetsFirst, MessageReservesAgain, OfExtensions, OfExtensionsReserved, OfExtensionsTwice, OfImport, OfName, OfNumber, OfPackage, OfProto3, OfReserved, OfReservedName, OfReservedTwice, OfReused, OfUse, OfValues, OfValuesTwice, StandsForNoMessage, StandsForNoType, StandsForNothing, Uses, ValueIsReserved, WrongInProto3, WrongLink, WrongName, WrongNumber, WrongPackage, WrongReserved, WrongUse, stands_for}
 use Rattle.protox_link_checks.specs.Empty.{empty_fault, empty_faults}
 use Rattle.protox_link_checks.specs.Faults.{bad_name, clash_faults, declared_faults, is_declared_at}
-use Rattle.protox_link_checks.specs.Imports.{if_found, import_faults, is_package, no_packages, package_faults, wrong_package, wrong_package_found}
+use Rattle.protox_link_checks.specs.Imports.{if_found, import_faults, is_package, no_packages, package_faults, wrong_length, wrong_package, wrong_package_found}
 use Rattle.protox_link_checks.specs.Numbers as numbers
-use Rattle.protox_link_checks.specs.Uses.{fault_at, faults_at, message_faults, type_faults, uses_of, wrong_message, wrong_type}
+use Rattle.protox_link_checks.specs.Proto3.{extension_faults, faults_of_proto3, first_value_faults, is_proto3, part_faults}
+use Rattle.protox_link_checks.specs.Reserved.{again_faults, name_of_field, name_of_value}
+use Rattle.protox_link_checks.specs.Uses.{enum_itself, fault_at, faults_at, message_faults, message_itself, type_faults, uses_of, wrong_message, wrong_type}
 use Rattle.protox_link_fault.specs.declared.LinkFault.{LinkFault}
 use Rattle.protox_link_fault.specs.declared.LinkFaultKind.{LinkFaultKind}
 use Rattle.protox_link_fault.specs.declared.LinkFaultKind.TheVariants as told
@@ -42,7 +48,7 @@ use Rattle.protox_link_fault.specs.declared.NumberFault.TheVariants as how
 use Rattle.protox_name_tree.specs.Tree.{has_innermost, kind_at, number_of}
 use Rattle.protox_names.specs.Names.{is_identifier, scopes}
 use Rattle.protox_numbers.specs.Clashes.{with_earlier, with_first}
-use Rattle.protox_numbers.specs.Enums.{range_spans, value_spans}
+use Rattle.protox_numbers.specs.Enums.{begins_with_zero, range_spans, value_spans}
 use Rattle.protox_numbers.specs.Message.{extension_spans, field_spans, reserved_spans}
 use Rattle.protox_numbers.specs.Parts.{is_backward_enum_range, is_empty_extension_range, is_for_implementation}
 use Rattle.protox_numbers.specs.declared.clash.Clash.{Clash}
@@ -56,13 +62,22 @@ use Rattle.protox_symbols.specs.Symbols.{Table}
 use Rattle.protox_symbols.specs.Things.{table_of}
 use Rattle.protox_symbols.specs.declared.thing.Thing.{Thing}
 use Rattle.protox_views.specs.Views.{stands}
-use Rattle.protox_walk.specs.Declarations.{Path, file_declarations, text_of}
+use Rattle.protox_walk.specs.Declarations.{Path, file_declarations, nth, text_of}
 use Rattle.protox_walk.specs.Parts.{Declared, Described, Enum, Field, Message, Method, Oneof, Service, Value}
 use Rattle.protox_walk.specs.Words.{name_of}
 
 none_long : {A : Type 0} (xs : List A) → length xs ≡ 0 → xs ≡ []
 none_long [] none = refl
 none_long (x ∷ xs) none = absurd (omega (arith, none))
+
+is_more : (a b : ℕ) → (a < b) ⊎ (b ≤ a)
+is_more a b = grind arith
+
+at_most : (a b : ℕ) → nat_lt a b ≡ false → b ≤ a
+at_most a b not = elim (is_more a b) [
+  | inl more ↦ absurd (false≢true (sym not ∙ (Decides-ltb a b).1 more))
+  | inr less ↦ less
+]
 
 -- ---- packages
 
@@ -85,6 +100,11 @@ module _ (t : Table) (name : List ℕ) where
       (around_wrong around (number_of t.names around) there (has around (inl refl)) refl)
       (all_around_wrong more there (λ next among. has next (inr among)))
 
+  length_wrong : (long deep : Bool) → nat_lt 511 (length name) ≡ long → nat_lt 100 (count_by (λ byte. byte == 46) name) ≡ deep → All WrongOf (cond long (told.LongPackage ∷ []) (cond deep (told.DeepPackage ∷ []) []))
+  length_wrong true deep is_long is_deep = one WrongOf told.LongPackage (IsTooLong ((Decides-ltb 511 (length name)).0 is_long))
+  length_wrong false true is_long is_deep = one WrongOf told.DeepPackage (IsTooDeep (at_most 511 (length name) is_long) ((Decides-ltb 100 (count_by (λ byte. byte == 46) name)).0 is_deep))
+  length_wrong false false is_long is_deep = All-nil _
+
   found_wrong : (o : Option ℕ) → number_of t.names name ≡ o → All WrongOf (wrong_package_found t name o)
   found_wrong None is = one WrongOf told.BadName (IsNotThere is)
   found_wrong (Some n) is =
@@ -94,8 +114,11 @@ module _ (t : Table) (name : List ℕ) where
 package_wrong : (t : Table) (name : List ℕ) → All (λ kind. (name ≢ []) × WrongPackage t name kind) (wrong_package t name)
 package_wrong t [] = All-nil _
 package_wrong t (byte ∷ rest) =
-    All-weaker (WrongPackage t (byte ∷ rest)) (λ kind. (byte ∷ rest ≢ []) × WrongPackage t (byte ∷ rest) kind) (λ kind wrong. ((λ empty. cc), wrong)) _
-    (found_wrong t (byte ∷ rest) (number_of t.names (byte ∷ rest)) refl)
+    let name = byte ∷ rest in
+    All-weaker (WrongPackage t name) (λ kind. (name ≢ []) × WrongPackage t name kind) (λ kind wrong. ((λ empty. cc), wrong)) _
+    (All-append (WrongPackage t name) (wrong_length name) _
+    (length_wrong t name (nat_lt 511 (length name)) (nat_lt 100 (count_by (λ byte. byte == 46) name)) refl refl)
+    (found_wrong t name (number_of t.names name) refl))
 
 -- ---- numbers
 
@@ -169,6 +192,27 @@ module _ (P : LinkFault → Type 0) (file : ℕ) (path : Path) where
       one P (record { file = file; path = path ++ field_tag.NUMBER ∷ []; kind = told.ForImplementation }) (each (field_tag.NUMBER ∷ []) told.ForImplementation (IsTaken f is))
   field_wrong f false is each = All-nil P
 
+  -- ---- reserved names
+
+  -- P holds of each reserved name that is wrong.
+  abbrev AreNamesAt : Described → Type 0
+  AreNamesAt part = (rest : Path) (kind : LinkFaultKind) → WrongReserved part rest kind → IsAt rest kind
+
+  message_itself_wrong : (m : DescriptorProto) → AreNumbersAt (Message m) → AreNamesAt (Message m) → All P (message_itself file path m)
+  message_itself_wrong m of_number of_name =
+      let parts = out-DescriptorProto m in
+      All-append P (numbers.message_number_faults file path m) _ (message_wrong m of_number)
+      (All-append P (again_faults file path [] 0 parts.reserved_name) _
+      (again_wrong P file path parts.reserved_name (λ i earlier name is before same. of_name (message_tag.NAME ∷ []) (told.ReservedAgain i) (MessageReservesAgain m i earlier name is before same)))
+      (own_wrong P file path message_tag.FIELD name_of_field parts.reserved_name parts.field (λ i f is has. of_name (message_tag.FIELD ∷ pos i ∷ message_tag.NAME ∷ []) told.ReservedName (FieldIsReserved m i f is has))))
+
+  enum_itself_wrong : (e : EnumDescriptorProto) → AreNumbersAt (Enum e) → AreNamesAt (Enum e) → All P (enum_itself file path e)
+  enum_itself_wrong e of_number of_name =
+      All-append P (numbers.enum_number_faults file path e) _ (enum_wrong e of_number)
+      (All-append P (again_faults file path [] 0 e.reserved_name) _
+      (again_wrong P file path e.reserved_name (λ i earlier name is before same. of_name (message_tag.NAME ∷ []) (told.ReservedAgain i) (EnumReservesAgain e i earlier name is before same)))
+      (own_wrong P file path enum_tag.VALUE name_of_value e.reserved_name e.value (λ i v is has. of_name (enum_tag.VALUE ∷ pos i ∷ message_tag.NAME ∷ []) told.ReservedName (ValueIsReserved e i v is has))))
+
   -- ---- names that are used
 
   module _ (t : Table) (sees packages : List Bool) (user : List ℕ) where
@@ -209,19 +253,19 @@ module _ (P : LinkFault → Type 0) (file : ℕ) (path : Path) where
     messages_wrong part tag None each uses = All-nil P
     messages_wrong part tag (Some name) each uses = all_wrong_at part tag _ each (named_wrong part tag name (stands_for t sees packages user Anything name) (uses name refl) refl)
 
-    uses_wrong : (part : Described) → AreNumbersAt part → AreUsesAt part → All P (uses_of t sees packages file path user part)
-    uses_wrong (Message m) of_number of_use = message_wrong m of_number
-    uses_wrong (Field f) of_number of_use =
+    uses_wrong : (part : Described) → AreNumbersAt part → AreNamesAt part → AreUsesAt part → All P (uses_of t sees packages file path user part)
+    uses_wrong (Message m) of_number of_name of_use = message_itself_wrong m of_number of_name
+    uses_wrong (Field f) of_number of_name of_use =
         All-append P (numbers.implementation_faults file path f ++ type_faults t sees packages file path field_tag.TYPE_NAME user f.type_name) _
         (All-append P (numbers.implementation_faults file path f) _
         (field_wrong f (is_for_implementation f) refl of_number)
         (types_wrong (Field f) field_tag.TYPE_NAME f.type_name of_use (AsType f)))
         (messages_wrong (Field f) field_tag.EXTENDEE f.extendee of_use (AsExtendee f))
-    uses_wrong (Oneof o) of_number of_use = All-nil P
-    uses_wrong (Enum e) of_number of_use = enum_wrong e of_number
-    uses_wrong (Value v) of_number of_use = All-nil P
-    uses_wrong (Service s) of_number of_use = All-nil P
-    uses_wrong (Method m) of_number of_use =
+    uses_wrong (Oneof o) of_number of_name of_use = All-nil P
+    uses_wrong (Enum e) of_number of_name of_use = enum_itself_wrong e of_number of_name
+    uses_wrong (Value v) of_number of_name of_use = All-nil P
+    uses_wrong (Service s) of_number of_name of_use = All-nil P
+    uses_wrong (Method m) of_number of_name of_use =
         All-append P (message_faults t sees packages file path method_tag.INPUT_TYPE user m.input_type) _
         (messages_wrong (Method m) method_tag.INPUT_TYPE m.input_type of_use (AsInput m))
         (messages_wrong (Method m) method_tag.OUTPUT_TYPE m.output_type of_use (AsOutput m))
@@ -287,7 +331,44 @@ module _ (files : List FileDescriptorProto) (n : ℕ) (file : FileDescriptorProt
       name_wrong table sees packages n d (WrongLink files) (λ kind wrong. OfName n d kind declares wrong) (is_identifier (text_of (name_of d.part))) refl
       (λ named. uses_wrong (WrongLink files) n d.path table sees packages d.full_name d.part
       (λ rest kind wrong. OfNumber n d rest kind declares named wrong)
+      (λ rest kind wrong. OfReservedName n d rest kind declares named wrong)
       (λ tag kind wrong. OfUse n d sees packages tag kind declares named seen wrong))
+
+  -- ---- proto3
+
+  module _ (is : is_proto3 file ≡ true) (d : Declared) (declares : Contains (file_declarations file) d) where
+    abbrev IsWrongAt : Path → LinkFaultKind → Type 0
+    IsWrongAt rest kind = WrongLink files (record { file = n; path = d.path ++ rest; kind = kind })
+
+    in_proto3 : (rest : Path) (kind : LinkFaultKind) → WrongInProto3 d.part rest kind → IsWrongAt rest kind
+    in_proto3 rest kind wrong = OfProto3 n d rest kind (record { file = file; is_there = here; declares = declares }) is wrong
+
+    first_wrong_at : (e : EnumDescriptorProto) (values : List EnumValueDescriptorProto) (b : Bool) → begins_with_zero e ≡ b → ((v : EnumValueDescriptorProto) → slice_get values 0 ≡ Some v → begins_with_zero e ≡ false → IsWrongAt (enum_tag.VALUE ∷ pos 0 ∷ value_tag.NUMBER ∷ []) told.FirstNotZero) → All (WrongLink files) (first_value_faults n d.path e values)
+    first_wrong_at e [] b is_zero each = All-nil _
+    first_wrong_at e (first ∷ more) true is_zero each =
+        subst (λ b. All (WrongLink files) (cond b [] (record { file = n; path = nth d.path enum_tag.VALUE 0 ++ value_tag.NUMBER ∷ []; kind = told.FirstNotZero } ∷ []))) (sym is_zero) (All-nil _)
+    first_wrong_at e (first ∷ more) false is_zero each =
+        subst (λ b. All (WrongLink files) (cond b [] (record { file = n; path = nth d.path enum_tag.VALUE 0 ++ value_tag.NUMBER ∷ []; kind = told.FirstNotZero } ∷ []))) (sym is_zero)
+        (one (WrongLink files) _ (subst (λ (p : Path). WrongLink files (record { file = n; path = p; kind = told.FirstNotZero })) (sym (append_assoc d.path (enum_tag.VALUE ∷ pos 0 ∷ []) (value_tag.NUMBER ∷ []))) (each first refl is_zero)))
+
+    extensions_wrong_at : (ranges : List ExtensionRange) → ((range : ExtensionRange) → slice_get ranges 0 ≡ Some range → IsWrongAt (message_tag.EXTENSION_RANGE ∷ pos 0 ∷ []) told.ExtensionsInProto3) → All (WrongLink files) (extension_faults n d.path ranges)
+    extensions_wrong_at [] each = All-nil _
+    extensions_wrong_at (range ∷ more) each = one (WrongLink files) _ (each range refl)
+
+    part_wrong : (part : Described) → ((rest : Path) (kind : LinkFaultKind) → WrongInProto3 part rest kind → IsWrongAt rest kind) → All (WrongLink files) (part_faults n d.path part)
+    part_wrong (Message m) each = extensions_wrong_at (out-DescriptorProto m).extension_range (λ range at. each _ _ (HasExtensions m range at))
+    part_wrong (Field f) each = All-nil _
+    part_wrong (Oneof o) each = All-nil _
+    part_wrong (Enum e) each = first_wrong_at e e.value (begins_with_zero e) refl (λ v at not. each _ _ (BeginsOtherwise e v at not))
+    part_wrong (Value v) each = All-nil _
+    part_wrong (Service s) each = All-nil _
+    part_wrong (Method m) each = All-nil _
+
+  proto3_wrong : (b : Bool) → is_proto3 file ≡ b → All (WrongLink files) (cond b (flat_map (faults_of_proto3 n) (file_declarations file)) [])
+  proto3_wrong true is =
+      all_flat (WrongLink files) (faults_of_proto3 n) (file_declarations file)
+      (All-weaker (Contains (file_declarations file)) (λ d. All (WrongLink files) (faults_of_proto3 n d)) (λ d has. part_wrong is d has d.part (in_proto3 is d has)) (file_declarations file) (All-contains_itself (file_declarations file)))
+  proto3_wrong false is = All-nil _
 
   imports_told : All (WrongLink files) (import_faults n (named_of (rows_of files) n))
   imports_told = subst (λ (named : List (Option ℕ)). All (WrongLink files) (import_faults n named)) (sym (named_by files n file here))
@@ -297,8 +378,10 @@ module _ (files : List FileDescriptorProto) (n : ℕ) (file : FileDescriptorProt
   file_told sees packages seen =
       All-append (WrongLink files) (import_faults n (named_of (rows_of files) n)) _ imports_told
       (All-append (WrongLink files) (package_faults table n (text_of file.«package»)) _ (package_told file.«package» refl)
+      (All-append (WrongLink files) (flat_map (declared_faults table sees packages n) (file_declarations file)) _
       (all_flat (WrongLink files) (declared_faults table sees packages n) (file_declarations file)
-      (All-weaker (Contains (file_declarations file)) (λ d. All (WrongLink files) (declared_faults table sees packages n d)) (declared_told sees packages seen) (file_declarations file) (All-contains_itself (file_declarations file)))))
+      (All-weaker (Contains (file_declarations file)) (λ d. All (WrongLink files) (declared_faults table sees packages n d)) (declared_told sees packages seen) (file_declarations file) (All-contains_itself (file_declarations file))))
+      (proto3_wrong (is_proto3 file) refl)))
 
 -- ---- all files
 

@@ -17,8 +17,8 @@ use Rattle.protox_link_fault.specs.declared.LinkFault.{LinkFault}
 use Rattle.protox_walk.specs.Declarations.{Path, file_declarations}
 use Rattle.protox_walk.specs.Parts.{Declared, Described, Enum, Field, Message, Method}
 
--- From a declaration the path leads to its name, to a number or a name that it uses, or to one of its
--- ranges.
+-- From a declaration the path leads to its name, to a number or a name that it uses, to one of its
+-- ranges, or to the name of a field or a value.
 pub data LeadsWithin : Described → Path → Type 0 where
   ToName : (d : Described) → LeadsWithin d (message_tag.NAME ∷ [])
   ToNumber : (f : FieldDescriptorProto) → LeadsWithin (Field f) (field_tag.NUMBER ∷ [])
@@ -27,9 +27,11 @@ pub data LeadsWithin : Described → Path → Type 0 where
   ToInput : (m : MethodDescriptorProto) → is_some m.input_type ≡ true → LeadsWithin (Method m) (method_tag.INPUT_TYPE ∷ [])
   ToOutput : (m : MethodDescriptorProto) → is_some m.output_type ≡ true → LeadsWithin (Method m) (method_tag.OUTPUT_TYPE ∷ [])
   ToNumberOfField : (m : DescriptorProto) (n : ℕ) → n < length (out-DescriptorProto m).field → LeadsWithin (Message m) (message_tag.FIELD ∷ pos n ∷ field_tag.NUMBER ∷ [])
+  ToNameOfField : (m : DescriptorProto) (n : ℕ) → n < length (out-DescriptorProto m).field → LeadsWithin (Message m) (message_tag.FIELD ∷ pos n ∷ field_tag.NAME ∷ [])
   ToReservedRange : (m : DescriptorProto) (n : ℕ) → n < length (out-DescriptorProto m).reserved_range → LeadsWithin (Message m) (message_tag.RESERVED_RANGE ∷ pos n ∷ [])
   ToExtensionRange : (m : DescriptorProto) (n : ℕ) → n < length (out-DescriptorProto m).extension_range → LeadsWithin (Message m) (message_tag.EXTENSION_RANGE ∷ pos n ∷ [])
   ToNumberOfValue : (e : EnumDescriptorProto) (n : ℕ) → n < length e.value → LeadsWithin (Enum e) (enum_tag.VALUE ∷ pos n ∷ value_tag.NUMBER ∷ [])
+  ToNameOfValue : (e : EnumDescriptorProto) (n : ℕ) → n < length e.value → LeadsWithin (Enum e) (enum_tag.VALUE ∷ pos n ∷ value_tag.NAME ∷ [])
   ToRangeOfEnum : (e : EnumDescriptorProto) (n : ℕ) → n < length e.reserved_range → LeadsWithin (Enum e) (enum_tag.RESERVED_RANGE ∷ pos n ∷ [])
 
 -- The path leads to the name of the file's package, to its imports, to one of these, or to a part of

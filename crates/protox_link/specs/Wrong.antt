@@ -1,10 +1,11 @@
 -- What can be wrong with files that are linked, a line for each kind of fault. It says when a fault
 -- is one of the files. It says nothing of the list that linking tells, or of its order. Circles of
 -- imports are told by themselves, and `IsOfCircle` has their line.
-use Rattle.std.specs.Prelude.{◌≡◌, ◌≢◌, ◌<◌, ℕ, ℤ, pos, Bool, true, false, Contains, List, [], ◌∷◌, ◌++◌, Option, Some, None, slice_get}
+use Rattle.std.specs.Prelude.{◌≡◌, ◌≢◌, ◌<◌, ◌≤◌, ◌==◌, ℕ, ℤ, pos, Bool, true, false, Contains, count_by, length, List, [], ◌∷◌, ◌++◌, Option, Some, None, slice_get}
 use Rattle.protox_descriptor.specs.FieldDescriptorProto.{FieldDescriptorProto}
 use Rattle.protox_descriptor.specs.declared.descriptor.DescriptorProto.{DescriptorProto, out-DescriptorProto}
 use Rattle.protox_descriptor.specs.declared.descriptor.EnumDescriptorProto.{EnumDescriptorProto}
+use Rattle.protox_descriptor.specs.declared.descriptor.EnumValueDescriptorProto.{EnumValueDescriptorProto}
 use Rattle.protox_descriptor.specs.declared.descriptor.FileDescriptorProto.{FileDescriptorProto}
 use Rattle.protox_descriptor.specs.declared.descriptor.MethodDescriptorProto.{MethodDescriptorProto}
 use Rattle.protox_descriptor.specs.declared.descriptor.descriptor_proto.ExtensionRange.{ExtensionRange}
@@ -19,6 +20,7 @@ use Rattle.protox_imports.specs.Imports.{name_at}
 use Rattle.protox_link.specs.Closed.{is_message}
 use Rattle.protox_link.specs.Seen.{IsSeenBy}
 use Rattle.protox_link_checks.specs.Imports.{is_package}
+use Rattle.protox_link_checks.specs.Proto3.{is_proto3}
 use Rattle.protox_link_fault.specs.declared.LinkFault.{LinkFault}
 use Rattle.protox_link_fault.specs.declared.LinkFaultKind.{LinkFaultKind}
 use Rattle.protox_link_fault.specs.declared.LinkFaultKind.TheVariants as told
@@ -26,7 +28,7 @@ use Rattle.protox_link_fault.specs.declared.NumberFault.{NumberFault}
 use Rattle.protox_link_fault.specs.declared.NumberFault.TheVariants as how
 use Rattle.protox_name_tree.specs.Tree.{has_innermost, kind_at, number_of}
 use Rattle.protox_names.specs.Names.{is_identifier, scopes}
-use Rattle.protox_numbers.specs.Enums.{range_spans, value_spans}
+use Rattle.protox_numbers.specs.Enums.{begins_with_zero, range_spans, value_spans}
 use Rattle.protox_numbers.specs.Message.{extension_spans, field_spans, reserved_spans}
 use Rattle.protox_numbers.specs.Parts.{is_backward_enum_range, is_empty_extension_range, is_for_implementation}
 use Rattle.protox_numbers.specs.declared.clash.Clash.{Clash}
@@ -60,6 +62,11 @@ pub data WrongImport (files : List FileDescriptorProto) (imports : List (List �
 pub data WrongPackage (table : Table) (name : List ℕ) : LinkFaultKind → Type 0 where
   -- The table doesn't have the package.
   IsNotThere : number_of table.names name ≡ None → WrongPackage table name told.BadName
+  -- Its name has more than 511 bytes.
+  IsTooLong : 511 < length name → WrongPackage table name told.LongPackage
+  -- It has no more, but more than 100 dots.
+  IsTooDeep : length name ≤ 511 → 100 < count_by (λ byte. byte == 46) name
+      → WrongPackage table name told.DeepPackage
   -- The table has it. It, or a package around it, has the full name of what is no package.
   IsNoPackage : (around : List ℕ) (n : ℕ) → stands table name ≡ true
       → Contains (name ∷ scopes name) around → number_of table.names around ≡ Some n
@@ -200,6 +207,43 @@ pub data WrongNumber : Described → Path → LinkFaultKind → Type 0 where
       → Clashes part kind tag at c
       → WrongNumber part (tag ∷ pos c.part ∷ at) (told.Clash kind c.«with»)
 
+-- ---- reserved names
+
+-- This is wrong with the names that a declaration reserves, at the end of this path from it.
+pub data WrongReserved : Described → Path → LinkFaultKind → Type 0 where
+  -- A message reserves a name, and an earlier one that it reserves is the same.
+  MessageReservesAgain : (m : DescriptorProto) (i earlier : ℕ) (name : List ℕ)
+      → slice_get (out-DescriptorProto m).reserved_name i ≡ Some name → earlier < i
+      → slice_get (out-DescriptorProto m).reserved_name earlier ≡ Some name
+      → WrongReserved (Message m) (message_tag.NAME ∷ []) (told.ReservedAgain i)
+  -- So does an enum.
+  EnumReservesAgain : (e : EnumDescriptorProto) (i earlier : ℕ) (name : List ℕ)
+      → slice_get e.reserved_name i ≡ Some name → earlier < i
+      → slice_get e.reserved_name earlier ≡ Some name
+      → WrongReserved (Enum e) (enum_tag.NAME ∷ []) (told.ReservedAgain i)
+  -- A message reserves the name of its field.
+  FieldIsReserved : (m : DescriptorProto) (i : ℕ) (f : FieldDescriptorProto)
+      → slice_get (out-DescriptorProto m).field i ≡ Some f
+      → Contains (out-DescriptorProto m).reserved_name (text_of f.name)
+      → WrongReserved (Message m) (message_tag.FIELD ∷ pos i ∷ field_tag.NAME ∷ []) told.ReservedName
+  -- An enum reserves the name of its value.
+  ValueIsReserved : (e : EnumDescriptorProto) (i : ℕ) (v : EnumValueDescriptorProto)
+      → slice_get e.value i ≡ Some v → Contains e.reserved_name (text_of v.name)
+      → WrongReserved (Enum e) (enum_tag.VALUE ∷ pos i ∷ value_tag.NAME ∷ []) told.ReservedName
+
+-- ---- proto3
+
+-- This is wrong with a declaration of a file of proto3, at the end of this path from it.
+pub data WrongInProto3 : Described → Path → LinkFaultKind → Type 0 where
+  -- The first value of an enum has another number than 0. An unset number counts as 0.
+  BeginsOtherwise : (e : EnumDescriptorProto) (v : EnumValueDescriptorProto)
+      → slice_get e.value 0 ≡ Some v → begins_with_zero e ≡ false
+      → WrongInProto3 (Enum e) (enum_tag.VALUE ∷ pos 0 ∷ value_tag.NUMBER ∷ []) told.FirstNotZero
+  -- A message has an extension range.
+  HasExtensions : (m : DescriptorProto) (range : ExtensionRange)
+      → slice_get (out-DescriptorProto m).extension_range 0 ≡ Some range
+      → WrongInProto3 (Message m) (message_tag.EXTENSION_RANGE ∷ pos 0 ∷ []) told.ExtensionsInProto3
+
 -- ---- all that can be wrong
 
 -- The fault is one of these files.
@@ -225,4 +269,13 @@ pub data WrongLink (files : List FileDescriptorProto) : LinkFault → Type 0 whe
   -- It is that of a number of a declaration.
   OfNumber : (n : ℕ) (d : Declared) (rest : Path) (kind : LinkFaultKind) → Declares files n d
       → IsNamed (table_of files) d → WrongNumber d.part rest kind
+      → WrongLink files (record { file = n; path = d.path ++ rest; kind = kind })
+  -- It is that of a reserved name.
+  OfReservedName : (n : ℕ) (d : Declared) (rest : Path) (kind : LinkFaultKind) → Declares files n d
+      → IsNamed (table_of files) d → WrongReserved d.part rest kind
+      → WrongLink files (record { file = n; path = d.path ++ rest; kind = kind })
+  -- It is that of a declaration in proto3.
+  OfProto3 : (n : ℕ) (d : Declared) (rest : Path) (kind : LinkFaultKind)
+      → (in_file : Declares files n d) → is_proto3 in_file.file ≡ true
+      → WrongInProto3 d.part rest kind
       → WrongLink files (record { file = n; path = d.path ++ rest; kind = kind })

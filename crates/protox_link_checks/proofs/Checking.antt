@@ -47,6 +47,11 @@ module _ (t : Table) (sees packages : List Bool) (file : ℕ) where
   rest_checked r path full name number before between after uses may =
       on_ok_weaker r (λ is. is ∙ sym (may.behind uses))
 
+  -- what is told in two steps
+  pub two_told : {T E : Type 0} (r : Result T E) (before between after first second : List LinkFault) → between ≡ before ++ first → OnOk r (after ≡ between ++ second) → OnOk r (after ≡ before ++ (first ++ second))
+  two_told r before between after first second is =
+      on_ok_weaker r (λ rest. rest ∙ ap (λ faults. faults ++ second) is ∙ append_assoc before first second)
+
   -- what uses two names
   pub uses_checked : {T E : Type 0} (r : Result T E) (path : Path) (full : List ℕ) (name : Option (List ℕ)) (number : Option ℕ) (before start between after : List LinkFault) (first second : List ℕ → List LinkFault)
       → MayUse t sees packages file path full name before start number

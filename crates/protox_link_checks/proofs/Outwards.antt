@@ -7,7 +7,7 @@ use Rattle.std.proofs.lemmas.List.Elements.{All-head}
 use Rattle.std.proofs.lemmas.Option.{slice_get-get_or}
 use Rattle.std.proofs.lemmas.Result.{on_ok_weaker}
 use Rattle.protox_descriptor.specs.declared.tag.file.TheConstants.{PACKAGE}
-use Rattle.protox_link_checks.specs.Imports.{if_found, if_no_package, no_packages, outwards, package_faults, wrong_package_found}
+use Rattle.protox_link_checks.specs.Imports.{if_found, if_no_package, no_packages, outwards, package_faults, wrong_length, wrong_package_found}
 use Rattle.protox_link_checks.specs.Uses.{fault_at, faults_at}
 use Rattle.protox_link_fault.specs.declared.LinkFault.{LinkFault}
 use Rattle.protox_link_fault.specs.declared.LinkFaultKind.TheVariants.{NotAPackage}
@@ -52,13 +52,24 @@ one_outwards t tree file q outer kind before after known is same added =
     ∙ ap (λ numbers. before ++ told (numbers ++ rest)) (ap (if_found t) (sym (tree.names.numbered.number_of (name_at t.names q) q (known_name t.names.full_names q known))))
     ∙ ap (λ names. before ++ told (if_found t (number_of t.names (name_at t.names q)) ++ no_packages t names)) (sym (around t q outer is))
 
--- all that is wrong with a package that has a number
-pub package_found : {T E : Type 0} (r : Result T E) (t : Table) (tree : IsNameTree t.names) (file : ℕ) (name : List ℕ) (found : Option ℕ) (n : ℕ) (before after : List LinkFault) → (length name == 0) ≡ false → found ≡ number_of t.names name → found ≡ Some n
-    → OnOk r (after ≡ before ++ faults_of t file (Some n)) → OnOk r (after ≡ before ++ package_faults t file name)
-package_found r t tree file [] found n before after some is at = absurd (false≢true (sym some))
-package_found r t tree file (byte ∷ rest) found n before after some is at =
+-- all that is wrong with a package: first its length, and then what its name stands for
+package_told : (t : Table) (file : ℕ) (name : List ℕ) (found : Option ℕ) (before : List LinkFault) → (length name == 0) ≡ false → found ≡ number_of t.names name
+    → (before ++ faults_at file [] PACKAGE (wrong_length name)) ++ faults_at file [] PACKAGE (wrong_package_found t name found) ≡ before ++ package_faults t file name
+package_told t file [] found before some is = absurd (false≢true (sym some))
+package_told t file (byte ∷ rest) found before some is =
     let name = byte ∷ rest in
+    append_assoc before (faults_at file [] PACKAGE (wrong_length name)) (faults_at file [] PACKAGE (wrong_package_found t name found))
+    ∙ ap (λ (faults : List LinkFault). before ++ faults) (sym (map-append (fault_at file [] PACKAGE) (wrong_length name) (wrong_package_found t name found)))
+    ∙ ap (λ f. before ++ faults_at file [] PACKAGE (wrong_length name ++ wrong_package_found t name f)) is
+
+-- where it has a number
+pub package_found : {T E : Type 0} (r : Result T E) (t : Table) (tree : IsNameTree t.names) (file : ℕ) (name : List ℕ) (found : Option ℕ) (n : ℕ) (before between after : List LinkFault) → (length name == 0) ≡ false → found ≡ number_of t.names name → found ≡ Some n
+    → between ≡ before ++ faults_at file [] PACKAGE (wrong_length name)
+    → OnOk r (after ≡ between ++ faults_of t file (Some n)) → OnOk r (after ≡ before ++ package_faults t file name)
+package_found r t tree file name found n before between after some is at length_told =
     let same : name_at t.names n ≡ name = name_of_found t.names.full_names name n tree.names (sym is ∙ at) in
     on_ok_weaker r (λ added. added
-    ∙ ap (λ whole. before ++ faults_at file [] PACKAGE (map NotAPackage (no_packages t (whole ∷ scopes whole)))) same
-    ∙ ap (λ f. before ++ faults_at file [] PACKAGE (wrong_package_found t name f)) (sym at ∙ is))
+    ∙ ap (λ (faults : List LinkFault). faults ++ faults_of t file (Some n)) length_told
+    ∙ ap (λ whole. (before ++ faults_at file [] PACKAGE (wrong_length name)) ++ faults_at file [] PACKAGE (map NotAPackage (no_packages t (whole ∷ scopes whole)))) same
+    ∙ ap (λ f. (before ++ faults_at file [] PACKAGE (wrong_length name)) ++ faults_at file [] PACKAGE (wrong_package_found t name f)) (sym at)
+    ∙ package_told t file name found before some is)

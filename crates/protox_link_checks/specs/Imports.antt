@@ -1,11 +1,11 @@
 -- What is wrong with the imports of a file, and with its package.
-use Rattle.std.specs.Prelude.{ℕ, ◌+◌, ◌==◌, pos, Bool, true, false, List, [], ◌∷◌, ◌++◌, map, option_to_list, Option, Some, None, if◌then◌else◌}
+use Rattle.std.specs.Prelude.{ℕ, ◌+◌, ◌==◌, nat_lt, pos, Bool, true, false, count_by, length, List, [], ◌∷◌, ◌++◌, map, option_to_list, Option, Some, None, if◌then◌else◌}
 use Rattle.std.specs.List.{list_any}
 use Rattle.protox_descriptor.specs.declared.tag.file.TheConstants.{DEPENDENCY, PACKAGE}
 use Rattle.protox_link_checks.specs.Uses.{faults_at}
 use Rattle.protox_link_fault.specs.declared.LinkFault.{LinkFault}
 use Rattle.protox_link_fault.specs.declared.LinkFaultKind.{LinkFaultKind}
-use Rattle.protox_link_fault.specs.declared.LinkFaultKind.TheVariants.{BadName, MissingImport, NotAPackage, RepeatedImport}
+use Rattle.protox_link_fault.specs.declared.LinkFaultKind.TheVariants.{BadName, DeepPackage, LongPackage, MissingImport, NotAPackage, RepeatedImport}
 use Rattle.protox_name_tree.specs.Tree.{Names, kind_at, name_at, number_of}
 use Rattle.protox_names.specs.Names.{scopes}
 use Rattle.protox_scopes.specs.declared.kind.Kind.{Kind}
@@ -31,6 +31,13 @@ abbrev pub import_faults : ℕ → List (Option ℕ) → List LinkFault
 import_faults file imports = import_faults_from file 0 [] imports
 
 -- ---- the package
+
+-- Its name has at most 511 bytes, and at most 100 dots.
+abbrev pub wrong_length : List ℕ → List LinkFaultKind
+wrong_length name =
+    if nat_lt 511 (length name) then LongPackage ∷ []
+    else if nat_lt 100 (count_by (λ byte. byte == 46) name) then DeepPackage ∷ []
+    else []
 
 abbrev pub is_package : Kind → Bool
 is_package kind.Package = true
@@ -61,10 +68,11 @@ module _ (table : Table) where
   wrong_package_found name None = BadName ∷ []
   wrong_package_found name (Some n) = map NotAPackage (no_packages (name ∷ scopes name))
 
-  -- The package and those around it are in the table, as packages.
+  -- The package and those around it are in the table, as packages, and the name is not too long.
   abbrev pub wrong_package : List ℕ → List LinkFaultKind
   wrong_package [] = []
-  wrong_package (byte ∷ rest) = wrong_package_found (byte ∷ rest) (number_of table.names (byte ∷ rest))
+  wrong_package (byte ∷ rest) =
+      wrong_length (byte ∷ rest) ++ wrong_package_found (byte ∷ rest) (number_of table.names (byte ∷ rest))
 
   abbrev pub package_faults : ℕ → List ℕ → List LinkFault
   package_faults file name = faults_at file [] PACKAGE (wrong_package name)

@@ -1,7 +1,10 @@
 pub mod Empty
 pub mod Numbers
+pub mod Reserved
+pub mod Proto3
 pub mod Uses
 pub mod Faults
 pub mod Checked
 pub mod Imports
 pub mod File
+pub mod inner

@@ -1,10 +1,13 @@
 -- What is wrong with the names that a file uses.
 use Rattle.std.specs.Prelude.{ℕ, ℤ, Bool, map, option_map, List, [], ◌∷◌, ◌++◌, Option, Some, None, if◌then◌else◌}
 use Rattle.protox_descriptor.specs.FieldDescriptorProto.{FieldDescriptorProto}
+use Rattle.protox_descriptor.specs.declared.descriptor.DescriptorProto.{DescriptorProto}
+use Rattle.protox_descriptor.specs.declared.descriptor.EnumDescriptorProto.{EnumDescriptorProto}
 use Rattle.protox_descriptor.specs.declared.descriptor.MethodDescriptorProto.{MethodDescriptorProto}
 use Rattle.protox_descriptor.specs.declared.tag.field.TheConstants as field_tag
 use Rattle.protox_descriptor.specs.declared.tag.method.TheConstants as method_tag
 use Rattle.protox_link_checks.specs.Numbers.{enum_number_faults, implementation_faults, message_number_faults}
+use Rattle.protox_link_checks.specs.Reserved.{enum_name_faults, message_name_faults}
 use Rattle.protox_link_fault.specs.declared.LinkFault.{LinkFault}
 use Rattle.protox_link_fault.specs.declared.LinkFaultKind.{LinkFaultKind}
 use Rattle.protox_link_fault.specs.declared.LinkFaultKind.TheVariants.{NotAMessage, NotAType, NotDefined}
@@ -46,6 +49,14 @@ module _ (table : Table) (sees packages : List Bool) where
   abbrev pub kind_named : Wanted → List ℕ → List ℕ → Option Kind
   kind_named wanted user name = option_map (kind_at table.names) (resolve (kind_at table.names) (seen table sees packages) wanted name user)
 
+module _ (file : ℕ) (path : Path) where
+  -- the numbers, the ranges and the reserved names of a message, and those of an enum
+  abbrev pub message_itself : DescriptorProto → List LinkFault
+  message_itself message = message_number_faults file path message ++ message_name_faults file path message
+
+  abbrev pub enum_itself : EnumDescriptorProto → List LinkFault
+  enum_itself enum = enum_number_faults file path enum ++ enum_name_faults file path enum
+
 module _ (table : Table) (sees packages : List Bool) (file : ℕ) where
   abbrev pub type_faults : Path → ℤ → List ℕ → Option (List ℕ) → List LinkFault
   type_faults path tag user None = []
@@ -67,12 +78,12 @@ module _ (table : Table) (sees packages : List Bool) (file : ℕ) where
       message_faults path method_tag.INPUT_TYPE user method.input_type
       ++ message_faults path method_tag.OUTPUT_TYPE user method.output_type
 
-  -- what is wrong with a declaration, but for its name: the names that it uses, and its numbers
+  -- what is wrong with a declaration, but for its name: the names that it uses, and what else is in it
   abbrev pub uses_of : Path → List ℕ → Described → List LinkFault
-  uses_of path user (Message message) = message_number_faults file path message
+  uses_of path user (Message message) = message_itself file path message
   uses_of path user (Field field) = field_uses path user field
   uses_of path user (Oneof oneof) = []
-  uses_of path user (Enum enum) = enum_number_faults file path enum
+  uses_of path user (Enum enum) = enum_itself file path enum
   uses_of path user (Value value) = []
   uses_of path user (Service service) = []
   uses_of path user (Method method) = method_uses path user method

@@ -8,6 +8,7 @@ use crate::each::check_each;
 use crate::imports::check_imports;
 use crate::name::{inside, text_of};
 use crate::package::check_package;
+use crate::proto3::check_proto3;
 use protox_descriptor::descriptor::FileDescriptorProto;
 use protox_descriptor::tag::file::{ENUM_TYPE, EXTENSION, MESSAGE_TYPE, SERVICE};
 use protox_link_fault::LinkFault;
@@ -63,9 +64,9 @@ pub fn check_names(
     )
 }
 
-/// Adds all that is wrong with a file of a set, as far as names go: with its imports, its package,
-/// and the names that it declares and uses. `imports` has the number of the first file with the
-/// name of each import, if any file has it.
+/// Adds all that is wrong with a file of a set: with its imports, its package, and the names that it
+/// declares and uses, and then what is wrong in proto3 alone. `imports` has the number of the first
+/// file with the name of each import, if any file has it.
 ///
 /// # Errors
 /// `AllocError` where memory runs out, or where a list has more than 2,147,483,648 parts: no path
@@ -86,5 +87,6 @@ pub fn check_file(
     check_imports(alloc, view.sees.len(), number, imports, faults)?;
     let package = text_of(file.package.as_ref());
     check_package(alloc, view.symbols, number, package, faults)?;
-    check_names(alloc, view, number, file, faults)
+    check_names(alloc, view, number, file, faults)?;
+    check_proto3(alloc, number, file, faults)
 }

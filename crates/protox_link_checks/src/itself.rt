@@ -9,6 +9,7 @@ ghost use Rattle.protox_walk.specs.Parts.{Enum, Message};
 
 use crate::name::check_name;
 use crate::numbers::{check_enum_numbers, check_numbers};
+use crate::reserved::{check_enum_names, check_message_names};
 use protox_descriptor::descriptor::{DescriptorProto, EnumDescriptorProto};
 use protox_link_fault::LinkFault;
 use protox_views::View;
@@ -33,7 +34,8 @@ pub(crate) fn check_message_itself(
     let Some(_) = check_name(alloc, view, file, scope, path, name, faults)? else {
         return Ok(());
     };
-    check_numbers(alloc, file, path, message, faults)
+    check_numbers(alloc, file, path, message, faults)?;
+    check_message_names(alloc, file, path, message, faults)
 }
 
 /// Adds what is wrong with an enum, but for its values.
@@ -55,5 +57,6 @@ pub(crate) fn check_enum_itself(
     let Some(_) = check_name(alloc, view, file, scope, path, name, faults)? else {
         return Ok(());
     };
-    check_enum_numbers(alloc, file, path, enum_, faults)
+    check_enum_numbers(alloc, file, path, enum_, faults)?;
+    check_enum_names(alloc, file, path, enum_, faults)
 }

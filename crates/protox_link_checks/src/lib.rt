@@ -10,6 +10,8 @@ mod name;
 mod numbers;
 mod package;
 mod parts;
+mod proto3;
+mod reserved;
 mod uses;
 
 pub use crate::file::{check_file, check_names};

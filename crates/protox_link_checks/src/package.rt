@@ -1,12 +1,12 @@
 //! What is wrong with the package of a file.
 
-ghost use Rattle.std.specs.Prelude.{◌≡◌, ◌<◌, ◌++◌, [], Some, length, map, OnOk};
+ghost use Rattle.std.specs.Prelude.{◌≡◌, ◌<◌, ◌++◌, [], Some, length, map, option_to_list, OnOk};
 ghost use Rattle.protox_link_checks.specs.Imports.{if_no_package, no_packages, outwards};
-ghost use Rattle.protox_link_checks.specs.Imports.{package_faults};
+ghost use Rattle.protox_link_checks.specs.Imports.{package_faults, wrong_length};
 ghost use Rattle.protox_link_checks.specs.Uses.{faults_at};
 ghost use Rattle.protox_link_fault.specs.declared.LinkFaultKind.TheVariants.{NotAPackage};
 
-use crate::uses::add_fault;
+use crate::uses::{add_fault, add_if_any};
 use protox_descriptor::tag::file::PACKAGE;
 use protox_link_fault::{LinkFault, LinkFaultKind};
 use protox_scopes::Kind;
@@ -57,6 +57,20 @@ fn check_kind(
     }
 }
 
+// What is wrong with the length of a package's name.
+fn wrong_length(name: &str) -> Option<LinkFaultKind>
+    ensures { option_to_list result ≡ wrong_length name.now }
+{
+    if name.len() > 511 {
+        return Some(LinkFaultKind::LongPackage);
+    }
+    let dots = name.as_bytes().iter().filter(|byte| **byte == b'.').count();
+    if dots > 100 {
+        return Some(LinkFaultKind::DeepPackage);
+    }
+    None
+}
+
 /// Adds what is wrong with the package of a file. Its name is empty if it has none.
 ///
 /// # Errors
@@ -74,6 +88,7 @@ pub(crate) fn check_package(
     if name.is_empty() {
         return Ok(());
     }
+    add_if_any(alloc, file, &[], PACKAGE, wrong_length(name), faults)?;
     // for the proof: what is found under a name has it
     let _count = symbols.len();
     let Some(number) = symbols.find(None, name) else {

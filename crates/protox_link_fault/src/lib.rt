@@ -30,6 +30,10 @@ pub enum LinkFaultKind {
     NotInTable,
     /// What has this number has the full name of a package of the file, and is no package.
     NotAPackage(usize),
+    /// The name of the file's package has more than 511 bytes.
+    LongPackage,
+    /// It has no more, but more than 100 dots.
+    DeepPackage,
     /// This name stands for nothing.
     NotDefined(Text),
     /// This name stands for what is no message and no enum.
@@ -46,6 +50,15 @@ pub enum LinkFaultKind {
     EmptyRange,
     /// An enum has no value.
     NoValue,
+    /// A message or an enum reserves the name that has this index among those that it reserves, and
+    /// reserved it before.
+    ReservedAgain(usize),
+    /// The name of a field, or of a value of an enum, is reserved.
+    ReservedName,
+    /// In a file of proto3 the first value of an enum has another number than 0.
+    FirstNotZero,
+    /// In a file of proto3 a message has an extension range.
+    ExtensionsInProto3,
     /// No file has the name of the import.
     MissingImport,
     /// An earlier import has the same name.

@@ -2,7 +2,7 @@
 use Rattle.std.specs.Prelude.{ℕ, List, ◌++◌, codes}
 use Rattle.std.specs.Fmt.{signed_decimal}
 use Rattle.protox_link_text.specs.declared.error.LinkError.{LinkError}
-use Rattle.protox_link_text.specs.declared.error.LinkError.TheVariants.{MissingName, BadName, AlreadyDefined, AlreadyDefinedIn, AlreadyDefinedInFile, ValueBesideEnum, ValueBesideEnumIn, NotInTable, NotAPackage, NotDefined, NotImported, NotDefinedInside, NotAType, NotAMessage, NumberReused, FieldReserved, ForExtensions, ReservedTwice, ExtensionsTwice, ExtensionsReserved, ValueReserved, ForImplementation, EmptyExtensionRange, EmptyReservedRange, NoValue, MissingImport, RepeatedImport, ImportCycle}
+use Rattle.protox_link_text.specs.declared.error.LinkError.TheVariants.{MissingName, BadName, AlreadyDefined, AlreadyDefinedIn, AlreadyDefinedInFile, ValueBesideEnum, ValueBesideEnumIn, NotInTable, NotAPackage, LongPackage, DeepPackage, NotDefined, NotImported, NotDefinedInside, NotAType, NotAMessage, NumberReused, FieldReserved, ForExtensions, ReservedTwice, ExtensionsTwice, ExtensionsReserved, ValueReserved, FieldNameReserved, ValueNameReserved, FieldNameReservedTwice, ValueNameReservedTwice, ForImplementation, EmptyExtensionRange, EmptyReservedRange, NoValue, FirstNotZero, ExtensionsInProto3, MissingImport, RepeatedImport, ImportCycle}
 
 -- The text of an error, in one line.
 abbrev pub text_of : LinkError → List ℕ
@@ -15,6 +15,8 @@ text_of (ValueBesideEnum value of_) = codes "Note that enum values use C++ scopi
 text_of (ValueBesideEnumIn value scope of_) = codes "Note that enum values use C++ scoping rules, meaning that enum values are siblings of their type, not children of it.  Therefore, \"" ++ value ++ codes "\" must be unique within \"" ++ scope ++ codes "\", not just within \"" ++ of_ ++ codes "\"."
 text_of (NotInTable name) = codes "\"" ++ name ++ codes "\" is not in the table."
 text_of (NotAPackage name file) = codes "\"" ++ name ++ codes "\" is already defined (as something other than a package) in file \"" ++ file ++ codes "\"."
+text_of LongPackage = codes "Package name is too long"
+text_of DeepPackage = codes "Exceeds Maximum Package Depth"
 text_of (NotDefined name) = codes "\"" ++ name ++ codes "\" is not defined."
 text_of (NotImported name file user) = codes "\"" ++ name ++ codes "\" seems to be defined in \"" ++ file ++ codes "\", which is not imported by \"" ++ user ++ codes "\".  To use it here, please add the necessary import."
 text_of (NotDefinedInside name found) = codes "\"" ++ name ++ codes "\" is resolved to \"" ++ found ++ codes "\", which is not defined. The innermost scope is searched first in name resolution. Consider using a leading '.'(i.e., \"." ++ name ++ codes "\") to start from the outermost scope."
@@ -27,10 +29,16 @@ text_of (ReservedTwice first last other_first other_last) = codes "Reserved rang
 text_of (ExtensionsTwice first last other_first other_last) = codes "Extension range " ++ signed_decimal first ++ codes " to " ++ signed_decimal last ++ codes " overlaps with already-defined range " ++ signed_decimal other_first ++ codes " to " ++ signed_decimal other_last ++ codes "."
 text_of (ExtensionsReserved first last other_first other_last) = codes "Extension range " ++ signed_decimal first ++ codes " to " ++ signed_decimal last ++ codes " overlaps with reserved range " ++ signed_decimal other_first ++ codes " to " ++ signed_decimal other_last ++ codes "."
 text_of (ValueReserved value number) = codes "Enum value \"" ++ value ++ codes "\" uses reserved number " ++ signed_decimal number ++ codes "."
+text_of (FieldNameReserved name) = codes "Field name \"" ++ name ++ codes "\" is reserved."
+text_of (ValueNameReserved name) = codes "Enum value \"" ++ name ++ codes "\" is reserved."
+text_of (FieldNameReservedTwice name) = codes "Field name \"" ++ name ++ codes "\" is reserved multiple times."
+text_of (ValueNameReservedTwice name) = codes "Enum value \"" ++ name ++ codes "\" is reserved multiple times."
 text_of ForImplementation = codes "Field numbers 19000 through 19999 are reserved for the protocol buffer library implementation."
 text_of EmptyExtensionRange = codes "Extension range end number must be greater than start number."
 text_of EmptyReservedRange = codes "Reserved range end number must be greater than start number."
 text_of NoValue = codes "Enums must contain at least one value."
+text_of FirstNotZero = codes "The first enum value must be zero in proto3."
+text_of ExtensionsInProto3 = codes "Extension ranges are not allowed in proto3."
 text_of (MissingImport name) = codes "Import \"" ++ name ++ codes "\" was not found or had errors."
 text_of (RepeatedImport name) = codes "Import \"" ++ name ++ codes "\" was listed twice."
 text_of (ImportCycle names) = codes "File recursively imports itself: " ++ names
@@ -42,4 +50,8 @@ HasFixedText ForImplementation = Unit {0}
 HasFixedText EmptyExtensionRange = Unit {0}
 HasFixedText EmptyReservedRange = Unit {0}
 HasFixedText NoValue = Unit {0}
+HasFixedText LongPackage = Unit {0}
+HasFixedText DeepPackage = Unit {0}
+HasFixedText FirstNotZero = Unit {0}
+HasFixedText ExtensionsInProto3 = Unit {0}
 HasFixedText _ = ⊥

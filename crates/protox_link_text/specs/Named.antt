@@ -57,3 +57,9 @@ named_in (OfService s) [] = text_of s.name
 abbrev pub import_named : Holder → List ℤ → List ℕ
 import_named (OfFile f) (tag ∷ n ∷ rest) = unwrap_or (at_index f.dependency n) []
 import_named _ _ = []
+
+-- the name with an index among those that the holder reserves
+abbrev pub reserved_at : Holder → ℕ → List ℕ
+reserved_at (OfMessage m) n = text_of (slice_get (out-DescriptorProto m).reserved_name n)
+reserved_at (OfEnum e) n = text_of (slice_get e.reserved_name n)
+reserved_at _ n = []

@@ -10,7 +10,7 @@ use Rattle.protox_link_fault.specs.declared.LinkFault.{LinkFault}
 use Rattle.protox_link_fault.specs.declared.LinkFaultKind.{LinkFaultKind}
 use Rattle.protox_link_fault.specs.declared.LinkFaultKind.TheVariants as kind
 use Rattle.protox_link_text.specs.Clashes.{clash_in}
-use Rattle.protox_link_text.specs.Named.{file_name, import_named, named_in, value_named}
+use Rattle.protox_link_text.specs.Named.{file_name, import_named, named_in, reserved_at, value_named}
 use Rattle.protox_link_text.specs.Places.{Holder, OfEnum, OfFile, OfMessage, OfService, Place, place_of, text_of}
 use Rattle.protox_link_text.specs.Search.{Searched, search, wanted_at}
 use Rattle.protox_link_text.specs.declared.error.LinkError.{LinkError}
@@ -102,6 +102,16 @@ empty_range (OfMessage message) = error.EmptyExtensionRange
 empty_range (OfEnum enum) = error.EmptyReservedRange
 empty_range (OfService service) = error.EmptyExtensionRange
 
+-- A field has the reserved name, or a value of an enum.
+abbrev pub reserved_name : Holder → List ℕ → LinkError
+reserved_name (OfEnum enum) name = error.ValueNameReserved name
+reserved_name _ name = error.FieldNameReserved name
+
+-- A message reserves the name twice, or an enum.
+abbrev pub reserved_again : Holder → List ℕ → LinkError
+reserved_again (OfEnum enum) name = error.ValueNameReservedTwice name
+reserved_again _ name = error.FieldNameReservedTwice name
+
 -- `sees` and `packages` tell what the file with this number sees of the table.
 module _ (files : List FileDescriptorProto) (table : Table) (sees packages : List Bool) (file : ℕ) where
   abbrev pub told_at : Place → LinkFaultKind → List LinkError
@@ -110,6 +120,8 @@ module _ (files : List FileDescriptorProto) (table : Table) (sees packages : Lis
   told_at place (kind.AlreadyDefined n) = already_defined files table file n ∷ note_in place.scope place.holder place.rest
   told_at place kind.NotInTable = error.NotInTable (named_in place.holder place.rest) ∷ []
   told_at place (kind.NotAPackage n) = no_package files table n ∷ []
+  told_at place kind.LongPackage = error.LongPackage ∷ []
+  told_at place kind.DeepPackage = error.DeepPackage ∷ []
   told_at place (kind.NotDefined name) = not_defined files table file name (search table sees packages (wanted_at place.rest) name place.scope)
   told_at place (kind.NotAType name) = error.NotAType name ∷ []
   told_at place (kind.NotAMessage name) = error.NotAMessage name ∷ []
@@ -117,6 +129,10 @@ module _ (files : List FileDescriptorProto) (table : Table) (sees packages : Lis
   told_at place kind.ForImplementation = error.ForImplementation ∷ []
   told_at place kind.EmptyRange = empty_range place.holder ∷ []
   told_at place kind.NoValue = error.NoValue ∷ []
+  told_at place (kind.ReservedAgain n) = reserved_again place.holder (reserved_at place.holder n) ∷ []
+  told_at place kind.ReservedName = reserved_name place.holder (named_in place.holder place.rest) ∷ []
+  told_at place kind.FirstNotZero = error.FirstNotZero ∷ []
+  told_at place kind.ExtensionsInProto3 = error.ExtensionsInProto3 ∷ []
   told_at place kind.MissingImport = error.MissingImport (import_named place.holder place.rest) ∷ []
   told_at place kind.RepeatedImport = error.RepeatedImport (import_named place.holder place.rest) ∷ []
   told_at place (kind.ImportCycle circle_) = error.ImportCycle (circle files circle_.items) ∷ []

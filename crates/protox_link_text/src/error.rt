@@ -50,6 +50,10 @@ pub enum LinkError {
         name: Text,
         file: Text,
     },
+    /// The name of a package has more than 511 bytes.
+    LongPackage,
+    /// The name of a package has more than 100 dots.
+    DeepPackage,
     /// The name stands for nothing.
     NotDefined {
         name: Text,
@@ -118,6 +122,22 @@ pub enum LinkError {
         value: Text,
         number: i32,
     },
+    /// The name of the field is reserved.
+    FieldNameReserved {
+        name: Text,
+    },
+    /// The name of the value is reserved.
+    ValueNameReserved {
+        name: Text,
+    },
+    /// A message reserves the name twice.
+    FieldNameReservedTwice {
+        name: Text,
+    },
+    /// An enum reserves the name twice.
+    ValueNameReservedTwice {
+        name: Text,
+    },
     /// The number of a field is one from 19000 to 19999.
     ForImplementation,
     /// An extension range has no number.
@@ -126,6 +146,10 @@ pub enum LinkError {
     EmptyReservedRange,
     /// An enum has no value.
     NoValue,
+    /// In proto3 the first value of an enum has another number than 0.
+    FirstNotZero,
+    /// In proto3 a message has an extension range.
+    ExtensionsInProto3,
     /// No file has the name of the import.
     MissingImport {
         name: Text,
@@ -154,6 +178,10 @@ fn fixed_text(error: &LinkError) -> &'static str
         LinkError::EmptyReservedRange =>
             "Reserved range end number must be greater than start number.",
         LinkError::NoValue => "Enums must contain at least one value.",
+        LinkError::LongPackage => "Package name is too long",
+        LinkError::DeepPackage => "Exceeds Maximum Package Depth",
+        LinkError::FirstNotZero => "The first enum value must be zero in proto3.",
+        LinkError::ExtensionsInProto3 => "Extension ranges are not allowed in proto3.",
         _ => "",
     }
 }
@@ -247,6 +275,18 @@ impl fmt::Display for LinkError {
             ),
             LinkError::ValueReserved { value, number } => {
                 write!(f, "Enum value \"{value}\" uses reserved number {number}.")
+            }
+            LinkError::FieldNameReserved { name } => {
+                write!(f, "Field name \"{name}\" is reserved.")
+            }
+            LinkError::ValueNameReserved { name } => {
+                write!(f, "Enum value \"{name}\" is reserved.")
+            }
+            LinkError::FieldNameReservedTwice { name } => {
+                write!(f, "Field name \"{name}\" is reserved multiple times.")
+            }
+            LinkError::ValueNameReservedTwice { name } => {
+                write!(f, "Enum value \"{name}\" is reserved multiple times.")
             }
             LinkError::MissingImport { name } => {
                 write!(f, "Import \"{name}\" was not found or had errors.")

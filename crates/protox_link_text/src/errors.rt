@@ -11,6 +11,7 @@ use crate::imports::circle_text;
 use crate::lists::one;
 use crate::names::{import_named, named_in};
 use crate::place::{Inside, Place, place_of};
+use crate::reserved::{reserved_again, reserved_name};
 use crate::search::{search, wanted_at};
 use crate::used::not_defined;
 use protox_descriptor::descriptor::FileDescriptorProto;
@@ -59,6 +60,8 @@ fn told_at(
             name: Text::copy(alloc, named_in(inside, rest))?,
         },
         LinkFaultKind::NotAPackage(number) => no_package(alloc, files, view.symbols, *number)?,
+        LinkFaultKind::LongPackage => LinkError::LongPackage,
+        LinkFaultKind::DeepPackage => LinkError::DeepPackage,
         LinkFaultKind::NotAType(name) => LinkError::NotAType {
             name: Text::copy(alloc, name.as_str())?,
         },
@@ -68,6 +71,10 @@ fn told_at(
         LinkFaultKind::ForImplementation => LinkError::ForImplementation,
         LinkFaultKind::EmptyRange => empty_range(inside),
         LinkFaultKind::NoValue => LinkError::NoValue,
+        LinkFaultKind::ReservedAgain(number) => reserved_again(alloc, inside, *number)?,
+        LinkFaultKind::ReservedName => reserved_name(alloc, inside, rest)?,
+        LinkFaultKind::FirstNotZero => LinkError::FirstNotZero,
+        LinkFaultKind::ExtensionsInProto3 => LinkError::ExtensionsInProto3,
         LinkFaultKind::MissingImport => LinkError::MissingImport {
             name: Text::copy(alloc, import_named(inside, rest))?,
         },

@@ -9,6 +9,7 @@ mod imports;
 mod lists;
 mod names;
 mod place;
+mod reserved;
 mod search;
 mod used;
 

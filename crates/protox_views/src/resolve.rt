@@ -9,12 +9,21 @@ ghost use Rattle.protox_views.specs.Views.{seen};
 
 use crate::View;
 use protox_name_tree::Word;
-use protox_names::{front, is_one_part};
+use protox_names::front;
 use protox_scopes::{Step, Wanted};
 
 impl View<'_> {
-    // Searches one scope for a name, of which `first` is the first part.
-    fn step(&self, wanted: Wanted, name: &str, first: &Word<'_>, scope: usize) -> Step<usize>
+    // Searches one scope for a name, of which `first` is the first part. `alone` tells whether it is
+    // the only one.
+    fn step(
+        &self,
+        wanted: Wanted,
+        name: &str,
+        alone: bool,
+        first: &Word<'_>,
+        scope: usize,
+    ) -> Step<usize>
+        requires alone { alone ≡ names.is_one_part name.now }
         requires tree { first.now.tree ≡ self.now.symbols.now.names }
         requires first { first.now.name ≡ names.front name.now }
         ensures { result ≡ words.step (kind_at self.now.symbols.now.names)
@@ -25,7 +34,7 @@ impl View<'_> {
             return Step::GoesOn;
         };
         let kind = self.symbols.kind(thing);
-        if is_one_part(name) {
+        if alone {
             if wanted.fits(kind) {
                 return Step::Ends(Some(thing));
             }
@@ -36,7 +45,7 @@ impl View<'_> {
     }
 
     /// What a name stands for where something that stands in this scope uses it: the same as
-    /// `resolve_in`. The text of the first part is looked up once for all scopes.
+    /// `resolve_in`. The first part is cut off and its text looked up once for all scopes.
     ///
     /// It takes no memory. For each scope around the user it makes one step.
     pub fn resolve(&self, wanted: Wanted, name: &str, scope: Option<usize>) -> Option<usize>
@@ -48,10 +57,12 @@ impl View<'_> {
         if let Some(full_name) = name.strip_prefix('.') {
             return self.find(None, full_name);
         }
-        let first = self.symbols.word(front(name));
+        let part = front(name);
+        let alone = part.len() == name.len();
+        let first = self.symbols.word(part);
         let mut place = scope;
         while let Some(here) = place {
-            if let Step::Ends(found) = self.step(wanted, name, &first, here) {
+            if let Step::Ends(found) = self.step(wanted, name, alone, &first, here) {
                 return found;
             }
             place = self.symbols.outer(here);

@@ -1,9 +1,7 @@
 use Rattle.std.proofs.Common.{◌≡◌, [], ◌++◌, sym, ◌∙◌}
 use Rattle.std.proofs.lemmas.Result.{on_ok_weaker}
-use Rattle.protox_link_checks.specs.Faults.{all_declared_faults}
 use Rattle.protox_link_checks.specs.File.{file_faults}
-use Rattle.protox_link_checks.specs.Imports.{import_faults, package_faults}
-use Rattle.protox_link.proofs.Standing.{file_there, no_items, none_of_first, none_of_second, package_named, package_there}
+use Rattle.protox_link.proofs.Standing.{declared_right, file_there, no_items, none_of_second, package_named, package_right, package_there}
 use Rattle.protox_walk.specs.Declarations.{text_of}
 use Rattle.protox_link.proofs.file.check_and_link.Goals as goal
 
@@ -13,9 +11,8 @@ link_file-requires-clause-package c =
     let table = view.symbols.now in
     let file = c.args.file.now in
     let none : file_faults table view.sees.now view.packages.now c.args.number c.args.imports.now file ≡ [] = none_of_second c.args.faults.now.items _ (sym c.in_ok-check_file.ensures ∙ no_items c.check_file.new.faults.len c.check_file.new.faults.items c.if-not-is_empty.ensures c.check_file.new.faults.ok.0) in
-    let behind : package_faults table c.args.number (text_of file.«package») ++ all_declared_faults table view.sees.now view.packages.now c.args.number file ≡ [] = none_of_second (import_faults c.args.number c.args.imports.now) _ none in
     package_named table c.args.number file.«package» c.text_of.result.now c.find-package.result (rw c.as_ref.ensures.value at c.text_of.ensures) c.find-package.ensures
-    (none_of_first (package_faults table c.args.number (text_of file.«package»)) _ behind)
+    (package_right table view.sees.now view.packages.now c.args.number c.args.imports.now file none)
 
 pub link_file-requires-clause-stands : goal.link_file-requires-clause-stands
 link_file-requires-clause-stands c =
@@ -23,10 +20,9 @@ link_file-requires-clause-stands c =
     let table = view.symbols.now in
     let file = c.args.file.now in
     let none : file_faults table view.sees.now view.packages.now c.args.number c.args.imports.now file ≡ [] = none_of_second c.args.faults.now.items _ (sym c.in_ok-check_file.ensures ∙ no_items c.check_file.new.faults.len c.check_file.new.faults.items c.if-not-is_empty.ensures c.check_file.new.faults.ok.0) in
-    let behind : package_faults table c.args.number (text_of file.«package») ++ all_declared_faults table view.sees.now view.packages.now c.args.number file ≡ [] = none_of_second (import_faults c.args.number c.args.imports.now) _ none in
     file_there table view.sees.now view.packages.now c.args.number file
-    (package_there table c.args.number (text_of file.«package») (none_of_first (package_faults table c.args.number (text_of file.«package»)) _ behind))
-    (none_of_second (package_faults table c.args.number (text_of file.«package»)) _ behind)
+    (package_there table c.args.number (text_of file.«package») (package_right table view.sees.now view.packages.now c.args.number c.args.imports.now file none))
+    (declared_right table view.sees.now view.packages.now c.args.number c.args.imports.now file none)
 
 pub returns : goal.returns
 returns c = on_ok_weaker c.link_file.result (λ linked. record { faults = c.in_ok-check_file.ensures; linked = λ none. linked }) c.link_file.ensures

@@ -51,3 +51,15 @@ returns-in-MissingImport-clause-writes g c p ok = rw c.in-MissingImport.is (c.wr
 
 pub returns-in-RepeatedImport-clause-writes : goal.returns-in-RepeatedImport-clause-writes
 returns-in-RepeatedImport-clause-writes g c p ok = rw c.in-RepeatedImport.is (c.write-in-RepeatedImport.ensures.writes p ok)
+
+pub returns-in-FieldNameReserved-clause-writes : goal.returns-in-FieldNameReserved-clause-writes
+returns-in-FieldNameReserved-clause-writes g c p ok = rw c.in-FieldNameReserved.is (c.write-in-FieldNameReserved.ensures.writes p ok)
+
+pub returns-in-ValueNameReserved-clause-writes : goal.returns-in-ValueNameReserved-clause-writes
+returns-in-ValueNameReserved-clause-writes g c p ok = rw c.in-ValueNameReserved.is (c.write-in-ValueNameReserved.ensures.writes p ok)
+
+pub returns-in-FieldNameReservedTwice-clause-writes : goal.returns-in-FieldNameReservedTwice-clause-writes
+returns-in-FieldNameReservedTwice-clause-writes g c p ok = rw c.in-FieldNameReservedTwice.is (c.write-in-FieldNameReservedTwice.ensures.writes p ok)
+
+pub returns-in-ValueNameReservedTwice-clause-writes : goal.returns-in-ValueNameReservedTwice-clause-writes
+returns-in-ValueNameReservedTwice-clause-writes g c p ok = rw c.in-ValueNameReservedTwice.is (c.write-in-ValueNameReservedTwice.ensures.writes p ok)

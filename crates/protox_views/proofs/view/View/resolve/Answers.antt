@@ -1,15 +1,18 @@
-use Rattle.std.proofs.Common.{None, ap, lit<, ◌∙◌}
+use Rattle.std.proofs.Common.{ℕ, ◌==◌, List, None, ap, length, lit<, ◌∙◌}
 use Rattle.std.proofs.lemmas.Str.Pattern.{strip_prefix_char}
 use Rattle.protox_name_tree.specs.Tree.{kind_at, name_at}
 use Rattle.protox_names.specs.Names.{is_one_part}
 use Rattle.protox_scopes.proofs.Outwards.{relative}
 use Rattle.protox_scopes.proofs.TreeSearch.{at_top, by_user, nearer_from, stopped}
 use Rattle.protox_views.specs.Views.{seen}
-use Rattle.protox_views.proofs.Resolved.{front_is_one_part}
+use Rattle.protox_views.proofs.Resolved.{front_is_one_part, whole_front}
 use Rattle.protox_views.proofs.view.View.resolve.Goals as goal
 
 pub word-first-requires : goal.word-first-requires
-word-first-requires c = ap is_one_part c.front.ensures ∙ front_is_one_part c.args.name.now
+word-first-requires c = ap is_one_part c.front-part.ensures ∙ front_is_one_part c.args.name.now
+
+pub step-requires-clause-alone : goal.step-requires-clause-alone
+step-requires-clause-alone c = ap (λ (part : List ℕ). length part == length c.args.name.now) c.front-part.ensures ∙ whole_front c.args.name.now
 
 pub returns-in-Ends : goal.returns-in-Ends
 returns-in-Ends c =

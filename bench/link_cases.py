@@ -91,6 +91,12 @@ class Chance:
         self.in_maps.add(name)
         return name
 
+    def default(self):
+        """A default, which may be that of no type."""
+        if self.proto3 or self.rng.random() < 0.7:
+            return ''
+        return f' [default = {self.rng.choice("abcd")}]'
+
     def next(self):
         self.number += 1
         return self.number
@@ -108,7 +114,7 @@ class Chance:
             name = self.own(full) if self.rng.random() < 0.4 else f'f_{self.next()}'
             self.lines.append(self.rng.choice([
                 f'{optional}{self.used()} {name} = {self.next()};',
-                f'{optional}{self.used()} {name} = {self.next()};',
+                f'{optional}{self.used()} {name} = {self.next()}{self.default()};',
                 f'map<string, {self.used_in_map()}> {name} = {self.next()};',
                 f'oneof {self.own(full)} {{ {self.used()} {name} = {self.next()}; }}']))
         if self.rng.random() < 0.3:

@@ -13,6 +13,7 @@ CYCLE = re.compile(r'[^:]+:\d+:\d+: File recursively imports itself: (.*)')
 # The numbers that begin or end a path.
 NAME, PACKAGE, IMPORTS = 1, 2, 3
 NUMBER = 3
+DEFAULT = 7
 # The list of the reserved ranges of an enum.
 IN_ENUM = 4
 # What protoc says of a name that is used, and the words for it here.
@@ -29,6 +30,9 @@ OF_NUMBERS = [(re.compile(text), words) for text, words in (
     (r'Extension range end number must be greater than start number\.', 'empty range'),
     (r'Field numbers 19000 through 19999 are reserved for .*\.', 'number for the implementation'),
     (r'Enums must contain at least one value\.', 'no value'),
+    (r"Messages can't have default values\.", 'default of a message'),
+    (r'Default value for an enum field must be an identifier\.', 'bad default'),
+    (r'Enum type ".*" has no value named ".*"\.', 'no such value'),
     (r'Package name is too long', 'long package'),
     (r'Exceeds Maximum Package Depth', 'deep package'),
     (r'The first enum value must be zero in proto3\.', 'first value not zero'),
@@ -404,7 +408,7 @@ class Faults:
         order = [(IMPORTS, index) for index in range(len(self.file.dependency))] + [(PACKAGE,)]
         for path, _, part in self.declared:
             order += [path + (NAME,), *numbers_in(path, part), *reserved_in(path, part)]
-            order += [use for use in self.uses if use[:-1] == path]
+            order += [use for use in self.uses if use[:-1] == path] + [path + (DEFAULT,)]
         for path, _, part in self.declared:
             order += in_proto3(path, part)
         place = {path: index for index, path in enumerate(order)}

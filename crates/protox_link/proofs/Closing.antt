@@ -28,7 +28,7 @@ use Rattle.protox_link.specs.Laws.{DeclaredOnce}
 use Rattle.protox_link.specs.Seen.{IsSeenBy}
 use Rattle.protox_link_checks.specs.Faults.{declared_faults, faults_named}
 use Rattle.protox_link_checks.specs.Numbers.{implementation_faults}
-use Rattle.protox_link_checks.specs.Uses.{enum_itself, faults_at, message_faults, type_faults, wrong_message, wrong_type}
+use Rattle.protox_link_checks.specs.Uses.{default_faults, enum_itself, faults_at, message_faults, type_faults, wrong_message, wrong_type}
 use Rattle.protox_link_fault.specs.declared.LinkFault.{LinkFault}
 use Rattle.protox_link_fault.specs.declared.LinkFaultKind.TheVariants.{NotAType}
 use Rattle.protox_linked.proofs.Nesting.{message-linked, name_of_message}
@@ -201,12 +201,13 @@ module _ (t : Table) (sees packages : List Bool) (file : ℕ) where
       let user = full_name full f.name in
       let types = type_faults t sees packages file path field_tag.TYPE_NAME user f.type_name in
       let extends = message_faults t sees packages file path field_tag.EXTENDEE user f.extendee in
-      let uses = (implementation_faults file path f ++ types) ++ extends in
+      let default = default_faults t sees packages file path user f.type_name f.default_value in
+      let uses = (implementation_faults file path f ++ types) ++ (extends ++ default) in
       let right : faults_named t sees packages file path user own uses ≡ [] = none_of_first _ _ none in
       let alone = own_is_one_part t sees packages file path full f.name uses right in
       let no_uses = none_used t sees packages file path full f.name uses there right in
-      let no_types : types ≡ [] = none_of_second (implementation_faults file path f) types (none_of_first _ extends no_uses) in
-      let no_extends : extends ≡ [] = none_of_second (implementation_faults file path f ++ types) extends no_uses in
+      let no_types : types ≡ [] = none_of_second (implementation_faults file path f) types (none_of_first _ (extends ++ default) no_uses) in
+      let no_extends : extends ≡ [] = none_of_first extends default (none_of_second (implementation_faults file path f ++ types) (extends ++ default) no_uses) in
       let types_right = subst (λ u. type_faults t sees packages file path field_tag.TYPE_NAME u f.type_name ≡ []) (user_named full f.name) no_types in
       let extends_right = subst (λ u. message_faults t sees packages file path field_tag.EXTENDEE u f.extendee ≡ []) (user_named full f.name) no_extends in
       All-cons IsRight (declared path user (Field (linked_field meaning1 full f))) [] (record {

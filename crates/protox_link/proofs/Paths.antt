@@ -24,19 +24,20 @@ use Rattle.protox_imports.specs.Rows.{named_of, row_by, rows_of}
 use Rattle.protox_imports.specs.declared.row.FileImports.{FileImports}
 use Rattle.protox_link.proofs.Seeing.{split}
 use Rattle.protox_link.specs.Files.{AreFaults, faults_in}
-use Rattle.protox_link.specs.Stands.{LeadsInto, LeadsWithin, Stands, ToDeclared, ToExtendee, ToExtensionRange, ToImport, ToImports, ToInput, ToName, ToNameOfField, ToNameOfValue, ToNumber, ToNumberOfField, ToNumberOfValue, ToOutput, ToPackage, ToRangeOfEnum, ToReservedRange, ToType}
+use Rattle.protox_link.specs.Stands.{LeadsInto, LeadsWithin, Stands, ToDeclared, ToDefault, ToExtendee, ToExtensionRange, ToImport, ToImports, ToInput, ToName, ToNameOfField, ToNameOfValue, ToNumber, ToNumberOfField, ToNumberOfValue, ToOutput, ToPackage, ToRangeOfEnum, ToReservedRange, ToType}
+use Rattle.protox_link_checks.specs.Defaults.{wrong_default}
 use Rattle.protox_link_checks.specs.Empty.{empty_fault, empty_faults}
 use Rattle.protox_link_checks.specs.Faults.{bad_name, clash_faults, declared_faults, is_declared_at}
 use Rattle.protox_link_checks.specs.Imports.{import_faults, import_faults_from, package_faults, wrong_import, wrong_package}
 use Rattle.protox_link_checks.specs.Numbers as numbers
 use Rattle.protox_link_checks.specs.Proto3.{extension_faults, faults_of_proto3, first_value_faults, is_proto3, part_faults, proto3_faults}
 use Rattle.protox_link_checks.specs.Reserved.{again_fault, again_faults, is_among, name_of_field, name_of_value, reserved_fault, reserved_faults}
-use Rattle.protox_link_checks.specs.Uses.{enum_itself, fault_at, faults_at, kind_named, message_faults, message_itself, type_faults, uses_of, wrong_message, wrong_type}
+use Rattle.protox_link_checks.specs.Uses.{default_faults, enum_itself, fault_at, faults_at, kind_named, message_faults, message_itself, type_faults, uses_of, wrong_message, wrong_type}
 use Rattle.protox_link_fault.specs.declared.LinkFault.{LinkFault}
 use Rattle.protox_link_fault.specs.declared.LinkFaultKind.{LinkFaultKind}
 use Rattle.protox_link_fault.specs.declared.LinkFaultKind.TheVariants.{AlreadyDefined, EmptyRange, ExtensionsInProto3, FirstNotZero, ForImplementation, NoValue, NotInTable, ReservedAgain, ReservedName}
 use Rattle.protox_link_fault.specs.declared.NumberFault.{NumberFault}
-use Rattle.protox_name_tree.specs.Tree.{has_innermost, number_of}
+use Rattle.protox_name_tree.specs.Tree.{has_innermost, kind_at, number_of}
 use Rattle.protox_names.specs.Names.{is_identifier, scopes}
 use Rattle.protox_numbers.specs.Clashes.{clash_of, clashes_from, with_earlier, with_first}
 use Rattle.protox_numbers.specs.Enums as of_enum
@@ -44,11 +45,13 @@ use Rattle.protox_numbers.specs.Enums.{begins_with_zero}
 use Rattle.protox_numbers.specs.Message as of_message
 use Rattle.protox_numbers.specs.Parts.{is_backward_enum_range, is_empty_extension_range, is_for_implementation}
 use Rattle.protox_numbers.specs.declared.clash.Clash.{Clash}
+use Rattle.protox_scopes.specs.Scopes.{resolve}
 use Rattle.protox_scopes.specs.declared.kind.Wanted.TheVariants.{AType, Anything}
 use Rattle.protox_spans.specs.Spans.{first_met_in}
 use Rattle.protox_spans.specs.declared.span.Span.{Span}
 use Rattle.protox_symbols.specs.Symbols.{Table}
 use Rattle.protox_symbols.specs.Things.{table_of}
+use Rattle.protox_views.specs.Views.{seen}
 use Rattle.protox_walk.specs.Declarations.{Path, file_declarations, nth, text_of}
 use Rattle.protox_walk.specs.Parts.{Declared, Described, Enum, Field, Message, Method, Oneof, Service, Value}
 use Rattle.protox_walk.specs.Words.{name_of}
@@ -136,6 +139,11 @@ module _ (P : LinkFault → Type 0) (file : ℕ) (path : Path) (part : Described
     type_told tag user None leads = All-nil P
     type_told tag user (Some name) leads = all_at tag (wrong_type name (kind_named t sees packages AType user name)) (leads refl)
 
+    default_told : (user : List ℕ) (name default : Option (List ℕ)) → (is_some default ≡ true → LeadsWithin part (field_tag.DEFAULT_VALUE ∷ [])) → All P (default_faults t sees packages file path user name default)
+    default_told user None default leads = All-nil P
+    default_told user (Some name) None leads = All-nil P
+    default_told user (Some name) (Some default) leads = all_at field_tag.DEFAULT_VALUE (wrong_default t (resolve (kind_at t.names) (seen t sees packages) AType name user) default) (leads refl)
+
     message_told : (tag : ℤ) (user : List ℕ) (name : Option (List ℕ)) → (is_some name ≡ true → LeadsWithin part (tag ∷ [])) → All P (message_faults t sees packages file path tag user name)
     message_told tag user None leads = All-nil P
     message_told tag user (Some name) leads = all_at tag (wrong_message name (kind_named t sees packages Anything user name)) (leads refl)
@@ -199,7 +207,9 @@ module _ (P : LinkFault → Type 0) (file : ℕ) (path : Path) where
         (All-append P (numbers.implementation_faults file path f) _
         (all_if P (is_for_implementation f) (record { file = file; path = path ++ field_tag.NUMBER ∷ []; kind = ForImplementation } ∷ []) [] (one P _ (told (field_tag.NUMBER ∷ []) ForImplementation (ToNumber f))) (All-nil P))
         (type_told P file path (Field f) told t sees packages field_tag.TYPE_NAME user f.type_name (λ is. ToType f is)))
+        (All-append P (message_faults t sees packages file path field_tag.EXTENDEE user f.extendee) _
         (message_told P file path (Field f) told t sees packages field_tag.EXTENDEE user f.extendee (λ is. ToExtendee f is))
+        (default_told P file path (Field f) told t sees packages user f.type_name f.default_value (λ is. ToDefault f is)))
     uses_told user (Oneof o) told = All-nil P
     uses_told user (Enum e) told = enum_itself_told e told
     uses_told user (Value v) told = All-nil P

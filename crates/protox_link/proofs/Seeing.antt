@@ -20,7 +20,8 @@ use Rattle.protox_link_checks.specs.Faults.{declared_faults, faults_named}
 use Rattle.protox_link_checks.specs.Imports.{import_faults, package_faults}
 use Rattle.protox_link_checks.specs.Proto3.{proto3_faults}
 use Rattle.protox_link_checks.specs.Numbers.{implementation_faults}
-use Rattle.protox_link_checks.specs.Uses.{faults_at, kind_named, message_faults, type_faults, uses_of, wrong_message, wrong_type}
+use Rattle.protox_link_checks.specs.Defaults.{wrong_default}
+use Rattle.protox_link_checks.specs.Uses.{default_faults, faults_at, kind_named, message_faults, type_faults, uses_of, wrong_message, wrong_type}
 use Rattle.protox_link_fault.specs.declared.LinkFailure.{LinkFailure}
 use Rattle.protox_link_fault.specs.declared.LinkFailure.TheVariants.{OutOfMemory, Refused}
 use Rattle.protox_link_fault.specs.declared.LinkFault.{LinkFault}
@@ -109,9 +110,14 @@ module _ (all : List FileDescriptorProto) (n : ℕ) (sees packages packages' : L
   messages_alike file path tag user None = refl
   messages_alike file path tag user (Some name) = ap (λ (k : Option Kind). faults_at file path tag (wrong_message name k)) (kind_alike Anything user name)
 
+  defaults_alike : (file : ℕ) (path : Path) (user : List ℕ) (name default : Option (List ℕ)) → default_faults table sees packages file path user name default ≡ default_faults table sees packages' file path user name default
+  defaults_alike file path user None default = refl
+  defaults_alike file path user (Some name) None = refl
+  defaults_alike file path user (Some name) (Some default) = ap (λ (s : List ℕ → Option ℕ). faults_at file path field_tag.DEFAULT_VALUE (wrong_default table (resolve (kind_at table.names) s AType name user) default)) seen_alike
+
   uses_alike : (file : ℕ) (path : Path) (user : List ℕ) (part : Described) → uses_of table sees packages file path user part ≡ uses_of table sees packages' file path user part
   uses_alike file path user (Message message) = refl
-  uses_alike file path user (Field field) = λ i. (implementation_faults file path field ++ types_alike file path field_tag.TYPE_NAME user field.type_name i) ++ messages_alike file path field_tag.EXTENDEE user field.extendee i
+  uses_alike file path user (Field field) = λ i. (implementation_faults file path field ++ types_alike file path field_tag.TYPE_NAME user field.type_name i) ++ (messages_alike file path field_tag.EXTENDEE user field.extendee i ++ defaults_alike file path user field.type_name field.default_value i)
   uses_alike file path user (Oneof oneof) = refl
   uses_alike file path user (Enum enum) = refl
   uses_alike file path user (Value value) = refl

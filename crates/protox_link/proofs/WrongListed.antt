@@ -28,14 +28,15 @@ use Rattle.protox_link.proofs.WrongNames.{again_listed, own_listed}
 use Rattle.protox_link.specs.Closed.{is_message}
 use Rattle.protox_link.specs.Files.{AreFaults, faults_in}
 use Rattle.protox_link.specs.Seen.{IsSeenBy}
-use Rattle.protox_link.specs.Wrong.{AsExtendee, AsInput, AsOutput, AsType, BeginsOtherwise, Clashes, Clashing, EnumReservesAgain, FieldIsReserved, HasBadName, HasExtensions, HasNameOfOther, HasNoName, HasNoNumber, HasNoNumbers, HasNoValue, IsBackward, IsNamed, IsNoPackage, IsNotThere, IsTaken, IsTooDeep, IsTooLong, MessageReservesAgain, OfExtensions, OfExtensionsReserved, OfExtensionsTwice, OfImport, OfName, OfNumber, OfPackage, OfProto3, OfReserved, OfReservedName, OfReservedTwice, OfReused, OfUse, OfValues, OfValuesTwice, StandsForNoMessage, StandsForNoType, StandsForNothing, Uses, ValueIsReserved, WrongImport, WrongInProto3, WrongLink, WrongName, WrongNumber, WrongPackage, WrongReserved, WrongUse, stands_for}
+use Rattle.protox_link.specs.Wrong.{AsExtendee, AsInput, AsOutput, AsType, BeginsOtherwise, Clashes, Clashing, DefaultIsNoValue, DefaultIsNoWord, EnumReservesAgain, FieldIsReserved, HasBadName, HasDefault, HasExtensions, HasNameOfOther, HasNoName, HasNoNumber, HasNoNumbers, HasNoValue, IsBackward, IsNamed, IsNoPackage, IsNotThere, IsTaken, IsTooDeep, IsTooLong, MessageHasDefault, MessageReservesAgain, OfExtensions, OfExtensionsReserved, OfExtensionsTwice, OfField, OfImport, OfName, OfNumber, OfPackage, OfProto3, OfReserved, OfReservedName, OfReservedTwice, OfReused, OfUse, OfValues, OfValuesTwice, StandsForNoMessage, StandsForNoType, StandsForNothing, Uses, ValueIsReserved, WrongImport, WrongInProto3, WrongLink, WrongName, WrongNumber, WrongPackage, WrongReserved, WrongUse, stands_for}
+use Rattle.protox_link_checks.specs.Defaults.{has_value, is_word, wrong_default, wrong_default_of, wrong_value}
 use Rattle.protox_link_checks.specs.Empty.{empty_fault, empty_faults}
 use Rattle.protox_link_checks.specs.Faults.{all_declared_faults, bad_name, clash_faults, declared_faults, is_declared_at}
 use Rattle.protox_link_checks.specs.Imports.{if_found, import_faults, is_package, no_packages, package_faults, wrong_length, wrong_package, wrong_package_found}
 use Rattle.protox_link_checks.specs.Numbers as numbers
 use Rattle.protox_link_checks.specs.Proto3.{extension_faults, faults_of_proto3, first_value_faults, is_proto3, part_faults, proto3_faults}
 use Rattle.protox_link_checks.specs.Reserved.{again_faults, enum_name_faults, message_name_faults, name_of_field, name_of_value}
-use Rattle.protox_link_checks.specs.Uses.{fault_at, message_faults, type_faults, uses_of, wrong_message, wrong_type}
+use Rattle.protox_link_checks.specs.Uses.{default_faults, fault_at, message_faults, type_faults, uses_of, wrong_message, wrong_type}
 use Rattle.protox_link_fault.specs.declared.LinkFault.{LinkFault}
 use Rattle.protox_link_fault.specs.declared.LinkFaultKind.{LinkFaultKind}
 use Rattle.protox_link_fault.specs.declared.LinkFaultKind.TheVariants as told
@@ -249,7 +250,7 @@ module _ (file : ℕ) (path : Path) where
           (among-right (numbers.implementation_faults file path f) _ _ (type_in field_tag.TYPE_NAME f.type_name name kind is there))
       | AsExtendee f name is ↦ λ there.
           among-right (numbers.implementation_faults file path f ++ type_faults t sees packages file path field_tag.TYPE_NAME user f.type_name) _ _
-          (message_in field_tag.EXTENDEE f.extendee name kind is there)
+          (among-left (message_faults t sees packages file path field_tag.EXTENDEE user f.extendee) _ _ (message_in field_tag.EXTENDEE f.extendee name kind is there))
       | AsInput m name is ↦ λ there. among-left (message_faults t sees packages file path method_tag.INPUT_TYPE user m.input_type) _ _ (message_in method_tag.INPUT_TYPE m.input_type name kind is there)
       | AsOutput m name is ↦ λ there. among-right (message_faults t sees packages file path method_tag.INPUT_TYPE user m.input_type) _ _ (message_in method_tag.OUTPUT_TYPE m.output_type name kind is there)
     ]
@@ -274,11 +275,39 @@ module _ (file : ℕ) (path : Path) where
     no_message_told name o n is not =
         subst (λ (x : Option ℕ). Among (kinds_of Anything name x) (told.NotAMessage name)) (sym is) (no_message_kind name (kind_at t.names n) not)
 
+    default_in : (part : Described) (name default : List ℕ) (kind : LinkFaultKind) → HasDefault part name default → Among (wrong_default t (stands_for t sees packages user AType name) default) kind → Among (faults part) (at (field_tag.DEFAULT_VALUE ∷ []) kind)
+    default_in part name default kind has = elim has as (λ part name default _. Among (wrong_default t (stands_for t sees packages user AType name) default) kind → Among (faults part) (at (field_tag.DEFAULT_VALUE ∷ []) kind)) [
+      | OfField f name default of_type is ↦ λ there.
+          among-right (numbers.implementation_faults file path f ++ type_faults t sees packages file path field_tag.TYPE_NAME user f.type_name) _ _
+          (among-right (message_faults t sees packages file path field_tag.EXTENDEE user f.extendee) _ _
+          (subst (λ (o : Option (List ℕ)). Among (default_faults t sees packages file path user o f.default_value) (at (field_tag.DEFAULT_VALUE ∷ []) kind)) (sym of_type)
+          (subst (λ (o : Option (List ℕ)). Among (default_faults t sees packages file path user (Some name) o) (at (field_tag.DEFAULT_VALUE ∷ []) kind)) (sym is)
+          (among_map (fault_at file path field_tag.DEFAULT_VALUE) (wrong_default t (stands_for t sees packages user AType name) default) kind there))))
+    ]
+
+    -- a default by the kind of the type
+    default_told_by : (o : Option ℕ) (n : ℕ) (k : Kind) (default : List ℕ) (kind : LinkFaultKind) → o ≡ Some n → kind_at t.names n ≡ k → Among (wrong_default_of t k n default) kind → Among (wrong_default t o default) kind
+    default_told_by o n k default kind is same there =
+        subst (λ (x : Option ℕ). Among (wrong_default t x default) kind) (sym is)
+        (subst (λ (x : Kind). Among (wrong_default_of t x n default) kind) (sym same) there)
+
+    no_word_told : (n : ℕ) (default : List ℕ) → is_word default ≡ false → Among (wrong_value t n default) told.BadDefault
+    no_word_told n default not =
+        subst (λ b. Among (cond b (cond (has_value t n default) [] (told.NoSuchValue n ∷ [])) (told.BadDefault ∷ [])) told.BadDefault) (sym not) (inl refl)
+
+    no_value_told : (n : ℕ) (default : List ℕ) → is_word default ≡ true → has_value t n default ≡ false → Among (wrong_value t n default) (told.NoSuchValue n)
+    no_value_told n default word none =
+        subst (λ b. Among (cond b (cond (has_value t n default) [] (told.NoSuchValue n ∷ [])) (told.BadDefault ∷ [])) (told.NoSuchValue n)) (sym word)
+        (subst (λ b. Among (cond b [] (told.NoSuchValue n ∷ [])) (told.NoSuchValue n)) (sym none) (inl refl))
+
     use_listed : (part : Described) (tag : ℤ) (kind : LinkFaultKind) → WrongUse t sees packages user part tag kind → Among (faults part) (at (tag ∷ []) kind)
     use_listed part tag kind wrong = elim wrong as (λ tag kind _. Among (faults part) (at (tag ∷ []) kind)) [
       | StandsForNothing tag wanted name uses is ↦ use_in part tag wanted name (told.NotDefined name) uses (nothing_told wanted name _ is)
       | StandsForNoType tag name n uses is not ↦ use_in part tag AType name (told.NotAType name) uses (no_type_told name _ n is not)
       | StandsForNoMessage tag name n uses is not ↦ use_in part tag Anything name (told.NotAMessage name) uses (no_message_told name _ n is not)
+      | MessageHasDefault name default n has is same ↦ default_in part name default told.MessageDefault has (default_told_by _ n kinds.Message default told.MessageDefault is same (inl refl))
+      | DefaultIsNoWord name default n has is same not ↦ default_in part name default told.BadDefault has (default_told_by _ n kinds.Enum default told.BadDefault is same (no_word_told n default not))
+      | DefaultIsNoValue name default n has is same word none ↦ default_in part name default (told.NoSuchValue n) has (default_told_by _ n kinds.Enum default (told.NoSuchValue n) is same (no_value_told n default word none))
     ]
 
 -- ---- its name

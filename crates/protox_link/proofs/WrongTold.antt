@@ -32,14 +32,15 @@ use Rattle.protox_link.proofs.WrongNames.{again_wrong, own_wrong}
 use Rattle.protox_link.specs.Closed.{is_message}
 use Rattle.protox_link.specs.Files.{AreFaults, faults_in}
 use Rattle.protox_link.specs.Seen.{IsSeenBy}
-use Rattle.protox_link.specs.Wrong.{AsExtendee, AsInput, AsOutput, AsType, BeginsOtherwise, Clashes, Clashing, Declares, EnumReservesAgain, FieldIsReserved, HasBadName, HasExtensions, HasNameOfOther, HasNoName, HasNoNumber, HasNoNumbers, HasNoValue, IsBackward, IsNamed, IsNoPackage, IsNotThere, IsTaken, IsTooDeep, IsTooLong, MeetsEarlier, MeetsFirst, MessageReservesAgain, OfExtensions, OfExtensionsReserved, OfExtensionsTwice, OfImport, OfName, OfNumber, OfPackage, OfProto3, OfReserved, OfReservedName, OfReservedTwice, OfReused, OfUse, OfValues, OfValuesTwice, StandsForNoMessage, StandsForNoType, StandsForNothing, Uses, ValueIsReserved, WrongInProto3, WrongLink, WrongName, WrongNumber, WrongPackage, WrongReserved, WrongUse, stands_for}
+use Rattle.protox_link.specs.Wrong.{AsExtendee, AsInput, AsOutput, AsType, BeginsOtherwise, Clashes, Clashing, Declares, DefaultIsNoValue, DefaultIsNoWord, EnumReservesAgain, FieldIsReserved, HasBadName, HasDefault, HasExtensions, HasNameOfOther, HasNoName, HasNoNumber, HasNoNumbers, HasNoValue, IsBackward, IsNamed, IsNoPackage, IsNotThere, IsTaken, IsTooDeep, IsTooLong, MeetsEarlier, MeetsFirst, MessageHasDefault, MessageReservesAgain, OfExtensions, OfExtensionsReserved, OfExtensionsTwice, OfField, OfImport, OfName, OfNumber, OfPackage, OfProto3, OfReserved, OfReservedName, OfReservedTwice, OfReused, OfUse, OfValues, OfValuesTwice, StandsForNoMessage, StandsForNoType, StandsForNothing, Uses, ValueIsReserved, WrongInProto3, WrongLink, WrongName, WrongNumber, WrongPackage, WrongReserved, WrongUse, stands_for}
+use Rattle.protox_link_checks.specs.Defaults.{has_value, is_word, wrong_default, wrong_default_of}
 use Rattle.protox_link_checks.specs.Empty.{empty_fault, empty_faults}
 use Rattle.protox_link_checks.specs.Faults.{bad_name, clash_faults, declared_faults, is_declared_at}
 use Rattle.protox_link_checks.specs.Imports.{if_found, import_faults, is_package, no_packages, package_faults, wrong_length, wrong_package, wrong_package_found}
 use Rattle.protox_link_checks.specs.Numbers as numbers
 use Rattle.protox_link_checks.specs.Proto3.{extension_faults, faults_of_proto3, first_value_faults, is_proto3, part_faults}
 use Rattle.protox_link_checks.specs.Reserved.{again_faults, name_of_field, name_of_value}
-use Rattle.protox_link_checks.specs.Uses.{enum_itself, fault_at, faults_at, message_faults, message_itself, type_faults, uses_of, wrong_message, wrong_type}
+use Rattle.protox_link_checks.specs.Uses.{default_faults, enum_itself, fault_at, faults_at, message_faults, message_itself, type_faults, uses_of, wrong_message, wrong_type}
 use Rattle.protox_link_fault.specs.declared.LinkFault.{LinkFault}
 use Rattle.protox_link_fault.specs.declared.LinkFaultKind.{LinkFaultKind}
 use Rattle.protox_link_fault.specs.declared.LinkFaultKind.TheVariants as told
@@ -253,6 +254,27 @@ module _ (P : LinkFault → Type 0) (file : ℕ) (path : Path) where
     messages_wrong part tag None each uses = All-nil P
     messages_wrong part tag (Some name) each uses = all_wrong_at part tag _ each (named_wrong part tag name (stands_for t sees packages user Anything name) (uses name refl) refl)
 
+    value_wrong : (part : Described) (name default : List ℕ) (n : ℕ) (word there : Bool) → HasDefault part name default → stands_for t sees packages user AType name ≡ Some n → kind_at t.names n ≡ kinds.Enum → is_word default ≡ word → has_value t n default ≡ there → All (WrongAt part field_tag.DEFAULT_VALUE) (cond word (cond there [] (told.NoSuchValue n ∷ [])) (told.BadDefault ∷ []))
+    value_wrong part name default n true true has is same word there = All-nil _
+    value_wrong part name default n true false has is same word there = one (WrongAt part field_tag.DEFAULT_VALUE) (told.NoSuchValue n) (DefaultIsNoValue name default n has is same word there)
+    value_wrong part name default n false there has is same word is_there = one (WrongAt part field_tag.DEFAULT_VALUE) told.BadDefault (DefaultIsNoWord name default n has is same word)
+
+    default_wrong_by : (part : Described) (name default : List ℕ) (n : ℕ) (k : Kind) → HasDefault part name default → stands_for t sees packages user AType name ≡ Some n → kind_at t.names n ≡ k → All (WrongAt part field_tag.DEFAULT_VALUE) (wrong_default_of t k n default)
+    default_wrong_by part name default n kinds.Message has is same = one (WrongAt part field_tag.DEFAULT_VALUE) told.MessageDefault (MessageHasDefault name default n has is same)
+    default_wrong_by part name default n kinds.Enum has is same = value_wrong part name default n (is_word default) (has_value t n default) has is same refl refl
+    default_wrong_by part name default n kinds.Service has is same = All-nil _
+    default_wrong_by part name default n kinds.Package has is same = All-nil _
+    default_wrong_by part name default n kinds.Member has is same = All-nil _
+
+    default_wrong_of : (part : Described) (name default : List ℕ) (o : Option ℕ) → HasDefault part name default → stands_for t sees packages user AType name ≡ o → All (WrongAt part field_tag.DEFAULT_VALUE) (wrong_default t o default)
+    default_wrong_of part name default None has is = All-nil _
+    default_wrong_of part name default (Some n) has is = default_wrong_by part name default n (kind_at t.names n) has is refl
+
+    defaults_wrong : (part : Described) (name default : Option (List ℕ)) → AreUsesAt part → ((own value : List ℕ) → name ≡ Some own → default ≡ Some value → HasDefault part own value) → All P (default_faults t sees packages file path user name default)
+    defaults_wrong part None default each has = All-nil P
+    defaults_wrong part (Some name) None each has = All-nil P
+    defaults_wrong part (Some name) (Some default) each has = all_wrong_at part field_tag.DEFAULT_VALUE _ each (default_wrong_of part name default (stands_for t sees packages user AType name) (has name default refl refl) refl)
+
     uses_wrong : (part : Described) → AreNumbersAt part → AreNamesAt part → AreUsesAt part → All P (uses_of t sees packages file path user part)
     uses_wrong (Message m) of_number of_name of_use = message_itself_wrong m of_number of_name
     uses_wrong (Field f) of_number of_name of_use =
@@ -260,7 +282,9 @@ module _ (P : LinkFault → Type 0) (file : ℕ) (path : Path) where
         (All-append P (numbers.implementation_faults file path f) _
         (field_wrong f (is_for_implementation f) refl of_number)
         (types_wrong (Field f) field_tag.TYPE_NAME f.type_name of_use (AsType f)))
+        (All-append P (message_faults t sees packages file path field_tag.EXTENDEE user f.extendee) _
         (messages_wrong (Field f) field_tag.EXTENDEE f.extendee of_use (AsExtendee f))
+        (defaults_wrong (Field f) f.type_name f.default_value of_use (OfField f)))
     uses_wrong (Oneof o) of_number of_name of_use = All-nil P
     uses_wrong (Enum e) of_number of_name of_use = enum_itself_wrong e of_number of_name
     uses_wrong (Value v) of_number of_name of_use = All-nil P

@@ -17,12 +17,13 @@ use Rattle.protox_link_fault.specs.declared.LinkFault.{LinkFault}
 use Rattle.protox_walk.specs.Declarations.{Path, file_declarations}
 use Rattle.protox_walk.specs.Parts.{Declared, Described, Enum, Field, Message, Method}
 
--- From a declaration the path leads to its name, to a number or a name that it uses, to one of its
--- ranges, or to the name of a field or a value.
+-- From a declaration the path leads to its name, to a number or a name that it uses, to its default,
+-- to one of its ranges, or to the name of a field or a value.
 pub data LeadsWithin : Described → Path → Type 0 where
   ToName : (d : Described) → LeadsWithin d (message_tag.NAME ∷ [])
   ToNumber : (f : FieldDescriptorProto) → LeadsWithin (Field f) (field_tag.NUMBER ∷ [])
   ToType : (f : FieldDescriptorProto) → is_some f.type_name ≡ true → LeadsWithin (Field f) (field_tag.TYPE_NAME ∷ [])
+  ToDefault : (f : FieldDescriptorProto) → is_some f.default_value ≡ true → LeadsWithin (Field f) (field_tag.DEFAULT_VALUE ∷ [])
   ToExtendee : (f : FieldDescriptorProto) → is_some f.extendee ≡ true → LeadsWithin (Field f) (field_tag.EXTENDEE ∷ [])
   ToInput : (m : MethodDescriptorProto) → is_some m.input_type ≡ true → LeadsWithin (Method m) (method_tag.INPUT_TYPE ∷ [])
   ToOutput : (m : MethodDescriptorProto) → is_some m.output_type ≡ true → LeadsWithin (Method m) (method_tag.OUTPUT_TYPE ∷ [])

@@ -19,6 +19,7 @@ use Rattle.protox_descriptor.specs.declared.tag.method.TheConstants as method_ta
 use Rattle.protox_imports.specs.Imports.{name_at}
 use Rattle.protox_link.specs.Closed.{is_message}
 use Rattle.protox_link.specs.Seen.{IsSeenBy}
+use Rattle.protox_link_checks.specs.Defaults.{has_value, is_word}
 use Rattle.protox_link_checks.specs.Imports.{is_package}
 use Rattle.protox_link_checks.specs.Proto3.{is_proto3}
 use Rattle.protox_link_fault.specs.declared.LinkFault.{LinkFault}
@@ -33,6 +34,7 @@ use Rattle.protox_numbers.specs.Message.{extension_spans, field_spans, reserved_
 use Rattle.protox_numbers.specs.Parts.{is_backward_enum_range, is_empty_extension_range, is_for_implementation}
 use Rattle.protox_numbers.specs.declared.clash.Clash.{Clash}
 use Rattle.protox_scopes.specs.Scopes.{is_type, resolve}
+use Rattle.protox_scopes.specs.declared.kind.Kind.TheVariants as kinds
 use Rattle.protox_scopes.specs.declared.kind.Wanted.{Wanted}
 use Rattle.protox_scopes.specs.declared.kind.Wanted.TheVariants.{AType, Anything}
 use Rattle.protox_spans.specs.Spans.{meets}
@@ -115,6 +117,11 @@ pub data Uses : Described → ℤ → Wanted → List ℕ → Type 0 where
   AsOutput : (m : MethodDescriptorProto) (name : List ℕ) → m.output_type ≡ Some name
       → Uses (Method m) method_tag.OUTPUT_TYPE Anything name
 
+-- A declaration has a default, and its type has a name.
+pub data HasDefault : Described → List ℕ → List ℕ → Type 0 where
+  OfField : (f : FieldDescriptorProto) (name default : List ℕ) → f.type_name ≡ Some name
+      → f.default_value ≡ Some default → HasDefault (Field f) name default
+
 -- `sees` and `packages` mark what a file sees of the table. In that file something with the full
 -- name `user` uses names.
 module _ (table : Table) (sees packages : List Bool) (user : List ℕ) where
@@ -123,7 +130,7 @@ module _ (table : Table) (sees packages : List Bool) (user : List ℕ) where
   stands_for wanted name =
       resolve (kind_at table.names) (seen table sees packages) wanted name user
 
-  -- This is wrong with a name that a declaration uses at its part with this tag.
+  -- This is wrong with a name that a declaration uses at its part with this tag, or with a default.
   pub data WrongUse (part : Described) : ℤ → LinkFaultKind → Type 0 where
     -- It stands for nothing.
     StandsForNothing : (tag : ℤ) (wanted : Wanted) (name : List ℕ) → Uses part tag wanted name
@@ -136,6 +143,19 @@ module _ (table : Table) (sees packages : List Bool) (user : List ℕ) where
     StandsForNoMessage : (tag : ℤ) (name : List ℕ) (n : ℕ) → Uses part tag Anything name
         → stands_for Anything name ≡ Some n → is_message (kind_at table.names n) ≡ false
         → WrongUse part tag (told.NotAMessage name)
+    -- It has a default, and its type is a message.
+    MessageHasDefault : (name default : List ℕ) (n : ℕ) → HasDefault part name default
+        → stands_for AType name ≡ Some n → kind_at table.names n ≡ kinds.Message
+        → WrongUse part field_tag.DEFAULT_VALUE told.MessageDefault
+    -- Its type is an enum, and its default is no identifier.
+    DefaultIsNoWord : (name default : List ℕ) (n : ℕ) → HasDefault part name default
+        → stands_for AType name ≡ Some n → kind_at table.names n ≡ kinds.Enum
+        → is_word default ≡ false → WrongUse part field_tag.DEFAULT_VALUE told.BadDefault
+    -- It is one, and the enum has no value of this name.
+    DefaultIsNoValue : (name default : List ℕ) (n : ℕ) → HasDefault part name default
+        → stands_for AType name ≡ Some n → kind_at table.names n ≡ kinds.Enum
+        → is_word default ≡ true → has_value table n default ≡ false
+        → WrongUse part field_tag.DEFAULT_VALUE (told.NoSuchValue n)
 
 -- ---- numbers
 

@@ -87,13 +87,13 @@ fn refused_circle(alloc: Global, circle: Vec<usize>) -> LinkFailure
 /// `Refused`, with all that is wrong, where something is: an import of no file of the list, an
 /// import told twice, a circle of imports (this is told alone, at its last file), a name that is no
 /// identifier or that was declared before in any of the files, a name that stands for nothing that
-/// the file sees, or for something of another kind, a package of more than 511 bytes or 100 dots, a
-/// number or a range that clashes with another one, a number from 19000 to 19999, a range without
-/// numbers, an enum without values, a name that is reserved twice, or reserved and used; and in
-/// proto3 a first value other than 0, or an extension range. The faults are in the order of the
-/// files. Those of a file are in the order of its parts, and then come those of proto3. The path of
-/// each leads to a part of its file. What a fault names by a number has it in `Symbols::of` the
-/// same files.
+/// the file sees, or for something of another kind, a default of a message or of no value of the
+/// enum, a package of more than 511 bytes or 100 dots, a number or a range that clashes with
+/// another one, a number from 19000 to 19999, a range without numbers, an enum without values, a
+/// name that is reserved twice, or reserved and used; and in proto3 a first value other than 0, or
+/// an extension range. The faults are in the order of the files. Those of a file are in the order
+/// of its parts, and then come those of proto3. The path of each leads to a part of its file. What
+/// a fault names by a number has it in `Symbols::of` the same files.
 /// `OutOfMemory` where memory runs out, or where a list has more than 2,147,483,648 parts: no path
 /// can count them.
 ///

@@ -2,6 +2,7 @@ pub mod Empty
 pub mod Numbers
 pub mod Reserved
 pub mod Proto3
+pub mod Defaults
 pub mod Uses
 pub mod Faults
 pub mod Checked

@@ -6,6 +6,7 @@ use Rattle.protox_descriptor.specs.declared.descriptor.EnumDescriptorProto.{Enum
 use Rattle.protox_descriptor.specs.declared.descriptor.MethodDescriptorProto.{MethodDescriptorProto}
 use Rattle.protox_descriptor.specs.declared.tag.field.TheConstants as field_tag
 use Rattle.protox_descriptor.specs.declared.tag.method.TheConstants as method_tag
+use Rattle.protox_link_checks.specs.Defaults.{wrong_default}
 use Rattle.protox_link_checks.specs.Numbers.{enum_number_faults, implementation_faults, message_number_faults}
 use Rattle.protox_link_checks.specs.Reserved.{enum_name_faults, message_name_faults}
 use Rattle.protox_link_fault.specs.declared.LinkFault.{LinkFault}
@@ -66,11 +67,19 @@ module _ (table : Table) (sees packages : List Bool) (file : ℕ) where
   message_faults path tag user None = []
   message_faults path tag user (Some name) = faults_at file path tag (wrong_message name (kind_named table sees packages Anything user name))
 
+  -- A default needs a type that has it; only defaults of types that have a name are looked at.
+  abbrev pub default_faults : Path → List ℕ → Option (List ℕ) → Option (List ℕ) → List LinkFault
+  default_faults path user (Some name) (Some default) =
+      faults_at file path field_tag.DEFAULT_VALUE
+      (wrong_default table (resolve (kind_at table.names) (seen table sees packages) AType name user) default)
+  default_faults path user _ _ = []
+
   -- The type of a field is a message or an enum; what it extends is a message.
   abbrev pub field_uses : Path → List ℕ → FieldDescriptorProto → List LinkFault
   field_uses path user field =
       (implementation_faults file path field ++ type_faults path field_tag.TYPE_NAME user field.type_name)
-      ++ message_faults path field_tag.EXTENDEE user field.extendee
+      ++ (message_faults path field_tag.EXTENDEE user field.extendee
+      ++ default_faults path user field.type_name field.default_value)
 
   -- Methods take and give messages.
   abbrev pub method_uses : Path → List ℕ → MethodDescriptorProto → List LinkFault

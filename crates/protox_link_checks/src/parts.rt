@@ -1,5 +1,6 @@
 //! What is wrong with each kind of descriptor.
 
+use crate::defaults::check_default;
 use crate::each::{Checked, check_each};
 use crate::itself::{check_enum_itself, check_message_itself};
 use crate::name::{check_name, inside};
@@ -40,7 +41,9 @@ impl Checked for FieldDescriptorProto {
         let of_type = self.type_name.as_ref();
         check_type(alloc, view, file, scope, path, TYPE_NAME, of_type, faults)?;
         let extendee = self.extendee();
-        check_message(alloc, view, file, scope, path, EXTENDEE, extendee, faults)
+        check_message(alloc, view, file, scope, path, EXTENDEE, extendee, faults)?;
+        let default = self.default_value();
+        check_default(alloc, view, file, scope, path, of_type, default, faults)
     }
 }
 

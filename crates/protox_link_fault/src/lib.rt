@@ -40,6 +40,13 @@ pub enum LinkFaultKind {
     NotAType(Text),
     /// This name stands for what is no message.
     NotAMessage(Text),
+    /// A field whose type is a message has a default.
+    MessageDefault,
+    /// The default of a field whose type is an enum is no identifier: a letter or `_`, and then
+    /// letters, digits and `_`.
+    BadDefault,
+    /// The default of a field is no value of its type, the enum with this number.
+    NoSuchValue(usize),
     /// A number or a range clashes with another one, in this way: with the field, the reserved range
     /// or the extension range that has this index in the message, or with the reserved range that
     /// has it in the enum.

@@ -2,7 +2,7 @@
 use Rattle.std.specs.Prelude.{ℕ, List, ◌++◌, codes}
 use Rattle.std.specs.Fmt.{signed_decimal}
 use Rattle.protox_link_text.specs.declared.error.LinkError.{LinkError}
-use Rattle.protox_link_text.specs.declared.error.LinkError.TheVariants.{MissingName, BadName, AlreadyDefined, AlreadyDefinedIn, AlreadyDefinedInFile, ValueBesideEnum, ValueBesideEnumIn, NotInTable, NotAPackage, LongPackage, DeepPackage, NotDefined, NotImported, NotDefinedInside, NotAType, NotAMessage, NumberReused, FieldReserved, ForExtensions, ReservedTwice, ExtensionsTwice, ExtensionsReserved, ValueReserved, FieldNameReserved, ValueNameReserved, FieldNameReservedTwice, ValueNameReservedTwice, ForImplementation, EmptyExtensionRange, EmptyReservedRange, NoValue, FirstNotZero, ExtensionsInProto3, MissingImport, RepeatedImport, ImportCycle}
+use Rattle.protox_link_text.specs.declared.error.LinkError.TheVariants.{MissingName, BadName, AlreadyDefined, AlreadyDefinedIn, AlreadyDefinedInFile, ValueBesideEnum, ValueBesideEnumIn, NotInTable, NotAPackage, LongPackage, DeepPackage, NotDefined, NotImported, NotDefinedInside, NotAType, NotAMessage, MessageDefault, BadDefault, NoSuchValue, NumberReused, FieldReserved, ForExtensions, ReservedTwice, ExtensionsTwice, ExtensionsReserved, ValueReserved, FieldNameReserved, ValueNameReserved, FieldNameReservedTwice, ValueNameReservedTwice, ForImplementation, EmptyExtensionRange, EmptyReservedRange, NoValue, FirstNotZero, ExtensionsInProto3, MissingImport, RepeatedImport, ImportCycle}
 
 -- The text of an error, in one line.
 abbrev pub text_of : LinkError → List ℕ
@@ -22,6 +22,9 @@ text_of (NotImported name file user) = codes "\"" ++ name ++ codes "\" seems to 
 text_of (NotDefinedInside name found) = codes "\"" ++ name ++ codes "\" is resolved to \"" ++ found ++ codes "\", which is not defined. The innermost scope is searched first in name resolution. Consider using a leading '.'(i.e., \"." ++ name ++ codes "\") to start from the outermost scope."
 text_of (NotAType name) = codes "\"" ++ name ++ codes "\" is not a type."
 text_of (NotAMessage name) = codes "\"" ++ name ++ codes "\" is not a message type."
+text_of MessageDefault = codes "Messages can't have default values."
+text_of BadDefault = codes "Default value for an enum field must be an identifier."
+text_of (NoSuchValue of_ value) = codes "Enum type \"" ++ of_ ++ codes "\" has no value named \"" ++ value ++ codes "\"."
 text_of (NumberReused number message field) = codes "Field number " ++ signed_decimal number ++ codes " has already been used in \"" ++ message ++ codes "\" by field \"" ++ field ++ codes "\"."
 text_of (FieldReserved field number) = codes "Field \"" ++ field ++ codes "\" uses reserved number " ++ signed_decimal number ++ codes "."
 text_of (ForExtensions first last field number) = codes "Extension range " ++ signed_decimal first ++ codes " to " ++ signed_decimal last ++ codes " includes field \"" ++ field ++ codes "\" (" ++ signed_decimal number ++ codes ")."
@@ -50,6 +53,8 @@ HasFixedText ForImplementation = Unit {0}
 HasFixedText EmptyExtensionRange = Unit {0}
 HasFixedText EmptyReservedRange = Unit {0}
 HasFixedText NoValue = Unit {0}
+HasFixedText MessageDefault = Unit {0}
+HasFixedText BadDefault = Unit {0}
 HasFixedText LongPackage = Unit {0}
 HasFixedText DeepPackage = Unit {0}
 HasFixedText FirstNotZero = Unit {0}

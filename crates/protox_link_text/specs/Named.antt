@@ -63,3 +63,15 @@ abbrev pub reserved_at : Holder → ℕ → List ℕ
 reserved_at (OfMessage m) n = text_of (slice_get (out-DescriptorProto m).reserved_name n)
 reserved_at (OfEnum e) n = text_of (slice_get e.reserved_name n)
 reserved_at _ n = []
+
+-- the default of a field or an extension with an index
+abbrev pub default_of : List FieldDescriptorProto → ℤ → List ℕ
+default_of fields n = text_of (option_and_then (λ field. field.default_value) (at_index fields n))
+
+-- the default of the field or the extension at the end of a path
+abbrev pub default_in : Holder → List ℤ → List ℕ
+default_in (OfFile f) (tag ∷ n ∷ rest) = default_of f.extension n
+default_in (OfMessage m) (tag ∷ n ∷ rest) =
+    if int_eq tag message_tag.FIELD then default_of (out-DescriptorProto m).field n
+    else default_of (out-DescriptorProto m).extension n
+default_in _ _ = []

@@ -10,7 +10,7 @@ use Rattle.protox_link_fault.specs.declared.LinkFault.{LinkFault}
 use Rattle.protox_link_fault.specs.declared.LinkFaultKind.{LinkFaultKind}
 use Rattle.protox_link_fault.specs.declared.LinkFaultKind.TheVariants as kind
 use Rattle.protox_link_text.specs.Clashes.{clash_in}
-use Rattle.protox_link_text.specs.Named.{file_name, import_named, named_in, reserved_at, value_named}
+use Rattle.protox_link_text.specs.Named.{default_in, file_name, import_named, named_in, reserved_at, value_named}
 use Rattle.protox_link_text.specs.Places.{Holder, OfEnum, OfFile, OfMessage, OfService, Place, place_of, text_of}
 use Rattle.protox_link_text.specs.Search.{Searched, search, wanted_at}
 use Rattle.protox_link_text.specs.declared.error.LinkError.{LinkError}
@@ -125,6 +125,9 @@ module _ (files : List FileDescriptorProto) (table : Table) (sees packages : Lis
   told_at place (kind.NotDefined name) = not_defined files table file name (search table sees packages (wanted_at place.rest) name place.scope)
   told_at place (kind.NotAType name) = error.NotAType name ∷ []
   told_at place (kind.NotAMessage name) = error.NotAMessage name ∷ []
+  told_at place kind.MessageDefault = error.MessageDefault ∷ []
+  told_at place kind.BadDefault = error.BadDefault ∷ []
+  told_at place (kind.NoSuchValue n) = error.NoSuchValue (name_at table.names n) (default_in place.holder place.rest) ∷ []
   told_at place (kind.Clash how with_) = clash_in place.scope place.holder place.rest with_ how
   told_at place kind.ForImplementation = error.ForImplementation ∷ []
   told_at place kind.EmptyRange = empty_range place.holder ∷ []

@@ -78,6 +78,15 @@ pub enum LinkError {
     NotAMessage {
         name: Text,
     },
+    /// A field whose type is a message has a default.
+    MessageDefault,
+    /// The default of a field whose type is an enum is no identifier.
+    BadDefault,
+    /// The enum with this full name has no value of this name.
+    NoSuchValue {
+        of: Text,
+        value: Text,
+    },
     /// An earlier field of the message has the number of a field.
     NumberReused {
         number: i32,
@@ -178,6 +187,8 @@ fn fixed_text(error: &LinkError) -> &'static str
         LinkError::EmptyReservedRange =>
             "Reserved range end number must be greater than start number.",
         LinkError::NoValue => "Enums must contain at least one value.",
+        LinkError::MessageDefault => "Messages can't have default values.",
+        LinkError::BadDefault => "Default value for an enum field must be an identifier.",
         LinkError::LongPackage => "Package name is too long",
         LinkError::DeepPackage => "Exceeds Maximum Package Depth",
         LinkError::FirstNotZero => "The first enum value must be zero in proto3.",
@@ -226,6 +237,9 @@ impl fmt::Display for LinkError {
             ),
             LinkError::NotAType { name } => write!(f, "\"{name}\" is not a type."),
             LinkError::NotAMessage { name } => write!(f, "\"{name}\" is not a message type."),
+            LinkError::NoSuchValue { of, value } => {
+                write!(f, "Enum type \"{of}\" has no value named \"{value}\".")
+            }
             LinkError::NumberReused {
                 number,
                 message,

@@ -9,7 +9,7 @@ use crate::clash::clash_at;
 use crate::defined::{no_package, told_twice};
 use crate::imports::circle_text;
 use crate::lists::one;
-use crate::names::{import_named, named_in};
+use crate::names::{default_in, full_name, import_named, named_in};
 use crate::place::{Inside, Place, place_of};
 use crate::reserved::{reserved_again, reserved_name};
 use crate::search::{search, wanted_at};
@@ -67,6 +67,12 @@ fn told_at(
         },
         LinkFaultKind::NotAMessage(name) => LinkError::NotAMessage {
             name: Text::copy(alloc, name.as_str())?,
+        },
+        LinkFaultKind::MessageDefault => LinkError::MessageDefault,
+        LinkFaultKind::BadDefault => LinkError::BadDefault,
+        LinkFaultKind::NoSuchValue(number) => LinkError::NoSuchValue {
+            of: full_name(alloc, view.symbols, *number)?,
+            value: Text::copy(alloc, default_in(inside, rest))?,
         },
         LinkFaultKind::ForImplementation => LinkError::ForImplementation,
         LinkFaultKind::EmptyRange => empty_range(inside),

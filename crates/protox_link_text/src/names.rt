@@ -1,7 +1,8 @@
 //! Names that errors speak of.
 
 ghost use Rattle.std.specs.Prelude.{◌≡◌, IfOk};
-ghost use Rattle.protox_link_text.specs.Named.{field_named, import_named, method_named, named_in};
+ghost use Rattle.protox_link_text.specs.Named.{default_in, default_of, field_named, import_named};
+ghost use Rattle.protox_link_text.specs.Named.{method_named, named_in};
 ghost use Rattle.protox_link_text.specs.Named.{named_in_message, oneof_named, value_named};
 ghost use Rattle.protox_link_text.specs.Places.{holder_of};
 ghost use Rattle.protox_link_text.specs.Told.{file_of, is_of_file};
@@ -81,6 +82,33 @@ pub(crate) fn named_in<'a>(inside: Inside<'a>, rest: &[i32]) -> &'a str
         (Inside::Message(m), _) => text_of(m.name.as_ref()),
         (Inside::Enum(e), _) => text_of(e.name.as_ref()),
         (Inside::Service(s), _) => text_of(s.name.as_ref()),
+    }
+}
+
+// The default of a field.
+fn default_of(fields: &[FieldDescriptorProto], index: i32) -> &str
+    ensures { result.now ≡ default_of fields.now index }
+{
+    match at_index(fields, index) {
+        Some(field) => text_of(field.default_value()),
+        None => "",
+    }
+}
+
+/// The default of the field or the extension at a place.
+pub(crate) fn default_in<'a>(inside: Inside<'a>, rest: &[i32]) -> &'a str
+    ensures { result.now ≡ default_in (holder_of inside.entry) rest.now }
+{
+    match (inside, rest) {
+        (Inside::File(f), [_, n, ..]) => default_of(f.extension.as_slice(), *n),
+        (Inside::Message(m), [tag, n, ..]) => {
+            if *tag == FIELD {
+                default_of(m.field.as_slice(), *n)
+            } else {
+                default_of(m.extension.as_slice(), *n)
+            }
+        }
+        _ => "",
     }
 }
 

@@ -5,8 +5,8 @@ use Rattle.protox_descriptor.specs.declared.tag.field.TheConstants.{EXTENDEE, TY
 use Rattle.protox_walk.specs.Declarations.{declared, full_name, text_of}
 use Rattle.protox_walk.specs.Parts.{Field}
 use Rattle.protox_link_checks.specs.Numbers.{implementation_faults}
-use Rattle.protox_link_checks.specs.Uses.{field_uses, message_faults, type_faults}
-use Rattle.protox_link_checks.proofs.Checking.{alone, name_read, uses_checked}
+use Rattle.protox_link_checks.specs.Uses.{default_faults, field_uses, message_faults, type_faults}
+use Rattle.protox_link_checks.proofs.Checking.{alone, name_read, two_told, uses_checked}
 use Rattle.protox_link_fault.specs.declared.LinkFault.{LinkFault}
 use Rattle.protox_names.specs.Names.{within}
 use Rattle.protox_symbols.specs.Scopes.{scope_name}
@@ -25,14 +25,22 @@ pub returns : goal.returns
 returns c full h =
     let view = c.args.view.now in
     let field = c.args.self.now in
+    let t = view.symbols.now in
+    let file = c.args.file in
+    let path = c.args.path.now in
+    let user = within (scope_name t c.in-Some.scope) (text_of field.name) in
     let named = c.as_ref-name.ensures.value ∙ ap (λ (f : FieldDescriptorProto). f.name) c.self.view_is in
     let typed = c.as_ref-of_type.ensures.value ∙ ap (λ (f : FieldDescriptorProto). f.type_name) c.self.view_is in
-    let may = name_read view.symbols.now view.sees.now view.packages.now c.args.file c.args.path.now full (option_copied c.as_ref-name.result) field.name c.args.faults.now.items c.check_name.new.faults.items c.in_ok-scope.field-0 (Some c.in-Some.scope) named c.in-Some.is (c.in_ok-scope.ensures full h) in
-    uses_checked view.symbols.now view.sees.now view.packages.now c.args.file c.check_message.result c.args.path.now full field.name c.in-Some.scope c.args.faults.now.items c.check_name.new.faults.items c.check_type.new.faults.items c.check_message.new.faults.items
-    (λ (user : List ℕ). implementation_faults c.args.file c.args.path.now field ++ type_faults view.symbols.now view.sees.now view.packages.now c.args.file c.args.path.now TYPE_NAME user field.type_name)
-    (λ (user : List ℕ). message_faults view.symbols.now view.sees.now view.packages.now c.args.file c.args.path.now EXTENDEE user field.extendee)
+    let may = name_read t view.sees.now view.packages.now file path full (option_copied c.as_ref-name.result) field.name c.args.faults.now.items c.check_name.new.faults.items c.in_ok-scope.field-0 (Some c.in-Some.scope) named c.in-Some.is (c.in_ok-scope.ensures full h) in
+    uses_checked t view.sees.now view.packages.now file c.check_default.result path full field.name c.in-Some.scope c.args.faults.now.items c.check_name.new.faults.items c.check_type.new.faults.items c.check_default.new.faults.items
+    (λ (user : List ℕ). implementation_faults file path field ++ type_faults t view.sees.now view.packages.now file path TYPE_NAME user field.type_name)
+    (λ (user : List ℕ). message_faults t view.sees.now view.packages.now file path EXTENDEE user field.extendee ++ default_faults t view.sees.now view.packages.now file path user field.type_name field.default_value)
     may
     (rw (← typed) (c.in_ok-check_type.ensures (text_of field.name) may.one
-    ∙ ap (λ (faults : List LinkFault). faults ++ type_faults view.symbols.now view.sees.now view.packages.now c.args.file c.args.path.now TYPE_NAME (within (scope_name view.symbols.now c.in-Some.scope) (text_of field.name)) (option_copied c.as_ref-of_type.result)) c.in_ok-check_number.ensures
-    ∙ append_assoc c.check_name.new.faults.items (implementation_faults c.args.file c.args.path.now field) _))
-    (rw (← c.extendee-extendee.ensures) (c.check_message.ensures (text_of field.name) may.one))
+    ∙ ap (λ (faults : List LinkFault). faults ++ type_faults t view.sees.now view.packages.now file path TYPE_NAME user (option_copied c.as_ref-of_type.result)) c.in_ok-check_number.ensures
+    ∙ append_assoc c.check_name.new.faults.items (implementation_faults file path field) _))
+    (two_told t view.sees.now view.packages.now file c.check_default.result c.check_type.new.faults.items c.check_message.new.faults.items c.check_default.new.faults.items
+    (message_faults t view.sees.now view.packages.now file path EXTENDEE user field.extendee)
+    (default_faults t view.sees.now view.packages.now file path user field.type_name field.default_value)
+    (rw (← c.extendee-extendee.ensures) (c.in_ok-check_message.ensures (text_of field.name) may.one))
+    (rw (← typed) (rw (← c.default_value-default.ensures) (c.check_default.ensures (text_of field.name) may.one))))

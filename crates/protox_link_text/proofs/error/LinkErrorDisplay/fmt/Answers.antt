@@ -63,3 +63,6 @@ returns-in-FieldNameReservedTwice-clause-writes g c p ok = rw c.in-FieldNameRese
 
 pub returns-in-ValueNameReservedTwice-clause-writes : goal.returns-in-ValueNameReservedTwice-clause-writes
 returns-in-ValueNameReservedTwice-clause-writes g c p ok = rw c.in-ValueNameReservedTwice.is (c.write-in-ValueNameReservedTwice.ensures.writes p ok)
+
+pub returns-in-NoSuchValue-clause-writes : goal.returns-in-NoSuchValue-clause-writes
+returns-in-NoSuchValue-clause-writes g c p ok = rw c.in-NoSuchValue.is (simp append_assoc (c.write-in-NoSuchValue.ensures.writes p ok))

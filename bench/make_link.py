@@ -11,6 +11,8 @@ are those that a linker may be slow for; COUNT is a number of files or of parts,
   nested   messages in messages, 30 deep, COUNT of them, each with a field of the outermost one
   values   an enum with COUNT values, and one of COUNT names that are wrong
   twice    a message that is defined COUNT times
+  reserved a message that reserves COUNT names, each twice, and has fields of half of them
+  defaults an enum with COUNT values, and a field with each as its default
   chain    COUNT files, each of which imports the one before it
   public   the same, where the imports are public
   ladder   COUNT files, each of which imports the two before it publicly
@@ -119,6 +121,18 @@ def values(count):
     return in_one(f'enum E {{\n{enum}}}\nmessage M {{\n{fields}}}\n')
 
 
+def reserved(count):
+    names = ''.join(f'reserved "a_long_name_of_a_field_{n}", "a_long_name_of_a_field_{n}";\n' for n in range(count))
+    fields = ''.join(f'optional int32 a_long_name_of_a_field_{n} = {n + 1};\n' for n in range(0, 2 * count, 2))
+    return in_one(f'message M {{\n{names}{fields}}}\n')
+
+
+def defaults(count):
+    enum = ''.join(f'V{n} = {n};\n' for n in range(count))
+    fields = ''.join(f'optional E f{n} = {n + 1} [default = V{n}];\n' for n in range(count))
+    return in_one(f'enum E {{\n{enum}}}\nmessage M {{\n{fields}}}\n')
+
+
 SHAPES = {
     'tree': tree,
     'name': lambda count, _: named(count, 'p.M'),
@@ -127,6 +141,8 @@ SHAPES = {
         f'optional M f{n} = {n + 1};\n' for n in range(count)) + '}\n'),
     'nested': lambda count, _: nested(count),
     'values': lambda count, _: values(count),
+    'reserved': lambda count, _: reserved(count),
+    'defaults': lambda count, _: defaults(count),
     'twice': lambda count, _: in_one('message M { optional M m = 1; }\n' * count),
     'chain': lambda count, _: linked_files(count, '', 1),
     'public': lambda count, _: linked_files(count, 'public ', 1),

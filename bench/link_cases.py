@@ -17,7 +17,7 @@ message, so in no set both are wrong.
 
 Of equal names in one file protoc takes that of a oneof first, then those of fields, enums, messages and
 extensions, and here it is the first in the order of paths; so of such sets that are made by chance the
-names that are used aren't compared. Of equal names in two files protoc takes that of the file that is
+names that are used and the defaults aren't compared. Of equal names in two files protoc takes that of the file that is
 read first, and here it is that of the file that is given first; so in no set a file stands before one
 that it imports and that has a name of it. Of the parts of a package that are something else, protoc tells
 the longest alone.
@@ -38,9 +38,9 @@ PACKAGES = ['', 'a', 'b', 'a.b', 'b.a', 'a.b.c', 'c.a']
 USE = re.compile(r'(optional .*;|[\w.]+ \w+ = \d+;|map<.*;|rpc .*;|extend .*|oneof .*|import .*)')
 # What is wrong in proto3 alone.
 PROTO3 = ('first value not zero', 'extensions in proto3')
-# A fault of a name that is declared twice in a file, and one of a name that is used.
+# A fault of a name that is declared twice in a file, and one of a name that is used or of a default.
 TWICE = re.compile(r'(\S+) \S+ already defined: \S+ in \1')
-USED = re.compile(r'\S+ \S+ not (defined|a type|a message): .*')
+USED = re.compile(r'\S+ \S+ (not (defined|a type|a message): .*|no such value|default of a message|bad default)')
 
 
 class Chance:

@@ -58,7 +58,8 @@ SIBLINGS = ('Note that enum values use C++ scoping rules, meaning that enum valu
             'not children of it. ')
 # What isn't checked here yet.
 NOT_YET = re.compile(r'Enum type ".*" is not a proto3 enum, .*|The JSON camel-case name of field .*'
-                     r'|Enum name .* has the same name as .*|Enum value in map must define 0 as the first value\.')
+                     r'|Enum name .* has the same name as .*|Enum value in map must define 0 as the first value\.'
+                     r'|".*" does not declare \d+ as an extension number\.|Extension number \d+ has already .*')
 MORE = re.compile(r'Expanded map entry type .*|Suggested field numbers for .*')
 
 

@@ -9,3 +9,4 @@ pub mod Cycles
 pub mod NamesAgree
 pub mod Visiting
 pub mod OneOrder
+pub mod Passing

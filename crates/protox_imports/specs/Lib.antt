@@ -3,6 +3,7 @@ pub mod Imports
 pub mod Rows
 pub mod Sees
 pub mod Seen
+pub mod Passing
 pub mod Order
 pub mod DepthFirst
 pub mod Answer

@@ -1,3 +1,4 @@
 pub mod Numbers
 pub mod Marks
 pub mod Walk
+pub mod Passing

@@ -6,6 +6,7 @@
 mod imports;
 pub mod laws;
 mod names;
+mod passes;
 mod row;
 mod rows;
 mod seen;
@@ -13,6 +14,7 @@ mod sorted;
 mod walk;
 
 pub use imports::Imports;
+pub use passes::Passes;
 pub use row::FileImports;
 pub use seen::sees;
 pub use sorted::{Order, in_order};

@@ -1,9 +1,11 @@
 //! What is printed for a set of files.
 
 ghost use Rattle.std.specs.Prelude.{◌<◌, length};
+ghost use Rattle.protox_imports.specs.Passing.{AreRows};
 
 use protox_descriptor::descriptor::FileDescriptorProto;
-use protox_imports::{Imports, Order, in_order, sees};
+use protox_imports::{Imports, Order, Passes, in_order, sees};
+use protox_marks::Marks;
 use std::alloc::{AllocError, Global};
 
 fn name_at(files: &[FileDescriptorProto], number: usize) -> &str {
@@ -131,6 +133,29 @@ fn add_file(
     add_line(text, head, " sees:", seen.as_slice())
 }
 
+// Whether these are the same marks.
+fn same(marks: &Marks, seen: &[bool]) -> bool {
+    for (number, mark) in seen.iter().enumerate() {
+        if marks.has(number) != *mark {
+            return false;
+        }
+    }
+    marks.len() == seen.len()
+}
+
+// Whether each file sees by what the files pass on what it sees by a search of its own.
+fn see_alike(alloc: Global, imports: &Imports, passes: &Passes) -> Result<bool, AllocError>
+    requires { AreRows imports.now.files passes.now }
+{
+    for number in 0..imports.len() {
+        let seen = sees(alloc, imports, number)?;
+        if !same(&passes.seen(alloc, imports, number)?, seen.as_slice()) {
+            return Ok(false);
+        }
+    }
+    Ok(true)
+}
+
 /// What is printed for a set of files.
 pub(crate) fn report(alloc: Global, files: &[FileDescriptorProto]) -> Result<String, AllocError> {
     let imports = Imports::new(alloc, files)?;
@@ -138,7 +163,14 @@ pub(crate) fn report(alloc: Global, files: &[FileDescriptorProto]) -> Result<Str
         return String::from_str(alloc, "no files\n");
     }
     let mut text = format!(in alloc; "files: {}\n", imports.len())?;
-    let order = order_line(alloc, files, &in_order(alloc, &imports)?)?;
+    let found = in_order(alloc, &imports)?;
+    if let Order::Sorted(numbers) = &found {
+        let passes = Passes::of(alloc, &imports, numbers.as_slice())?;
+        if !see_alike(alloc, &imports, &passes)? {
+            text.push_str("two views\n")?;
+        }
+    }
+    let order = order_line(alloc, files, &found)?;
     text.push_str(order.as_str())?;
     if order != order_line(alloc, files, &Order::of(alloc, files)?)? {
         text.push_str("two answers\n")?;

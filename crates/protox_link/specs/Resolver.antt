@@ -4,8 +4,9 @@ use Rattle.protox_descriptor.specs.declared.descriptor.FileDescriptorProto.{File
 use Rattle.protox_link.specs.Seen.{IsSeenBy}
 use Rattle.protox_link.specs.declared.resolver.FileNames.{FileNames}
 use Rattle.protox_symbols.specs.Things.{table_of}
+use Rattle.protox_views.specs.Packages.{seen_packages}
 
 -- These are the table of the files, and the marks of what the file with this number sees of it.
 pub record IsOfFile (files : List FileDescriptorProto) (number : ℕ) (names : FileNames) : Type 0 where
   pub table : names.symbols.now ≡ table_of files
-  pub seen : IsSeenBy files number names.sees.items names.packages.items
+  pub seen : IsSeenBy files number names.sees (seen_packages names.sees names.packages.now)

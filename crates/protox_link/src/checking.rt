@@ -4,7 +4,7 @@ ghost use Rattle.std.specs.Prelude.{◌<◌, length, List, IfOk, OnOk};
 ghost use Rattle.std.specs.List.{All};
 ghost use Rattle.protox_descriptor.specs.declared.descriptor.FileDescriptorProto.{FileDescriptorProto};
 ghost use Rattle.protox_link.specs.Files.{AreFaults, IsToldOf};
-ghost use Rattle.protox_link.specs.Known.{IsKnownOf};
+ghost use Rattle.protox_link.specs.Known.{HasRows, IsKnownOf};
 ghost use Rattle.protox_link.specs.Link.{AreWrong};
 ghost use Rattle.protox_link.specs.Stands.{Stands};
 
@@ -24,7 +24,8 @@ fn check_one(
     file: &FileDescriptorProto,
     faults: &mut Vec<LinkFault>,
 ) -> Result<(), AllocError>
-    requires { number < length known.now.imports.files }
+    requires within { number < length known.now.imports.files }
+    requires rows { HasRows known.now }
     ensures { (all : List FileDescriptorProto) → IsKnownOf all known.now → OnOk result
         (IsToldOf all number file.now faults.old.items faults.new.items) }
 {

@@ -3,7 +3,7 @@
 ghost use Rattle.std.specs.Prelude.{◌≡◌, ◌<◌, ℕ, List, Some, length, Contains, OnOk};
 ghost use Rattle.protox_descriptor.specs.declared.descriptor.FileDescriptorProto.{FileDescriptorProto};
 ghost use Rattle.protox_link.specs.Files.{IsChecked, IsDone};
-ghost use Rattle.protox_link.specs.Known.{IsKnownOf};
+ghost use Rattle.protox_link.specs.Known.{HasRows, IsKnownOf};
 
 use crate::known::Known;
 use crate::packages::text_of;
@@ -24,7 +24,7 @@ fn check_and_link(
     faults: &mut Vec<LinkFault>,
 ) -> Result<(), AllocError>
     requires { (n : ℕ) → Contains imports.now (Some n) → n < length view.now.sees.now }
-    ensures { OnOk result (IsChecked view.now.symbols.now view.now.sees.now view.now.packages.now
+    ensures { OnOk result (IsChecked view.now.symbols.now view.now.sees.now view.now.packages
         number imports.now file.old file.new faults.old.items faults.new.items) }
 {
     check_file(alloc, view, imports, number, file, faults)?;
@@ -43,7 +43,8 @@ pub(crate) fn do_file(
     file: &mut FileDescriptorProto,
     faults: &mut Vec<LinkFault>,
 ) -> Result<(), AllocError>
-    requires { number < length known.now.imports.files }
+    requires within { number < length known.now.imports.files }
+    requires rows { HasRows known.now }
     ensures { (all : List FileDescriptorProto) → IsKnownOf all known.now → OnOk result
         (IsDone all number file.old file.new faults.old.items faults.new.items) }
 {

@@ -3,7 +3,7 @@
 ghost use Rattle.std.specs.Prelude.{◌≡◌, [], List, length, OnOk};
 ghost use Rattle.protox_descriptor.specs.declared.descriptor.FileDescriptorProto.{FileDescriptorProto};
 ghost use Rattle.protox_link.specs.Files.{AreDone};
-ghost use Rattle.protox_link.specs.Known.{IsKnownOf};
+ghost use Rattle.protox_link.specs.Known.{HasRows, IsKnownOf};
 
 use crate::file::do_file;
 use crate::known::Known;
@@ -18,7 +18,8 @@ pub(crate) fn do_files(
     files: &mut [FileDescriptorProto],
     faults: &mut Vec<LinkFault>,
 ) -> Result<(), AllocError>
-    requires { length files.old ≡ length known.now.imports.files }
+    requires as_many { length files.old ≡ length known.now.imports.files }
+    requires rows { HasRows known.now }
     ensures { IsKnownOf files.old known.now → faults.old.items ≡ [] → OnOk result
         (AreDone files.old files.new faults.new.items) }
 {

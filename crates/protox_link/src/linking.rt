@@ -6,7 +6,7 @@ ghost use Rattle.protox_imports.specs.Imports.{Imports as ImportsOf};
 ghost use Rattle.protox_imports.specs.Order.{IsCycle, IsInOrder};
 ghost use Rattle.protox_link.specs.Closed.{AreClosed};
 ghost use Rattle.protox_link.specs.Files.{AreDone};
-ghost use Rattle.protox_link.specs.Known.{IsKnownOf};
+ghost use Rattle.protox_link.specs.Known.{HasRows, IsKnownOf};
 ghost use Rattle.protox_link.specs.Link.{AreKept, IsFailureOf, IsSetOf};
 ghost use Rattle.protox_link.specs.Stands.{AllStand};
 
@@ -26,6 +26,7 @@ fn finish(
     known: &Known,
     files: &mut Vec<FileDescriptorProto>,
 ) -> Result<Vec<LinkFault>, AllocError>
+    requires { HasRows known.now }
     ensures { IsKnownOf files.old.items known.now → IfOk result (λ faults.
         AreDone files.old.items files.new.items faults.items) }
 {

@@ -7,10 +7,8 @@ ghost use Rattle.protox_link.specs.Known.{IsKnownOf};
 ghost use Rattle.protox_link.specs.Prepared.{IsPreparedFor};
 
 use crate::known::Known;
-use crate::packages::packages_of;
 use protox_descriptor::descriptor::FileDescriptorProto;
-use protox_imports::{Imports, Order, in_order};
-use protox_symbols::Symbols;
+use protox_imports::{Imports, Order, Passes, in_order};
 use std::alloc::{AllocError, Global};
 
 /// What is found out first.
@@ -35,12 +33,7 @@ pub(crate) fn prepare(alloc: Global, files: &[FileDescriptorProto]) -> Result<Pr
         Order::Sorted(order) => order,
         Order::Cycle(circle) => return Ok(Prepared::Circle(circle)),
     };
-    let symbols = Symbols::of(alloc, files)?;
-    let packages = packages_of(alloc, &symbols, files)?;
-    let known = Known {
-        imports,
-        symbols,
-        packages,
-    };
+    let passes = Passes::of(alloc, &imports, order.as_slice())?;
+    let known = Known::of(alloc, files, imports, Some(passes))?;
     Ok(Prepared::Ready(known, order))
 }

@@ -6,15 +6,16 @@ ghost use Rattle.protox_link.specs.Known.{IsKnownOf};
 ghost use Rattle.protox_link.specs.Resolver.{IsOfFile};
 ghost use Rattle.protox_name_tree.specs.Tree.{kind_at};
 ghost use Rattle.protox_scopes.specs.Scopes.{resolve};
+ghost use Rattle.protox_views.specs.Packages.{seen_packages};
 ghost use Rattle.protox_views.specs.Views.{seen};
 
-use crate::known::Known;
-use crate::packages::packages_of;
+use crate::known::{Known, passes_of};
 use protox_descriptor::descriptor::FileDescriptorProto;
 use protox_imports::Imports;
+use protox_marks::Marks;
 use protox_scopes::{Wanted, resolve};
 use protox_symbols::Symbols;
-use protox_views::View;
+use protox_views::{PackageFiles, SeenPackages, View};
 use std::alloc::{AllocError, Global};
 use std::marker::Model;
 
@@ -26,11 +27,14 @@ pub struct Resolver {
 }
 
 impl Model for Resolver {
+    ghost use Rattle.protox_link.specs.Known.{HasRows};
     ghost use Rattle.protox_link.specs.declared.known.Known.{Known};
 
     ghost Value = { Known };
 
     ghost view = { λ r. r.known };
+
+    ghost invariant = { λ r. HasRows r.known };
 }
 
 /// What the names in one file stand for.
@@ -39,9 +43,9 @@ pub struct FileNames<'a> {
     /// All that the files declare.
     pub symbols: &'a Symbols,
     /// For each file, whether this one sees it.
-    pub sees: Vec<bool>,
-    /// For each number of the table, whether it is that of a package that the file sees.
-    pub packages: Vec<bool>,
+    pub sees: Marks,
+    /// The files of each package.
+    pub packages: &'a PackageFiles,
 }
 
 impl Resolver {
@@ -54,13 +58,8 @@ impl Resolver {
         ensures { IfOk result (λ resolver. IsKnownOf files.now resolver) }
     {
         let imports = Imports::new(alloc, files)?;
-        let symbols = Symbols::of(alloc, files)?;
-        let packages = packages_of(alloc, &symbols, files)?;
-        let known = Known {
-            imports,
-            symbols,
-            packages,
-        };
+        let passes = passes_of(alloc, &imports)?;
+        let known = Known::of(alloc, files, imports, passes)?;
         Ok(Resolver { known })
     }
 
@@ -91,13 +90,16 @@ impl FileNames<'_> {
     /// The same as a view of the table.
     pub fn view(&self) -> View<'_>
         ensures table { result.symbols.now ≡ self.now.symbols.now }
-        ensures sees { result.sees.now ≡ self.now.sees.items }
-        ensures packages { result.packages.now ≡ self.now.packages.items }
+        ensures sees { result.sees.now ≡ self.now.sees }
+        ensures packages { result.packages ≡ seen_packages self.now.sees self.now.packages.now }
     {
         View {
             symbols: self.symbols,
-            sees: self.sees.as_slice(),
-            packages: self.packages.as_slice(),
+            sees: &self.sees,
+            packages: SeenPackages {
+                files: self.packages,
+                sees: &self.sees,
+            },
         }
     }
 
@@ -112,7 +114,8 @@ impl FileNames<'_> {
     /// ```
     pub fn resolve(&self, wanted: Wanted, name: &str, user: &str) -> Option<usize>
         ensures { result ≡ resolve (kind_at self.now.symbols.now.names)
-            (seen self.now.symbols.now self.now.sees.items self.now.packages.items)
+            (seen self.now.symbols.now self.now.sees
+            (seen_packages self.now.sees self.now.packages.now))
             wanted name.now user.now }
     {
         resolve(&self.view(), wanted, name, user)

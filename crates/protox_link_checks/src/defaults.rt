@@ -103,7 +103,7 @@ pub(crate) fn check_default(
 ) -> Result<(), AllocError>
     ensures { (user : List ℕ) → names.is_one_part user ≡ true → OnOk result (faults.new.items
         ≡ faults.old.items ++ default_faults view.now.symbols.now view.now.sees.now
-        view.now.packages.now file path.now
+        view.now.packages file path.now
         (names.within (name_of_place (name_at view.now.symbols.now.names) scope) user)
         (option_copied of_type.entry) (option_copied default.entry)) }
 {

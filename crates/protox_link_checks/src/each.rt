@@ -29,7 +29,7 @@ pub(crate) trait Checked {
     ) -> Result<(), AllocError>
         ensures { (full : List ℕ) → IsFoundScope view.now.symbols.now full scope → OnOk result
             (faults.new.items ≡ faults.old.items ++ flat_map (declared_faults view.now.symbols.now
-            view.now.sees.now view.now.packages.now file) (declares self.now full path.now)) };
+            view.now.sees.now view.now.packages file) (declares self.now full path.now)) };
 }
 
 /// The path of the sibling at an index.
@@ -60,7 +60,7 @@ pub(crate) fn check_each<C: Checked>(
 ) -> Result<(), AllocError>
     ensures { (full : List ℕ) → IsFoundScope view.now.symbols.now full scope → OnOk result
         (faults.new.items ≡ faults.old.items ++ flat_map (declared_faults view.now.symbols.now
-        view.now.sees.now view.now.packages.now file)
+        view.now.sees.now view.now.packages file)
         (siblings_at path.now tag (all_in C.declares full siblings.now))) }
 {
     let elements = siblings.as_slice();

@@ -32,7 +32,7 @@ pub fn check_names(
     faults: &mut Vec<LinkFault>,
 ) -> Result<(), AllocError>
     ensures { OnOk result (faults.new.items ≡ faults.old.items
-        ++ all_declared_faults view.now.symbols.now view.now.sees.now view.now.packages.now number
+        ++ all_declared_faults view.now.symbols.now view.now.sees.now view.now.packages number
         file.now) }
 {
     let scope = inside(view, Some(None), file.package.as_ref());
@@ -81,7 +81,7 @@ pub fn check_file(
 ) -> Result<(), AllocError>
     requires { (n : ℕ) → Contains imports.now (Some n) → n < length view.now.sees.now }
     ensures { OnOk result (faults.new.items ≡ faults.old.items
-        ++ file_faults view.now.symbols.now view.now.sees.now view.now.packages.now number
+        ++ file_faults view.now.symbols.now view.now.sees.now view.now.packages number
         imports.now file.now) }
 {
     check_imports(alloc, view.sees.len(), number, imports, faults)?;

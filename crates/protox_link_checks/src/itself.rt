@@ -27,7 +27,7 @@ pub(crate) fn check_message_itself(
 ) -> Result<(), AllocError>
     ensures { (full : List ℕ) → IsFoundScope view.now.symbols.now full scope → OnOk result
         (faults.new.items ≡ faults.old.items ++ declared_faults view.now.symbols.now
-        view.now.sees.now view.now.packages.now file (declared path.now
+        view.now.sees.now view.now.packages file (declared path.now
         (full_name full (out-DescriptorProto message.now).name) (Message message.now))) }
 {
     let name = message.name.as_ref();
@@ -50,7 +50,7 @@ pub(crate) fn check_enum_itself(
 ) -> Result<(), AllocError>
     ensures { (full : List ℕ) → IsFoundScope view.now.symbols.now full scope → OnOk result
         (faults.new.items ≡ faults.old.items ++ declared_faults view.now.symbols.now
-        view.now.sees.now view.now.packages.now file (declared path.now
+        view.now.sees.now view.now.packages file (declared path.now
         (full_name full enum_.now.name) (Enum enum_.now))) }
 {
     let name = enum_.name.as_ref();

@@ -66,7 +66,7 @@ fn check_clash(
     faults: &mut Vec<LinkFault>,
 ) -> Result<(), AllocError>
     ensures { OnOk result (faults.new.items ≡ faults.old.items
-        ++ clash_faults view.now.symbols.now view.now.sees.now view.now.packages.now file path.now
+        ++ clash_faults view.now.symbols.now view.now.sees.now view.now.packages file path.now
         number) }
 {
     let Some(number) = number else {
@@ -102,7 +102,7 @@ pub(crate) fn check_name(
     faults: &mut Vec<LinkFault>,
 ) -> Result<Option<Option<usize>>, AllocError>
     ensures { (full : List ℕ) → IsFoundScope view.now.symbols.now full scope → IfOk result
-        (IsChecked view.now.symbols.now view.now.sees.now view.now.packages.now file path.now full
+        (IsChecked view.now.symbols.now view.now.sees.now view.now.packages file path.now full
         (option_copied name.entry) faults.old.items faults.new.items) }
 {
     let name = text_of(name);

@@ -38,7 +38,7 @@ pub(crate) fn add_fault(
 // The kind of what a name stands for where something in a scope uses it.
 fn kind_named(view: &View<'_>, wanted: Wanted, scope: Option<usize>, name: &str) -> Option<Kind>
     ensures { (user : List ℕ) → names.is_one_part user ≡ true → result
-        ≡ kind_named view.now.symbols.now view.now.sees.now view.now.packages.now wanted
+        ≡ kind_named view.now.symbols.now view.now.sees.now view.now.packages wanted
         (names.within (name_of_place (name_at view.now.symbols.now.names) scope) user) name.now }
 {
     let number = view.resolve(wanted, name, scope)?;
@@ -108,7 +108,7 @@ pub(crate) fn check_type(
     faults: &mut Vec<LinkFault>,
 ) -> Result<(), AllocError>
     ensures { (user : List ℕ) → names.is_one_part user ≡ true → OnOk result (faults.new.items
-        ≡ faults.old.items ++ type_faults view.now.symbols.now view.now.sees.now view.now.packages.now file path.now tag
+        ≡ faults.old.items ++ type_faults view.now.symbols.now view.now.sees.now view.now.packages file path.now tag
         (names.within (name_of_place (name_at view.now.symbols.now.names) scope) user) (option_copied name.entry)) }
 {
     let Some(name) = name else {
@@ -131,7 +131,7 @@ pub(crate) fn check_message(
     faults: &mut Vec<LinkFault>,
 ) -> Result<(), AllocError>
     ensures { (user : List ℕ) → names.is_one_part user ≡ true → OnOk result (faults.new.items
-        ≡ faults.old.items ++ message_faults view.now.symbols.now view.now.sees.now view.now.packages.now file path.now tag
+        ≡ faults.old.items ++ message_faults view.now.symbols.now view.now.sees.now view.now.packages file path.now tag
         (names.within (name_of_place (name_at view.now.symbols.now.names) scope) user) (option_copied name.entry)) }
 {
     let Some(name) = name else {

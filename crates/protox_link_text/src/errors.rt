@@ -39,7 +39,7 @@ fn told_at(
     kind: &LinkFaultKind,
 ) -> Result<Vec<LinkError>, AllocError>
     ensures { IfOk result (λ errors. errors.items ≡ told_at files.now view.now.symbols.now
-        view.now.sees.now view.now.packages.now file (seen place.now) kind.now) }
+        view.now.sees.now view.now.packages file (seen place.now) kind.now) }
 {
     let (inside, rest) = (place.inside, place.rest);
     let error = match kind {
@@ -110,7 +110,7 @@ pub fn errors_of(
     fault: &LinkFault,
 ) -> Result<Vec<LinkError>, AllocError>
     ensures { IfOk result (λ errors. errors.items ≡ errors_of files.now view.now.symbols.now
-        view.now.sees.now view.now.packages.now fault.now) }
+        view.now.sees.now view.now.packages fault.now) }
 {
     let Some(file) = files.get(fault.file) else {
         return Ok(Vec::new(alloc));

@@ -31,7 +31,7 @@ pub(crate) fn wanted_at(rest: &[i32]) -> Wanted
 
 // What has a name in a scope, if the file doesn't see it.
 fn unseen(view: &View<'_>, scope: &str, name: &str) -> Option<usize>
-    ensures { result ≡ unseen view.now.symbols.now view.now.sees.now view.now.packages.now
+    ensures { result ≡ unseen view.now.symbols.now view.now.sees.now view.now.packages
         (names.within scope.now name.now) }
 {
     let number = view.symbols.find_within(scope, name)?;
@@ -53,9 +53,9 @@ fn later(first: Option<usize>, second: Option<usize>) -> Option<usize>
 // One scope: what is come upon there, and whether the search ends.
 fn search_scope(view: &View<'_>, wanted: Wanted, name: &str, scope: &str) -> (Option<usize>, bool)
     ensures unseen { result.0 ≡ unseen_in view.now.symbols.now view.now.sees.now
-        view.now.packages.now name.now scope.now }
+        view.now.packages name.now scope.now }
     ensures ends { result.1 ≡ ends_in view.now.symbols.now view.now.sees.now
-        view.now.packages.now wanted name.now scope.now }
+        view.now.packages wanted name.now scope.now }
 {
     let first = front(name);
     let Some(number) = view.find_within(scope, first) else {
@@ -86,7 +86,7 @@ pub(crate) fn search<'a>(
     scope: &'a str,
 ) -> Searched<'a>
     ensures { seen_search name.now result ≡ search view.now.symbols.now view.now.sees.now
-        view.now.packages.now wanted name.now scope.now }
+        view.now.packages wanted name.now scope.now }
 {
     if let Some(full_name) = name.strip_prefix('.') {
         return Searched {

@@ -1,6 +1,7 @@
 use Rattle.std.proofs.Common.{List, ℕ, Option, Some, arith, ap, subst, ◌∙◌, length}
 use Rattle.std.specs.List.{Contains}
 use Rattle.protox_imports.specs.Rows.{named_of}
+use Rattle.protox_views.specs.Packages.{seen_packages}
 use Rattle.protox_link.proofs.Doing.{told_one, seen_in}
 use Rattle.protox_link.proofs.checking.check_one.Goals as goal
 
@@ -14,8 +15,8 @@ returns c all known =
     let names = c.in_ok-names.names in
     let view = c.view.result in
     let of_file = c.in_ok-names.ensures.of_file all known in
-    told_one c.check_file.result all view.symbols.now c.args.number view.sees.now view.packages.now c.named-imports.result.now c.args.file.now c.args.faults.now.items c.check_file.new.faults.items
+    told_one c.check_file.result all view.symbols.now c.args.number view.sees.now view.packages c.named-imports.result.now c.args.file.now c.args.faults.now.items c.check_file.new.faults.items
     (c.view.ensures.table ∙ of_file.table)
-    (seen_in all c.args.number names.sees.items names.packages.items view.sees.now view.packages.now c.view.ensures.sees c.view.ensures.packages of_file.seen)
+    (seen_in all c.args.number names.sees (seen_packages names.sees names.packages.now) view.sees.now view.packages c.view.ensures.sees c.view.ensures.packages of_file.seen)
     (c.named-imports.ensures ∙ ap (λ rows. named_of rows c.args.number) known.rows)
     c.check_file.ensures

@@ -10,19 +10,19 @@ link_file-requires-clause-package c =
     let view = c.args.view.now in
     let table = view.symbols.now in
     let file = c.args.file.now in
-    let none : file_faults table view.sees.now view.packages.now c.args.number c.args.imports.now file ≡ [] = none_of_second c.args.faults.now.items _ (sym c.in_ok-check_file.ensures ∙ no_items c.check_file.new.faults.len c.check_file.new.faults.items c.if-not-is_empty.ensures c.check_file.new.faults.ok.0) in
+    let none : file_faults table view.sees.now view.packages c.args.number c.args.imports.now file ≡ [] = none_of_second c.args.faults.now.items _ (sym c.in_ok-check_file.ensures ∙ no_items c.check_file.new.faults.len c.check_file.new.faults.items c.if-not-is_empty.ensures c.check_file.new.faults.ok.0) in
     package_named table c.args.number file.«package» c.text_of.result.now c.find-package.result (rw c.as_ref.ensures.value at c.text_of.ensures) c.find-package.ensures
-    (package_right table view.sees.now view.packages.now c.args.number c.args.imports.now file none)
+    (package_right table view.sees.now view.packages c.args.number c.args.imports.now file none)
 
 pub link_file-requires-clause-stands : goal.link_file-requires-clause-stands
 link_file-requires-clause-stands c =
     let view = c.args.view.now in
     let table = view.symbols.now in
     let file = c.args.file.now in
-    let none : file_faults table view.sees.now view.packages.now c.args.number c.args.imports.now file ≡ [] = none_of_second c.args.faults.now.items _ (sym c.in_ok-check_file.ensures ∙ no_items c.check_file.new.faults.len c.check_file.new.faults.items c.if-not-is_empty.ensures c.check_file.new.faults.ok.0) in
-    file_there table view.sees.now view.packages.now c.args.number file
-    (package_there table c.args.number (text_of file.«package») (package_right table view.sees.now view.packages.now c.args.number c.args.imports.now file none))
-    (declared_right table view.sees.now view.packages.now c.args.number c.args.imports.now file none)
+    let none : file_faults table view.sees.now view.packages c.args.number c.args.imports.now file ≡ [] = none_of_second c.args.faults.now.items _ (sym c.in_ok-check_file.ensures ∙ no_items c.check_file.new.faults.len c.check_file.new.faults.items c.if-not-is_empty.ensures c.check_file.new.faults.ok.0) in
+    file_there table view.sees.now view.packages c.args.number file
+    (package_there table c.args.number (text_of file.«package») (package_right table view.sees.now view.packages c.args.number c.args.imports.now file none))
+    (declared_right table view.sees.now view.packages c.args.number c.args.imports.now file none)
 
 pub returns : goal.returns
 returns c = on_ok_weaker c.link_file.result (λ linked. record { faults = c.in_ok-check_file.ensures; linked = λ none. linked }) c.link_file.ensures

@@ -8,7 +8,7 @@ pub returns : goal.returns
 returns c full h =
     let view = c.args.view.now in
     let enum = c.args.self.now in
-    first_checked view.symbols.now view.sees.now view.packages.now c.args.file c.check_each.result c.args.faults.now.items c.check_enum_itself.new.faults.items c.check_each.new.faults.items (declared c.args.path.now (full_name full enum.name) (Enum enum))
+    first_checked view.symbols.now view.sees.now view.packages c.args.file c.check_each.result c.args.faults.now.items c.check_enum_itself.new.faults.items c.check_each.new.faults.items (declared c.args.path.now (full_name full enum.name) (Enum enum))
     (siblings_at c.args.path.now VALUE (all_in value_at full enum.value))
     (c.in_ok-check_enum_itself.ensures full h)
     (c.check_each.ensures full h)

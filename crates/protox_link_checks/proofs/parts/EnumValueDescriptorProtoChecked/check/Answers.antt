@@ -9,6 +9,6 @@ pub returns : goal.returns
 returns c full h =
     let view = c.args.view.now in
     let value = c.args.self.now in
-    let checked = name_read view.symbols.now view.sees.now view.packages.now c.args.file c.args.path.now full (option_copied c.as_ref-name.result) value.name c.args.faults.now.items c.check_name.new.faults.items c.in_ok-check_name.field-0 _ c.as_ref-name.ensures.value refl (c.in_ok-check_name.ensures full h) in
-    alone view.symbols.now view.sees.now view.packages.now c.args.file c.args.faults.now.items c.check_name.new.faults.items (declared c.args.path.now (full_name full value.name) (Value value))
-    (nothing_used view.symbols.now view.sees.now view.packages.now c.args.file c.args.path.now full value.name c.args.faults.now.items c.check_name.new.faults.items c.in_ok-check_name.field-0 checked)
+    let checked = name_read view.symbols.now view.sees.now view.packages c.args.file c.args.path.now full (option_copied c.as_ref-name.result) value.name c.args.faults.now.items c.check_name.new.faults.items c.in_ok-check_name.field-0 _ c.as_ref-name.ensures.value refl (c.in_ok-check_name.ensures full h) in
+    alone view.symbols.now view.sees.now view.packages c.args.file c.args.faults.now.items c.check_name.new.faults.items (declared c.args.path.now (full_name full value.name) (Value value))
+    (nothing_used view.symbols.now view.sees.now view.packages c.args.file c.args.path.now full value.name c.args.faults.now.items c.check_name.new.faults.items c.in_ok-check_name.field-0 checked)

@@ -17,9 +17,9 @@ returns-in_default c full h =
     let view = c.args.view.now in
     let field = c.args.self.now in
     let named = c.as_ref-name.ensures.value ∙ ap (λ (f : FieldDescriptorProto). f.name) c.self.view_is in
-    let checked = name_read view.symbols.now view.sees.now view.packages.now c.args.file c.args.path.now full (option_copied c.as_ref-name.result) field.name c.args.faults.now.items c.check_name.new.faults.items c.in_ok-scope.field-0 None named c.in_default.is (c.in_ok-scope.ensures full h) in
-    alone view.symbols.now view.sees.now view.packages.now c.args.file c.args.faults.now.items c.check_name.new.faults.items (declared c.args.path.now (full_name full field.name) (Field field))
-    (checked (field_uses view.symbols.now view.sees.now view.packages.now c.args.file c.args.path.now (full_name full field.name) field))
+    let checked = name_read view.symbols.now view.sees.now view.packages c.args.file c.args.path.now full (option_copied c.as_ref-name.result) field.name c.args.faults.now.items c.check_name.new.faults.items c.in_ok-scope.field-0 None named c.in_default.is (c.in_ok-scope.ensures full h) in
+    alone view.symbols.now view.sees.now view.packages c.args.file c.args.faults.now.items c.check_name.new.faults.items (declared c.args.path.now (full_name full field.name) (Field field))
+    (checked (field_uses view.symbols.now view.sees.now view.packages c.args.file c.args.path.now (full_name full field.name) field))
 
 pub returns : goal.returns
 returns c full h =
@@ -31,16 +31,16 @@ returns c full h =
     let user = within (scope_name t c.in-Some.scope) (text_of field.name) in
     let named = c.as_ref-name.ensures.value ∙ ap (λ (f : FieldDescriptorProto). f.name) c.self.view_is in
     let typed = c.as_ref-of_type.ensures.value ∙ ap (λ (f : FieldDescriptorProto). f.type_name) c.self.view_is in
-    let may = name_read t view.sees.now view.packages.now file path full (option_copied c.as_ref-name.result) field.name c.args.faults.now.items c.check_name.new.faults.items c.in_ok-scope.field-0 (Some c.in-Some.scope) named c.in-Some.is (c.in_ok-scope.ensures full h) in
-    uses_checked t view.sees.now view.packages.now file c.check_default.result path full field.name c.in-Some.scope c.args.faults.now.items c.check_name.new.faults.items c.check_type.new.faults.items c.check_default.new.faults.items
-    (λ (user : List ℕ). implementation_faults file path field ++ type_faults t view.sees.now view.packages.now file path TYPE_NAME user field.type_name)
-    (λ (user : List ℕ). message_faults t view.sees.now view.packages.now file path EXTENDEE user field.extendee ++ default_faults t view.sees.now view.packages.now file path user field.type_name field.default_value)
+    let may = name_read t view.sees.now view.packages file path full (option_copied c.as_ref-name.result) field.name c.args.faults.now.items c.check_name.new.faults.items c.in_ok-scope.field-0 (Some c.in-Some.scope) named c.in-Some.is (c.in_ok-scope.ensures full h) in
+    uses_checked t view.sees.now view.packages file c.check_default.result path full field.name c.in-Some.scope c.args.faults.now.items c.check_name.new.faults.items c.check_type.new.faults.items c.check_default.new.faults.items
+    (λ (user : List ℕ). implementation_faults file path field ++ type_faults t view.sees.now view.packages file path TYPE_NAME user field.type_name)
+    (λ (user : List ℕ). message_faults t view.sees.now view.packages file path EXTENDEE user field.extendee ++ default_faults t view.sees.now view.packages file path user field.type_name field.default_value)
     may
     (rw (← typed) (c.in_ok-check_type.ensures (text_of field.name) may.one
-    ∙ ap (λ (faults : List LinkFault). faults ++ type_faults t view.sees.now view.packages.now file path TYPE_NAME user (option_copied c.as_ref-of_type.result)) c.in_ok-check_number.ensures
+    ∙ ap (λ (faults : List LinkFault). faults ++ type_faults t view.sees.now view.packages file path TYPE_NAME user (option_copied c.as_ref-of_type.result)) c.in_ok-check_number.ensures
     ∙ append_assoc c.check_name.new.faults.items (implementation_faults file path field) _))
-    (two_told t view.sees.now view.packages.now file c.check_default.result c.check_type.new.faults.items c.check_message.new.faults.items c.check_default.new.faults.items
-    (message_faults t view.sees.now view.packages.now file path EXTENDEE user field.extendee)
-    (default_faults t view.sees.now view.packages.now file path user field.type_name field.default_value)
+    (two_told t view.sees.now view.packages file c.check_default.result c.check_type.new.faults.items c.check_message.new.faults.items c.check_default.new.faults.items
+    (message_faults t view.sees.now view.packages file path EXTENDEE user field.extendee)
+    (default_faults t view.sees.now view.packages file path user field.type_name field.default_value)
     (rw (← c.extendee-extendee.ensures) (c.in_ok-check_message.ensures (text_of field.name) may.one))
     (rw (← typed) (rw (← c.default_value-default.ensures) (c.check_default.ensures (text_of field.name) may.one))))

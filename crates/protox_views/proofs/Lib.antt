@@ -1,3 +1,5 @@
 mod Found
+mod Files
+pub mod Seen
 pub mod Ways
 mod Resolved

@@ -7,5 +7,5 @@ mod resolve;
 mod scopes;
 mod view;
 
-pub use crate::packages::seen_packages;
+pub use crate::packages::{PackageFiles, SeenPackages};
 pub use crate::view::View;

@@ -9,7 +9,7 @@ impl Names for View<'_> {
     ghost use Rattle.protox_name_tree.specs.Tree.{name_at};
     ghost use Rattle.protox_views.specs.Views.{meaning, stands};
 
-    ghost meaning = { λ v. meaning v.symbols.now v.sees.now v.packages.now };
+    ghost meaning = { λ v. meaning v.symbols.now v.sees.now v.packages };
 
     ghost stands = { λ v. stands v.symbols.now };
 

@@ -1,68 +1,111 @@
 //! Packages that a file sees.
 
-ghost use Rattle.std.specs.Prelude.{◌≡◌, ◌<◌, ◌||◌, ◌&&◌, ℕ, length, slice_index_or, false, IfOk};
-ghost use Rattle.protox_views.specs.Packages.{is_on_the_way, is_package_seen};
+ghost use Rattle.std.specs.Prelude.{◌≡◌, ◌<◌, ◌||◌, ◌&&◌, ◌==◌, ℕ, length, false, IfOk, OnOk};
+ghost use Rattle.protox_views.specs.Packages.{AreFilesOf, is_file_of, is_on_the_way};
 ghost use Rattle.protox_views.specs.Views.{is_marked};
 
-use crate::view::is_marked;
+use protox_marks::{FewMarks, Marks};
 use protox_symbols::Symbols;
 use std::alloc::{AllocError, Global};
+use std::marker::Model;
 
-// Marks a package, and the packages around it.
-fn mark(symbols: &Symbols, marks: &mut [bool], whole: Option<usize>)
-    requires { length marks.old ≡ length symbols.now.names.full_names }
-    ensures { (n : ℕ) → n < length marks.old → slice_index_or marks.new n false
-        ≡ (slice_index_or marks.old n false || is_on_the_way symbols.now.names n whole) }
+/// The files of each package of a table. For each number of the table, these are the files that are
+/// in the package with this number or in one within it.
+#[derive(Drop)]
+pub struct PackageFiles {
+    files: Vec<FewMarks>,
+}
+
+// No files, for each number below a count.
+fn no_files(alloc: Global, count: usize) -> Result<Vec<FewMarks>, AllocError>
+    ensures as_many { IfOk result (λ files. length files.items ≡ count) }
+    ensures none { IfOk result (λ files. (n file : ℕ) → is_file_of files.items n file ≡ false) }
+{
+    let mut files = Vec::with_capacity(alloc, count)?;
+    for _ in 0..count {
+        files.push(FewMarks::new(alloc))?;
+    }
+    Ok(files)
+}
+
+// Notes a file for its package, and for the packages around it.
+fn note(
+    symbols: &Symbols,
+    files: &mut [FewMarks],
+    file: usize,
+    whole: Option<usize>,
+) -> Result<(), AllocError>
+    requires { length files.old ≡ length symbols.now.names.full_names }
+    ensures { OnOk result ((n f : ℕ) → n < length files.old → is_file_of files.new n f
+        ≡ (is_file_of files.old n f || ((f == file) && is_on_the_way symbols.now.names n whole))) }
 {
     // for the proof: a full name has one number
     let _count = symbols.len();
     let mut place = whole;
     while let Some(number) = place {
-        if number >= marks.len() {
+        if number >= files.len() {
             break;
         }
-        marks[number] = true;
+        files[number].mark(file)?;
         place = symbols.outer(number);
     }
+    Ok(())
 }
 
-// The same for the package of a file, if the file has one and is seen.
-fn mark_if_seen(
-    symbols: &Symbols,
-    marks: &mut [bool],
-    sees: &[bool],
-    file: usize,
-    whole: Option<usize>,
-)
-    requires { length marks.old ≡ length symbols.now.names.full_names }
-    ensures { (n : ℕ) → n < length marks.old → slice_index_or marks.new n false
-        ≡ (slice_index_or marks.old n false
-        || (is_marked sees.now file && is_on_the_way symbols.now.names n whole)) }
-{
-    if whole.is_some() && is_marked(sees, file) {
-        mark(symbols, marks, whole);
+impl PackageFiles {
+    /// The files of each package of a table. `packages` has the number of the package of each file,
+    /// in order, and None where a file has none.
+    ///
+    /// It makes one step for each number of the table. For each file it makes one for its package,
+    /// and one for each package around that. It keeps marks for each number of the table.
+    ///
+    /// # Errors
+    /// `AllocError` where memory runs out.
+    pub fn of(
+        alloc: Global,
+        symbols: &Symbols,
+        packages: &[Option<usize>],
+    ) -> Result<PackageFiles, AllocError>
+        ensures { IfOk result (AreFilesOf symbols.now.names packages.now) }
+    {
+        let mut files = no_files(alloc, symbols.len())?;
+        for (file, package) in packages.iter().enumerate() {
+            note(symbols, &mut files, file, *package)?;
+        }
+        Ok(PackageFiles { files })
     }
 }
 
-/// For each number of the table, whether it is that of the package of a file that is seen, or of a
-/// package around it. `packages` has the number of the package of each file, if it has one, and
-/// `sees` tells which files are seen.
-///
-/// # Errors
-/// `AllocError` where memory runs out.
-pub fn seen_packages(
-    alloc: Global,
-    symbols: &Symbols,
-    packages: &[Option<usize>],
-    sees: &[bool],
-) -> Result<Vec<bool>, AllocError>
-    ensures { IfOk result (λ marks. (n : ℕ) → n < length symbols.now.names.full_names →
-        slice_index_or marks.items n false
-        ≡ is_package_seen symbols.now.names packages.now sees.now n) }
-{
-    let mut marks = vec![in alloc; false; symbols.len()]?;
-    for (file, package) in packages.iter().enumerate() {
-        mark_if_seen(symbols, &mut marks, sees, file, *package);
+/// The packages that a file sees: those that a file is in that it sees, and the packages around
+/// these.
+#[derive(Drop)]
+pub struct SeenPackages<'a> {
+    /// The files of each package.
+    pub files: &'a PackageFiles,
+    /// The numbers of the files that are seen.
+    pub sees: &'a Marks,
+}
+
+impl<'a> Model for SeenPackages<'a> {
+    ghost use Rattle.std.specs.Prelude.{Bool, List};
+    ghost use Rattle.protox_views.specs.Packages.{seen_packages};
+
+    ghost Value = { List Bool };
+
+    ghost view = { λ p. seen_packages p.sees.now p.files.now };
+}
+
+impl SeenPackages<'_> {
+    /// Whether the package with this number is seen. No number is seen that is not one of the table.
+    ///
+    /// It takes no memory. It makes at most one step for each 64 files in a row of which some is in
+    /// the package.
+    pub fn has(&self, number: usize) -> bool
+        ensures { result ≡ is_marked self.now number }
+    {
+        match self.files.files.get(number) {
+            Some(few) => self.sees.meets(few),
+            None => false,
+        }
     }
-    Ok(marks)
 }

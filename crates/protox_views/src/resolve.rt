@@ -27,7 +27,7 @@ impl View<'_> {
         requires tree { first.now.tree ≡ self.now.symbols.now.names }
         requires first { first.now.name ≡ names.front name.now }
         ensures { result ≡ words.step (kind_at self.now.symbols.now.names)
-            (seen self.now.symbols.now self.now.sees.now self.now.packages.now)
+            (seen self.now.symbols.now self.now.sees.now self.now.packages)
             wanted name.now (name_at self.now.symbols.now.names scope) }
     {
         let Some(thing) = self.if_seen(first.find(Some(scope))) else {
@@ -51,7 +51,7 @@ impl View<'_> {
     pub fn resolve(&self, wanted: Wanted, name: &str, scope: Option<usize>) -> Option<usize>
         ensures { (user : List ℕ) → names.is_one_part user ≡ true → result
             ≡ words.resolve (kind_at self.now.symbols.now.names)
-            (seen self.now.symbols.now self.now.sees.now self.now.packages.now) wanted name.now
+            (seen self.now.symbols.now self.now.sees.now self.now.packages) wanted name.now
             (names.within (name_of_place (name_at self.now.symbols.now.names) scope) user) }
     {
         if let Some(full_name) = name.strip_prefix('.') {

@@ -7,7 +7,7 @@ impl ScopeTree for View<'_> {
     ghost use Rattle.protox_name_tree.specs.Tree.{kind_at, name_at};
     ghost use Rattle.protox_views.specs.Views.{seen};
 
-    ghost seen = { λ v. seen v.symbols.now v.sees.now v.packages.now };
+    ghost seen = { λ v. seen v.symbols.now v.sees.now v.packages };
 
     ghost kind_of = { λ v. kind_at v.symbols.now.names };
 
@@ -30,7 +30,7 @@ impl Table for View<'_> {
     ghost use Rattle.protox_name_tree.specs.Tree.{kind_at};
     ghost use Rattle.protox_views.specs.Views.{seen};
 
-    ghost seen = { λ v. seen v.symbols.now v.sees.now v.packages.now };
+    ghost seen = { λ v. seen v.symbols.now v.sees.now v.packages };
 
     ghost kind_of = { λ v. kind_at v.symbols.now.names };
 

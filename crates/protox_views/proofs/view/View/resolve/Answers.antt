@@ -18,7 +18,7 @@ pub returns-in-Ends : goal.returns-in-Ends
 returns-in-Ends c =
     let table = c.args.self.now.symbols.now in
     let kind = kind_at table.names in
-    let sees = seen table c.args.self.now.sees.now c.args.self.now.packages.now in
+    let sees = seen table c.args.self.now.sees.now c.args.self.now.packages in
     let name = c.args.name.now in
     by_user kind sees c.args.wanted name (name_at table.names) c.args.scope c.in-Ends.found
     (relative name (strip_prefix_char 46 name None c.in_default.ensures.cases (lit< tt)))
@@ -32,7 +32,7 @@ pub returns : goal.returns
 returns c =
     let table = c.args.self.now.symbols.now in
     let kind = kind_at table.names in
-    let sees = seen table c.args.self.now.sees.now c.args.self.now.packages.now in
+    let sees = seen table c.args.self.now.sees.now c.args.self.now.packages in
     let name = c.args.name.now in
     by_user kind sees c.args.wanted name (name_at table.names) c.args.scope c.find-2.result
     (relative name (strip_prefix_char 46 name None c.in_default.ensures.cases (lit< tt)))

@@ -7,8 +7,8 @@ use Rattle.protox_views.proofs.view.View.resolve.Given as goal
 -- all scopes that were searched are passed by
 abbrev pub invariant-loop-place : goal.invariant-loop-place
 invariant-loop-place l =
-    all_from (kind_at l.self.symbols.now.names) (seen l.self.symbols.now l.self.sees.now l.self.packages.now) l.wanted l.name (name_at l.self.symbols.now.names) l.place
-    ≡ all_from (kind_at l.self.symbols.now.names) (seen l.self.symbols.now l.self.sees.now l.self.packages.now) l.wanted l.name (name_at l.self.symbols.now.names) l.fn.scope
+    all_from (kind_at l.self.symbols.now.names) (seen l.self.symbols.now l.self.sees.now l.self.packages) l.wanted l.name (name_at l.self.symbols.now.names) l.place
+    ≡ all_from (kind_at l.self.symbols.now.names) (seen l.self.symbols.now l.self.sees.now l.self.packages) l.wanted l.name (name_at l.self.symbols.now.names) l.fn.scope
 
 abbrev pub decreases-loop-place : goal.decreases-loop-place
 decreases-loop-place l = way_from (name_at l.self.symbols.now.names) l.place

@@ -6,7 +6,7 @@ use Rattle.protox_imports.specs.Rows.{rows_of}
 use Rattle.protox_link.specs.Seen.{packages_of}
 use Rattle.protox_link.specs.declared.known.Known.{Known}
 use Rattle.protox_symbols.specs.Things.{table_of}
-use Rattle.protox_views.specs.Packages.{AreFilesOf}
+use Rattle.protox_views.specs.FilesOf.{AreFilesOf}
 
 -- what each file passes on is known, unless files import one another in a circle
 abbrev pub HasRows : Known → Type 0

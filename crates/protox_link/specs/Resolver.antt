@@ -4,7 +4,7 @@ use Rattle.protox_descriptor.specs.declared.descriptor.FileDescriptorProto.{File
 use Rattle.protox_link.specs.Seen.{IsSeenBy}
 use Rattle.protox_link.specs.declared.resolver.FileNames.{FileNames}
 use Rattle.protox_symbols.specs.Things.{table_of}
-use Rattle.protox_views.specs.Packages.{seen_packages}
+use Rattle.protox_views.specs.FilesOf.{seen_packages}
 
 -- These are the table of the files, and the marks of what the file with this number sees of it.
 pub record IsOfFile (files : List FileDescriptorProto) (number : ℕ) (names : FileNames) : Type 0 where

@@ -6,7 +6,7 @@ ghost use Rattle.protox_link.specs.Known.{IsKnownOf};
 ghost use Rattle.protox_link.specs.Resolver.{IsOfFile};
 ghost use Rattle.protox_name_tree.specs.Tree.{kind_at};
 ghost use Rattle.protox_scopes.specs.Scopes.{resolve};
-ghost use Rattle.protox_views.specs.Packages.{seen_packages};
+ghost use Rattle.protox_views.specs.FilesOf.{seen_packages};
 ghost use Rattle.protox_views.specs.Views.{seen};
 
 use crate::known::{Known, passes_of};

@@ -4,7 +4,8 @@ use Rattle.std.proofs.lemmas.Bool.Decides.{eqb_tells, leb_tells}
 use Rattle.protox_marks.specs.Few.{among}
 use Rattle.protox_marks.specs.declared.few.FewMarks.{FewMarks}
 use Rattle.protox_name_tree.specs.Tree.{Names}
-use Rattle.protox_views.specs.Packages.{AreFilesOf, is_file_of, is_in_package, is_on_the_way}
+use Rattle.protox_views.specs.FilesOf.{AreFilesOf, is_file_of, is_in_package}
+use Rattle.protox_views.specs.Packages.{is_on_the_way}
 use Rattle.protox_views.specs.declared.packages.PackageFiles.{PackageFiles}
 
 or_false : (b : Bool) → (b || false) ≡ b

@@ -6,7 +6,8 @@ use Rattle.protox_marks.specs.Few.{among}
 use Rattle.protox_marks.specs.Marks.{any_marked}
 use Rattle.protox_marks.specs.declared.few.FewMarks.{FewMarks}
 use Rattle.protox_name_tree.specs.Tree.{Names}
-use Rattle.protox_views.specs.Packages.{AreFilesOf, is_file_of, is_in_package, is_on_the_way, is_package_seen, seen_packages}
+use Rattle.protox_views.specs.FilesOf.{AreFilesOf, is_file_of, is_in_package, seen_packages}
+use Rattle.protox_views.specs.Packages.{is_on_the_way, is_package_seen}
 use Rattle.protox_views.specs.declared.packages.PackageFiles.{PackageFiles}
 
 -- the mark of a number tells whether one of its files is seen

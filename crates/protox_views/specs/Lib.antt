@@ -1,2 +1,3 @@
 pub mod Views
 pub mod Packages
+pub mod FilesOf

@@ -1,7 +1,8 @@
 //! Packages that a file sees.
 
 ghost use Rattle.std.specs.Prelude.{◌≡◌, ◌<◌, ◌||◌, ◌&&◌, ◌==◌, ℕ, length, false, IfOk, OnOk};
-ghost use Rattle.protox_views.specs.Packages.{AreFilesOf, is_file_of, is_on_the_way};
+ghost use Rattle.protox_views.specs.FilesOf.{AreFilesOf, is_file_of};
+ghost use Rattle.protox_views.specs.Packages.{is_on_the_way};
 ghost use Rattle.protox_views.specs.Views.{is_marked};
 
 use protox_marks::{FewMarks, Marks};
@@ -88,7 +89,7 @@ pub struct SeenPackages<'a> {
 
 impl<'a> Model for SeenPackages<'a> {
     ghost use Rattle.std.specs.Prelude.{Bool, List};
-    ghost use Rattle.protox_views.specs.Packages.{seen_packages};
+    ghost use Rattle.protox_views.specs.FilesOf.{seen_packages};
 
     ghost Value = { List Bool };
 

@@ -1,7 +1,7 @@
 use Rattle.std.proofs.Common.{List, ℕ, Option, Some, arith, ap, subst, ◌∙◌, length}
 use Rattle.std.specs.List.{Contains}
 use Rattle.protox_imports.specs.Rows.{named_of}
-use Rattle.protox_views.specs.Packages.{seen_packages}
+use Rattle.protox_views.specs.FilesOf.{seen_packages}
 use Rattle.protox_link.proofs.Doing.{done, seen_in}
 use Rattle.protox_link.proofs.file.do_file.Goals as goal
 

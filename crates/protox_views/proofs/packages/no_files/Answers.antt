@@ -1,6 +1,6 @@
 use Rattle.std.proofs.Common.{◌∙◌, ap, arith, length, length-append}
 use Rattle.protox_views.proofs.Files.{told_pushed}
-use Rattle.protox_views.specs.Packages.{is_file_of}
+use Rattle.protox_views.specs.FilesOf.{is_file_of}
 use Rattle.protox_views.proofs.packages.no_files.Goals as goal
 
 pub loop-preserved : goal.loop-preserved

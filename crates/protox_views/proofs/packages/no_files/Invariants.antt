@@ -1,5 +1,5 @@
 use Rattle.std.proofs.Common.{◌≡◌, ℕ, false, length}
-use Rattle.protox_views.specs.Packages.{is_file_of}
+use Rattle.protox_views.specs.FilesOf.{is_file_of}
 use Rattle.protox_views.proofs.packages.no_files.Given as goal
 
 abbrev pub invariant-loop : goal.invariant-loop

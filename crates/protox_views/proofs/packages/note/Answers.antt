@@ -4,7 +4,8 @@ use Rattle.protox_name_tree.specs.Tree.{name_at}
 use Rattle.protox_names.specs.Tree.{name_of_place}
 use Rattle.protox_views.proofs.Files.{noted_outwards, nothing_left, one_noted}
 use Rattle.protox_views.proofs.Ways.{no_way, shorter_outwards, way_step}
-use Rattle.protox_views.specs.Packages.{is_file_of, is_on_the_way}
+use Rattle.protox_views.specs.FilesOf.{is_file_of}
+use Rattle.protox_views.specs.Packages.{is_on_the_way}
 use Rattle.protox_views.proofs.packages.note.Goals as goal
 
 pub loop-place-smaller : goal.loop-place-smaller

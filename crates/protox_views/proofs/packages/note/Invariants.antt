@@ -1,7 +1,8 @@
 use Rattle.std.proofs.Common.{◌≡◌, ◌<◌, ◌==◌, ◌||◌, ◌&&◌, ℕ, length}
 use Rattle.protox_name_tree.specs.Tree.{name_at}
 use Rattle.protox_names.specs.Tree.{name_of_place}
-use Rattle.protox_views.specs.Packages.{is_file_of, is_on_the_way}
+use Rattle.protox_views.specs.FilesOf.{is_file_of}
+use Rattle.protox_views.specs.Packages.{is_on_the_way}
 use Rattle.protox_views.proofs.packages.note.Given as goal
 
 abbrev pub invariant-loop-place : goal.invariant-loop-place

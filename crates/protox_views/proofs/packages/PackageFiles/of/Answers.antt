@@ -1,7 +1,8 @@
 use Rattle.std.proofs.Common.{◌≡◌, ◌<◌, ◌==◌, ◌||◌, ◌&&◌, ℕ, None, get_or, length, arith}
 use Rattle.protox_views.proofs.Files.{all_noted, file_noted}
 use Rattle.protox_views.proofs.Ways.{written_whole}
-use Rattle.protox_views.specs.Packages.{is_file_of, is_on_the_way}
+use Rattle.protox_views.specs.FilesOf.{is_file_of}
+use Rattle.protox_views.specs.Packages.{is_on_the_way}
 use Rattle.protox_views.proofs.packages.PackageFiles.of.Goals as goal
 
 pub loop-file-preserved : goal.loop-file-preserved

@@ -92,9 +92,6 @@ pub record AreNoted (names : Names) (packages : List (Option ℕ)) (i : ℕ) (fi
   pub done : (n f : ℕ) → n < length names.full_names → f < i → is_file_of files n f ≡ is_in_package names packages n f
   pub left : (n f : ℕ) → n < length names.full_names → i ≤ f → is_file_of files n f ≡ false
 
-pub none_noted : (names : Names) (packages : List (Option ℕ)) (files : List FewMarks) → length files ≡ length names.full_names → ((n f : ℕ) → is_file_of files n f ≡ false) → AreNoted names packages 0 files
-none_noted names packages files as_many none = record { as_many = as_many; done = λ n f here less. absurd (omega (arith, less)); left = λ n f here past. none n f }
-
 pub file_noted : (names : Names) (packages : List (Option ℕ)) (i : ℕ) (files noted : List FewMarks) → length noted ≡ length files
     → ((n f : ℕ) → n < length files → is_file_of noted n f ≡ (is_file_of files n f || ((f == i) && is_on_the_way names n (get_or packages i None))))
     → AreNoted names packages i files → AreNoted names packages (i + 1) noted

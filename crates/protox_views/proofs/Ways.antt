@@ -48,7 +48,8 @@ other_name names n q tree here other =
     ]
 
 -- The way from a number begins with itself, and goes on from its scope.
-pub way_step : (names : Names) (n q : ℕ) (outer : Option ℕ) → IsNameTree names → n < length names.full_names → IsOuter (name_at names) q outer → is_on_the_way names n (Some q) ≡ ((n == q) || is_on_the_way names n outer)
+pub way_step : (names : Names) (n q : ℕ) (outer : Option ℕ) → IsNameTree names → n < length names.full_names → IsOuter (name_at names) q outer
+    → is_on_the_way names n (Some q) ≡ ((n == q) || is_on_the_way names n outer)
 way_step names n q outer tree here is = elim (eqb_tells n q) [
   | inl (equal, same) ↦
       ap (λ first. first || list_any (λ scope. bytes_eq scope (name_at names n)) (scopes (name_at names q))) ((bytes_eq-Decides (name_at names q) (name_at names n)).1 (ap (name_at names) (sym same)))

@@ -97,7 +97,7 @@ impl<'a> Model for SeenPackages<'a> {
 }
 
 impl SeenPackages<'_> {
-    /// Whether the package with this number is seen. No number is seen that is not one of the table.
+    /// Whether the package with this number is seen. No number past those of the table is.
     ///
     /// It takes no memory. It makes at most one step for each 64 files in a row of which some is in
     /// the package.

@@ -35,6 +35,7 @@ use Rattle.protox_scopes.specs.declared.kind.Wanted.{Wanted}
 use Rattle.protox_symbols.proofs.Inside.{inside, message_declares}
 use Rattle.protox_symbols.specs.Symbols.{Table}
 use Rattle.protox_symbols.specs.Things.{Entry, entries, entries_from, entry_of, file_entries, no_things, package_entries, table_of, with_entry}
+use Rattle.protox_views.specs.FilesOf.{AreFilesOf}
 use Rattle.protox_views.specs.Packages.{is_package_seen}
 use Rattle.protox_views.specs.Views.{is_seen, meaning, seen, target}
 use Rattle.protox_walk.specs.Declarations.{At, Path, all_in, declared, enum_at, field_at, file_declarations, full_name, message_at, method_at, nth, numbered, oneof_at, service_at, siblings_at, text_of}
@@ -280,5 +281,7 @@ pub known_again : KnownAgain
 known_again files made known is of_made = record {
   rows = of_made.rows ∙ rows_same files made is;
   table = of_made.table ∙ table_same files made is;
-  packages = of_made.packages ∙ packages_same files made is;
+  passes = of_made.passes;
+  packages = subst (λ (t : Table). AreFilesOf t.names (packages_of (table_of files) files) known.packages) (table_same files made is)
+      (subst (λ (ps : List (Option ℕ)). AreFilesOf (table_of made).names ps known.packages) (packages_same files made is) of_made.packages);
 }

@@ -1,32 +1,71 @@
--- A search in one scope.
-use Rattle.std.proofs.Common.{◌≡◌, ◌+◌, ◌==◌, ◌||◌, ℕ, suc, Bool, true, false, not, cond, length, List, [], ◌∷◌, arith, take, refl, ap, ◌∙◌}
-use Rattle.std.proofs.Math.Dec.{eqb-suc-suc, eqb-zero-suc}
-use Rattle.std.specs.List.{list_any, prefix_len}
-use Rattle.protox_names.specs.Names.{front, is_dot, is_one_part}
+-- A search in one scope, and in what it finds there.
+use Rattle.std.proofs.Common.{◌≡◌, ◌≢◌, ◌||◌, ℕ, Bool, true, false, not, cond, List, [], ◌∷◌, ◌++◌, Option, Some, None, refl, sym, ap, ◌∙◌}
+use Rattle.std.specs.List.{list_any}
+use Rattle.std.specs.Option.{option_and_then}
+use Rattle.std.proofs.lemmas.Bool.{true≢false}
+use Rattle.std.proofs.lemmas.Option.{get_or_from_slice_get, none-some}
+use Rattle.protox_names.specs.Names.{front, is_absolute, is_dot, is_one_part, within}
+use Rattle.protox_names.proofs.Joining.{within_nests}
+use Rattle.protox_name_tree.proofs.FullNames.{found_name}
+use Rattle.protox_name_tree.specs.Tree.{Names, name_at, name_in, number_of}
+use Rattle.protox_name_tree.specs.Word.{Sought}
+use Rattle.protox_scopes.specs.Scopes.{fits, holds_names, step, step_from}
+use Rattle.protox_scopes.specs.declared.kind.Kind.{Kind}
+use Rattle.protox_scopes.specs.declared.kind.Wanted.{Wanted}
+use Rattle.protox_scopes.specs.declared.step.Step.TheVariants.{Ends, GoesOn}
 
-first_not : (byte : ℕ) (name : List ℕ) (test : Bool) → is_dot byte ≡ test → list_any is_dot (take (prefix_len (λ x. not (is_dot x)) name) name) ≡ false → list_any is_dot (take (cond (not test) (1 + prefix_len (λ x. not (is_dot x)) name) 0) (byte ∷ name)) ≡ false
-first_not byte name true is none = refl
-first_not byte name false is none =
-    let count : 1 + prefix_len (λ x. not (is_dot x)) name ≡ suc (prefix_len (λ x. not (is_dot x)) name) = omega arith in
-    ap (λ n. list_any is_dot (take n (byte ∷ name))) count
-    ∙ ap (λ test. test || list_any is_dot (take (prefix_len (λ x. not (is_dot x)) name) name)) is ∙ none
+-- ---- a name with a dot
 
-no_dot : (name : List ℕ) → list_any is_dot (front name) ≡ false
-no_dot [] = refl
-no_dot (byte ∷ name) = first_not byte name (is_dot byte) refl (no_dot name)
+or_true : (test : Bool) → (test || true) ≡ true
+or_true true = refl
+or_true false = refl
 
--- the first part of a name has no dots
-pub front_is_one_part : (name : List ℕ) → is_one_part (front name) ≡ true
-front_is_one_part name = ap not (no_dot name)
+some_dot : (part rest : List ℕ) → list_any is_dot (part ++ 46 ∷ rest) ≡ true
+some_dot [] rest = refl
+some_dot (byte ∷ part) rest = ap (λ test. is_dot byte || test) (some_dot part rest) ∙ or_true (is_dot byte)
 
-whole_from : (byte : ℕ) (name : List ℕ) (test : Bool) → is_dot byte ≡ test → (length (front name) == length name) ≡ is_one_part name
-    → (length (take (cond (not test) (1 + prefix_len (λ x. not (is_dot x)) name) 0) (byte ∷ name)) == suc (length name)) ≡ not (test || list_any is_dot name)
-whole_from byte name true is same = eqb-zero-suc (length name)
-whole_from byte name false is same =
-    let count : 1 + prefix_len (λ x. not (is_dot x)) name ≡ suc (prefix_len (λ x. not (is_dot x)) name) = omega arith in
-    ap (λ n. length (take n (byte ∷ name)) == suc (length name)) count ∙ eqb-suc-suc (length (front name)) (length name) ∙ same
+-- a name that is cut at a dot has more than one part
+pub more_parts : (name part rest : List ℕ) → name ≡ part ++ 46 ∷ rest → is_one_part name ≡ false
+more_parts name part rest is = ap is_one_part is ∙ ap not (some_dot part rest)
 
--- A name has one part if its first one is as long as it is.
-pub whole_front : (name : List ℕ) → (length (front name) == length name) ≡ is_one_part name
-whole_front [] = refl
-whole_front (byte ∷ name) = whole_from byte name (is_dot byte) refl (whole_front name)
+some_byte : (byte : ℕ) (rest : List ℕ) → byte ∷ rest ≢ []
+some_byte byte rest h = cc
+
+nested : (scope part rest : List ℕ) → is_absolute (part ++ 46 ∷ rest) ≡ false → within (within scope part) rest ≡ within scope (part ++ 46 ∷ rest)
+nested scope [] rest relative = absurd (true≢false relative)
+nested scope (byte ∷ part) rest relative = within_nests scope (byte ∷ part) rest (some_byte byte part)
+
+-- In what has the first part of a name, the rest has the full name that the name has in the scope.
+pub rest_within : (names : Names) (scope name rest : List ℕ) (thing : ℕ) → is_absolute name ≡ false → name ≡ front name ++ 46 ∷ rest → number_of names (within scope (front name)) ≡ Some thing → within (name_at names thing) rest ≡ within scope name
+rest_within names scope name rest thing relative is found =
+    ap (λ full. within full rest) (get_or_from_slice_get names.full_names thing (within scope (front name)) [] (found_name names.full_names (within scope (front name)) thing found))
+    ∙ nested scope (front name) rest (sym (ap is_absolute is) ∙ relative)
+    ∙ ap (within scope) (sym is)
+
+-- ---- what is seen
+
+if_kept : (test : Bool) (one other : ℕ) → cond test (Some one) None ≡ Some other → Some one ≡ Some other
+if_kept true one other h = h
+if_kept false one other h = absurd (none-some other h)
+
+-- what is seen was found
+pub seen_is_found : (is_seen : ℕ → Bool) (found : Option ℕ) (thing : ℕ) → option_and_then (λ n. cond (is_seen n) (Some n) None) found ≡ Some thing → found ≡ Some thing
+seen_is_found is_seen None thing h = h
+seen_is_found is_seen (Some n) thing h = if_kept (is_seen n) n thing h
+
+-- ---- one scope
+
+-- what is found under the first part
+pub first_found : (sought : Sought) (names : Names) (scope : ℕ) (name : List ℕ) (found : Option ℕ) → sought.tree ≡ names → sought.name ≡ front name → found ≡ number_of sought.tree (name_in sought.tree (Some scope) sought.name) → found ≡ number_of names (within (name_at names scope) (front name))
+first_found sought names scope name found same first is =
+    is ∙ ap (λ tree. number_of tree (name_in tree (Some scope) sought.name)) same
+    ∙ ap (λ part. number_of names (name_in names (Some scope) part)) first
+
+-- the search ends in what has the first part
+pub ends_inside : (kind : ℕ → Kind) (seen : List ℕ → Option ℕ) (wanted : Wanted) (name scope : List ℕ) (thing : ℕ) (found : Option ℕ) → seen (within scope (front name)) ≡ Some thing → is_one_part name ≡ false → holds_names (kind thing) ≡ true → found ≡ seen (within scope name) → Ends found ≡ step kind seen wanted name scope
+ends_inside kind seen wanted name scope thing found first more holds is =
+    let inside = seen (within scope name) in
+    ap Ends is
+    ∙ sym (ap (step_from kind seen wanted name scope) first
+    ∙ ap (λ one. cond one (cond (fits wanted (kind thing)) (Ends (Some thing)) GoesOn) (cond (holds_names (kind thing)) (Ends inside) GoesOn)) more
+    ∙ ap (λ holds. cond holds (Ends inside) GoesOn) holds)

@@ -1,18 +1,11 @@
-use Rattle.std.proofs.Common.{ℕ, ◌==◌, List, None, ap, length, lit<, ◌∙◌}
+use Rattle.std.proofs.Common.{None, lit<, ◌∙◌, arith}
 use Rattle.std.proofs.lemmas.Str.Pattern.{strip_prefix_char}
+use Rattle.std.proofs.lemmas.Grind.{common_steps}
 use Rattle.protox_name_tree.specs.Tree.{kind_at, name_at}
-use Rattle.protox_names.specs.Names.{is_one_part}
 use Rattle.protox_scopes.proofs.Outwards.{relative}
 use Rattle.protox_scopes.proofs.TreeSearch.{at_top, by_user, nearer_from, stopped}
 use Rattle.protox_views.specs.Views.{seen}
-use Rattle.protox_views.proofs.Resolved.{front_is_one_part, whole_front}
 use Rattle.protox_views.proofs.view.View.resolve.Goals as goal
-
-pub word-first-requires : goal.word-first-requires
-word-first-requires c = ap is_one_part c.front-part.ensures ∙ front_is_one_part c.args.name.now
-
-pub step-requires-clause-alone : goal.step-requires-clause-alone
-step-requires-clause-alone c = ap (λ (part : List ℕ). length part == length c.args.name.now) c.front-part.ensures ∙ whole_front c.args.name.now
 
 pub returns-in-Ends : goal.returns-in-Ends
 returns-in-Ends c =
@@ -20,9 +13,17 @@ returns-in-Ends c =
     let kind = kind_at table.names in
     let sees = seen table c.args.self.now.sees.now c.args.self.now.packages in
     let name = c.args.name.now in
-    by_user kind sees c.args.wanted name (name_at table.names) c.args.scope c.in-Ends.found
-    (relative name (strip_prefix_char 46 name None c.in_default.ensures.cases (lit< tt)))
-    (stopped kind sees c.args.wanted name (name_at table.names) c.args.scope c.loop-place.place c.in-Some-place.here c.in-Ends.found c.in-Some-place.is c.in-Ends.ensures c.loop-place.invariant)
+    let by_scopes = relative name (strip_prefix_char 46 name None c.in_default.ensures.cases (lit< tt)) in
+    by_user kind sees c.args.wanted name (name_at table.names) c.args.scope c.in-Ends.found by_scopes
+    (stopped kind sees c.args.wanted name (name_at table.names) c.args.scope c.loop-place.place c.in-Some-place.here c.in-Ends.found c.in-Some-place.is
+    (c.in-Ends.ensures name by_scopes (c.word-first.ensures.name ∙ c.cut.ensures.front) c.cut.ensures.rest) c.loop-place.invariant)
+
+pub loop-place-preserved : goal.loop-place-preserved
+loop-place-preserved c =
+    let name = c.args.name.now in
+    let by_scopes = relative name (strip_prefix_char 46 name None c.in_default.ensures.cases (lit< tt)) in
+    let passed = c.in_default-step.ensures name by_scopes (c.word-first.ensures.name ∙ c.cut.ensures.front) c.cut.ensures.rest in
+    grind (arith, common_steps, passed)
 
 pub loop-place-smaller : goal.loop-place-smaller
 loop-place-smaller c =

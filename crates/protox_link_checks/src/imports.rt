@@ -9,12 +9,14 @@ ghost use Rattle.protox_link_checks.specs.Uses.{faults_at};
 use crate::each::path_to;
 use protox_descriptor::tag::file::DEPENDENCY;
 use protox_link_fault::{LinkFault, LinkFaultKind};
+use protox_marks::Marks;
 use std::alloc::{AllocError, Global};
 
 // What is wrong with an import of the file with this number. The files of earlier imports are
 // marked, and then that file is too.
-fn wrong_import(marks: &mut [bool], named: Option<usize>) -> Option<LinkFaultKind>
+fn wrong_import(marks: &mut Marks, named: Option<usize>) -> Option<LinkFaultKind>
     requires { IfSome named (λ n. n < length marks.old) }
+    ensures as_many { length marks.new ≡ length marks.old }
     ensures wrong { (earlier : List ℕ) → ((n : ℕ) → n < length marks.old → slice_index_or marks.old n false ≡ list_any (λ e. e == n) earlier)
         → option_to_list result ≡ wrong_import earlier named }
     ensures marked { (earlier : List ℕ) → ((n : ℕ) → n < length marks.old → slice_index_or marks.old n false ≡ list_any (λ e. e == n) earlier)
@@ -23,10 +25,10 @@ fn wrong_import(marks: &mut [bool], named: Option<usize>) -> Option<LinkFaultKin
     let Some(number) = named else {
         return Some(LinkFaultKind::MissingImport);
     };
-    if marks[number] {
+    if marks.has(number) {
         return Some(LinkFaultKind::RepeatedImport);
     }
-    marks[number] = true;
+    marks.mark(number);
     None
 }
 
@@ -66,7 +68,7 @@ pub(crate) fn check_imports(
     requires { (n : ℕ) → Contains named.now (Some n) → n < count }
     ensures { OnOk result (faults.new.items ≡ faults.old.items ++ import_faults file named.now) }
 {
-    let mut marks = vec![in alloc; false; count]?;
+    let mut marks = Marks::new(alloc, count)?;
     for (index, import) in named.iter().enumerate() {
         let kind = wrong_import(&mut marks, *import);
         add_at_import(alloc, file, index, kind, faults)?;

@@ -58,7 +58,7 @@ make_texts() {
 }
 
 make_parts() {
-    local program
+    local program said
     mkdir -p "$work/parts"
     cd "$work/parts"
     for program in "${programs[@]}"; do
@@ -66,8 +66,7 @@ make_parts() {
     done
     make_libraries
     make_texts
-    if [ "$(./protoparse --version)" != "$(said_version)" ]; then
-        stop "protoparse --version says $(./protoparse --version), and not $(said_version)"
-    fi
+    said=$(./protoparse --version | head -n 1)
+    [[ $said == "protoparse $version"* ]] || stop "protoparse --version is $said, not $version"
     cd "$top"
 }

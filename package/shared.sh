@@ -27,7 +27,7 @@ missing() {
 }
 
 # Installs the Debian packages whose names it reads, and says so. Only root can.
-install() {
+install_missing() {
     local packages
     mapfile -t packages
     if [ ${#packages[@]} -eq 0 ]; then return; fi

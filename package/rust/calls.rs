@@ -11,8 +11,10 @@ fn accepted() {
 
 #[test]
 fn refused() {
-    let Err(Failure::Refused(faults)) = parse("a.proto", "message A { optional int32 b = 0; }") else {
-        panic!("it is not refused");
+    let source = "message A { optional int32 b = 0; }";
+    let faults = match parse("a.proto", source) {
+        Err(Failure::Refused(faults)) => faults,
+        _ => panic!("it is not refused"),
     };
     assert_eq!((faults.len(), faults[0].line, faults[0].column), (1, 0, 31));
     assert_eq!(faults[0].message, "message numbers must be between 1 and 536870911");

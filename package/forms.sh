@@ -18,7 +18,7 @@ settle() {
 
 put_programs() { # ROOT
     put 755 "$1/bin" "$work"/parts/protoparse "$work"/parts/protoscan
-    put 644 "$1/share/man/man1" "$work"/parts/man/man1/*
+    put 644 "$1/share/man/man1" "$work"/parts/man/*.1
     put 644 "$1/share/fish/vendor_completions.d" package/completions/*.fish
     local name
     for name in protoparse protoscan; do
@@ -28,13 +28,19 @@ put_programs() { # ROOT
     done
 }
 
-put_library() { # ROOT LIBDIR PREFIX: the folder of libraries below ROOT, and how protox.pc finds ROOT
+# LIBDIR is the folder of libraries below ROOT, and PREFIX says how protox.pc finds ROOT. Each call of
+# the library has a man page under its own name.
+put_library() { # ROOT LIBDIR PREFIX
+    local call
     put 644 "$1/include" examples/ffi/protox.h
     put 644 "$1/$2" "$work/parts/libprotox.a" "$work/parts/$soname"
     ln -s "$soname" "$1/$2/libprotox.so"
     mkdir -p "$1/$2/pkgconfig"
     fill package/protox.pc "PREFIX=$3" "LIBDIR=$2" >"$1/$2/pkgconfig/protox.pc"
-    put 644 "$1/share/man/man3" "$work"/parts/man/man3/*
+    put 644 "$1/share/man/man3" "$work"/parts/man/*.3
+    for call in protox_parse_to_descriptor protox_report protox_version; do
+        ln -s protox.3 "$1/share/man/man3/$call.3"
+    done
 }
 
 put_texts() { # FOLDER
@@ -66,11 +72,15 @@ make_tar() {
 
 # What Debian asks of every package: the changes, a copyright, man pages and changes packed by gzip.
 put_debian() { # ROOT PACKAGE
-    local doc=$1/usr/share/doc/$2
+    local doc=$1/usr/share/doc/$2 page
     put_texts "$doc"
     gzip -9nc "$work/parts/CHANGELOG.md" >"$doc/changelog.gz"
     fill package/debian/changelog | gzip -9nc >"$doc/changelog.Debian.gz"
     find "$1/usr/share/man" -type f -exec gzip -9n {} +
+    for page in $(find "$1/usr/share/man" -type l); do
+        ln -s "$(readlink "$page").gz" "$page.gz"
+        rm "$page"
+    done
     chmod 644 "$doc"/*.gz
 }
 

@@ -43,14 +43,12 @@ make_record() {
     (cd "$top" && sha256sum "${programs[@]}" "$library")
 }
 
-# The man pages, one more name for each call of the library, and the texts.
+# The man pages and the texts.
 make_texts() {
-    local page call
-    mkdir -p man/man1 man/man3
-    for page in protoparse.1 protoscan.1; do fill "$top/package/man/$page" >"man/man1/$page"; done
-    fill "$top/package/man/protox.3" >man/man3/protox.3
-    for call in protox_parse_to_descriptor protox_report protox_version; do
-        echo '.so man3/protox.3' >"man/man3/$call.3"
+    local page
+    mkdir man
+    for page in protoparse.1 protoscan.1 protox.3; do
+        fill "$top/package/man/$page" >"man/$page"
     done
     cp "$top"/{README.md,CHANGELOG.md,docs/PROVED.md} .
     fill "$top/package/debian/copyright" >copyright

@@ -28,8 +28,8 @@ put_programs() { # ROOT
     done
 }
 
-# LIBDIR is the folder of libraries below ROOT, and PREFIX says how protox.pc finds ROOT. Each call of
-# the library has a man page under its own name.
+# LIBDIR is the folder of libraries below ROOT, and PREFIX says how protox.pc finds ROOT. Each call
+# of the library has a man page under its own name.
 put_library() { # ROOT LIBDIR PREFIX
     local call
     put 644 "$1/include" examples/ffi/protox.h
@@ -100,7 +100,7 @@ build_deb() { # ROOT PACKAGE FILE..: FILES are what it loads libraries for
     depends=$(depends_of "$@")
     mkdir -p "$root/DEBIAN"
     (cd "$root" && find usr -type f | sort | xargs md5sum) >"$root/DEBIAN/md5sums"
-    fill "package/debian/$package.control" "DEPENDS=$depends" \
+    fill "package/debian/$package.control" "DEPENDS=$depends" "KITNAME=${kit%% *}" \
         "SIZE=$(du -sk --apparent-size "$root/usr" | cut -f1)" >"$root/DEBIAN/control"
     settle "$root"
     dpkg-deb --root-owner-group -Zxz --threads-max=1 --build "$root" \

@@ -2,8 +2,8 @@
 
 # The tests of the library, linked with a static library. They count and refuse requests for memory.
 build_tests() { # INCLUDE LIBRARY PROGRAM
-    gcc -std=c11 -O2 -Wall -Wextra -Werror "-I$1" -Iexamples/ffi examples/ffi/tests.c "$2" -pthread \
-        -Wl,--wrap=malloc,--wrap=realloc,--wrap=free -o "$3"
+    gcc -std=c11 -O2 -Wall -Wextra -Werror "-I$1" -Iexamples/ffi examples/ffi/tests.c "$2" \
+        -pthread -Wl,--wrap=malloc,--wrap=realloc,--wrap=free -o "$3"
 }
 
 unpack() { # PREFIX

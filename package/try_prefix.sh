@@ -1,9 +1,12 @@
 # Tries the tar.gz under a prefix of its own. package/try reads this file.
 
 # The tests of the library, linked with a static library. They count and refuse requests for memory.
+# They are built in another folder, so that they take the installed header.
 build_tests() { # INCLUDE LIBRARY PROGRAM
-    gcc -std=c11 -O2 -Wall -Wextra -Werror "-I$1" -Iexamples/ffi examples/ffi/tests.c "$2" \
-        -pthread -Wl,--wrap=malloc,--wrap=realloc,--wrap=free -o "$3"
+    mkdir -p "$work/outside"
+    cp examples/ffi/tests.c examples/ffi/trying.h "$work/outside/"
+    gcc -std=c11 -O2 -Wall -Wextra -Werror "-I$1" "$work/outside/tests.c" "$2" -pthread \
+        -Wl,--wrap=malloc,--wrap=realloc,--wrap=free -o "$3"
 }
 
 unpack() { # PREFIX

@@ -33,7 +33,7 @@ try_man_pages() { # FOLDER WITH man1 AND man3
         (cd "$1" && man --warnings -E UTF-8 -l -Tutf8 -Z "$page" >/dev/null) 2>"$work/warnings"
         [ ! -s "$work/warnings" ] || { cat "$work/warnings" && return 1; }
     done
-    man -l "$1/man1/protoparse.1"* | grep -q 'defined here'
+    man -l "$1/man1/protoparse.1"* | grep 'defined here' >/dev/null
 }
 
 # A program that was linked with the installed library runs where only the package is.
@@ -43,7 +43,7 @@ try_linked() {
         PKG_CONFIG_LIBDIR=$system/usr/lib/x86_64-linux-gnu/pkgconfig \
         pkg-config --cflags --libs protox)
     gcc "$system/usr/share/doc/libprotox-dev/examples/check.c" $found -o "$system/try/check"
-    objdump -p "$system/try/check" | grep -q 'NEEDED *libprotox.so.1'
+    objdump -p "$system/try/check" | grep 'NEEDED *libprotox.so.1' >/dev/null
     first_example_in_c in_documents /try/check
 }
 

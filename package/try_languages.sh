@@ -76,6 +76,12 @@ try_python_tests() {
     in_venv python "$work/python/test_protox.py"
 }
 
+# What the program in Rust has to list too.
+try_messages() {
+    in_venv python "$work/python/messages.py" examples/library.proto >"$work/by_python"
+    [ -s "$work/by_python" ]
+}
+
 # README's first example: the exception has the first line of what protoparse prints.
 try_python_example() {
     local status=0
@@ -118,7 +124,7 @@ try_wheel() {
     check "wheel: messages with comments in three lines" try_three_lines
     check "wheel: the tests of protox.py" try_python_tests
     check "wheel: types and docstrings" try_types
-    in_venv python "$work/python/messages.py" examples/library.proto >"$work/by_python" || true
+    check "wheel: messages.py lists messages" try_messages
     check "wheel: pip uninstall leaves nothing" remove_wheel
 }
 
@@ -130,7 +136,6 @@ in_crate() { # WORD..: cargo on the copy of the crate
 # The program in the crate lists the messages that the one in Python lists.
 try_crate_program() {
     in_crate run --release --example messages -- examples/library.proto >"$work/by_rust"
-    [ -s "$work/by_rust" ]
     diff "$work/by_python" "$work/by_rust"
 }
 

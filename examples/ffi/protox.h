@@ -6,7 +6,12 @@
  * all that is wrong with a file, with places. `protox_version` numbers these calls and what they
  * write.
  *
- * Link with libprotox_ffi.a, and behind it liblibc_c.a of the kit, which it takes memory from:
+ * With a package, link with libprotox, the shared or the static library:
+ *
+ *     cc check.c $(pkg-config --cflags --libs protox) -o check
+ *
+ * From the sources, link with libprotox_ffi.a, and behind it liblibc_c.a of the kit, which it takes
+ * memory from:
  *
  *     cc check.c libprotox_ffi.a liblibc_c.a -o check
  *

@@ -1,27 +1,42 @@
-"""The parser from Python: `parse(name, source)` answers a FileDescriptorProto or raises ParseError.
+"""A parser of Protocol Buffers source files, by the C library libprotox.
 
-It needs python3-protobuf and the shared library libprotox.so. PROTOX_LIBRARY says where that is, if
-it is not in the folder `out` beside this file, where build.sh makes it.
+`parse(name, source)` and `parse_file(path)` return a FileDescriptorProto or raise ParseError, and
+`report(name, source)` returns what is wrong. `messages(file)` lists the messages of a descriptor
+with their comments:
+
+    import protox
+    for name, comment in protox.messages(protox.parse_file("foo.proto")):
+        print(name, comment)
+
+It needs protobuf (python3-protobuf) and the shared library libprotox.so. PROTOX_LIBRARY says where
+that is, if it is neither beside this file nor in the folder `out` there, where build.sh makes it.
 """
 import ctypes
 import os
 import struct
 from dataclasses import dataclass, field
+from typing import Any, Callable, Dict, Iterable, Iterator, List, Tuple, Union
 
-from google.protobuf.descriptor_pb2 import FileDescriptorProto
+from google.protobuf.descriptor_pb2 import DescriptorProto, FileDescriptorProto
 
 VERSION = 1
 ACCEPTED, REFUSED, OUT_OF_MEMORY, TOO_SHORT, NOT_UTF8, TOO_LARGE, NOT_A_FLOAT = range(7)
 WORDS = {TOO_LARGE: "the answer takes 2 GiB or more", NOT_A_FLOAT: "an option's value is no float"}
+Text = Union[str, bytes]
 
-_library = ctypes.CDLL(
-    os.environ.get("PROTOX_LIBRARY")
-    or os.path.join(os.path.dirname(os.path.abspath(__file__)), "out", "libprotox.so")
-)
+
+def _library_path() -> str:
+    here = os.path.dirname(os.path.abspath(__file__))
+    beside = os.path.join(here, "libprotox.so")
+    made = beside if os.path.exists(beside) else os.path.join(here, "out", "libprotox.so")
+    return os.environ.get("PROTOX_LIBRARY") or made
+
+
+_library = ctypes.CDLL(_library_path())
 _calls = _library.protox_parse_to_descriptor, _library.protox_report
-for _call in _calls:
-    _call.restype = ctypes.c_uint32
-    _call.argtypes = [
+for _each in _calls:
+    _each.restype = ctypes.c_uint32
+    _each.argtypes = [
         ctypes.c_char_p, ctypes.c_size_t, ctypes.c_char_p, ctypes.c_size_t,
         ctypes.c_char_p, ctypes.c_size_t, ctypes.POINTER(ctypes.c_size_t),
     ]
@@ -44,23 +59,27 @@ class Place:
 
 @dataclass
 class Fault:
+    """One thing that is wrong with a source. `kind` is a number of `enum protox_kind`."""
+
     kind: int
     place: Place
     message: str
     help: str
-    others: list = field(default_factory=list)
+    others: List[Place] = field(default_factory=list)
 
 
 class ParseError(Exception):
     """What is wrong with a source: `faults`, and `line` and `column` of the first, from 0."""
 
-    def __init__(self, name, faults):
+    def __init__(self, name: str, faults: List[Fault]) -> None:
         self.name, self.faults = name, faults
         self.line, self.column = faults[0].place.line, faults[0].place.column
         super().__init__(f"{name}:{self.line + 1}:{self.column + 1}: {faults[0].message}")
 
 
-def _call_with_room(call, name, source, room):
+def _call_with_room(
+    call: Callable[..., int], name: bytes, source: bytes, room: int
+) -> Tuple[int, bytes]:
     while True:
         out, length = ctypes.create_string_buffer(room), ctypes.c_size_t()
         status = call(name, len(name), source, len(source), out, room, ctypes.byref(length))
@@ -70,19 +89,21 @@ def _call_with_room(call, name, source, room):
 
 
 class _Reader:
-    def __init__(self, data):
+    """Reads records, as protox.h describes them."""
+
+    def __init__(self, data: bytes) -> None:
         self.data, self.at = data, 0
 
-    def numbers(self, count):
+    def numbers(self, count: int) -> Tuple[Any, ...]:
         self.at += 4 * count
         return struct.unpack_from(f"<{count}I", self.data, self.at - 4 * count)
 
-    def text(self):
+    def text(self) -> str:
         (length,) = self.numbers(1)
         self.at += length
         return self.data[self.at - length : self.at].decode()
 
-    def fault(self):
+    def fault(self) -> Fault:
         (kind,), place = self.numbers(1), Place(*self.numbers(4))
         message, place.label = self.text(), self.text()
         fault = Fault(kind, place, message, self.text())
@@ -91,7 +112,7 @@ class _Reader:
         return fault
 
 
-def _raise_unless_good(status):
+def _raise_unless_good(status: int) -> None:
     if status == OUT_OF_MEMORY:
         raise MemoryError
     if status == NOT_UTF8:
@@ -100,7 +121,7 @@ def _raise_unless_good(status):
         raise ValueError(WORDS[status])
 
 
-def report(name, source):
+def report(name: Text, source: Text) -> List[Fault]:
     """The faults of a source, which is bytes or a str; an empty list where nothing is wrong."""
     name, source = _as_bytes(name), _as_bytes(source)
     status, data = _call_with_room(_calls[1], name, source, 1 << 14)
@@ -111,7 +132,7 @@ def report(name, source):
     return faults
 
 
-def parse(name, source):
+def parse(name: Text, source: Text) -> FileDescriptorProto:
     """The descriptor of a source, which is bytes or a str, or ParseError with what is wrong."""
     name, source = _as_bytes(name), _as_bytes(source)
     status, data = _call_with_room(_calls[0], name, source, 8 * len(source) + (1 << 14))
@@ -121,5 +142,40 @@ def parse(name, source):
     return FileDescriptorProto.FromString(data)
 
 
-def _as_bytes(text):
+def parse_file(path: Union[str, "os.PathLike[str]"]) -> FileDescriptorProto:
+    """The descriptor of the file at this path, under this name; errors as of `parse` and `open`."""
+    with open(path, "rb") as source:
+        return parse(os.fspath(path), source.read())
+
+
+def comments(file: FileDescriptorProto) -> Dict[Tuple[int, ...], str]:
+    """The comment that stands before each declaration, by the declaration's path.
+
+    It is empty where there is no comment. Names, types and numbers have paths too.
+    """
+    return {tuple(it.path): it.leading_comments for it in file.source_code_info.location}
+
+
+def messages(file: FileDescriptorProto) -> Iterator[Tuple[str, str]]:
+    """Each message of a file: its full name, such as `foo.Bar.Baz`, and the comment before it.
+
+    A message comes before those in it. Groups and the entries of maps are messages too.
+    """
+    front = f"{file.package}." if file.package else ""
+    return _messages(file.message_type, (4,), front, comments(file))
+
+
+def _messages(
+    found: Iterable[DescriptorProto],
+    path: Tuple[int, ...],
+    front: str,
+    known: Dict[Tuple[int, ...], str],
+) -> Iterator[Tuple[str, str]]:
+    for index, message in enumerate(found):
+        at, name = (*path, index), front + message.name
+        yield name, known.get(at, "").strip()
+        yield from _messages(message.nested_type, (*at, 3), name + ".", known)
+
+
+def _as_bytes(text: Text) -> bytes:
     return text.encode() if isinstance(text, str) else bytes(text)

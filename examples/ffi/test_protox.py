@@ -1,4 +1,6 @@
 """Tests of protox.py."""
+import os
+import tempfile
 import unittest
 
 import protox
@@ -16,6 +18,23 @@ class Calls(unittest.TestCase):
         self.assertEqual(file.message_type[0].field[0].default_value, "2")
         found = {tuple(it.path): it.leading_comments for it in file.source_code_info.location}
         self.assertEqual(found[(4, 0)], " A.\n")
+
+    def test_messages(self):
+        source = "package p.q;\n" + GOOD + "message B {\n  // C.\n  message C {}\n}\n"
+        found = list(protox.messages(protox.parse("a.proto", source)))
+        self.assertEqual(found, [("p.q.A", "A."), ("p.q.B", ""), ("p.q.B.C", "C.")])
+        self.assertEqual(list(protox.messages(protox.parse("a.proto", GOOD))), [("A", "A.")])
+
+    def test_comments(self):
+        found = protox.comments(protox.parse("a.proto", GOOD))
+        self.assertEqual((found[(4, 0)], found[(4, 0, 2, 0)]), (" A.\n", ""))
+
+    def test_file(self):
+        with tempfile.TemporaryDirectory() as folder:
+            path = os.path.join(folder, "a.proto")
+            with open(path, "w") as file:
+                file.write(GOOD)
+            self.assertEqual(protox.parse_file(path), protox.parse(path, GOOD))
 
     def test_fault(self):
         with self.assertRaises(protox.ParseError) as caught:

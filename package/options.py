@@ -6,8 +6,8 @@ usage: package/options.py        anywhere; it takes well under a second
 The options in the help of protoparse are the source. The reader of the options in
 crates/protoparse_words, the man page and the completions must name the same ones. The man page of
 the C library must declare the calls of protox.h and name its statuses. The version is that of
-`protoparse --version`; CHANGELOG.md must begin with it. The kit that README names must be the one
-that proves. The last line is 'N passed, M failed'.
+`protoparse --version`; CHANGELOG.md must begin with it. The kit that README and `--version`
+name must be the one that proves. The last line is 'N passed, M failed'.
 """
 import os
 import re
@@ -130,6 +130,8 @@ def compare_version():
     ran = subprocess.run(['rt', 'version'], stdout=subprocess.PIPE, check=True)
     named = sorted(set(re.findall(r'rattle-kit-\w+', read('README.md'))))
     compare('the kit in README.md', ran.stdout.decode().split()[:1], named)
+    told = re.findall(r'^const VERSION: &str = "protoparse [0-9.]+ \((.*)\)$', source, flags=re.M)
+    compare('the kit in protoparse --version', named, told)
 
 
 def main():

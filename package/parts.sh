@@ -14,6 +14,13 @@ fill() { # FILE NAME=VALUE..
     sed "${words[@]}" "$file"
 }
 
+# A text of the library says what was packed. Nothing is packed that isn't proved.
+make_build_text() {
+    printf 'const char protox_build[] = "%s";\n' \
+        "protox $version, $kit, rt ci: $proved, commit $commit" >protox_build.c
+    gcc -O2 -fPIC -c protox_build.c -o objects/protox_build.o
+}
+
 # The objects of the static library that `rt lib` built, and the one object of the kit that asks
 # malloc for memory. Two of one name would overwrite one another.
 make_objects() {
@@ -24,10 +31,11 @@ make_objects() {
     if [ "$(ls objects | wc -l)" -ne "$({ ar t "$top/$library" && ar t "$heap"; } | wc -l)" ]; then
         stop "two objects of the library have the same name"
     fi
+    make_build_text
     strip --strip-debug --enable-deterministic-archives objects/*
 }
 
-# Both libraries hold the same objects. The shared one shows only the calls of protox.h.
+# Both libraries hold the same objects. The shared one shows only what protox.h declares.
 make_libraries() {
     make_objects
     ar -Drcs libprotox.a objects/*

@@ -102,13 +102,19 @@ import protox
 
 assert os.path.exists(os.path.join(os.path.dirname(protox.__file__), 'py.typed'))
 assert protox.__doc__
-for name in ('report', 'parse', 'parse_file', 'comments', 'messages'):
+for name in ('report', 'parse', 'parse_file', 'comments', 'messages', 'build'):
     call = getattr(protox, name)
     assert call.__doc__, name
     assert set(typing.get_type_hints(call)) == {*inspect.signature(call).parameters, 'return'}, name
 for name in ('Place', 'Fault', 'ParseError'):
     assert getattr(protox, name).__doc__, name
 LINES
+}
+
+# The library in the wheel tells the version, the kit and the proof.
+try_python_build() {
+    in_venv python -c 'import protox; print(protox.build())' >"$work/found"
+    grep -qE "^protox $version, $(rt version), rt ci: [1-9][0-9]* passed, 0 failed, commit " "$work/found"
 }
 
 remove_wheel() {
@@ -125,6 +131,7 @@ try_wheel() {
     check "wheel: the tests of protox.py" try_python_tests
     check "wheel: types and docstrings" try_types
     check "wheel: messages.py lists messages" try_messages
+    check "wheel: version, kit and proof" try_python_build
     check "wheel: pip uninstall leaves nothing" remove_wheel
 }
 

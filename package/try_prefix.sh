@@ -49,17 +49,29 @@ try_symbols() { # PREFIX
         awk '$2 == "T" { print $3 }' | diff <(calls_of_header "$1" | sort) -
 }
 
-# pkg-config and BUILD.txt tell the version, the kit and the proof, as the program and the kit do.
+# A program that prints what the library says of its build.
+try_build_text() { # PREFIX EXPECTED
+    printf '#include <protox.h>\n#include <stdio.h>\nint main(void) { %s }\n' \
+        'return puts(protox_build) < 0;' >"$work/build.c"
+    gcc -Wall -Wextra -Werror "$work/build.c" $(flags_of "$1" --cflags --libs) -o "$work/build"
+    [ "$(LD_LIBRARY_PATH="$1/lib" "$work/build")" = "$2" ]
+}
+
+# pkg-config, BUILD.txt and the library tell the version, the kit and the proof, as the program and
+# the kit do.
 try_told() { # PREFIX
-    local words
+    local words proved
     words=$(rt version)
+    proved=$(flags_of "$1" --variable=proved)
+    try_build_text "$1" \
+        "protox $version, $words, rt ci: $proved, commit $(git rev-parse HEAD)"
     [ "$(flags_of "$1" --modversion)" = "$version" ]
     [ "$(flags_of "$1" --variable=kit)" = "$words" ]
     grep -qx "kit: *$words" "$1/share/doc/protox/BUILD.txt"
-    grep -qx "rt ci: *$(flags_of "$1" --variable=proved)" "$1/share/doc/protox/BUILD.txt"
+    grep -qx "rt ci: *$proved" "$1/share/doc/protox/BUILD.txt"
     grep -qx "commit: *$(git rev-parse HEAD)" "$1/share/doc/protox/BUILD.txt"
-    [[ $(flags_of "$1" --variable=proved) =~ ^[1-9][0-9]*\ passed,\ 0\ failed$ ]]
-    [[ $("$1/bin/protoparse" --version) == "protoparse $version"* ]]
+    [[ $proved =~ ^[1-9][0-9]*\ passed,\ 0\ failed$ ]]
+    [[ $("$1/bin/protoparse" --version) == "protoparse $version (${words%% *})"* ]]
 }
 
 try_prefix_tests() { # PREFIX

@@ -65,6 +65,10 @@ enum protox_status {
 /* PROTOX_VERSION of the library. */
 uint32_t protox_version(void);
 
+/* Only in the library of a package: a line of text with the package's version, the kit, what
+ * `rt ci` ended with when it proved the sources, and their commit. */
+extern const char protox_build[];
+
 /*
  * Writes the bytes of the file's FileDescriptorProto to `out`, and how many there are to
  * `*out_len`. Names and options stay unresolved, as protobuf's own parser leaves them.

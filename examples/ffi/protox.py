@@ -142,6 +142,18 @@ def parse(name: Text, source: Text) -> FileDescriptorProto:
     return FileDescriptorProto.FromString(data)
 
 
+def build() -> Union[str, None]:
+    """The version, the kit, what proved the library, and the commit, as a line of text.
+
+    Only the library of a package has it: else None.
+    """
+    try:
+        text = ctypes.c_char.in_dll(_library, "protox_build")
+    except ValueError:
+        return None
+    return ctypes.string_at(ctypes.addressof(text)).decode()
+
+
 def parse_file(path: Union[str, "os.PathLike[str]"]) -> FileDescriptorProto:
     """The descriptor of the file at this path, under this name; errors as of `parse` and `open`."""
     with open(path, "rb") as source:

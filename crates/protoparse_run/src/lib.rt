@@ -27,7 +27,9 @@ use std::alloc::Global;
 use std::io::{self, Write};
 use tally::{Outcome, Tally};
 
-const VERSION: &str = "protoparse 0.10.0\n";
+const VERSION: &str = "protoparse 0.10.0 (rattle-kit-13f)
+Builds by `rt ci`, `rt run` and package/build are proved. Builds by `rt try` are not.
+";
 
 const HELP: &str = "usage: protoparse [OPTIONS] FILE..
 

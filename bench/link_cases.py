@@ -30,14 +30,14 @@ import subprocess
 import sys
 import tempfile
 
-from link_sets import Protoc, Unclear, linked_lines, sets_of, within, written
+from link_sets import LIKE_ANOTHER, Protoc, Unclear, linked_lines, sets_of, within, written
 
 PROGRAM = 'crates/linkcases/out/linkcases'
 PACKAGES = ['', 'a', 'b', 'a.b', 'b.a', 'a.b.c', 'c.a']
 # A line of one declaration that uses names.
 USE = re.compile(r'(optional .*;|[\w.]+ \w+ = \d+;|map<.*;|rpc .*;|extend .*|oneof .*|import .*)')
 # What is wrong in proto3 alone.
-PROTO3 = ('first value not zero', 'extensions in proto3')
+PROTO3 = ('first value not zero', 'extensions in proto3', LIKE_ANOTHER)
 # A fault of a name that is declared twice in a file, and one of a name that is used or of a default.
 TWICE = re.compile(r'(\S+) \S+ already defined: \S+ in \1')
 USED = re.compile(r'\S+ \S+ (not (defined|a type|a message): .*|no such value|default of a message|bad default)')
@@ -111,7 +111,8 @@ class Chance:
             for _ in range(self.rng.choice([0, 0, 1, 1, 2])):
                 self.message(full, depth + 1)
         for _ in range(self.rng.randint(0, 3)):
-            name = self.own(full) if self.rng.random() < 0.4 else f'f_{self.next()}'
+            letters = 'abcdAB' if self.proto3 else 'abcd'
+            name = self.own(full, letters) if self.rng.random() < 0.4 else f'f_{self.next()}'
             self.lines.append(self.rng.choice([
                 f'{optional}{self.used()} {name} = {self.next()};',
                 f'{optional}{self.used()} {name} = {self.next()}{self.default()};',
@@ -126,7 +127,10 @@ class Chance:
 
     def enum(self, scope):
         number = self.rng.choice([0, 0, 0, 0, 7]) if self.proto3 else 0
-        self.lines.append(f'enum {self.own(scope)} {{ {self.own(scope)} = {number}; }}')
+        name, values = self.own(scope), [f'{self.own(scope)} = {number};']
+        if self.proto3 and self.rng.random() < 0.3:
+            values += [f'{self.own(scope, ["A", "B", f"{name}_a", f"_{name}B"])} = {n};' for n in range(1, 3)]
+        self.lines.append(f'enum {name} {{ {" ".join(values)} }}')
 
     def service(self, scope):
         full = within(scope, self.own(scope))

@@ -43,6 +43,10 @@ FOR_EXTENSIONS = re.compile(r'Extension range .* includes field "(.*)" \((\d+)\)
 RESERVED = re.compile(r'(?:Field|Enum value) "(.*)" uses reserved number (-?\d+)\.')
 OVERLAPS = re.compile(r'(Reserved|Extension) range (-?\d+) to (-?\d+) overlaps with (already-defined|reserved) range .*\.')
 BACKWARD = re.compile(r'Reserved range end number must be greater than start number\.')
+# What it says in proto3 of names that are like others, at the name.
+ALIKE = re.compile(r'The JSON camel-case name of field ".*" conflicts with field ".*"\. This is not allowed in proto3\.'
+                   r'|Enum name .* has the same name as .* if you ignore case and strip out .*')
+LIKE_ANOTHER = 'like another name'
 # What it says of reserved names: of one that is reserved again, at the name of what reserves it.
 RESERVED_AGAIN = re.compile(r'(?:Field name|Enum value) ".*" is reserved multiple times\.')
 RESERVED_NAME = re.compile(r'(?:Field name|Enum value) ".*" is reserved\.')
@@ -57,8 +61,7 @@ IMPORT_TWICE = re.compile(r'Import "(.*)" was listed twice\.')
 SIBLINGS = ('Note that enum values use C++ scoping rules, meaning that enum values are siblings of their type, '
             'not children of it. ')
 # What isn't checked here yet.
-NOT_YET = re.compile(r'Enum type ".*" is not a proto3 enum, .*|The JSON camel-case name of field .*'
-                     r'|Enum name .* has the same name as .*|Enum value in map must define 0 as the first value\.'
+NOT_YET = re.compile(r'Enum type ".*" is not a proto3 enum, .*|Enum value in map must define 0 as the first value\.'
                      r'|".*" does not declare \d+ as an extension number\.|Extension number \d+ has already .*')
 MORE = re.compile(r'Expanded map entry type .*|Suggested field numbers for .*')
 
@@ -201,6 +204,9 @@ def in_proto3(path, part):
         yield path + (2, 0, 2), 'first value not zero'
     elif part.DESCRIPTOR.name == 'DescriptorProto':
         yield path + (5, 0), 'extensions in proto3'
+    if name := NAMED.get(part.DESCRIPTOR.name):
+        number = part.DESCRIPTOR.fields_by_name[name].number
+        yield from ((path + (number, index, NAME), LIKE_ANOTHER) for index in range(len(getattr(part, name))))
 
 
 class Faults:
@@ -258,8 +264,9 @@ class Faults:
         return min((path for path, start in self.places.items() if start == place), key=len)
 
     def name_at(self, place):
-        """The shortest path of a name at a place."""
-        return min((path for path, start in self.places.items() if start == place and path[-1:] == (NAME,)), key=len)
+        """The shortest path of a name at a place. A path of even length ends with an index."""
+        return min((path for path, start in self.places.items()
+                    if start == place and path[-1:] == (NAME,) and len(path) % 2), key=len)
 
     def numbered(self, name, number):
         """The paths of the numbers of the fields and values with a name and a number."""
@@ -307,6 +314,8 @@ class Faults:
         if RESERVED_AGAIN.fullmatch(text):
             # one name may be told several times
             return self.texts[self.name_at(place), AGAIN].append(text)
+        if ALIKE.fullmatch(text):
+            return self.add(self.name_at(place), LIKE_ANOTHER, text)
         if RESERVED_NAME.fullmatch(text):
             return self.add(self.name_at(place), 'reserved name', text)
         words, paths = self.among(place, text)

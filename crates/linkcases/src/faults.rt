@@ -75,6 +75,7 @@ fn word(kind: &LinkFaultKind) -> &'static str {
         LinkFaultKind::ReservedName => "reserved name",
         LinkFaultKind::FirstNotZero => "first value not zero",
         LinkFaultKind::ExtensionsInProto3 => "extensions in proto3",
+        LinkFaultKind::Alike(_) => "like another name",
         LinkFaultKind::MissingImport => "missing import",
         LinkFaultKind::RepeatedImport => "repeated import",
         LinkFaultKind::ImportCycle(_) => "cycle:",

@@ -7,6 +7,7 @@ pub mod Paths
 pub mod Again
 pub mod Growing
 pub mod Behind
+pub mod Passing
 pub mod WrongClashes
 pub mod WrongImports
 pub mod WrongNames

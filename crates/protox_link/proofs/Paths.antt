@@ -4,8 +4,10 @@ use Rattle.std.specs.Prelude.{ℤ, pos, All, Contains}
 use Rattle.std.specs.List.{flat_map}
 use Rattle.std.specs.Option.{option_and_then, option_map, option_map_or}
 use Rattle.std.proofs.lemmas.List.{append_assoc, length-map}
-use Rattle.std.proofs.lemmas.List.Elements.{All-append, All-cons, All-contains_itself, All-head, All-nil, All-tail, All-weaker}
+use Rattle.std.proofs.lemmas.List.Elements.{All-append, All-cons, All-contains_itself, All-filter, All-head, All-nil, All-tail, All-weaker}
 use Rattle.std.proofs.lemmas.Option.{slice_get-map}
+use Rattle.protox_alike.specs.Alike.{fields_alike, first_same, is_of_two, same_names, values_alike}
+use Rattle.protox_alike.specs.Keys.{key_of_field, key_of_value}
 use Rattle.protox_descriptor.specs.declared.descriptor.DescriptorProto.{DescriptorProto, out-DescriptorProto}
 use Rattle.protox_descriptor.specs.declared.descriptor.EnumDescriptorProto.{EnumDescriptorProto}
 use Rattle.protox_descriptor.specs.declared.descriptor.EnumValueDescriptorProto.{EnumValueDescriptorProto}
@@ -30,12 +32,12 @@ use Rattle.protox_link_checks.specs.Empty.{empty_fault, empty_faults}
 use Rattle.protox_link_checks.specs.Faults.{bad_name, clash_faults, declared_faults, is_declared_at}
 use Rattle.protox_link_checks.specs.Imports.{import_faults, import_faults_from, package_faults, wrong_import, wrong_package}
 use Rattle.protox_link_checks.specs.Numbers as numbers
-use Rattle.protox_link_checks.specs.Proto3.{extension_faults, faults_of_proto3, first_value_faults, is_proto3, part_faults, proto3_faults}
+use Rattle.protox_link_checks.specs.Proto3.{alike_fault, alike_faults, extension_faults, faults_of_proto3, first_value_faults, is_proto3, part_faults, proto3_faults}
 use Rattle.protox_link_checks.specs.Reserved.{again_fault, again_faults, is_among, name_of_field, name_of_value, reserved_fault, reserved_faults}
 use Rattle.protox_link_checks.specs.Uses.{default_faults, enum_itself, fault_at, faults_at, kind_named, message_faults, message_itself, type_faults, uses_of, wrong_message, wrong_type}
 use Rattle.protox_link_fault.specs.declared.LinkFault.{LinkFault}
 use Rattle.protox_link_fault.specs.declared.LinkFaultKind.{LinkFaultKind}
-use Rattle.protox_link_fault.specs.declared.LinkFaultKind.TheVariants.{AlreadyDefined, EmptyRange, ExtensionsInProto3, FirstNotZero, ForImplementation, NoValue, NotInTable, ReservedAgain, ReservedName}
+use Rattle.protox_link_fault.specs.declared.LinkFaultKind.TheVariants.{Alike, AlreadyDefined, EmptyRange, ExtensionsInProto3, FirstNotZero, ForImplementation, NoValue, NotInTable, ReservedAgain, ReservedName}
 use Rattle.protox_link_fault.specs.declared.NumberFault.{NumberFault}
 use Rattle.protox_name_tree.specs.Tree.{has_innermost, kind_at, number_of}
 use Rattle.protox_names.specs.Names.{is_identifier, scopes}
@@ -93,6 +95,9 @@ module _ {A : Type 0} (spans : List Span) (span : A → Span) (xs : List A) wher
 
   pub with_earlier_below : All (λ (c : Clash). c.part < length xs) (with_earlier (map (first_met_in spans) (map span xs)))
   with_earlier_below = clashes_below (λ part other. nat_lt other part) 0 (map (first_met_in spans) (map span xs)) (length xs) (omega (arith, length-map (map span xs) (first_met_in spans) ∙ length-map xs span))
+
+names_below : (names : List (List ℕ)) → All (λ (c : Clash). c.part < length names) (same_names names)
+names_below names = clashes_below (λ part other. nat_lt other part) 0 (map (first_same names) names) (length names) (omega (arith, length-map names (first_same names)))
 
 -- ---- one declaration
 
@@ -252,11 +257,28 @@ module _ (number : ℕ) (file : FileDescriptorProto) where
   extensions_told path (range ∷ more) leads =
       one IsTold (record { file = number; path = nth path message_tag.EXTENSION_RANGE 0; kind = ExtensionsInProto3 }) (record { of_file = refl; leads = leads (omega arith) })
 
+  alike_told : (path : Path) (tag : ℤ) (count : ℕ) → ((n : ℕ) → n < count → LeadsInto file (path ++ (tag ∷ pos n ∷ message_tag.NAME ∷ []))) → (clashes : List Clash) → All (λ (c : Clash). c.part < count) clashes → All IsTold (alike_faults number path tag clashes)
+  alike_told path tag count leads [] below = All-nil IsTold
+  alike_told path tag count leads (clash ∷ more) below =
+      All-cons IsTold (alike_fault number path tag clash) (alike_faults number path tag more)
+      (record { of_file = refl; leads = subst (LeadsInto file) (sym (append_assoc path (tag ∷ pos clash.part ∷ []) (message_tag.NAME ∷ []))) (leads clash.part (All-head (λ (c : Clash). c.part < count) clash more below)) })
+      (alike_told path tag count leads more (All-tail (λ (c : Clash). c.part < count) clash more below))
+
   part_told : (path : Path) (part : Described) → ((rest : Path) → LeadsWithin part rest → LeadsInto file (path ++ rest)) → All IsTold (part_faults number path part)
-  part_told path (Message m) leads = extensions_told path (out-DescriptorProto m).extension_range (λ some. leads _ (ToExtensionRange m 0 some))
+  part_told path (Message m) leads =
+      let fields = (out-DescriptorProto m).field in
+      let keys = map key_of_field fields in
+      All-append IsTold (extension_faults number path (out-DescriptorProto m).extension_range) (alike_faults number path message_tag.FIELD (fields_alike m))
+      (extensions_told path (out-DescriptorProto m).extension_range (λ some. leads _ (ToExtensionRange m 0 some)))
+      (alike_told path message_tag.FIELD (length keys) (λ n below. leads _ (ToNameOfField m n (omega (arith, below, length-map fields key_of_field)))) (fields_alike m) (names_below keys))
   part_told path (Field f) leads = All-nil IsTold
   part_told path (Oneof o) leads = All-nil IsTold
-  part_told path (Enum e) leads = first_value_told path e e.value (λ some. leads _ (ToNumberOfValue e 0 some))
+  part_told path (Enum e) leads =
+      let keys = map (key_of_value e) e.value in
+      All-append IsTold (first_value_faults number path e e.value) (alike_faults number path enum_tag.VALUE (values_alike e))
+      (first_value_told path e e.value (λ some. leads _ (ToNumberOfValue e 0 some)))
+      (alike_told path enum_tag.VALUE (length keys) (λ n below. leads _ (ToNameOfValue e n (omega (arith, below, length-map e.value (key_of_value e))))) (values_alike e)
+      (All-filter (is_of_two e.value) (λ (c : Clash). c.part < length keys) (same_names keys) (names_below keys)))
   part_told path (Value v) leads = All-nil IsTold
   part_told path (Service s) leads = All-nil IsTold
   part_told path (Method m) leads = All-nil IsTold

@@ -1,12 +1,14 @@
 -- What is wrong with files is in the list of faults.
 use Rattle.std.proofs.Common.{◌≡◌, ◌≢◌, ◌+◌, ◌==◌, inl, inr, is_some, ℕ, zero, suc, Bool, true, false, cond, List, [], ◌∷◌, ◌++◌, length, map, Option, Some, None, refl, sym, ap, subst, ◌∙◌, arith, slice_get, ◌<◌, ◌≤◌, nat_lt, ◌⊎◌}
-use Rattle.std.specs.Prelude.{ℤ, pos, Contains, count_by}
+use Rattle.std.specs.Prelude.{ℤ, pos, Contains, bytes_eq, count_by}
 use Rattle.std.specs.Option.{option_map}
 use Rattle.std.proofs.lemmas.Bool.{false≢true}
 use Rattle.std.proofs.lemmas.Bool.Decides.{Decides-eqb, Decides-ltb}
 use Rattle.std.proofs.lemmas.List.{append_assoc}
 use Rattle.std.specs.List.{flat_map}
 use Rattle.std.proofs.lemmas.Option.{same_Some}
+use Rattle.protox_alike.specs.Alike.{fields_alike, is_of_two, values_alike}
+use Rattle.protox_alike.specs.Keys.{key_of_field, key_of_value}
 use Rattle.protox_ast.proofs.Membership.{Among, among-flat, among-from, among-left, among-right, contains-from, somewhere-at}
 use Rattle.protox_descriptor.specs.declared.descriptor.DescriptorProto.{DescriptorProto, out-DescriptorProto}
 use Rattle.protox_descriptor.specs.declared.descriptor.EnumDescriptorProto.{EnumDescriptorProto}
@@ -20,6 +22,7 @@ use Rattle.protox_descriptor.specs.declared.tag.file.TheConstants as file_tag
 use Rattle.protox_descriptor.specs.declared.tag.message.TheConstants as message_tag
 use Rattle.protox_descriptor.specs.declared.tag.method.TheConstants as method_tag
 use Rattle.protox_imports.specs.Rows.{named_of, rows_of}
+use Rattle.protox_link.proofs.Passing.{among_filter}
 use Rattle.protox_link.proofs.Seeing.{same_faults, split}
 use Rattle.protox_link.proofs.Standing.{thing_is, true_or_false}
 use Rattle.protox_link.proofs.WrongClashes.{earlier_listed, first_listed}
@@ -28,13 +31,13 @@ use Rattle.protox_link.proofs.WrongNames.{again_listed, own_listed}
 use Rattle.protox_link.specs.Closed.{is_message}
 use Rattle.protox_link.specs.Files.{AreFaults, faults_in}
 use Rattle.protox_link.specs.Seen.{IsSeenBy}
-use Rattle.protox_link.specs.Wrong.{AsExtendee, AsInput, AsOutput, AsType, BeginsOtherwise, Clashes, Clashing, DefaultIsNoValue, DefaultIsNoWord, EnumReservesAgain, FieldIsReserved, HasBadName, HasDefault, HasExtensions, HasNameOfOther, HasNoName, HasNoNumber, HasNoNumbers, HasNoValue, IsBackward, IsNamed, IsNoPackage, IsNotThere, IsTaken, IsTooDeep, IsTooLong, MessageHasDefault, MessageReservesAgain, OfExtensions, OfExtensionsReserved, OfExtensionsTwice, OfField, OfImport, OfName, OfNumber, OfPackage, OfProto3, OfReserved, OfReservedName, OfReservedTwice, OfReused, OfUse, OfValues, OfValuesTwice, StandsForNoMessage, StandsForNoType, StandsForNothing, Uses, ValueIsReserved, WrongImport, WrongInProto3, WrongLink, WrongName, WrongNumber, WrongPackage, WrongReserved, WrongUse, stands_for}
+use Rattle.protox_link.specs.Wrong.{AsExtendee, AsInput, AsOutput, AsType, BeginsOtherwise, Clashes, Clashing, DefaultIsNoValue, DefaultIsNoWord, EnumReservesAgain, FieldIsReserved, FieldsAreAlike, HasBadName, HasDefault, HasExtensions, HasNameOfOther, HasNoName, HasNoNumber, HasNoNumbers, HasNoValue, IsBackward, IsNamed, IsNoPackage, IsNotThere, IsTaken, IsTooDeep, IsTooLong, MessageHasDefault, MessageReservesAgain, OfExtensions, OfExtensionsReserved, OfExtensionsTwice, OfField, OfImport, OfName, OfNumber, OfPackage, OfProto3, OfReserved, OfReservedName, OfReservedTwice, OfReused, OfUse, OfValues, OfValuesTwice, StandsForNoMessage, StandsForNoType, StandsForNothing, Uses, ValueIsReserved, ValuesAreAlike, WrongImport, WrongInProto3, WrongLink, WrongName, WrongNumber, WrongPackage, WrongReserved, WrongUse, stands_for}
 use Rattle.protox_link_checks.specs.Defaults.{has_value, is_word, wrong_default, wrong_default_of, wrong_value}
 use Rattle.protox_link_checks.specs.Empty.{empty_fault, empty_faults}
 use Rattle.protox_link_checks.specs.Faults.{all_declared_faults, bad_name, clash_faults, declared_faults, is_declared_at}
 use Rattle.protox_link_checks.specs.Imports.{if_found, import_faults, is_package, no_packages, package_faults, wrong_length, wrong_package, wrong_package_found}
 use Rattle.protox_link_checks.specs.Numbers as numbers
-use Rattle.protox_link_checks.specs.Proto3.{extension_faults, faults_of_proto3, first_value_faults, is_proto3, part_faults, proto3_faults}
+use Rattle.protox_link_checks.specs.Proto3.{alike_fault, alike_faults, extension_faults, faults_of_proto3, first_value_faults, is_proto3, part_faults, proto3_faults}
 use Rattle.protox_link_checks.specs.Reserved.{again_faults, enum_name_faults, message_name_faults, name_of_field, name_of_value}
 use Rattle.protox_link_checks.specs.Uses.{default_faults, fault_at, message_faults, type_faults, uses_of, wrong_message, wrong_type}
 use Rattle.protox_link_fault.specs.declared.LinkFault.{LinkFault}
@@ -51,6 +54,7 @@ use Rattle.protox_numbers.specs.Message.{extension_spans, field_spans, reserved_
 use Rattle.protox_numbers.specs.Parts.{is_backward_enum_range, is_empty_extension_range}
 use Rattle.protox_numbers.specs.declared.clash.Clash.{Clash}
 use Rattle.protox_scopes.specs.Scopes.{is_type}
+use Rattle.protox_spans.specs.Spans.{meets}
 use Rattle.protox_scopes.specs.declared.kind.Kind.{Kind}
 use Rattle.protox_scopes.specs.declared.kind.Kind.TheVariants as kinds
 use Rattle.protox_scopes.specs.declared.kind.Wanted.{Wanted}
@@ -182,14 +186,14 @@ module _ (file : ℕ) (path : Path) where
 
     clashing_listed : (part : Described) (fault : NumberFault) (tag : ℤ) (rest : Path) (clash : Clash) → Clashes part fault tag rest clash → Among (faults part) (at (tag ∷ pos clash.part ∷ rest) (told.Clash fault clash.«with»))
     clashing_listed part fault tag rest clash are = elim are as (λ part fault tag rest clash _. Among (faults part) (at (tag ∷ pos clash.part ∷ rest) (told.Clash fault clash.«with»))) [
-      | OfReused m c meets ↦ fields_in m _ (among-left (reused m) _ _ (clash_listed how.Reused message_tag.FIELD (field_tag.NUMBER ∷ []) (of_message.reused_numbers m) c (earlier_listed (field_spans m) c meets)))
-      | OfReserved m c meets ↦ fields_in m _ (among-right (reused m) _ _ (among-left (reserved m) _ _ (clash_listed how.Reserved message_tag.FIELD (field_tag.NUMBER ∷ []) (of_message.fields_in_reserved_ranges m) c (first_listed (field_spans m) (reserved_spans m) c meets))))
-      | OfExtensions m c meets ↦ fields_in m _ (among-right (reused m) _ _ (among-right (reserved m) _ _ (clash_listed how.ForExtensions message_tag.FIELD (field_tag.NUMBER ∷ []) (of_message.fields_in_extension_ranges m) c (first_listed (field_spans m) (extension_spans m) c meets))))
-      | OfReservedTwice m c meets ↦ ranges_in m _ (among-left (reserved_twice m) _ _ (clash_listed how.ReservedTwice message_tag.RESERVED_RANGE [] (of_message.overlapping_reserved_ranges m) c (earlier_listed (reserved_spans m) c meets)))
-      | OfExtensionsTwice m c meets ↦ ranges_in m _ (among-right (reserved_twice m) _ _ (among-left (extensions_twice m) _ _ (clash_listed how.ExtensionsTwice message_tag.EXTENSION_RANGE [] (of_message.overlapping_extension_ranges m) c (earlier_listed (extension_spans m) c meets))))
-      | OfExtensionsReserved m c meets ↦ ranges_in m _ (among-right (reserved_twice m) _ _ (among-right (extensions_twice m) _ _ (clash_listed how.ExtensionsReserved message_tag.EXTENSION_RANGE [] (of_message.extension_ranges_in_reserved m) c (first_listed (extension_spans m) (reserved_spans m) c meets))))
-      | OfValues e c meets ↦ values_in e _ (among-left (values e) _ _ (clash_listed how.ValueReserved enum_tag.VALUE (value_tag.NUMBER ∷ []) (of_enum.values_in_reserved_ranges e) c (first_listed (value_spans e) (range_spans e) c meets)))
-      | OfValuesTwice e c meets ↦ values_in e _ (among-right (values e) _ _ (clash_listed how.ValuesReservedTwice enum_tag.RESERVED_RANGE [] (of_enum.overlapping_enum_ranges e) c (earlier_listed (range_spans e) c meets)))
+      | OfReused m c is ↦ fields_in m _ (among-left (reused m) _ _ (clash_listed how.Reused message_tag.FIELD (field_tag.NUMBER ∷ []) (of_message.reused_numbers m) c (earlier_listed meets (field_spans m) c is)))
+      | OfReserved m c is ↦ fields_in m _ (among-right (reused m) _ _ (among-left (reserved m) _ _ (clash_listed how.Reserved message_tag.FIELD (field_tag.NUMBER ∷ []) (of_message.fields_in_reserved_ranges m) c (first_listed meets (field_spans m) (reserved_spans m) c is))))
+      | OfExtensions m c is ↦ fields_in m _ (among-right (reused m) _ _ (among-right (reserved m) _ _ (clash_listed how.ForExtensions message_tag.FIELD (field_tag.NUMBER ∷ []) (of_message.fields_in_extension_ranges m) c (first_listed meets (field_spans m) (extension_spans m) c is))))
+      | OfReservedTwice m c is ↦ ranges_in m _ (among-left (reserved_twice m) _ _ (clash_listed how.ReservedTwice message_tag.RESERVED_RANGE [] (of_message.overlapping_reserved_ranges m) c (earlier_listed meets (reserved_spans m) c is)))
+      | OfExtensionsTwice m c is ↦ ranges_in m _ (among-right (reserved_twice m) _ _ (among-left (extensions_twice m) _ _ (clash_listed how.ExtensionsTwice message_tag.EXTENSION_RANGE [] (of_message.overlapping_extension_ranges m) c (earlier_listed meets (extension_spans m) c is))))
+      | OfExtensionsReserved m c is ↦ ranges_in m _ (among-right (reserved_twice m) _ _ (among-right (extensions_twice m) _ _ (clash_listed how.ExtensionsReserved message_tag.EXTENSION_RANGE [] (of_message.extension_ranges_in_reserved m) c (first_listed meets (extension_spans m) (reserved_spans m) c is))))
+      | OfValues e c is ↦ values_in e _ (among-left (values e) _ _ (clash_listed how.ValueReserved enum_tag.VALUE (value_tag.NUMBER ∷ []) (of_enum.values_in_reserved_ranges e) c (first_listed meets (value_spans e) (range_spans e) c is)))
+      | OfValuesTwice e c is ↦ values_in e _ (among-right (values e) _ _ (clash_listed how.ValuesReservedTwice enum_tag.RESERVED_RANGE [] (of_enum.overlapping_enum_ranges e) c (earlier_listed meets (range_spans e) c is)))
     ]
 
     number_listed : (part : Described) (rest : Path) (kind : LinkFaultKind) → WrongNumber part rest kind → Among (faults part) (at rest kind)
@@ -396,10 +400,23 @@ module _ (files : List FileDescriptorProto) (n : ℕ) (file : FileDescriptorProt
   extensions_listed path [] range is = cc
   extensions_listed path (first ∷ more) range is = inl refl
 
+  alike_listed : (path : Path) (tag : ℤ) (clashes : List Clash) (clash : Clash) → Among clashes clash → Among (alike_faults n path tag clashes) (record { file = n; path = path ++ (tag ∷ pos clash.part ∷ message_tag.NAME ∷ []); kind = told.Alike clash.«with» })
+  alike_listed path tag clashes clash there =
+      subst (λ (p : Path). Among (alike_faults n path tag clashes) (record { file = n; path = p; kind = told.Alike clash.«with» })) (append_assoc path (tag ∷ pos clash.part ∷ []) (message_tag.NAME ∷ []))
+      (among_map (alike_fault n path tag) clashes clash there)
+
   part_listed : (path : Path) (part : Described) (rest : Path) (kind : LinkFaultKind) → WrongInProto3 part rest kind → Among (part_faults n path part) (record { file = n; path = path ++ rest; kind = kind })
   part_listed path part rest kind wrong = elim wrong as (λ part rest kind _. Among (part_faults n path part) (record { file = n; path = path ++ rest; kind = kind })) [
-    | BeginsOtherwise e v is not ↦ first_told path e e.value v is not
-    | HasExtensions m range is ↦ extensions_listed path (out-DescriptorProto m).extension_range range is
+    | BeginsOtherwise e v is not ↦ among-left (first_value_faults n path e e.value) (alike_faults n path enum_tag.VALUE (values_alike e)) _ (first_told path e e.value v is not)
+    | HasExtensions m range is ↦
+        among-left (extension_faults n path (out-DescriptorProto m).extension_range) (alike_faults n path message_tag.FIELD (fields_alike m)) _
+        (extensions_listed path (out-DescriptorProto m).extension_range range is)
+    | FieldsAreAlike m clash is ↦
+        among-right (extension_faults n path (out-DescriptorProto m).extension_range) (alike_faults n path message_tag.FIELD (fields_alike m)) _
+        (alike_listed path message_tag.FIELD (fields_alike m) clash (earlier_listed bytes_eq (map key_of_field (out-DescriptorProto m).field) clash is))
+    | ValuesAreAlike e clash is two ↦
+        among-right (first_value_faults n path e e.value) (alike_faults n path enum_tag.VALUE (values_alike e)) _
+        (alike_listed path enum_tag.VALUE (values_alike e) clash (among_filter (is_of_two e.value) _ clash (earlier_listed bytes_eq (map (key_of_value e) e.value) clash is) two))
   ]
 
   proto3_in : (d : Declared) (rest : Path) (kind : LinkFaultKind) → Contains (file_declarations file) d → is_proto3 file ≡ true → WrongInProto3 d.part rest kind → Among told_in (record { file = n; path = d.path ++ rest; kind = kind })

@@ -1,6 +1,6 @@
 -- What the list of faults has is wrong.
 use Rattle.std.proofs.Common.{◌≡◌, ◌≢◌, ◌+◌, ◌==◌, ◌&&◌, inl, inr, is_some, ℕ, suc, Bool, true, false, cond, List, [], ◌∷◌, ◌++◌, length, map, Option, Some, None, refl, sym, ap, subst, ◌∙◌, arith, slice_get, ◌<◌, ◌≤◌, nat_lt, ◌⊎◌}
-use Rattle.std.specs.Prelude.{ℤ, pos, All, Contains, count_by}
+use Rattle.std.specs.Prelude.{ℤ, pos, All, Contains, bytes_eq, count_by}
 use Rattle.std.specs.Cmp.Lexicographic.{pointwise}
 use Rattle.std.specs.Cmp.Rules.{signed_items}
 use Rattle.std.specs.List.{flat_map}
@@ -10,6 +10,8 @@ use Rattle.std.proofs.lemmas.Bool.{and_from, false≢true}
 use Rattle.std.proofs.lemmas.Bool.Decides.{Decides-eqb, Decides-ltb}
 use Rattle.std.proofs.lemmas.List.{append_assoc}
 use Rattle.std.proofs.lemmas.List.Elements.{All-append, All-contains, All-contains_itself, All-map, All-nil, All-weaker}
+use Rattle.protox_alike.specs.Alike.{fields_alike, is_of_two, values_alike}
+use Rattle.protox_alike.specs.Keys.{key_of_field, key_of_value}
 use Rattle.protox_ast.proofs.Membership.{Among, contains-from}
 use Rattle.protox_descriptor.specs.FieldDescriptorProto.{FieldDescriptorProto}
 use Rattle.protox_descriptor.specs.declared.descriptor.DescriptorProto.{DescriptorProto, out-DescriptorProto}
@@ -25,6 +27,7 @@ use Rattle.protox_descriptor.specs.declared.tag.message.TheConstants as message_
 use Rattle.protox_descriptor.specs.declared.tag.method.TheConstants as method_tag
 use Rattle.protox_imports.specs.Rows.{named_of, rows_of}
 use Rattle.protox_link.proofs.Paths.{all_flat, one}
+use Rattle.protox_link.proofs.Passing.{all_filter}
 use Rattle.protox_link.proofs.Seeing.{split}
 use Rattle.protox_link.proofs.WrongClashes.{earlier_told, first_told}
 use Rattle.protox_link.proofs.WrongImports.{all_imports_wrong, named_by}
@@ -32,13 +35,13 @@ use Rattle.protox_link.proofs.WrongNames.{again_wrong, own_wrong}
 use Rattle.protox_link.specs.Closed.{is_message}
 use Rattle.protox_link.specs.Files.{AreFaults, faults_in}
 use Rattle.protox_link.specs.Seen.{IsSeenBy}
-use Rattle.protox_link.specs.Wrong.{AsExtendee, AsInput, AsOutput, AsType, BeginsOtherwise, Clashes, Clashing, Declares, DefaultIsNoValue, DefaultIsNoWord, EnumReservesAgain, FieldIsReserved, HasBadName, HasDefault, HasExtensions, HasNameOfOther, HasNoName, HasNoNumber, HasNoNumbers, HasNoValue, IsBackward, IsNamed, IsNoPackage, IsNotThere, IsTaken, IsTooDeep, IsTooLong, MeetsEarlier, MeetsFirst, MessageHasDefault, MessageReservesAgain, OfExtensions, OfExtensionsReserved, OfExtensionsTwice, OfField, OfImport, OfName, OfNumber, OfPackage, OfProto3, OfReserved, OfReservedName, OfReservedTwice, OfReused, OfUse, OfValues, OfValuesTwice, StandsForNoMessage, StandsForNoType, StandsForNothing, Uses, ValueIsReserved, WrongInProto3, WrongLink, WrongName, WrongNumber, WrongPackage, WrongReserved, WrongUse, stands_for}
+use Rattle.protox_link.specs.Wrong.{AsExtendee, AsInput, AsOutput, AsType, BeginsOtherwise, Clashes, Clashing, Declares, DefaultIsNoValue, DefaultIsNoWord, EnumReservesAgain, FieldIsReserved, FieldsAreAlike, HasBadName, HasDefault, HasExtensions, HasNameOfOther, HasNoName, HasNoNumber, HasNoNumbers, HasNoValue, IsBackward, IsNamed, IsNoPackage, IsNotThere, IsTaken, IsTooDeep, IsTooLong, MeetsEarlier, MeetsFirst, MessageHasDefault, MessageReservesAgain, OfExtensions, OfExtensionsReserved, OfExtensionsTwice, OfField, OfImport, OfName, OfNumber, OfPackage, OfProto3, OfReserved, OfReservedName, OfReservedTwice, OfReused, OfUse, OfValues, OfValuesTwice, StandsForNoMessage, StandsForNoType, StandsForNothing, Uses, ValueIsReserved, ValuesAreAlike, WrongInProto3, WrongLink, WrongName, WrongNumber, WrongPackage, WrongReserved, WrongUse, stands_for}
 use Rattle.protox_link_checks.specs.Defaults.{has_value, is_word, wrong_default, wrong_default_of}
 use Rattle.protox_link_checks.specs.Empty.{empty_fault, empty_faults}
 use Rattle.protox_link_checks.specs.Faults.{bad_name, clash_faults, declared_faults, is_declared_at}
 use Rattle.protox_link_checks.specs.Imports.{if_found, import_faults, is_package, no_packages, package_faults, wrong_length, wrong_package, wrong_package_found}
 use Rattle.protox_link_checks.specs.Numbers as numbers
-use Rattle.protox_link_checks.specs.Proto3.{extension_faults, faults_of_proto3, first_value_faults, is_proto3, part_faults}
+use Rattle.protox_link_checks.specs.Proto3.{alike_fault, alike_faults, extension_faults, faults_of_proto3, first_value_faults, is_proto3, part_faults}
 use Rattle.protox_link_checks.specs.Reserved.{again_faults, name_of_field, name_of_value}
 use Rattle.protox_link_checks.specs.Uses.{default_faults, enum_itself, fault_at, faults_at, message_faults, message_itself, type_faults, uses_of, wrong_message, wrong_type}
 use Rattle.protox_link_fault.specs.declared.LinkFault.{LinkFault}
@@ -57,7 +60,7 @@ use Rattle.protox_scopes.specs.Scopes.{is_type}
 use Rattle.protox_scopes.specs.declared.kind.Kind.{Kind}
 use Rattle.protox_scopes.specs.declared.kind.Kind.TheVariants as kinds
 use Rattle.protox_scopes.specs.declared.kind.Wanted.TheVariants.{AType, Anything}
-use Rattle.protox_spans.specs.Spans.{first_met_in}
+use Rattle.protox_spans.specs.Spans.{first_met_in, meets}
 use Rattle.protox_spans.specs.declared.span.Span.{Span}
 use Rattle.protox_symbols.specs.Symbols.{Table}
 use Rattle.protox_symbols.specs.Things.{table_of}
@@ -140,13 +143,13 @@ module _ (P : LinkFault → Type 0) (file : ℕ) (path : Path) where
       clashes are)
 
   -- with the first that a part meets, and with an earlier one
-  first_wrong : (part : Described) (fault : NumberFault) (tag : ℤ) (at : Path) (spans others : List Span) → AreNumbersAt part → ((clash : Clash) → MeetsFirst spans others clash → Clashes part fault tag at clash) → All P (numbers.clash_faults file path tag at fault (with_first (map (first_met_in others) spans)))
+  first_wrong : (part : Described) (fault : NumberFault) (tag : ℤ) (at : Path) (spans others : List Span) → AreNumbersAt part → ((clash : Clash) → MeetsFirst meets spans others clash → Clashes part fault tag at clash) → All P (numbers.clash_faults file path tag at fault (with_first (map (first_met_in others) spans)))
   first_wrong part fault tag at spans others each is =
-      clashes_wrong part fault tag at _ each (All-weaker (MeetsFirst spans others) (Clashes part fault tag at) is _ (first_told spans others))
+      clashes_wrong part fault tag at _ each (All-weaker (MeetsFirst meets spans others) (Clashes part fault tag at) is _ (first_told meets spans others))
 
-  earlier_wrong : (part : Described) (fault : NumberFault) (tag : ℤ) (at : Path) (spans : List Span) → AreNumbersAt part → ((clash : Clash) → MeetsEarlier spans clash → Clashes part fault tag at clash) → All P (numbers.clash_faults file path tag at fault (with_earlier (map (first_met_in spans) spans)))
+  earlier_wrong : (part : Described) (fault : NumberFault) (tag : ℤ) (at : Path) (spans : List Span) → AreNumbersAt part → ((clash : Clash) → MeetsEarlier meets spans clash → Clashes part fault tag at clash) → All P (numbers.clash_faults file path tag at fault (with_earlier (map (first_met_in spans) spans)))
   earlier_wrong part fault tag at spans each is =
-      clashes_wrong part fault tag at _ each (All-weaker (MeetsEarlier spans) (Clashes part fault tag at) is _ (earlier_told spans))
+      clashes_wrong part fault tag at _ each (All-weaker (MeetsEarlier meets spans) (Clashes part fault tag at) is _ (earlier_told meets spans))
 
   empty_wrong : {A : Type 0} (tag : ℤ) (is_empty : A → Bool) (i : ℕ) (range : A) (b : Bool) → is_empty range ≡ b → (is_empty range ≡ true → IsAt (tag ∷ pos i ∷ []) told.EmptyRange) → All P (cond b (empty_fault file path tag i ∷ []) [])
   empty_wrong tag is_empty i range true is each = one P (empty_fault file path tag i) (each is)
@@ -379,11 +382,27 @@ module _ (files : List FileDescriptorProto) (n : ℕ) (file : FileDescriptorProt
     extensions_wrong_at [] each = All-nil _
     extensions_wrong_at (range ∷ more) each = one (WrongLink files) _ (each range refl)
 
+    alike_wrong : (P : Clash → Type 0) (tag : ℤ) (clashes : List Clash) → ((clash : Clash) → P clash → IsWrongAt (tag ∷ pos clash.part ∷ message_tag.NAME ∷ []) (told.Alike clash.«with»)) → All P clashes → All (WrongLink files) (alike_faults n d.path tag clashes)
+    alike_wrong P tag clashes each are =
+        All-map (WrongLink files) (alike_fault n d.path tag) clashes
+        (All-weaker P (λ clash. WrongLink files (alike_fault n d.path tag clash))
+        (λ clash is. subst (λ (p : Path). WrongLink files (record { file = n; path = p; kind = told.Alike clash.«with» })) (sym (append_assoc d.path (tag ∷ pos clash.part ∷ []) (message_tag.NAME ∷ []))) (each clash is))
+        clashes are)
+
     part_wrong : (part : Described) → ((rest : Path) (kind : LinkFaultKind) → WrongInProto3 part rest kind → IsWrongAt rest kind) → All (WrongLink files) (part_faults n d.path part)
-    part_wrong (Message m) each = extensions_wrong_at (out-DescriptorProto m).extension_range (λ range at. each _ _ (HasExtensions m range at))
+    part_wrong (Message m) each =
+        let keys = map key_of_field (out-DescriptorProto m).field in
+        All-append (WrongLink files) (extension_faults n d.path (out-DescriptorProto m).extension_range) _
+        (extensions_wrong_at (out-DescriptorProto m).extension_range (λ range at. each _ _ (HasExtensions m range at)))
+        (alike_wrong (MeetsEarlier bytes_eq keys) message_tag.FIELD (fields_alike m) (λ clash is. each _ _ (FieldsAreAlike m clash is)) (earlier_told bytes_eq keys))
     part_wrong (Field f) each = All-nil _
     part_wrong (Oneof o) each = All-nil _
-    part_wrong (Enum e) each = first_wrong_at e e.value (begins_with_zero e) refl (λ v at not. each _ _ (BeginsOtherwise e v at not))
+    part_wrong (Enum e) each =
+        let keys = map (key_of_value e) e.value in
+        All-append (WrongLink files) (first_value_faults n d.path e e.value) _
+        (first_wrong_at e e.value (begins_with_zero e) refl (λ v at not. each _ _ (BeginsOtherwise e v at not)))
+        (alike_wrong (λ clash. MeetsEarlier bytes_eq keys clash × (is_of_two e.value clash ≡ true)) enum_tag.VALUE (values_alike e) (λ clash is. each _ _ (ValuesAreAlike e clash is.0 is.1))
+        (all_filter (is_of_two e.value) (MeetsEarlier bytes_eq keys) _ (earlier_told bytes_eq keys)))
     part_wrong (Value v) each = All-nil _
     part_wrong (Service s) each = All-nil _
     part_wrong (Method m) each = All-nil _

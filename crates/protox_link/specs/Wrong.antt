@@ -1,7 +1,9 @@
 -- What can be wrong with files that are linked, a line for each kind of fault. It says when a fault
 -- is one of the files. It says nothing of the list that linking tells, or of its order. Circles of
 -- imports are told by themselves, and `IsOfCircle` has their line.
-use Rattle.std.specs.Prelude.{◌≡◌, ◌≢◌, ◌<◌, ◌≤◌, ◌==◌, ℕ, ℤ, pos, Bool, true, false, Contains, count_by, length, List, [], ◌∷◌, ◌++◌, Option, Some, None, slice_get}
+use Rattle.std.specs.Prelude.{◌≡◌, ◌≢◌, ◌<◌, ◌≤◌, ◌==◌, ℕ, ℤ, pos, Bool, true, false, Contains, count_by, length, List, [], ◌∷◌, ◌++◌, Option, Some, None, bytes_eq, map, slice_get}
+use Rattle.protox_alike.specs.Alike.{is_of_two}
+use Rattle.protox_alike.specs.Keys.{key_of_field, key_of_value}
 use Rattle.protox_descriptor.specs.FieldDescriptorProto.{FieldDescriptorProto}
 use Rattle.protox_descriptor.specs.declared.descriptor.DescriptorProto.{DescriptorProto, out-DescriptorProto}
 use Rattle.protox_descriptor.specs.declared.descriptor.EnumDescriptorProto.{EnumDescriptorProto}
@@ -159,50 +161,55 @@ module _ (table : Table) (sees packages : List Bool) (user : List ℕ) where
 
 -- ---- numbers
 
--- A number or a range meets another one, and none of the others that stand before that. `part` is
--- the index of the one, and `with` that of the other.
-pub record MeetsFirst (spans others : List Span) (clash : Clash) : Type 0 where
-  pub span : Span
-  pub other : Span
-  pub is_there : slice_get spans clash.part ≡ Some span
+-- A part meets one of the others, and none of those that stand before that. `part` is the index of
+-- the one, and `with` that of the other. Numbers and ranges meet where they have a number in common,
+-- and names where they are the same.
+pub record MeetsFirst {X : Type 0} (meet : X → X → Bool) (parts others : List X) (clash : Clash)
+    : Type 0 where
+  pub one : X
+  pub other : X
+  pub is_there : slice_get parts clash.part ≡ Some one
   pub is_other : slice_get others clash.«with» ≡ Some other
-  pub they_meet : meets span other ≡ true
-  pub first : (k : ℕ) (earlier : Span) → k < clash.«with» → slice_get others k ≡ Some earlier
-      → meets span earlier ≡ false
+  pub they_meet : meet one other ≡ true
+  pub first : (k : ℕ) (earlier : X) → k < clash.«with» → slice_get others k ≡ Some earlier
+      → meet one earlier ≡ false
 
 -- What it meets first stands before it in the same list.
-pub record MeetsEarlier (spans : List Span) (clash : Clash) : Type 0 where
-  pub meets_it : MeetsFirst spans spans clash
+pub record MeetsEarlier {X : Type 0} (meet : X → X → Bool) (parts : List X) (clash : Clash)
+    : Type 0 where
+  pub meets_it : MeetsFirst meet parts parts clash
   pub before : clash.«with» < clash.part
 
 -- In a declaration one of like siblings with a tag clashes in this way. This is told at a part of
 -- the sibling, to which the path leads.
 pub data Clashes : Described → NumberFault → ℤ → Path → Clash → Type 0 where
   -- An earlier field has the number of a field.
-  OfReused : (m : DescriptorProto) (c : Clash) → MeetsEarlier (field_spans m) c
+  OfReused : (m : DescriptorProto) (c : Clash) → MeetsEarlier meets (field_spans m) c
       → Clashes (Message m) how.Reused message_tag.FIELD (field_tag.NUMBER ∷ []) c
   -- The number of a field is in a reserved range.
-  OfReserved : (m : DescriptorProto) (c : Clash) → MeetsFirst (field_spans m) (reserved_spans m) c
+  OfReserved : (m : DescriptorProto) (c : Clash)
+      → MeetsFirst meets (field_spans m) (reserved_spans m) c
       → Clashes (Message m) how.Reserved message_tag.FIELD (field_tag.NUMBER ∷ []) c
   -- It is in an extension range.
   OfExtensions : (m : DescriptorProto) (c : Clash)
-      → MeetsFirst (field_spans m) (extension_spans m) c
+      → MeetsFirst meets (field_spans m) (extension_spans m) c
       → Clashes (Message m) how.ForExtensions message_tag.FIELD (field_tag.NUMBER ∷ []) c
   -- A reserved range overlaps an earlier one.
-  OfReservedTwice : (m : DescriptorProto) (c : Clash) → MeetsEarlier (reserved_spans m) c
+  OfReservedTwice : (m : DescriptorProto) (c : Clash) → MeetsEarlier meets (reserved_spans m) c
       → Clashes (Message m) how.ReservedTwice message_tag.RESERVED_RANGE [] c
   -- An extension range overlaps an earlier one.
-  OfExtensionsTwice : (m : DescriptorProto) (c : Clash) → MeetsEarlier (extension_spans m) c
+  OfExtensionsTwice : (m : DescriptorProto) (c : Clash) → MeetsEarlier meets (extension_spans m) c
       → Clashes (Message m) how.ExtensionsTwice message_tag.EXTENSION_RANGE [] c
   -- It overlaps a reserved range.
   OfExtensionsReserved : (m : DescriptorProto) (c : Clash)
-      → MeetsFirst (extension_spans m) (reserved_spans m) c
+      → MeetsFirst meets (extension_spans m) (reserved_spans m) c
       → Clashes (Message m) how.ExtensionsReserved message_tag.EXTENSION_RANGE [] c
   -- The number of a value is in a reserved range.
-  OfValues : (e : EnumDescriptorProto) (c : Clash) → MeetsFirst (value_spans e) (range_spans e) c
+  OfValues : (e : EnumDescriptorProto) (c : Clash)
+      → MeetsFirst meets (value_spans e) (range_spans e) c
       → Clashes (Enum e) how.ValueReserved enum_tag.VALUE (value_tag.NUMBER ∷ []) c
   -- A reserved range of an enum overlaps an earlier one.
-  OfValuesTwice : (e : EnumDescriptorProto) (c : Clash) → MeetsEarlier (range_spans e) c
+  OfValuesTwice : (e : EnumDescriptorProto) (c : Clash) → MeetsEarlier meets (range_spans e) c
       → Clashes (Enum e) how.ValuesReservedTwice enum_tag.RESERVED_RANGE [] c
 
 -- This is wrong with the numbers of a declaration, at the end of this path from it.
@@ -263,6 +270,16 @@ pub data WrongInProto3 : Described → Path → LinkFaultKind → Type 0 where
   HasExtensions : (m : DescriptorProto) (range : ExtensionRange)
       → slice_get (out-DescriptorProto m).extension_range 0 ≡ Some range
       → WrongInProto3 (Message m) (message_tag.EXTENSION_RANGE ∷ pos 0 ∷ []) told.ExtensionsInProto3
+  -- The name of a field is that of an earlier field, but for case and `_`.
+  FieldsAreAlike : (m : DescriptorProto) (c : Clash)
+      → MeetsEarlier bytes_eq (map key_of_field (out-DescriptorProto m).field) c
+      → WrongInProto3 (Message m) (message_tag.FIELD ∷ pos c.part ∷ field_tag.NAME ∷ []) (told.Alike c.«with»)
+  -- The name of a value is that of an earlier value, but for case, `_` and the name of the enum in
+  -- front, and the two have different names and numbers.
+  ValuesAreAlike : (e : EnumDescriptorProto) (c : Clash)
+      → MeetsEarlier bytes_eq (map (key_of_value e) e.value) c
+      → is_of_two e.value c ≡ true
+      → WrongInProto3 (Enum e) (enum_tag.VALUE ∷ pos c.part ∷ value_tag.NAME ∷ []) (told.Alike c.«with»)
 
 -- ---- all that can be wrong
 

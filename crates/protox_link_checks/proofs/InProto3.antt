@@ -17,7 +17,7 @@ use Rattle.protox_descriptor.specs.declared.tag.file.TheConstants as file_tag
 use Rattle.protox_descriptor.specs.declared.tag.message.TheConstants as message_tag
 use Rattle.protox_descriptor.specs.declared.tag.service.TheConstants as service_tag
 use Rattle.protox_link_checks.proofs.Folding.{then_checked}
-use Rattle.protox_link_checks.specs.Proto3.{extension_faults, faults_of_proto3, first_value_faults}
+use Rattle.protox_link_checks.specs.Proto3.{enum_in_proto3, faults_of_proto3, message_in_proto3}
 use Rattle.protox_link_fault.specs.declared.LinkFault.{LinkFault}
 use Rattle.protox_symbols.proofs.Inside.{enums_at, extensions_at, fields_at, inside, message_declares, messages_at, oneofs_at}
 use Rattle.protox_walk.specs.Declarations.{Path, all_in, enum_at, field_at, file_declarations, full_name, message_at, method_at, numbered, oneof_at, service_at, siblings_at, text_of, value_at}
@@ -55,9 +55,9 @@ module _ (file : ℕ) where
   -- ---- an enum, a message and a file
 
   pub enum_checked : {T E : Type 0} (r : Result T E) (e : EnumDescriptorProto) (full : List ℕ) (path : Path) (before after : List LinkFault)
-      → OnOk r (after ≡ before ++ first_value_faults file path e e.value) → OnOk r (after ≡ before ++ flat_map wrong (enum_at e full path))
+      → OnOk r (after ≡ before ++ enum_in_proto3 file path e) → OnOk r (after ≡ before ++ flat_map wrong (enum_at e full path))
   enum_checked r e full path before after =
-      on_ok_weaker r (λ is. is ∙ ap (λ (faults : List LinkFault). before ++ faults) (sym (append-nil (first_value_faults file path e e.value)) ∙ ap (λ (rest : List LinkFault). first_value_faults file path e e.value ++ rest) (sym (no_value full path enum_tag.VALUE 0 e.value))))
+      on_ok_weaker r (λ is. is ∙ ap (λ (faults : List LinkFault). before ++ faults) (sym (append-nil (enum_in_proto3 file path e)) ∙ ap (λ (rest : List LinkFault). enum_in_proto3 file path e ++ rest) (sym (no_value full path enum_tag.VALUE 0 e.value))))
 
   -- what else is in a message
   rest_of : (m : DescriptorProto) (name : List ℕ) (path : Path) → flat_map wrong (messages_at m name path ++ enums_at m name path) ≡ flat_map wrong (inside m name path)
@@ -80,13 +80,13 @@ module _ (file : ℕ) where
       ∙ sym (flat_map-append wrong (fields_at m name path) (messages ++ (enums ++ (extensions ++ oneofs))))
 
   pub message_checked : {T E : Type 0} (r : Result T E) (m : DescriptorProto) (full : List ℕ) (path : Path) (a b c d : List LinkFault)
-      → b ≡ a ++ extension_faults file path (out-DescriptorProto m).extension_range
+      → b ≡ a ++ message_in_proto3 file path m
       → c ≡ b ++ flat_map wrong (messages_at m (full_name full (out-DescriptorProto m).name) path)
       → OnOk r (d ≡ c ++ flat_map wrong (enums_at m (full_name full (out-DescriptorProto m).name) path))
       → OnOk r (d ≡ a ++ flat_map wrong (message_at m full path))
   message_checked r m full path a b c d ranges messages enums =
       let name = full_name full (out-DescriptorProto m).name in
-      let own = extension_faults file path (out-DescriptorProto m).extension_range in
+      let own = message_in_proto3 file path m in
       on_ok_weaker r
       (λ is. is ∙ ap (λ (faults : List LinkFault). faults ++ flat_map wrong (messages_at m name path ++ enums_at m name path)) ranges
       ∙ append_assoc a own (flat_map wrong (messages_at m name path ++ enums_at m name path))

@@ -1,8 +1,9 @@
 -- What is wrong in a file of proto3 alone.
-use Rattle.std.specs.Prelude.{ℕ, Bool, false, List, [], ◌∷◌, ◌++◌, bytes_eq, codes, if◌then◌else◌}
+use Rattle.std.specs.Prelude.{ℕ, ℤ, Bool, false, List, [], ◌∷◌, ◌++◌, bytes_eq, codes, map, if◌then◌else◌}
 use Rattle.std.specs.List.{flat_map}
 use Rattle.std.specs.Option.{option_map_or}
-use Rattle.protox_descriptor.specs.declared.descriptor.DescriptorProto.{out-DescriptorProto}
+use Rattle.protox_alike.specs.Alike.{fields_alike, values_alike}
+use Rattle.protox_descriptor.specs.declared.descriptor.DescriptorProto.{DescriptorProto, out-DescriptorProto}
 use Rattle.protox_descriptor.specs.declared.descriptor.EnumDescriptorProto.{EnumDescriptorProto}
 use Rattle.protox_descriptor.specs.declared.descriptor.EnumValueDescriptorProto.{EnumValueDescriptorProto}
 use Rattle.protox_descriptor.specs.declared.descriptor.FileDescriptorProto.{FileDescriptorProto}
@@ -11,8 +12,9 @@ use Rattle.protox_descriptor.specs.declared.tag.enum_.TheConstants as enum_tag
 use Rattle.protox_descriptor.specs.declared.tag.enum_value.TheConstants as value_tag
 use Rattle.protox_descriptor.specs.declared.tag.message.TheConstants as message_tag
 use Rattle.protox_link_fault.specs.declared.LinkFault.{LinkFault}
-use Rattle.protox_link_fault.specs.declared.LinkFaultKind.TheVariants.{ExtensionsInProto3, FirstNotZero}
+use Rattle.protox_link_fault.specs.declared.LinkFaultKind.TheVariants.{Alike, ExtensionsInProto3, FirstNotZero}
 use Rattle.protox_numbers.specs.Enums.{begins_with_zero}
+use Rattle.protox_numbers.specs.declared.clash.Clash.{Clash}
 use Rattle.protox_walk.specs.Declarations.{Path, file_declarations, nth}
 use Rattle.protox_walk.specs.Parts.{Declared, Described, Message, Field, Oneof, Enum, Value, Service, Method}
 
@@ -33,11 +35,28 @@ module _ (file : ℕ) (path : Path) where
   extension_faults (range ∷ more) =
       record { file = file; path = nth path message_tag.EXTENSION_RANGE 0; kind = ExtensionsInProto3 } ∷ []
 
+  -- the fault of a part whose name is like that of an earlier one
+  abbrev pub alike_fault : ℤ → Clash → LinkFault
+  alike_fault tag clash =
+      record { file = file; path = nth path tag clash.part ++ message_tag.NAME ∷ []; kind = Alike clash.«with» }
+
+  abbrev pub alike_faults : ℤ → List Clash → List LinkFault
+  alike_faults tag clashes = map (alike_fault tag) clashes
+
+  -- No two fields of a message have names that are alike, and no two values of an enum.
+  abbrev pub message_in_proto3 : DescriptorProto → List LinkFault
+  message_in_proto3 message =
+      extension_faults (out-DescriptorProto message).extension_range
+      ++ alike_faults message_tag.FIELD (fields_alike message)
+
+  abbrev pub enum_in_proto3 : EnumDescriptorProto → List LinkFault
+  enum_in_proto3 enum = first_value_faults enum enum.value ++ alike_faults enum_tag.VALUE (values_alike enum)
+
   abbrev pub part_faults : Described → List LinkFault
-  part_faults (Message message) = extension_faults (out-DescriptorProto message).extension_range
+  part_faults (Message message) = message_in_proto3 message
   part_faults (Field field) = []
   part_faults (Oneof oneof) = []
-  part_faults (Enum enum) = first_value_faults enum enum.value
+  part_faults (Enum enum) = enum_in_proto3 enum
   part_faults (Value value) = []
   part_faults (Service service) = []
   part_faults (Method method) = []

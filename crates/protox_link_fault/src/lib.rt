@@ -66,6 +66,10 @@ pub enum LinkFaultKind {
     FirstNotZero,
     /// In a file of proto3 a message has an extension range.
     ExtensionsInProto3,
+    /// In a file of proto3 the name of a field is that of an earlier field, but for case and `_`; or
+    /// that of a value of an enum is that of an earlier value, but for case, `_` and the name of the
+    /// enum in front, and they have different names and numbers. The first such one has this index.
+    Alike(usize),
     /// No file has the name of the import.
     MissingImport,
     /// An earlier import has the same name.

@@ -64,6 +64,12 @@ reserved_at (OfMessage m) n = text_of (slice_get (out-DescriptorProto m).reserve
 reserved_at (OfEnum e) n = text_of (slice_get e.reserved_name n)
 reserved_at _ n = []
 
+-- the name of the field, or of the value, that has this index in the holder
+abbrev pub sibling_at : Holder → ℕ → List ℕ
+sibling_at (OfMessage m) n = text_of (option_and_then (λ field. field.name) (slice_get (out-DescriptorProto m).field n))
+sibling_at (OfEnum e) n = text_of (option_and_then (λ value. value.name) (slice_get e.value n))
+sibling_at _ n = []
+
 -- the default of a field or an extension with an index
 abbrev pub default_of : List FieldDescriptorProto → ℤ → List ℕ
 default_of fields n = text_of (option_and_then (λ field. field.default_value) (at_index fields n))

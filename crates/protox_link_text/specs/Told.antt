@@ -10,7 +10,7 @@ use Rattle.protox_link_fault.specs.declared.LinkFault.{LinkFault}
 use Rattle.protox_link_fault.specs.declared.LinkFaultKind.{LinkFaultKind}
 use Rattle.protox_link_fault.specs.declared.LinkFaultKind.TheVariants as kind
 use Rattle.protox_link_text.specs.Clashes.{clash_in}
-use Rattle.protox_link_text.specs.Named.{default_in, file_name, import_named, named_in, reserved_at, value_named}
+use Rattle.protox_link_text.specs.Named.{default_in, file_name, import_named, named_in, reserved_at, sibling_at, value_named}
 use Rattle.protox_link_text.specs.Places.{Holder, OfEnum, OfFile, OfMessage, OfService, Place, place_of, text_of}
 use Rattle.protox_link_text.specs.Search.{Searched, search, wanted_at}
 use Rattle.protox_link_text.specs.declared.error.LinkError.{LinkError}
@@ -112,6 +112,11 @@ abbrev pub reserved_again : Holder → List ℕ → LinkError
 reserved_again (OfEnum enum) name = error.ValueNameReservedTwice name
 reserved_again _ name = error.FieldNameReservedTwice name
 
+-- The name of a field is like that of another one, or the name of a value.
+abbrev pub names_alike : Holder → List ℕ → List ℕ → LinkError
+names_alike (OfEnum enum) name other = error.ValuesAlike name other
+names_alike _ name other = error.FieldsAlike name other
+
 -- `sees` and `packages` tell what the file with this number sees of the table.
 module _ (files : List FileDescriptorProto) (table : Table) (sees packages : List Bool) (file : ℕ) where
   abbrev pub told_at : Place → LinkFaultKind → List LinkError
@@ -136,6 +141,7 @@ module _ (files : List FileDescriptorProto) (table : Table) (sees packages : Lis
   told_at place kind.ReservedName = reserved_name place.holder (named_in place.holder place.rest) ∷ []
   told_at place kind.FirstNotZero = error.FirstNotZero ∷ []
   told_at place kind.ExtensionsInProto3 = error.ExtensionsInProto3 ∷ []
+  told_at place (kind.Alike n) = names_alike place.holder (named_in place.holder place.rest) (sibling_at place.holder n) ∷ []
   told_at place kind.MissingImport = error.MissingImport (import_named place.holder place.rest) ∷ []
   told_at place kind.RepeatedImport = error.RepeatedImport (import_named place.holder place.rest) ∷ []
   told_at place (kind.ImportCycle circle_) = error.ImportCycle (circle files circle_.items) ∷ []

@@ -159,6 +159,16 @@ pub enum LinkError {
     FirstNotZero,
     /// In proto3 a message has an extension range.
     ExtensionsInProto3,
+    /// In proto3 the names of two fields are the same in JSON, but for case.
+    FieldsAlike {
+        name: Text,
+        other: Text,
+    },
+    /// In proto3 the names of two values are the same, but for case and the name of their enum.
+    ValuesAlike {
+        name: Text,
+        other: Text,
+    },
     /// No file has the name of the import.
     MissingImport {
         name: Text,
@@ -302,6 +312,14 @@ impl fmt::Display for LinkError {
             LinkError::ValueNameReservedTwice { name } => {
                 write!(f, "Enum value \"{name}\" is reserved multiple times.")
             }
+            LinkError::FieldsAlike { name, other } => write!(
+                f,
+                "The JSON camel-case name of field \"{name}\" conflicts with field \"{other}\". This is not allowed in proto3."
+            ),
+            LinkError::ValuesAlike { name, other } => write!(
+                f,
+                "Enum name {name} has the same name as {other} if you ignore case and strip out the enum name prefix (if any). This is error-prone and can lead to undefined behavior. Please avoid doing this. If you are using allow_alias, please assign the same numeric value to both enums."
+            ),
             LinkError::MissingImport { name } => {
                 write!(f, "Import \"{name}\" was not found or had errors.")
             }

@@ -5,6 +5,7 @@ ghost use Rattle.protox_link_text.specs.Places.{holder_of, seen};
 ghost use Rattle.protox_link_text.specs.Told.{empty_range, errors_of, told_at};
 
 use crate::LinkError;
+use crate::alike::names_alike;
 use crate::clash::clash_at;
 use crate::defined::{no_package, told_twice};
 use crate::imports::circle_text;
@@ -81,6 +82,7 @@ fn told_at(
         LinkFaultKind::ReservedName => reserved_name(alloc, inside, rest)?,
         LinkFaultKind::FirstNotZero => LinkError::FirstNotZero,
         LinkFaultKind::ExtensionsInProto3 => LinkError::ExtensionsInProto3,
+        LinkFaultKind::Alike(number) => names_alike(alloc, inside, rest, *number)?,
         LinkFaultKind::MissingImport => LinkError::MissingImport {
             name: Text::copy(alloc, import_named(inside, rest))?,
         },

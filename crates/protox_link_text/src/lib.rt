@@ -1,6 +1,7 @@
 //! What is wrong with a set of files, in protoc's words.
 #![tactic(auto)]
 
+mod alike;
 mod clash;
 mod defined;
 mod error;

@@ -41,7 +41,7 @@ is_below : (q n : ℕ) → (q < n) ⊎ (n ≤ q)
 is_below q n = grind arith
 
 -- What is met stands at or behind the part itself.
-none_earlier : (part : ℕ) (met : Option ℕ) → ((n : ℕ) → met ≡ Some n → part ≤ n) → clash_of (λ p w. nat_lt w p) part met ≡ []
+pub none_earlier : (part : ℕ) (met : Option ℕ) → ((n : ℕ) → met ≡ Some n → part ≤ n) → clash_of (λ p w. nat_lt w p) part met ≡ []
 none_earlier part None behind = refl
 none_earlier part (Some n) behind = ap (λ test. cond test (record { part = part; «with» = n } ∷ []) []) (not_below n part (behind n refl))
 

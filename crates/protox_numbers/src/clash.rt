@@ -27,7 +27,11 @@ pub fn with_first(alloc: Global, met: &[Option<usize>]) -> Result<Vec<Clash>, Al
     Ok(made)
 }
 
-// The clashes with earlier parts, if this is what each part meets first.
+/// The clashes with earlier parts, in order, if this is what each part meets first. What is met at a
+/// part itself, or behind it, doesn't count.
+///
+/// # Errors
+/// `AllocError` where memory runs out.
 pub fn with_earlier(alloc: Global, met: &[Option<usize>]) -> Result<Vec<Clash>, AllocError>
     ensures { IfOk result (λ made. made.items ≡ words.with_earlier met.now) }
 {

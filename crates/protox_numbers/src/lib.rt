@@ -10,7 +10,7 @@ mod message;
 mod part;
 mod span;
 
-pub use crate::clash::Clash;
+pub use crate::clash::{Clash, with_earlier};
 pub use crate::enums::{begins_with_zero, overlapping_enum_ranges, values_in_reserved_ranges};
 pub use crate::message::{
     extension_ranges_in_reserved, fields_in_extension_ranges, fields_in_reserved_ranges,

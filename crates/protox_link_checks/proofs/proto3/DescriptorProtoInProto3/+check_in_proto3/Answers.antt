@@ -1,7 +1,5 @@
-use Rattle.std.proofs.Common.{◌++◌, ap, ◌∙◌}
 use Rattle.protox_descriptor.specs.declared.descriptor.DescriptorProto.{out-DescriptorProto}
 use Rattle.protox_link_checks.proofs.InProto3.{message_checked}
-use Rattle.protox_link_checks.specs.Proto3.{extension_faults}
 use Rattle.protox_walk.specs.Declarations.{full_name}
 use Rattle.protox_link_checks.proofs.proto3.DescriptorProtoInProto3.+check_in_proto3.Goals as goal
 
@@ -10,7 +8,7 @@ returns t c full =
     let message = c.args.self.now in
     let before = c.args.faults.now.items in
     let name = full_name full (out-DescriptorProto message).name in
-    message_checked c.args.file c.check_siblings-2.result message full c.args.path.now before c.check_extension_ranges.new.faults.items c.check_siblings.new.faults.items c.check_siblings-2.new.faults.items
-    (c.in_ok-check_extension_ranges.ensures ∙ ap (λ ranges. before ++ extension_faults c.args.file c.args.path.now ranges) c.as_slice.ensures)
+    message_checked c.args.file c.check_siblings-2.result message full c.args.path.now before c.check_message.new.faults.items c.check_siblings.new.faults.items c.check_siblings-2.new.faults.items
+    c.in_ok-check_message.ensures
     (c.in_ok-check_siblings.ensures name)
     (c.check_siblings-2.ensures name)

@@ -66,3 +66,9 @@ returns-in-ValueNameReservedTwice-clause-writes g c p ok = rw c.in-ValueNameRese
 
 pub returns-in-NoSuchValue-clause-writes : goal.returns-in-NoSuchValue-clause-writes
 returns-in-NoSuchValue-clause-writes g c p ok = rw c.in-NoSuchValue.is (simp append_assoc (c.write-in-NoSuchValue.ensures.writes p ok))
+
+pub returns-in-FieldsAlike-clause-writes : goal.returns-in-FieldsAlike-clause-writes
+returns-in-FieldsAlike-clause-writes g c p ok = rw c.in-FieldsAlike.is (simp append_assoc (c.write-in-FieldsAlike.ensures.writes p ok))
+
+pub returns-in-ValuesAlike-clause-writes : goal.returns-in-ValuesAlike-clause-writes
+returns-in-ValuesAlike-clause-writes g c p ok = rw c.in-ValuesAlike.is (simp append_assoc (c.write-in-ValuesAlike.ensures.writes p ok))

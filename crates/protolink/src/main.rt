@@ -1,0 +1,78 @@
+//! `protolink [OPTIONS] FILE..` links Protocol Buffers files, in protoc's words. `protolink --help`
+//! says more.
+#![tactic(auto)]
+
+use protolink_run::{Host, broken, run};
+use std::io::{self, BufWriter, Write};
+use std::process::ExitCode;
+use std::{env, fs};
+
+/// The files of the machine.
+#[derive(Drop)]
+struct Machine<'a> {
+    rt: &'a HostRuntime,
+}
+
+impl Host for Machine<'_> {
+    fn exists(&self, path: &str) -> bool {
+        match fs::exists(self.rt, path) {
+            Ok(exists) => exists,
+            Err(_) => false,
+        }
+    }
+
+    fn is_folder(&self, path: &str) -> bool {
+        match fs::metadata(self.rt, path) {
+            Ok(metadata) => metadata.is_dir(),
+            Err(_) => false,
+        }
+    }
+
+    fn read(&self, path: &str) -> io::Result<Vec<u8>> {
+        fs::read(self.rt, path)
+    }
+
+    // It is written under another name beside it, which then becomes its own. What is no file, as
+    // /dev/null, is written as it is.
+    fn write(&self, path: &str, bytes: &[u8]) -> io::Result<()> {
+        let is_file = match fs::metadata(self.rt, path) {
+            Ok(metadata) => metadata.is_file(),
+            Err(_) => true,
+        };
+        if !is_file {
+            return fs::write(self.rt, path, bytes);
+        }
+        let made = format!(in self.rt.alloc(); "{path}.part")?;
+        match fs::write(self.rt, made.as_str(), bytes) {
+            Ok(()) => fs::rename(self.rt, made.as_str(), path),
+            Err(error) => {
+                let _ = fs::remove_file(self.rt, made.as_str());
+                Err(error)
+            }
+        }
+    }
+}
+
+fn words(rt: &HostRuntime) -> io::Result<Vec<String>> {
+    let mut words = Vec::new(rt.alloc());
+    for word in env::args(rt)?.skip(1) {
+        words.push(word)?;
+    }
+    Ok(words)
+}
+
+fn status(rt: &HostRuntime) -> io::Result<u8> {
+    let words = words(rt)?;
+    let mut out = BufWriter::new(rt.alloc(), rt.stdout())?;
+    let machine = Machine { rt };
+    let status = run(rt.alloc(), &machine, words.as_slice(), &mut out, &mut rt.stderr());
+    out.flush()?;
+    Ok(status)
+}
+
+fn main(rt: HostRuntime) -> ExitCode {
+    ExitCode::from(match status(&rt) {
+        Ok(status) => status,
+        Err(error) => broken(&mut rt.stderr(), &error),
+    })
+}

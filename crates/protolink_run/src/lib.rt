@@ -1,0 +1,321 @@
+//! The work of the program `protolink`, over what it is given, a host that reads and writes files,
+//! and two writers.
+#![tactic(auto)]
+
+ghost use Rattle.std.specs.Prelude.{◌≡◌, ◌≤◌};
+
+mod faults;
+mod host;
+mod load;
+mod output;
+mod paths;
+mod refused;
+mod search;
+mod told;
+
+pub use crate::host::Host;
+
+use crate::faults::tell_faults;
+use crate::load::{Loaded, Reading, load_all};
+use crate::output::{rule, set_bytes};
+use crate::paths::{Place, places};
+use crate::search::{Input, input_of};
+use crate::told::say;
+use protolink_words::{Asked, Work, asked_by};
+use protox_link::{LinkedSet, check, link};
+use protox_link_fault::LinkFailure;
+use std::alloc::{AllocError, Global};
+use std::io::{self, Write};
+
+const VERSION: &str = "protolink 0.10.0 (rattle-kit-13f)
+";
+
+const HELP: &str = "usage: protolink [OPTIONS] FILE..
+
+Checks and links Protocol Buffers source files (proto2, proto3). The words are those of protoc.
+
+  -IPATH, --proto_path=PATH
+                    look for files in this folder; of several, in the first that has the file
+  -oFILE, --descriptor_set_out=FILE
+                    write the linked files to FILE, as a FileDescriptorSet
+  --include_imports the set has all that the files import, too
+  --include_source_info
+                    the set has places and comments
+  --dependency_out=FILE
+                    write to FILE what the set was made of, as a rule for make
+  --error_format=gcc, --error_format=msvs
+                    how faults are printed
+  --fatal_warnings  fail where there is a warning
+  @FILE             each line of FILE is a word
+  --version         print the version
+  -h, --help        print this
+
+Status: 0 where all is well, else 1.
+";
+
+// The word behind `@`, if it names a file of words.
+fn argument_file(word: &str) -> Option<&str> {
+    word.strip_prefix('@')
+}
+
+// Adds the words of a file. Answers whether it could be read.
+fn add_lines<H: Host>(
+    alloc: Global,
+    host: &H,
+    name: &str,
+    words: &mut Vec<String>,
+) -> Result<bool, AllocError> {
+    let Ok(bytes) = host.read(name) else {
+        return Ok(false);
+    };
+    let Ok(text) = str::from_utf8(bytes.as_slice()) else {
+        return Ok(false);
+    };
+    for line in text.lines() {
+        words.push(String::from_str(alloc, line)?)?;
+    }
+    Ok(true)
+}
+
+// The words, with those of files of words in their place. None if such a file can't be read, and
+// that is told.
+fn expanded<H: Host, E: Write>(
+    alloc: Global,
+    host: &H,
+    words: &[String],
+    err: &mut E,
+) -> io::Result<Option<Vec<String>>> {
+    let mut all = Vec::new(alloc);
+    for word in words {
+        let word = word.as_str();
+        let Some(name) = argument_file(word) else {
+            all.push(String::from_str(alloc, word)?)?;
+            continue;
+        };
+        if !add_lines(alloc, host, name, &mut all)? {
+            say(alloc, err, "Failed to open argument file", name)?;
+            return Ok(None);
+        }
+    }
+    Ok(Some(all))
+}
+
+// Says of each folder that isn't there that it isn't.
+fn warn_of_folders<H: Host, E: Write>(
+    alloc: Global,
+    host: &H,
+    work: &Work<'_>,
+    err: &mut E,
+) -> io::Result<()> {
+    for folder in work.folders.as_slice() {
+        if !host.exists(folder.path) {
+            say(alloc, err, folder.path, "warning: directory does not exist.")?;
+        }
+    }
+    Ok(())
+}
+
+// The name of an input. None if it has none, and that is told.
+fn name_of<H: Host, E: Write>(
+    alloc: Global,
+    host: &H,
+    places: &[Place],
+    word: &str,
+    err: &mut E,
+) -> io::Result<Option<String>> {
+    match input_of(alloc, host, places, word)? {
+        Input::Named(name) => return Ok(Some(name)),
+        Input::Shadowed(other) => {
+            let text = format!(in alloc; "Input is shadowed in the --proto_path by \"{other}\".  Either use the latter file as your input or reorder the --proto_path so that the former file's location comes first.")?;
+            say(alloc, err, word, text.as_str())?;
+        }
+        Input::Outside => say(
+            alloc,
+            err,
+            word,
+            "File does not reside within any path specified using --proto_path (or -I).  You must specify a --proto_path which encompasses this file.  Note that the proto_path must be an exact prefix of the .proto file names -- protoc is too dumb to figure out when two paths (e.g. absolute and relative) are equivalent (it's harder than you think).",
+        )?,
+        Input::Missing => {
+            let name = format!(in alloc; "Could not make proto path relative: {word}")?;
+            say(alloc, err, name.as_str(), "No such file or directory")?;
+        }
+        Input::Folder => {
+            let name = format!(in alloc; "Could not map to virtual file: {word}")?;
+            say(alloc, err, name.as_str(), "Input file is a directory.")?;
+        }
+    }
+    Ok(None)
+}
+
+// The names of all inputs. None if one has none.
+fn names_of<H: Host, E: Write>(
+    alloc: Global,
+    host: &H,
+    places: &[Place],
+    work: &Work<'_>,
+    err: &mut E,
+) -> io::Result<Option<Vec<String>>> {
+    let mut names = Vec::new(alloc);
+    let mut all = true;
+    for word in work.files.as_slice() {
+        match name_of(alloc, host, places, word, err)? {
+            Some(name) => names.push(name)?,
+            None => all = false,
+        }
+    }
+    Ok(if all { Some(names) } else { None })
+}
+
+// Writes a file, and tells if that fails. Answers whether it was written.
+fn write<H: Host, E: Write>(
+    alloc: Global,
+    host: &H,
+    name: &str,
+    bytes: &[u8],
+    err: &mut E,
+) -> io::Result<bool> {
+    match host.write(name, bytes) {
+        Ok(()) => Ok(true),
+        Err(error) => {
+            let why = format!(in alloc; "{error}")?;
+            say(alloc, err, name, why.as_str())?;
+            Ok(false)
+        }
+    }
+}
+
+// Writes what is asked for of linked files, of which the first so many are the inputs.
+fn write_all<H: Host, E: Write>(
+    alloc: Global,
+    host: &H,
+    work: &Work<'_>,
+    inputs: usize,
+    mut set: LinkedSet,
+    paths: &[String],
+    err: &mut E,
+) -> io::Result<bool> {
+    let Some(name) = work.set else {
+        return Ok(true);
+    };
+    let Some(bytes) = set_bytes(alloc, err, work, inputs, &mut set)? else {
+        return Ok(false);
+    };
+    if !write(alloc, host, name, bytes.as_slice(), err)? {
+        return Ok(false);
+    }
+    let Some(list) = work.dependencies else {
+        return Ok(true);
+    };
+    let text = rule(alloc, name, set.order.as_slice(), paths)?;
+    write(alloc, host, list, text.as_str().as_bytes(), err)
+}
+
+// Links files that were read, and writes what is asked for. Answers whether all is well.
+fn linked<H: Host, E: Write>(
+    alloc: Global,
+    host: &H,
+    work: &Work<'_>,
+    loaded: Loaded,
+    err: &mut E,
+) -> io::Result<bool> {
+    let faults = check(alloc, loaded.files.as_slice())?;
+    tell_faults(alloc, err, work.format, &loaded, faults.as_slice())?;
+    if loaded.failed || !faults.is_empty() {
+        return Ok(false);
+    }
+    let Loaded {
+        files,
+        paths,
+        inputs,
+        ..
+    } = loaded;
+    match link(alloc, files) {
+        Ok(set) => write_all(alloc, host, work, inputs, set, paths.as_slice(), err),
+        // it can't be, as nothing is wrong with the files
+        Err(LinkFailure::Refused(_)) => Ok(false),
+        Err(LinkFailure::OutOfMemory) => Err(AllocError.into()),
+    }
+}
+
+// Does the work. Answers whether all is well.
+fn done<H: Host, E: Write>(
+    alloc: Global,
+    host: &H,
+    work: &Work<'_>,
+    err: &mut E,
+) -> io::Result<bool> {
+    warn_of_folders(alloc, host, work, err)?;
+    let places = places(alloc, work.folders.as_slice())?;
+    let places = places.as_slice();
+    let Some(names) = names_of(alloc, host, places, work, err)? else {
+        return Ok(false);
+    };
+    let format = work.format;
+    let reading = Reading {
+        host,
+        places,
+        format,
+    };
+    let loaded = load_all(alloc, err, &reading, names.as_slice())?;
+    linked(alloc, host, work, loaded, err)
+}
+
+// Does what the words ask for. Answers whether all is well.
+fn tried<H: Host, W: Write, E: Write>(
+    alloc: Global,
+    host: &H,
+    words: &[String],
+    out: &mut W,
+    err: &mut E,
+) -> io::Result<bool> {
+    if words.is_empty() {
+        out.write_all(HELP.as_bytes())?;
+        return Ok(true);
+    }
+    let Some(words) = expanded(alloc, host, words, err)? else {
+        return Ok(false);
+    };
+    match asked_by(alloc, words.as_slice())? {
+        Asked::Help => out.write_all(HELP.as_bytes()).map(|_| true),
+        Asked::Version => out.write_all(VERSION.as_bytes()).map(|_| true),
+        Asked::Work(work) => done(alloc, host, &work, err),
+        Asked::Wrong(wrong) => {
+            let text = format!(in alloc; "{wrong}\n")?;
+            err.write_all(text.as_bytes())?;
+            Ok(false)
+        }
+    }
+}
+
+/// Does what the words ask for: links files, tells what is wrong with them, and writes what is asked
+/// for. The answer is the status: 0 where all is well, else 1.
+pub fn run<H: Host, W: Write, E: Write>(
+    alloc: Global,
+    host: &H,
+    words: &[String],
+    out: &mut W,
+    err: &mut E,
+) -> u8
+    ensures { result ≤ 1 }
+{
+    match tried(alloc, host, words, out, err) {
+        Ok(true) => 0,
+        Ok(false) => 1,
+        Err(error) => broken(err, &error),
+    }
+}
+
+/// Says why nothing more is done, and answers the status.
+pub fn broken<E: Write>(err: &mut E, error: &io::Error) -> u8
+    ensures { result ≡ 1 }
+{
+    let said = if error.kind() == io::ErrorKind::OutOfMemory {
+        err.write_all("protolink: out of memory\n".as_bytes())
+    } else {
+        writeln!(err, "protolink: cannot write: {error}")
+    };
+    match said {
+        Ok(()) => 1,
+        Err(_) => 1,
+    }
+}

@@ -1,0 +1,182 @@
+//! Reading files, and all that they import.
+
+use crate::host::Host;
+use crate::paths::{Place, canonical, leads_up};
+use crate::refused::tell_refusal;
+use crate::search::path_of;
+use crate::told::say;
+use protolink_words::Format;
+use protox_descriptor::descriptor::FileDescriptorProto;
+use protox_parse::{ParseFailure, parse};
+use std::alloc::{AllocError, Global};
+use std::collections::BTreeSet;
+use std::io::{self, Write};
+
+/// Files that were read, by number.
+#[derive(Drop)]
+pub(crate) struct Loaded {
+    /// Their descriptors, which have their names.
+    pub(crate) files: Vec<FileDescriptorProto>,
+    /// Where each lies.
+    pub(crate) paths: Vec<String>,
+    /// How many of them, at the start, are inputs, if none failed.
+    pub(crate) inputs: usize,
+    /// Whether a file is missing, can't be read, or is refused.
+    pub(crate) failed: bool,
+}
+
+/// How files are read.
+#[derive(Drop)]
+pub(crate) struct Reading<'a, H> {
+    pub(crate) host: &'a H,
+    pub(crate) places: &'a [Place],
+    pub(crate) format: Format,
+}
+
+// Names of files that are to be read, each once.
+#[derive(Drop)]
+struct Wanted {
+    names: Vec<String>,
+    known: BTreeSet<String>,
+}
+
+impl Wanted {
+    fn add(&mut self, alloc: Global, name: &str) -> Result<(), AllocError> {
+        if self.known.insert(String::from_str(alloc, name)?)? {
+            self.names.push(String::from_str(alloc, name)?)?;
+        }
+        Ok(())
+    }
+
+    fn add_imports(&mut self, alloc: Global, file: &FileDescriptorProto) -> Result<(), AllocError> {
+        for name in file.dependency.as_slice() {
+            self.add(alloc, name.as_str())?;
+        }
+        Ok(())
+    }
+}
+
+// The text of a file. If it has none, that is told.
+fn text_of<H: Host, E: Write>(
+    alloc: Global,
+    err: &mut E,
+    reading: &Reading<'_, H>,
+    name: &str,
+    path: &str,
+) -> io::Result<Option<String>> {
+    let bytes = match reading.host.read(path) {
+        Ok(bytes) => bytes,
+        Err(error) => {
+            let why = format!(in alloc; "cannot be read: {error}")?;
+            say(alloc, err, name, why.as_str())?;
+            return Ok(None);
+        }
+    };
+    match str::from_utf8(bytes.as_slice()) {
+        Ok(text) => Ok(Some(String::from_str(alloc, text)?)),
+        Err(_) => {
+            say(alloc, err, name, "not UTF-8")?;
+            Ok(None)
+        }
+    }
+}
+
+// The descriptor of a file. If it is refused, that is told.
+fn parsed<E: Write>(
+    alloc: Global,
+    err: &mut E,
+    format: Format,
+    name: &str,
+    path: &str,
+    text: &str,
+) -> io::Result<Option<FileDescriptorProto>> {
+    match parse(alloc, name, text) {
+        Ok(file) => Ok(Some(file)),
+        Err(ParseFailure::Refused(error)) => {
+            tell_refusal(alloc, err, format, name, path, &error)?;
+            Ok(None)
+        }
+        Err(ParseFailure::OutOfMemory) => Err(AllocError.into()),
+    }
+}
+
+// Where the file of this name lies. If it lies nowhere, that is told.
+fn found<H: Host, E: Write>(
+    alloc: Global,
+    err: &mut E,
+    reading: &Reading<'_, H>,
+    name: &str,
+) -> io::Result<Option<String>> {
+    if leads_up(name) || canonical(alloc, name)?.as_str() != name {
+        say(
+            alloc,
+            err,
+            name,
+            "Backslashes, consecutive slashes, \".\", or \"..\" are not allowed in the virtual path",
+        )?;
+        return Ok(None);
+    }
+    let path = path_of(alloc, reading.host, reading.places, name)?;
+    if path.is_none() {
+        say(alloc, err, name, "File not found.")?;
+    }
+    Ok(path)
+}
+
+// Reads a file, and adds it. Answers whether it was added.
+fn load<H: Host, E: Write>(
+    alloc: Global,
+    err: &mut E,
+    reading: &Reading<'_, H>,
+    name: &str,
+    loaded: &mut Loaded,
+) -> io::Result<bool> {
+    let Some(path) = found(alloc, err, reading, name)? else {
+        return Ok(false);
+    };
+    let Some(text) = text_of(alloc, err, reading, name, path.as_str())? else {
+        return Ok(false);
+    };
+    let (format, text) = (reading.format, text.as_str());
+    let Some(file) = parsed(alloc, err, format, name, path.as_str(), text)? else {
+        return Ok(false);
+    };
+    loaded.paths.push(path)?;
+    loaded.files.push(file)?;
+    Ok(true)
+}
+
+/// Reads the files of these names, and all that they import. What can't be read is told.
+///
+/// # Errors
+/// An error where memory runs out, or where nothing can be told.
+pub(crate) fn load_all<H: Host, E: Write>(
+    alloc: Global,
+    err: &mut E,
+    reading: &Reading<'_, H>,
+    inputs: &[String],
+) -> io::Result<Loaded> {
+    let (names, known) = (Vec::new(alloc), BTreeSet::new(alloc));
+    let mut wanted = Wanted { names, known };
+    for name in inputs {
+        wanted.add(alloc, name.as_str())?;
+    }
+    let mut loaded = Loaded {
+        files: Vec::new(alloc),
+        paths: Vec::new(alloc),
+        inputs: wanted.names.len(),
+        failed: false,
+    };
+    for next in 0..usize::MAX {
+        let Some(name) = wanted.names.get(next) else {
+            break;
+        };
+        let name = String::from_str(alloc, name.as_str())?;
+        if !load(alloc, err, reading, name.as_str(), &mut loaded)? {
+            loaded.failed = true;
+        } else if let Some(file) = loaded.files.last() {
+            wanted.add_imports(alloc, file)?;
+        }
+    }
+    Ok(loaded)
+}

@@ -5,6 +5,7 @@ usage: make_link.py SHAPE COUNT [SEED] > FILE
 
 `tree` has COUNT files of about 20 KB, which import one another and use names with dots. The other shapes
 are those that a linker may be slow for; COUNT is a number of files or of parts, or of letters:
+  tree3    the same in proto3
   name     a message with a name of COUNT letters, and a field for each 20 letters
   absolute the same, where the types of fields begin with a dot
   fields   a message with COUNT fields of one type
@@ -13,6 +14,7 @@ are those that a linker may be slow for; COUNT is a number of files or of parts,
   twice    a message that is defined COUNT times
   reserved a message that reserves COUNT names, each twice, and has fields of half of them
   defaults an enum with COUNT values, and a field with each as its default
+  alike    in proto3, a message with COUNT fields and an enum with COUNT values, all alike but for case
   chain    COUNT files, each of which imports the one before it
   public   the same, where the imports are public
   ladder   COUNT files, each of which imports the two before it publicly
@@ -63,8 +65,19 @@ def message(rng, package, name, known):
     return lines + ['}\n']
 
 
-def in_one(text):
-    return [('a.proto', HEAD + text)]
+def tree3(count, rng):
+    """The same in proto3."""
+    for name, text in tree(count, rng):
+        yield name, text.replace('"proto2"', '"proto3"').replace('optional ', '')
+
+
+def in_one(text, syntax='proto2'):
+    return [('a.proto', f'syntax = "{syntax}";\n{text}')]
+
+
+def cased(name, number):
+    """The name with capitals where the number has bits."""
+    return ''.join(letter.upper() if number >> place & 1 else letter for place, letter in enumerate(name))
 
 
 def named(count, used):
@@ -127,6 +140,12 @@ def reserved(count):
     return in_one(f'message M {{\n{names}{fields}}}\n')
 
 
+def alike(count):
+    fields = ''.join(f'  int32 {cased("field_of_a_message", n)} = {n + 1};\n' for n in range(count))
+    values = ''.join(f'  {cased("value_of_an_enum", n)} = {n};\n' for n in range(count))
+    return in_one(f'message M {{\n{fields}}}\nenum E {{\n{values}}}\n', 'proto3')
+
+
 def defaults(count):
     enum = ''.join(f'V{n} = {n};\n' for n in range(count))
     fields = ''.join(f'optional E f{n} = {n + 1} [default = V{n}];\n' for n in range(count))
@@ -135,6 +154,7 @@ def defaults(count):
 
 SHAPES = {
     'tree': tree,
+    'tree3': tree3,
     'name': lambda count, _: named(count, 'p.M'),
     'absolute': lambda count, _: named(count, '.p.M'),
     'fields': lambda count, _: in_one('message M {\n' + ''.join(
@@ -143,6 +163,7 @@ SHAPES = {
     'values': lambda count, _: values(count),
     'reserved': lambda count, _: reserved(count),
     'defaults': lambda count, _: defaults(count),
+    'alike': lambda count, _: alike(count),
     'twice': lambda count, _: in_one('message M { optional M m = 1; }\n' * count),
     'chain': lambda count, _: linked_files(count, '', 1),
     'public': lambda count, _: linked_files(count, 'public ', 1),

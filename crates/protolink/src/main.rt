@@ -32,10 +32,10 @@ impl Host for Machine<'_> {
         fs::read(self.rt, path)
     }
 
-    // It is written under another name beside it, which then becomes its own. What is no file, as
-    // /dev/null, is written as it is.
+    // It is written under another name beside it, which then becomes its own. What is there and no
+    // plain file, as a device or a link, is written as it is.
     fn write(&self, path: &str, bytes: &[u8]) -> io::Result<()> {
-        let is_file = match fs::metadata(self.rt, path) {
+        let is_file = match fs::symlink_metadata(self.rt, path) {
             Ok(metadata) => metadata.is_file(),
             Err(_) => true,
         };

@@ -37,7 +37,8 @@ Checks and links Protocol Buffers source files (proto2, proto3). The words are t
   -IPATH, --proto_path=PATH
                     look for files in this folder; of several, in the first that has the file
   -oFILE, --descriptor_set_out=FILE
-                    write the linked files to FILE, as a FileDescriptorSet
+                    write the linked files to FILE, as a FileDescriptorSet; - is standard
+                    output
   --include_imports the set has all that the files import, too
   --include_source_info
                     the set has places and comments
@@ -184,14 +185,16 @@ fn write<H: Host, E: Write>(
     }
 }
 
-// Writes what is asked for of linked files, of which the first so many are the inputs.
-fn write_all<H: Host, E: Write>(
+// Writes what is asked for of linked files, of which the first so many are the inputs. The set `-`
+// goes to standard output.
+fn write_all<H: Host, W: Write, E: Write>(
     alloc: Global,
     host: &H,
     work: &Work<'_>,
     inputs: usize,
     mut set: LinkedSet,
     paths: &[String],
+    out: &mut W,
     err: &mut E,
 ) -> io::Result<bool> {
     let Some(name) = work.set else {
@@ -200,7 +203,9 @@ fn write_all<H: Host, E: Write>(
     let Some(bytes) = set_bytes(alloc, err, work, inputs, &mut set)? else {
         return Ok(false);
     };
-    if !write(alloc, host, name, bytes.as_slice(), err)? {
+    if name == "-" {
+        out.write_all(bytes.as_slice())?;
+    } else if !write(alloc, host, name, bytes.as_slice(), err)? {
         return Ok(false);
     }
     let Some(list) = work.dependencies else {
@@ -211,11 +216,12 @@ fn write_all<H: Host, E: Write>(
 }
 
 // Links files that were read, and writes what is asked for. Answers whether all is well.
-fn linked<H: Host, E: Write>(
+fn linked<H: Host, W: Write, E: Write>(
     alloc: Global,
     host: &H,
     work: &Work<'_>,
     loaded: Loaded,
+    out: &mut W,
     err: &mut E,
 ) -> io::Result<bool> {
     let faults = check(alloc, loaded.files.as_slice())?;
@@ -230,7 +236,7 @@ fn linked<H: Host, E: Write>(
         ..
     } = loaded;
     match link(alloc, files) {
-        Ok(set) => write_all(alloc, host, work, inputs, set, paths.as_slice(), err),
+        Ok(set) => write_all(alloc, host, work, inputs, set, paths.as_slice(), out, err),
         // it can't be, as nothing is wrong with the files
         Err(LinkFailure::Refused(_)) => Ok(false),
         Err(LinkFailure::OutOfMemory) => Err(AllocError.into()),
@@ -238,10 +244,11 @@ fn linked<H: Host, E: Write>(
 }
 
 // Does the work. Answers whether all is well.
-fn done<H: Host, E: Write>(
+fn done<H: Host, W: Write, E: Write>(
     alloc: Global,
     host: &H,
     work: &Work<'_>,
+    out: &mut W,
     err: &mut E,
 ) -> io::Result<bool> {
     warn_of_folders(alloc, host, work, err)?;
@@ -257,7 +264,7 @@ fn done<H: Host, E: Write>(
         format,
     };
     let loaded = load_all(alloc, err, &reading, names.as_slice())?;
-    linked(alloc, host, work, loaded, err)
+    linked(alloc, host, work, loaded, out, err)
 }
 
 // Does what the words ask for. Answers whether all is well.
@@ -278,7 +285,7 @@ fn tried<H: Host, W: Write, E: Write>(
     match asked_by(alloc, words.as_slice())? {
         Asked::Help => out.write_all(HELP.as_bytes()).map(|_| true),
         Asked::Version => out.write_all(VERSION.as_bytes()).map(|_| true),
-        Asked::Work(work) => done(alloc, host, &work, err),
+        Asked::Work(work) => done(alloc, host, &work, out, err),
         Asked::Wrong(wrong) => {
             let text = format!(in alloc; "{wrong}\n")?;
             err.write_all(text.as_bytes())?;

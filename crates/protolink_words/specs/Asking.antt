@@ -1,15 +1,18 @@
 -- What words without options ask for.
-use Rattle.std.specs.Prelude.{ℕ, ◌≡◌, ◌≢◌, Bool, false, List, [], Option, None, map, slice_index, string_bytes}
+use Rattle.std.specs.Prelude.{ℕ, ◌≡◌, ◌≢◌, List, [], ◌∷◌, ◌++◌, None, map, slice_index, string_bytes}
 use Rattle.std.specs.declared.alloc.Global.{Global}
 use Rattle.std.specs.declared.string.String.{String}
 use Rattle.protolink_words.specs.declared.Asked.{Asked}
 use Rattle.protolink_words.specs.declared.Asked.TheVariants.{Help, Version, Work, Wrong}
 use Rattle.protolink_words.specs.declared.Work.{Work as WorkOn}
 
--- A word is a file's name, and no option: it isn't empty, and doesn't begin with a hyphen.
-pub record IsName (word : String Global) : Type 0 where
-  pub some : string_bytes word ≢ []
-  pub no_option : slice_index (string_bytes word) 0 ≢ 45
+-- The text is a file's name, and no option: it isn't empty, and doesn't begin with a hyphen.
+pub record IsName (text : List ℕ) : Type 0 where
+  pub some : text ≢ []
+  pub no_option : slice_index text 0 ≢ 45
+
+abbrev pub IsNameWord : String Global → Type 0
+IsNameWord word = IsName (string_bytes word)
 
 abbrev pub names_of : WorkOn → List (List ℕ)
 names_of work = map (λ name. name.now) work.files.items

@@ -1,8 +1,9 @@
 //! The words of the program `protolink`: what they ask for. They are protoc's words.
 #![tactic(auto)]
 
-ghost use Rattle.std.specs.Prelude.{◌≡◌, All, IfOk, map, string_bytes};
-ghost use Rattle.protolink_words.specs.Asking.{IsName, IsPlainWork};
+ghost use Rattle.std.specs.Prelude.{◌≡◌, ◌++◌, ◌∷◌, [], ℕ, List, None, All, IfOk, IfSome, OnOk, map, string_bytes};
+ghost use Rattle.protolink_words.specs.Asking.{IsName, IsNameWord, IsPlain, IsPlainWork, names_of};
+ghost use Rattle.protolink_words.specs.declared.Taken.TheVariants.{More};
 
 mod flags;
 mod wrong;
@@ -158,7 +159,12 @@ fn take_word<'a>(
     work: &mut Work<'a>,
     waits: &mut Option<&'a str>,
     word: &'a str,
-) -> Result<Taken<'a>, AllocError> {
+) -> Result<Taken<'a>, AllocError>
+    ensures more { IsName word.now → IfOk result (λ taken. taken ≡ More) }
+    ensures waits { IsName word.now → OnOk result (waits.new ≡ waits.old) }
+    ensures plain { (names : List (List ℕ)) → IsName word.now → IsPlain names work.old
+        → OnOk result (IsPlain (names ++ word.now ∷ []) work.new) }
+{
     if word.is_empty() {
         return Ok(Taken::Wrong(Wrong::EmptyWord));
     }
@@ -178,7 +184,9 @@ fn take_word<'a>(
 }
 
 // What is wrong with the words as a whole, if anything is.
-fn wrong_work<'a>(work: &Work<'a>) -> Option<Wrong<'a>> {
+fn wrong_work<'a>(work: &Work<'a>) -> Option<Wrong<'a>>
+    ensures { (names : List (List ℕ)) → IsPlain names work.now → IfSome result (λ wrong. names ≡ []) }
+{
     if work.files.is_empty() {
         return Some(Wrong::NoFile);
     }
@@ -191,7 +199,9 @@ fn wrong_work<'a>(work: &Work<'a>) -> Option<Wrong<'a>> {
     None
 }
 
-fn no_work<'a>(alloc: Global) -> Work<'a> {
+fn no_work<'a>(alloc: Global) -> Work<'a>
+    ensures { IsPlain [] result }
+{
     Work {
         files: Vec::new(alloc),
         folders: Vec::new(alloc),
@@ -205,7 +215,10 @@ fn no_work<'a>(alloc: Global) -> Work<'a> {
 }
 
 // What the work is asked for, once all words are taken.
-fn ended<'a>(work: Work<'a>, waits: Option<&'a str>) -> Asked<'a> {
+fn ended<'a>(work: Work<'a>, waits: Option<&'a str>) -> Asked<'a>
+    ensures { (names : List (List ℕ)) → waits.entry ≡ None → IsPlain names work.entry
+        → IsPlainWork names result }
+{
     if let Some(option) = waits {
         return Asked::Wrong(Wrong::NoValue(option));
     }
@@ -221,7 +234,7 @@ fn ended<'a>(work: Work<'a>, waits: Option<&'a str>) -> Asked<'a> {
 /// `AllocError` where memory runs out.
 pub fn asked_by(alloc: Global, words: &[String]) -> Result<Asked<'_>, AllocError>
     // Where each word is a file's name, these files are to be linked, and nothing is written.
-    ensures names { All IsName words.now → IfOk result (IsPlainWork (map string_bytes words.now)) }
+    ensures names { All IsNameWord words.now → IfOk result (IsPlainWork (map string_bytes words.now)) }
 {
     let mut work = no_work(alloc);
     let mut waits: Option<&str> = None;

@@ -65,7 +65,13 @@ fn status(rt: &HostRuntime) -> io::Result<u8> {
     let words = words(rt)?;
     let mut out = BufWriter::new(rt.alloc(), rt.stdout())?;
     let machine = Machine { rt };
-    let status = run(rt.alloc(), &machine, words.as_slice(), &mut out, &mut rt.stderr());
+    let status = run(
+        rt.alloc(),
+        &machine,
+        words.as_slice(),
+        &mut out,
+        &mut rt.stderr(),
+    );
     out.flush()?;
     Ok(status)
 }

@@ -13,9 +13,8 @@ mod refused;
 mod search;
 mod told;
 
-pub use crate::host::Host;
-
 use crate::faults::tell_faults;
+pub use crate::host::Host;
 use crate::load::{Loaded, Reading, load_all};
 use crate::output::{rule, set_bytes};
 use crate::paths::{Place, places};
@@ -110,7 +109,12 @@ fn warn_of_folders<H: Host, E: Write>(
 ) -> io::Result<()> {
     for folder in work.folders.as_slice() {
         if !host.exists(folder.path) {
-            say(alloc, err, folder.path, "warning: directory does not exist.")?;
+            say(
+                alloc,
+                err,
+                folder.path,
+                "warning: directory does not exist.",
+            )?;
         }
     }
     Ok(())
@@ -127,7 +131,9 @@ fn name_of<H: Host, E: Write>(
     match input_of(alloc, host, places, word)? {
         Input::Named(name) => return Ok(Some(name)),
         Input::Shadowed(other) => {
-            let text = format!(in alloc; "Input is shadowed in the --proto_path by \"{other}\".  Either use the latter file as your input or reorder the --proto_path so that the former file's location comes first.")?;
+            let text = format!(in alloc;
+                "Input is shadowed in the --proto_path by \"{other}\".  Either use the latter file as your input or reorder the --proto_path so that the former file's location comes first."
+            )?;
             say(alloc, err, word, text.as_str())?;
         }
         Input::Outside => say(

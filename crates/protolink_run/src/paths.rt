@@ -40,7 +40,11 @@ pub(crate) fn leads_up(path: &str) -> bool {
 // What stands behind a folder in a path. The empty one is in front of each relative path.
 fn behind<'a>(path: &'a str, folder: &str) -> Option<&'a str> {
     if folder.is_empty() {
-        return if path.starts_with('/') { None } else { Some(path) };
+        return if path.starts_with('/') {
+            None
+        } else {
+            Some(path)
+        };
     }
     let rest = path.strip_prefix(folder)?;
     if rest.is_empty() || folder.ends_with('/') {

@@ -38,7 +38,11 @@ pub(crate) fn tell_refusal<E: Write>(
         warning,
     };
     let source = error.source();
-    let source = if source.len() > 2147483647 { "" } else { source };
+    let source = if source.len() > 2147483647 {
+        ""
+    } else {
+        source
+    };
     let lines = LineResolver::new(alloc, source)?;
     for fault in error.errors() {
         let text = format!(in alloc; "{}", ShownFault(fault))?;

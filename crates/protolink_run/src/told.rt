@@ -67,12 +67,7 @@ pub(crate) fn tell<E: Write>(
 }
 
 /// Writes what is wrong with a word or a file as a whole.
-pub(crate) fn say<E: Write>(
-    alloc: Global,
-    err: &mut E,
-    name: &str,
-    text: &str,
-) -> io::Result<()> {
+pub(crate) fn say<E: Write>(alloc: Global, err: &mut E, name: &str, text: &str) -> io::Result<()> {
     let mut line = String::new(alloc);
     push_shown(alloc, &mut line, name)?;
     line.push_str(": ")?;

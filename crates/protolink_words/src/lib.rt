@@ -8,9 +8,8 @@ ghost use Rattle.protolink_words.specs.declared.Taken.TheVariants.{More};
 mod flags;
 mod wrong;
 
-pub use crate::wrong::Wrong;
-
 use crate::flags::{Flag, flag_of, takes_value};
+pub use crate::wrong::Wrong;
 use std::alloc::{AllocError, Global};
 
 /// A folder in which files are looked for.

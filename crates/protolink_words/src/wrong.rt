@@ -41,9 +41,7 @@ impl fmt::Display for Wrong<'_> {
             Wrong::EmptyFolder => f.write_str(
                 "--proto_path passed empty directory name.  (Use \".\" for current directory.)",
             ),
-            Wrong::NoSet => {
-                f.write_str("--dependency_out needs a set (--descriptor_set_out).")
-            }
+            Wrong::NoSet => { f.write_str("--dependency_out needs a set (--descriptor_set_out).") }
             Wrong::SeveralFiles => f.write_str(
                 "Can only process one input file when using --dependency_out=FILE.",
             ),

@@ -177,7 +177,7 @@ def by_chance(protoc, seed):
 
 def comparable(lines):
     """What is compared of the lines of a set that is made by chance: faults with their texts. What is
-    wrong in proto3 alone is told by protoc only where nothing else is wrong."""
+    wrong in proto3 alone is told by protoc only where nothing else is wrong, but for values that are alike."""
     faults = []
     for line in lines:
         if line.startswith('  '):
@@ -186,7 +186,8 @@ def comparable(lines):
             faults.append([line])
     if any(TWICE.fullmatch(fault[0]) for fault in faults):
         faults = [fault for fault in faults if not USED.fullmatch(fault[0])]
-    faults = [fault for fault in faults if not fault[0].endswith(PROTO3)] or faults
+    values = [fault for fault in faults if fault[1:] and fault[1].startswith('  Enum name ')]
+    faults = [fault for fault in faults if not fault[0].endswith(PROTO3)] or values or faults
     packages = [fault for fault in faults if ' not a package: ' in fault[0]]
     return [line for fault in faults if fault not in packages[1:] for line in fault]
 

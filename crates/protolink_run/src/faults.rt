@@ -11,22 +11,13 @@ use protox_link_text::errors_of;
 use std::alloc::Global;
 use std::io::{self, Write};
 
-// The first of these locations, which are in the order of their paths, whose path isn't before this
-// one.
-fn first_not_before(locations: &[Location], path: &[i32]) -> usize {
-    let (mut low, mut high) = (0, locations.len());
-    while low < high {
-        let middle = low + (high - low) / 2;
-        match locations.get(middle) {
-            Some(location) if location.path.as_slice() < path => low = middle + 1,
-            _ => high = middle,
-        }
-    }
-    low
+// How many of these locations, which are in the order of their paths, come before this path.
+fn count_before(locations: &[Location], path: &[i32]) -> usize {
+    locations.partition_point(|location| location.path.as_slice().cmp(&path).is_lt())
 }
 
 fn at(locations: &[Location], path: &[i32]) -> Option<Spot> {
-    let location = locations.get(first_not_before(locations, path))?;
+    let location = locations.get(count_before(locations, path))?;
     let [line, column, ..] = location.span.as_slice() else {
         return None;
     };

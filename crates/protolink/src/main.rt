@@ -7,6 +7,14 @@ use std::io::{self, BufWriter, Write};
 use std::process::ExitCode;
 use std::{env, fs};
 
+// What can't be looked at isn't there, unless that is told because memory ran out.
+fn unless_want(error: io::Error) -> io::Result<bool> {
+    if error.kind() == io::ErrorKind::OutOfMemory {
+        return Err(error);
+    }
+    Ok(false)
+}
+
 /// The files of the machine.
 #[derive(Drop)]
 struct Machine<'a> {
@@ -14,17 +22,17 @@ struct Machine<'a> {
 }
 
 impl Host for Machine<'_> {
-    fn exists(&self, path: &str) -> bool {
+    fn exists(&self, path: &str) -> io::Result<bool> {
         match fs::exists(self.rt, path) {
-            Ok(exists) => exists,
-            Err(_) => false,
+            Ok(exists) => Ok(exists),
+            Err(error) => unless_want(error),
         }
     }
 
-    fn is_folder(&self, path: &str) -> bool {
+    fn is_folder(&self, path: &str) -> io::Result<bool> {
         match fs::metadata(self.rt, path) {
-            Ok(metadata) => metadata.is_dir(),
-            Err(_) => false,
+            Ok(metadata) => Ok(metadata.is_dir()),
+            Err(error) => unless_want(error),
         }
     }
 
@@ -37,7 +45,7 @@ impl Host for Machine<'_> {
     fn write(&self, path: &str, bytes: &[u8]) -> io::Result<()> {
         let is_file = match fs::symlink_metadata(self.rt, path) {
             Ok(metadata) => metadata.is_file(),
-            Err(_) => true,
+            Err(error) => !unless_want(error)?,
         };
         if !is_file {
             return fs::write(self.rt, path, bytes);

@@ -1,14 +1,14 @@
 //! Where files are read and written.
 
-use std::io;
+use std::io::{self, ErrorKind};
 
 /// Where files are read and written.
 pub trait Host {
-    /// Whether there is something of this path.
-    fn exists(&self, path: &str) -> bool;
+    /// Whether there is something of this path. An error says that memory ran out.
+    fn exists(&self, path: &str) -> io::Result<bool>;
 
-    /// Whether it is a folder.
-    fn is_folder(&self, path: &str) -> bool;
+    /// Whether it is a folder. An error says that memory ran out.
+    fn is_folder(&self, path: &str) -> io::Result<bool>;
 
     /// The bytes of the file of this path.
     fn read(&self, path: &str) -> io::Result<Vec<u8>>;
@@ -16,4 +16,9 @@ pub trait Host {
     /// Makes a file of this path, which has these bytes. If it can't be written whole, what was
     /// there before stays.
     fn write(&self, path: &str, bytes: &[u8]) -> io::Result<()>;
+}
+
+/// Whether the error says that memory ran out.
+pub(crate) fn is_want(error: &io::Error) -> bool {
+    error.kind() == ErrorKind::OutOfMemory
 }

@@ -15,6 +15,7 @@ mod told;
 
 use crate::faults::tell_faults;
 pub use crate::host::Host;
+use crate::host::is_want;
 use crate::load::{Loaded, Reading, load_all};
 use crate::output::{rule, set_bytes};
 use crate::paths::{Place, places};
@@ -50,7 +51,7 @@ Checks and links Protocol Buffers source files (proto2, proto3). The words are t
   --version         print the version
   -h, --help        print this
 
-Status: 0 where all is well, else 1.
+Status: 0 where all is well, 2 where memory runs out or nothing can be said, else 1.
 ";
 
 // The word behind `@`, if it names a file of words.
@@ -64,9 +65,11 @@ fn add_lines<H: Host>(
     host: &H,
     name: &str,
     words: &mut Vec<String>,
-) -> Result<bool, AllocError> {
-    let Ok(bytes) = host.read(name) else {
-        return Ok(false);
+) -> io::Result<bool> {
+    let bytes = match host.read(name) {
+        Ok(bytes) => bytes,
+        Err(error) if is_want(&error) => return Err(error),
+        Err(_) => return Ok(false),
     };
     let Ok(text) = str::from_utf8(bytes.as_slice()) else {
         return Ok(false);
@@ -108,7 +111,7 @@ fn warn_of_folders<H: Host, E: Write>(
     err: &mut E,
 ) -> io::Result<()> {
     for folder in work.folders.as_slice() {
-        if !host.exists(folder.path) {
+        if !host.exists(folder.path)? {
             say(
                 alloc,
                 err,
@@ -183,6 +186,7 @@ fn write<H: Host, E: Write>(
 ) -> io::Result<bool> {
     match host.write(name, bytes) {
         Ok(()) => Ok(true),
+        Err(error) if is_want(&error) => Err(error),
         Err(error) => {
             let why = format!(in alloc; "{error}")?;
             say(alloc, err, name, why.as_str())?;
@@ -301,7 +305,8 @@ fn tried<H: Host, W: Write, E: Write>(
 }
 
 /// Does what the words ask for: links files, tells what is wrong with them, and writes what is asked
-/// for. The answer is the status: 0 where all is well, else 1.
+/// for. The answer is the status: 0 where all is well, 2 where memory runs out or nothing can be said,
+/// else 1.
 pub fn run<H: Host, W: Write, E: Write>(
     alloc: Global,
     host: &H,
@@ -309,7 +314,7 @@ pub fn run<H: Host, W: Write, E: Write>(
     out: &mut W,
     err: &mut E,
 ) -> u8
-    ensures { result ≤ 1 }
+    ensures { result ≤ 2 }
 {
     match tried(alloc, host, words, out, err) {
         Ok(true) => 0,
@@ -320,7 +325,7 @@ pub fn run<H: Host, W: Write, E: Write>(
 
 /// Says why nothing more is done, and answers the status.
 pub fn broken<E: Write>(err: &mut E, error: &io::Error) -> u8
-    ensures { result ≡ 1 }
+    ensures { result ≡ 2 }
 {
     let said = if error.kind() == io::ErrorKind::OutOfMemory {
         err.write_all("protolink: out of memory\n".as_bytes())
@@ -328,7 +333,7 @@ pub fn broken<E: Write>(err: &mut E, error: &io::Error) -> u8
         writeln!(err, "protolink: cannot write: {error}")
     };
     match said {
-        Ok(()) => 1,
-        Err(_) => 1,
+        Ok(()) => 2,
+        Err(_) => 2,
     }
 }

@@ -1,6 +1,6 @@
 //! Reading files, and all that they import.
 
-use crate::host::Host;
+use crate::host::{Host, is_want};
 use crate::paths::{Place, canonical, leads_up};
 use crate::refused::tell_refusal;
 use crate::search::path_of;
@@ -66,6 +66,7 @@ fn text_of<H: Host, E: Write>(
 ) -> io::Result<Option<String>> {
     let bytes = match reading.host.read(path) {
         Ok(bytes) => bytes,
+        Err(error) if is_want(&error) => return Err(error),
         Err(error) => {
             let why = format!(in alloc; "cannot be read: {error}")?;
             say(alloc, err, name, why.as_str())?;

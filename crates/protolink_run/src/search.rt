@@ -26,10 +26,10 @@ fn first_path<H: Host>(
     host: &H,
     places: &[Place],
     name: &str,
-) -> Result<Option<String>, AllocError> {
+) -> io::Result<Option<String>> {
     for place in places {
         if let Some(path) = moved(alloc, name, place.name.as_str(), place.path.as_str())? {
-            if host.exists(path.as_str()) {
+            if host.exists(path.as_str())? {
                 return Ok(Some(path));
             }
         }
@@ -43,7 +43,7 @@ pub(crate) fn path_of<H: Host>(
     host: &H,
     places: &[Place],
     name: &str,
-) -> Result<Option<String>, AllocError> {
+) -> io::Result<Option<String>> {
     if leads_up(name) || canonical(alloc, name)?.as_str() != name {
         return Ok(None);
     }
@@ -71,7 +71,7 @@ fn by_name<H: Host>(
     places: &[Place],
     word: &str,
     otherwise: Input,
-) -> Result<Input, AllocError> {
+) -> io::Result<Input> {
     match path_of(alloc, host, places, word)? {
         Some(_) => Ok(Input::Named(String::from_str(alloc, word)?)),
         None => Ok(otherwise),
@@ -84,8 +84,8 @@ pub(crate) fn input_of<H: Host>(
     host: &H,
     places: &[Place],
     word: &str,
-) -> Result<Input, AllocError> {
-    if !host.exists(word) {
+) -> io::Result<Input> {
+    if !host.exists(word)? {
         return by_name(alloc, host, places, word, Input::Missing);
     }
     let path = canonical(alloc, word)?;
@@ -96,7 +96,7 @@ pub(crate) fn input_of<H: Host>(
     if let Some(other) = first_path(alloc, host, earlier, name.as_str())? {
         return Ok(Input::Shadowed(other));
     }
-    if host.is_folder(word) {
+    if host.is_folder(word)? {
         return Ok(Input::Folder);
     }
     Ok(Input::Named(name))

@@ -4,15 +4,19 @@
 usage: link_program.py PROTOC [PROGRAM]     at the top of the repository
 
 PROGRAM is crates/protolink/out/protolink. Each command line below is given to both, in a folder of its
-own with the same files. Of what is said the lines are compared, in any order; but protoc's warnings
-of imports that aren't used are left out, as `protolink` doesn't tell them. Sets are compared byte for
-byte. The last line is 'N passed, M failed'. It was written for protoc 3.21.12.
+own with the same files. Of what is said the lines are compared, in any order, but for those that
+`protolink` doesn't say or says otherwise: warnings of imports that aren't used and of a syntax that
+isn't said; the place of a circle of imports; and the number behind an error of the system. Sets are
+compared byte for byte; with source information, locations are compared as sets of path and span. The
+last line is 'N passed, M failed'. It needs python3-protobuf, and was written for protoc 3.21.12.
 """
 import os
 import re
 import subprocess
 import sys
 import tempfile
+
+from google.protobuf import descriptor_pb2
 
 PROGRAM = 'crates/protolink/out/protolink'
 FILES = {
@@ -44,8 +48,18 @@ LINES = [
     ['--bogus', '-Ia'], ['--error_format=zz', 'x'], ['-I='], ['@none'],
     ['--include_imports', '--include_imports', 'a/y.proto'], ['-Ia', '-oset', '--dependency_out=deps', 'a/y.proto', 'a/x.proto'],
 ]
-UNUSED = re.compile(r'.*: warning: Import \S+ is unused\.')
-WRITTEN = ('set', 'deps')
+# What is left out of lines, and lines that are left out.
+OTHERWISE = re.compile(r'(?<=\.proto):\d+:\d+(?=: File recursively)| \(os error \d+\)$')
+UNTOLD = re.compile(r'.*: warning: Import \S+ is unused\.|\[libprotobuf WARNING .*')
+
+
+def comparable(data):
+    """A set with places: the files without them, and the places as sets."""
+    made = descriptor_pb2.FileDescriptorSet.FromString(data)
+    places = [{(tuple(at.path), tuple(at.span)) for at in file.source_code_info.location} for file in made.file]
+    for file in made.file:
+        file.ClearField('source_code_info')
+    return made.SerializeToString(), places
 
 
 def run(program, words):
@@ -58,11 +72,13 @@ def run(program, words):
                 out.write(text)
         before = set(os.listdir(folder))
         done = subprocess.run([program, *words], cwd=folder, capture_output=True, text=True, check=False)
-        said = sorted(line for line in done.stderr.splitlines() if not UNUSED.fullmatch(line))
+        said = sorted(OTHERWISE.sub('', line) for line in done.stderr.splitlines() if not UNTOLD.fullmatch(line))
         written = {}
         for name in set(os.listdir(folder)) - before:
             with open(os.path.join(folder, name), 'rb') as data:
                 written[name] = data.read()
+        if '--include_source_info' in words and 'set' in written:
+            written['set'] = comparable(written['set'])
         return done.returncode, said, written
 
 

@@ -76,8 +76,12 @@ def in_one(text, syntax='proto2'):
 
 
 def cased(name, number):
-    """The name with capitals where the number has bits."""
-    return ''.join(letter.upper() if number >> place & 1 else letter for place, letter in enumerate(name))
+    """The name with capitals where the number has bits, of which each letter has one."""
+    made = ''
+    for letter in name:
+        made += letter.upper() if letter.isalpha() and number & 1 else letter
+        number >>= letter.isalpha()
+    return made
 
 
 def named(count, used):

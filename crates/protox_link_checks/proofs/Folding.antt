@@ -7,23 +7,22 @@ use Rattle.std.proofs.lemmas.List.{drop_all, drop_more}
 use Rattle.std.proofs.lemmas.Result.{on_ok_weaker}
 use Rattle.protox_walk.specs.Declarations.{At, Path, all_in, nth, numbered}
 use Rattle.protox_walk.specs.Parts.{Declared}
-use Rattle.protox_link_fault.specs.declared.LinkFault.{LinkFault}
 
-module _ (wrong : Declared → List LinkFault) where
+module _ {F : Type 0} (wrong : Declared → List F) where
   -- what a sibling declares, and then those behind it
-  pub sibling_checked : {A : Type 0} (declares : A → List ℕ → At) (scope : List ℕ) (path place : Path) (tag : ℤ) (siblings : List A) (i : ℕ) (x : A) (before after : List LinkFault)
+  pub sibling_checked : {A : Type 0} (declares : A → List ℕ → At) (scope : List ℕ) (path place : Path) (tag : ℤ) (siblings : List A) (i : ℕ) (x : A) (before after : List F)
       → i < length siblings → x ≡ get_or siblings i x → place ≡ nth path tag i
       → after ≡ before ++ flat_map wrong (declares x scope place)
       → after ++ flat_map wrong (numbered path tag (i + 1) (all_in declares scope (drop (i + 1) siblings))) ≡ before ++ flat_map wrong (numbered path tag i (all_in declares scope (drop i siblings)))
   sibling_checked {A = A} declares scope path place tag siblings i x before after below is at added =
       let rest = numbered path tag (i + 1) (all_in declares scope (drop (i + 1) siblings)) in
-      ap (λ (faults : List LinkFault). faults ++ flat_map wrong rest) (added ∙ ap (λ (p : Path). before ++ flat_map wrong (declares x scope p)) at)
+      ap (λ (faults : List F). faults ++ flat_map wrong rest) (added ∙ ap (λ (p : Path). before ++ flat_map wrong (declares x scope p)) at)
       ∙ append_assoc before (flat_map wrong (declares x scope (nth path tag i))) (flat_map wrong rest)
-      ∙ ap (λ (faults : List LinkFault). before ++ faults) (sym (flat_map-append wrong (declares x scope (nth path tag i)) rest))
+      ∙ ap (λ (faults : List F). before ++ faults) (sym (flat_map-append wrong (declares x scope (nth path tag i)) rest))
       ∙ ap (λ (left : List A). before ++ flat_map wrong (numbered path tag i (all_in declares scope left))) (sym (drop_more siblings i x below ∙ ap (λ (y : A). y ∷ drop (i + 1) siblings) (sym is)))
 
   -- Behind the last sibling there is none.
-  pub siblings_checked : {A : Type 0} (declares : A → List ℕ → At) (scope : List ℕ) (path : Path) (tag : ℤ) (siblings : List A) (i : ℕ) (faults : List LinkFault)
+  pub siblings_checked : {A : Type 0} (declares : A → List ℕ → At) (scope : List ℕ) (path : Path) (tag : ℤ) (siblings : List A) (i : ℕ) (faults : List F)
       → length siblings ≤ i → faults ++ flat_map wrong (numbered path tag i (all_in declares scope (drop i siblings))) ≡ faults
   siblings_checked {A = A} declares scope path tag siblings i faults end =
       ap (λ (left : List A). faults ++ flat_map wrong (numbered path tag i (all_in declares scope left))) (drop_all i siblings end) ∙ append-nil faults
@@ -31,7 +30,7 @@ module _ (wrong : Declared → List LinkFault) where
   -- ---- what calls that may fail add
 
   -- first these, and then those
-  pub then_checked : {T E : Type 0} (r : Result T E) (before between after : List LinkFault) (xs ys : List Declared) → between ≡ before ++ flat_map wrong xs
+  pub then_checked : {T E : Type 0} (r : Result T E) (before between after : List F) (xs ys : List Declared) → between ≡ before ++ flat_map wrong xs
       → OnOk r (after ≡ between ++ flat_map wrong ys) → OnOk r (after ≡ before ++ flat_map wrong (xs ++ ys))
   then_checked r before between after xs ys is =
       on_ok_weaker r (λ rest. rest ∙ ap (λ faults. faults ++ flat_map wrong ys) is ∙ append_assoc before (flat_map wrong xs) (flat_map wrong ys) ∙ ap (λ faults. before ++ faults) (sym (flat_map-append wrong xs ys)))

@@ -5,3 +5,6 @@ pub mod Reserving
 pub mod InProto3
 pub mod Outwards
 pub mod Imported
+pub mod Extending
+pub mod InExtensions
+pub mod Ranging

@@ -6,6 +6,8 @@ pub mod Defaults
 pub mod Uses
 pub mod Faults
 pub mod Checked
+pub mod Extensions
+pub mod Ranges
 pub mod Imports
 pub mod File
 pub mod inner

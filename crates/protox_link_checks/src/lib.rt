@@ -4,6 +4,8 @@
 mod defaults;
 mod each;
 mod empty;
+mod extended;
+mod extensions;
 mod file;
 mod imports;
 mod itself;
@@ -12,6 +14,7 @@ mod numbers;
 mod package;
 mod parts;
 mod proto3;
+mod ranges;
 mod reserved;
 mod uses;
 

@@ -216,7 +216,7 @@ impl InProto3 for DescriptorProto {
     }
 }
 
-fn is_proto3(file: &FileDescriptorProto) -> bool
+pub(crate) fn is_proto3(file: &FileDescriptorProto) -> bool
     ensures { result ≡ is_proto3 file.now }
 {
     match &file.syntax {

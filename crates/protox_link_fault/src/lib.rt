@@ -70,6 +70,14 @@ pub enum LinkFaultKind {
     /// that of a value of an enum is that of an earlier value, but for case, `_` and the name of the
     /// enum in front, and they have different names and numbers. The first such one has this index.
     Alike(usize),
+    /// The number of an extension is in no extension range of the message with this number, which it
+    /// extends.
+    OutOfRanges(usize),
+    /// An extension extends the message with the first number. An earlier extension of the file, the
+    /// one with the second number, extends it with the same number of a field.
+    ExtensionReused(usize, usize),
+    /// In a file of proto3 an extension extends what is no message of options.
+    NotOfOptions,
     /// No file has the name of the import.
     MissingImport,
     /// An earlier import has the same name.

@@ -20,3 +20,4 @@ pub use crate::part::{
     is_backward_enum_range, is_empty_extension_range, is_empty_reserved_range,
     is_for_implementation,
 };
+pub use crate::span::{of_extension_range, single};

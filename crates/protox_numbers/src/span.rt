@@ -20,8 +20,11 @@ fn rank(number: Option<i32>) -> u64
     (number as i64 + 2_147_483_648) as u64
 }
 
-fn single(number: Option<i32>) -> Span
-    ensures { result ≡ words.single number }
+/// The span of one number alone. An unset number counts as 0.
+pub fn single(number: Option<i32>) -> Span
+    ensures is { result ≡ words.single number }
+    ensures start { result.start < 2 ^ 32 }
+    ensures end { result.end ≤ 2 ^ 32 }
 {
     let start = rank(number);
     Span {
@@ -31,7 +34,9 @@ fn single(number: Option<i32>) -> Span
 }
 
 fn half_open(start: Option<i32>, end: Option<i32>) -> Span
-    ensures { result ≡ words.half_open start end }
+    ensures is { result ≡ words.half_open start end }
+    ensures start { result.start < 2 ^ 32 }
+    ensures end { result.end ≤ 2 ^ 32 }
 {
     let start = rank(start);
     let end = rank(end);
@@ -52,9 +57,12 @@ pub fn of_reserved_range(range: &ReservedRange) -> Span
     half_open(range.start, range.end)
 }
 
+/// The numbers of an extension range.
 #[tactic(auto, unfolding(crate::specs::Numbers::of_extension_range))]
 pub fn of_extension_range(range: &ExtensionRange) -> Span
-    ensures { result ≡ words.of_extension_range range.now }
+    ensures is { result ≡ words.of_extension_range range.now }
+    ensures start { result.start < 2 ^ 32 }
+    ensures end { result.end ≤ 2 ^ 32 }
 {
     half_open(range.start, range.end)
 }

@@ -4,3 +4,4 @@ pub mod Pieces
 pub mod Filling
 pub mod Searching
 pub mod Shared
+pub mod AnyMet

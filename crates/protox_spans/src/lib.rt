@@ -5,7 +5,9 @@ mod block;
 pub mod laws;
 mod levels;
 mod search;
+mod set;
 mod span;
 
 pub use crate::search::first_met;
+pub use crate::set::SpanSet;
 pub use crate::span::Span;

@@ -1,6 +1,7 @@
 -- Extensions, from what was looked up.
-use Rattle.std.proofs.Common.{◌≡◌, ℕ, Bool, true, false, cond, List, [], ◌∷◌, Option, Some, None, refl, sym, ap, subst, ◌∙◌}
+use Rattle.std.proofs.Common.{◌≡◌, ℕ, Bool, true, false, cond, List, OnOk, Result, [], ◌∷◌, ◌++◌, append-nil, append_assoc, Option, Some, None, refl, sym, ap, subst, ◌∙◌}
 use Rattle.std.specs.Option.{option_and_then}
+use Rattle.std.proofs.lemmas.Result.{on_ok_weaker}
 use Rattle.std.specs.Prelude.{ℤ}
 use Rattle.protox_descriptor.specs.FieldDescriptorProto.{FieldDescriptorProto}
 use Rattle.protox_link_checks.proofs.Named.{in_scope}
@@ -68,3 +69,14 @@ pub named_in : (t : Table) (sees packages : List Bool) (scope : Option ℕ) (fou
     → message_named t sees packages (full_name full name) extendee ≡ message
 named_in t sees packages scope found full text extendee name message some is at h =
     sym (at ∙ ap (λ user. message_named t sees packages user extendee) (in_scope t scope full text name (subst (IsFoundScope t full) some h) is))
+
+-- ---- what is told in steps
+
+module _ {F : Type 0} (start one two : List F) where
+  pub two_told : (between after : List F) → between ≡ start ++ one → after ≡ between ++ two → after ≡ start ++ (one ++ (two ++ []))
+  two_told between after first second =
+      second ∙ ap (λ fs. fs ++ two) first ∙ append_assoc start one two ∙ ap (λ fs. start ++ (one ++ fs)) (sym (append-nil two))
+
+  pub three_told : {T E : Type 0} (r : Result T E) (between last after three : List F) → between ≡ start ++ one → last ≡ between ++ two → OnOk r (after ≡ last ++ three) → OnOk r (after ≡ start ++ (one ++ (two ++ three)))
+  three_told r between last after three first second =
+      on_ok_weaker r (λ is. is ∙ ap (λ fs. fs ++ three) (second ∙ ap (λ fs. fs ++ two) first ∙ append_assoc start one two) ∙ append_assoc start (one ++ two) three ∙ ap (λ fs. start ++ fs) (append_assoc one two three))

@@ -8,3 +8,4 @@ pub mod Imported
 pub mod Extending
 pub mod InExtensions
 pub mod Ranging
+pub mod Reusing

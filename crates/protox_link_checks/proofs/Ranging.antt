@@ -33,7 +33,7 @@ stepped m inner (tag ∷ n ∷ more) h is at =
 
 -- ---- spans that are moved
 
-by_cases : {P : Type 0} (b : Bool) → (b ≡ true → P) → (b ≡ false → P) → P
+pub by_cases : {P : Type 0} (b : Bool) → (b ≡ true → P) → (b ≡ false → P) → P
 by_cases true f g = f refl
 by_cases false f g = g refl
 
@@ -62,21 +62,21 @@ never_last false c d h = refl
 meets_apart : (m i : ℕ) (s r : Span) → IsSmall s → IsSmall r → (m == i) ≡ false → meets (moved m s) (moved i r) ≡ false
 meets_apart m i s r small_s small_r apart = by_cases (nat_lt m i)
     (λ h. let lt : m < i = search (rules, h) in
-        let le : m * 4294967296 + s.end ≤ i * 4294967296 + r.start = omega (arith, lt, small_s) in
-        let none : nat_lt (i * 4294967296 + r.start) (m * 4294967296 + s.end) ≡ false = search (rules, le) in
-        never_last (has_numbers (moved m s) && has_numbers (moved i r)) (nat_lt (m * 4294967296 + s.start) (i * 4294967296 + r.end)) _ none)
+    let le : m * 4294967296 + s.end ≤ i * 4294967296 + r.start = omega (arith, lt, small_s) in
+    let none : nat_lt (i * 4294967296 + r.start) (m * 4294967296 + s.end) ≡ false = search (rules, le) in
+    never_last (has_numbers (moved m s) && has_numbers (moved i r)) (nat_lt (m * 4294967296 + s.start) (i * 4294967296 + r.end)) _ none)
     (λ h. let ge : i ≤ m = search (rules, h) in
-        let other : i ≢ m = search (rules, apart) in
-        let gt : i < m = omega (arith, ge, other) in
-        let le : i * 4294967296 + r.end ≤ m * 4294967296 + s.start = omega (arith, gt, small_r) in
-        let none : nat_lt (m * 4294967296 + s.start) (i * 4294967296 + r.end) ≡ false = search (rules, le) in
-        never_both (has_numbers (moved m s) && has_numbers (moved i r)) _ (nat_lt (i * 4294967296 + r.start) (m * 4294967296 + s.end)) none)
+    let other : i ≢ m = search (rules, apart) in
+    let gt : i < m = omega (arith, ge, other) in
+    let le : i * 4294967296 + r.end ≤ m * 4294967296 + s.start = omega (arith, gt, small_r) in
+    let none : nat_lt (m * 4294967296 + s.start) (i * 4294967296 + r.end) ≡ false = search (rules, le) in
+    never_both (has_numbers (moved m s) && has_numbers (moved i r)) _ (nat_lt (i * 4294967296 + r.start) (m * 4294967296 + s.end)) none)
 
 -- Where spans of two numbers were moved, they meet only if these are the same.
 pub meets_moved : (m i : ℕ) (s r : Span) → IsSmall s → IsSmall r → meets (moved m s) (moved i r) ≡ ((m == i) && meets s r)
 meets_moved m i s r small_s small_r = by_cases (m == i)
     (λ h. let is : m ≡ i = search (rules, h) in
-        ap (λ n. meets (moved n s) (moved i r)) is ∙ meets_alike i s r ∙ sym (ap (λ b. b && meets s r) h))
+    ap (λ n. meets (moved n s) (moved i r)) is ∙ meets_alike i s r ∙ sym (ap (λ b. b && meets s r) h))
     (λ h. meets_apart m i s r small_s small_r h ∙ sym (ap (λ b. b && meets s r) h))
 
 distributed : (b x y : Bool) → ((b && x) || (b && y)) ≡ (b && (x || y))
@@ -122,17 +122,17 @@ module _ (files : List FileDescriptorProto) (table : Table) where
       ∙ ap (λ b. (nat_lt m i && any m) || b) (any_moved m i s (ranges_numbered files table i) small all)
       ∙ by_cases (m == i)
       (λ h. let same : m ≡ i = search (rules, h) in
-          let not_below : nat_lt m i ≡ false = search (rules, same) in
-          let below : nat_lt m (i + 1) ≡ true = search (rules, same) in
-          ap (λ b. (b && any m) || ((m == i) && any i)) not_below ∙ ap (λ b. b && any i) h ∙ ap any (sym same) ∙ sym (ap (λ b. b && any m) below))
+      let not_below : nat_lt m i ≡ false = search (rules, same) in
+      let below : nat_lt m (i + 1) ≡ true = search (rules, same) in
+      ap (λ b. (b && any m) || ((m == i) && any i)) not_below ∙ ap (λ b. b && any i) h ∙ ap any (sym same) ∙ sym (ap (λ b. b && any m) below))
       (λ h. let apart : m ≢ i = search (rules, h) in
-          let alike : nat_lt m (i + 1) ≡ nat_lt m i = below_next m i apart in
-          ap (λ b. (nat_lt m i && any m) || (b && any i)) h ∙ or_false (nat_lt m i && any m) ∙ sym (ap (λ b. b && any m) alike))
+      let alike : nat_lt m (i + 1) ≡ nat_lt m i = below_next m i apart in
+      ap (λ b. (nat_lt m i && any m) || (b && any i)) h ∙ or_false (nat_lt m i && any m) ∙ sym (ap (λ b. b && any m) alike))
 
   pub all_kept : (i : ℕ) (spans : List Span) → length table.things ≤ i → AreKept i spans → (n : ℕ) (s : Span) → IsSmall s → list_any (meets (moved n s)) spans ≡ list_any (meets s) (ranges_numbered files table n)
   all_kept i spans end kept n s small =
       kept n s small ∙ by_cases (nat_lt n i)
       (λ h. ap (λ b. b && list_any (meets s) (ranges_numbered files table n)) h)
       (λ h. let le : i ≤ n = search (rules, h) in
-          let behind : length table.things ≤ n = omega (arith, end, le) in
-          ap (λ b. b && list_any (meets s) (ranges_numbered files table n)) h ∙ sym (ap (list_any (meets s)) (no_ranges n behind)))
+      let behind : length table.things ≤ n = omega (arith, end, le) in
+      ap (λ b. b && list_any (meets s) (ranges_numbered files table n)) h ∙ sym (ap (list_any (meets s)) (no_ranges n behind)))

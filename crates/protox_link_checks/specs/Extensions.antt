@@ -14,7 +14,7 @@ use Rattle.protox_link_checks.specs.Uses.{fault_at}
 use Rattle.protox_link_checks.specs.declared.extensions.Extension.{Extension}
 use Rattle.protox_link_fault.specs.declared.LinkFault.{LinkFault}
 use Rattle.protox_link_fault.specs.declared.LinkFaultKind.TheVariants.{ExtensionReused, NotOfOptions, OutOfRanges}
-use Rattle.protox_name_tree.specs.Tree.{kind_at, name_at, number_of}
+use Rattle.protox_name_tree.specs.Tree.{dotted, kind_at, name_at, number_of}
 use Rattle.protox_names.specs.Names.{is_identifier}
 use Rattle.protox_numbers.specs.Clashes.{with_earlier}
 use Rattle.protox_numbers.specs.Message.{extension_spans}
@@ -113,16 +113,17 @@ same_number e f = (e.message == f.message) && (rank e.number == rank f.number)
 abbrev pub reused_extensions : List Extension → List Clash
 reused_extensions extensions = with_earlier (map (λ e. position (same_number e) extensions) extensions)
 
--- the messages of options: in proto3 nothing else is extended
-abbrev pub options_names : List (List ℕ)
-options_names =
-    codes "FileOptions" ∷ codes "MessageOptions" ∷ codes "FieldOptions" ∷ codes "OneofOptions" ∷ codes "ExtensionRangeOptions"
-    ∷ codes "EnumOptions" ∷ codes "EnumValueOptions" ∷ codes "ServiceOptions" ∷ codes "MethodOptions" ∷ []
+-- a dot and the full name of each message of options: in proto3 nothing else is extended
+abbrev pub options_messages : List (List ℕ)
+options_messages =
+    codes ".google.protobuf.FileOptions" ∷ codes ".google.protobuf.MessageOptions" ∷ codes ".google.protobuf.FieldOptions"
+    ∷ codes ".google.protobuf.OneofOptions" ∷ codes ".google.protobuf.ExtensionRangeOptions" ∷ codes ".google.protobuf.EnumOptions"
+    ∷ codes ".google.protobuf.EnumValueOptions" ∷ codes ".google.protobuf.ServiceOptions" ∷ codes ".google.protobuf.MethodOptions"
+    ∷ codes ".proto2.FileOptions" ∷ codes ".proto2.MessageOptions" ∷ codes ".proto2.FieldOptions" ∷ codes ".proto2.OneofOptions"
+    ∷ codes ".proto2.ExtensionRangeOptions" ∷ codes ".proto2.EnumOptions" ∷ codes ".proto2.EnumValueOptions" ∷ codes ".proto2.ServiceOptions" ∷ codes ".proto2.MethodOptions" ∷ []
 
 abbrev pub is_options : List ℕ → Bool
-is_options full_name =
-    list_any (λ name. bytes_eq full_name (codes "google.protobuf." ++ name)) options_names
-    || list_any (λ name. bytes_eq full_name (codes "proto2." ++ name)) options_names
+is_options name = list_any (bytes_eq name) options_messages
 
 -- ---- faults
 
@@ -144,7 +145,7 @@ module _ (file : ℕ) where
   -- In proto3 it extends a message of options.
   abbrev pub options_faults : Table → Extension → List LinkFault
   options_faults table e =
-      if is_options (name_at table.names e.message) then []
+      if is_options (dotted (name_at table.names e.message)) then []
       else fault_at file e.path field_tag.EXTENDEE NotOfOptions ∷ []
 
 module _ (files : List FileDescriptorProto) (table : Table) (file : ℕ) where

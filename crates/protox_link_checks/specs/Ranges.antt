@@ -3,7 +3,9 @@ use Rattle.std.specs.Prelude.{ℕ, ◌≡◌, ◌≤◌, ◌<◌, ◌+◌, ◌*�
 use Rattle.std.specs.List.{list_any}
 use Rattle.protox_descriptor.specs.declared.descriptor.FileDescriptorProto.{FileDescriptorProto}
 use Rattle.protox_link_checks.specs.Extensions.{ranges_numbered}
+use Rattle.protox_link_checks.specs.declared.extensions.Extension.{Extension}
 use Rattle.protox_link_checks.specs.declared.ranges.Ranges.{Ranges}
+use Rattle.protox_numbers.specs.Numbers.{single}
 use Rattle.protox_spans.specs.Spans.{meets}
 use Rattle.protox_spans.specs.declared.span.Span.{Span}
 use Rattle.protox_symbols.specs.Symbols.{Table}
@@ -18,3 +20,7 @@ IsSmall s = s.end ≤ 4294967296
 -- The ranges are those of the messages of files that have these numbers in the table.
 abbrev pub AreRangesOf : List FileDescriptorProto → Table → Ranges → Type 0
 AreRangesOf files table ranges = (n : ℕ) (s : Span) → IsSmall s → list_any (meets (moved n s)) ranges.spans ≡ list_any (meets s) (ranges_numbered files table n)
+
+-- the number of an extension, moved to where those of the message are that it extends
+abbrev pub number_span : Extension → Span
+number_span e = moved e.message (single e.number)

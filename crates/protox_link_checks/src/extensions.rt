@@ -153,7 +153,15 @@ fn add_messages(
         let nested = message.nested_type.as_slice();
         add_fields(alloc, view, inner, path, message::FIELD, fields, made)?;
         add_messages(alloc, view, inner, path, message::NESTED_TYPE, nested, made)?;
-        add_fields(alloc, view, inner, path, message::EXTENSION, extensions, made)?;
+        add_fields(
+            alloc,
+            view,
+            inner,
+            path,
+            message::EXTENSION,
+            extensions,
+            made,
+        )?;
     }
     Ok(())
 }
@@ -174,7 +182,23 @@ pub(crate) fn extensions_of(
     let mut made = Vec::new(alloc);
     let scope = inside(view, Some(None), file.package.as_ref());
     let (messages, extensions) = (file.message_type.as_slice(), file.extension.as_slice());
-    add_messages(alloc, view, scope, &[], file::MESSAGE_TYPE, messages, &mut made)?;
-    add_fields(alloc, view, scope, &[], file::EXTENSION, extensions, &mut made)?;
+    add_messages(
+        alloc,
+        view,
+        scope,
+        &[],
+        file::MESSAGE_TYPE,
+        messages,
+        &mut made,
+    )?;
+    add_fields(
+        alloc,
+        view,
+        scope,
+        &[],
+        file::EXTENSION,
+        extensions,
+        &mut made,
+    )?;
     Ok(made)
 }

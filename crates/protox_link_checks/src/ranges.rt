@@ -74,8 +74,8 @@ fn message_numbered<'a>(
     message_at(file, thing.path.as_slice())
 }
 
-// A span of numbers of 32 bits, moved to where those of the message with a number are kept.
-fn moved(number: usize, span: Span) -> Span
+/// A span of numbers of 32 bits, moved to where those of the message with a number are kept.
+pub(crate) fn moved(number: usize, span: Span) -> Span
     requires number { number ≤ 2147483647 }
     requires start { span.start ≤ 4294967296 }
     requires end { span.end ≤ 4294967296 }

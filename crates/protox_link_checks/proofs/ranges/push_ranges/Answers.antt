@@ -17,10 +17,10 @@ loop-range-preserved c =
     map_more of_extension_range ranges i range c.loop-range-test.true ∙ ap (λ r. so_far ++ of_extension_range r ∷ []) (sym c.range-item.is) in
     record {
       added = c.in_ok-push.ensures.items
-      ∙ ap (λ s. c.loop-range.spans.items ++ s ∷ []) (c.moved.ensures ∙ ap (moved n) c.of_extension_range.ensures.is)
-      ∙ ap (λ xs. xs ++ moved n (of_extension_range range) ∷ []) c.loop-range.invariant.added
-      ∙ append_assoc start (map (moved n) so_far) (moved n (of_extension_range range) ∷ [])
-      ∙ ap (λ xs. start ++ xs) (sym (map-append (moved n) so_far (of_extension_range range ∷ [])))
-      ∙ ap (λ xs. start ++ map (moved n) xs) (sym more);
+          ∙ ap (λ s. c.loop-range.spans.items ++ s ∷ []) (c.moved.ensures ∙ ap (moved n) c.of_extension_range.ensures.is)
+          ∙ ap (λ xs. xs ++ moved n (of_extension_range range) ∷ []) c.loop-range.invariant.added
+          ∙ append_assoc start (map (moved n) so_far) (moved n (of_extension_range range) ∷ [])
+          ∙ ap (λ xs. start ++ xs) (sym (map-append (moved n) so_far (of_extension_range range ∷ [])))
+          ∙ ap (λ xs. start ++ map (moved n) xs) (sym more);
       small = subst (All IsSmall) (sym more) (All-push IsSmall so_far (of_extension_range range) c.loop-range.invariant.small (subst IsSmall c.of_extension_range.ensures.is c.of_extension_range.ensures.end));
     }

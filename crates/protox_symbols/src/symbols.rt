@@ -177,6 +177,14 @@ impl Symbols {
         self.names.find(scope, name)
     }
 
+    /// The same as `find`, for one who guesses that `near` is the number. It is quicker where the
+    /// guess is right; whatever it is, the answer is the same.
+    pub fn find_near(&self, scope: Option<usize>, name: &str, near: usize) -> Option<usize>
+        ensures { result ≡ number_of self.now.names (name_in self.now.names scope name.now) }
+    {
+        self.names.find_near(scope, name, near)
+    }
+
     /// A name without dots, to look for in many scopes.
     pub fn word<'a>(&'a self, name: &'a str) -> Word<'a>
         requires { is_one_part name.now ≡ true }

@@ -5,6 +5,7 @@ mod defaults;
 mod each;
 mod empty;
 mod file;
+mod file_view;
 mod imports;
 mod itself;
 mod name;

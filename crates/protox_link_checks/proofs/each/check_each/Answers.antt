@@ -8,15 +8,15 @@ use Rattle.protox_link_checks.proofs.each.check_each.Goals as goal
 
 pub loop-index-preserved : goal.loop-index-preserved
 loop-index-preserved g c full h =
-    let view = c.args.view.now in
-    sibling_checked (declared_faults view.symbols.now view.sees.now view.packages c.args.file) g.C.Checked.declares full c.args.path.now c.as_slice.result.now _ c.as_slice-elements.result.now c.loop-index.index
+    let view = c.args.of.now.view.now in
+    sibling_checked (declared_faults view.symbols.now view.sees.now view.packages c.args.of.now.number) g.C.Checked.declares full c.args.path.now c.as_slice.result.now _ c.as_slice-elements.result.now c.loop-index.index
     c.index-elements-index.result c.loop-index.faults.items c.check.new.faults.items c.loop-index-test.true c.index-elements-index.is (rw c.as_slice.ensures c.in_ok-place.ensures) (c.in_ok-check.ensures full h)
     ∙ c.loop-index.invariant full h
 
 pub returns : goal.returns
 returns g c full h =
-    let view = c.args.view.now in
-    let wrong = declared_faults view.symbols.now view.sees.now view.packages c.args.file in
+    let view = c.args.of.now.view.now in
+    let wrong = declared_faults view.symbols.now view.sees.now view.packages c.args.of.now.number in
     let end : length c.as_slice-elements.result.now ≤ c.loop-index.index = omega arith in
     sym (siblings_checked wrong g.C.Checked.declares full c.args.path.now _ c.as_slice-elements.result.now c.loop-index.index c.loop-index.faults.items end)
     ∙ c.loop-index.invariant full h

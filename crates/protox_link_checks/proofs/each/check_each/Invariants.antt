@@ -7,7 +7,7 @@ use Rattle.protox_link_checks.proofs.each.check_each.Given as goal
 
 abbrev pub invariant-loop-index : goal.invariant-loop-index
 invariant-loop-index g l =
-    let wrong = declared_faults l.view.symbols.now l.view.sees.now l.view.packages l.file in
-    (full : List ℕ) → IsFoundScope l.view.symbols.now full l.scope
+    let wrong = declared_faults l.of.view.now.symbols.now l.of.view.now.sees.now l.of.view.now.packages l.of.number in
+    (full : List ℕ) → IsFoundScope l.of.view.now.symbols.now full l.scope
     → l.faults.items ++ flat_map wrong (numbered l.path l.tag l.index (all_in g.C.Checked.declares full (drop l.index l.elements)))
     ≡ l.initial.faults.items ++ flat_map wrong (siblings_at l.path l.tag (all_in g.C.Checked.declares full l.elements))

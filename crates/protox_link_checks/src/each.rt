@@ -9,6 +9,7 @@ ghost use Rattle.protox_walk.specs.Declarations.{At, all_in, nth, siblings_at};
 use crate::file_view::FileView;
 use protox_descriptor::values::{Items, Numbers};
 use protox_link_fault::LinkFault;
+use protox_symbols::paths::{path_of_siblings, put_index};
 use std::alloc::{AllocError, Global};
 
 /// What declares something.
@@ -67,9 +68,13 @@ pub(crate) fn check_each<C: Checked>(
         (siblings_at path.now tag (all_in C.declares full siblings.now))) }
 {
     let elements = siblings.as_slice();
+    if elements.is_empty() {
+        return Ok(());
+    }
+    let mut place = path_of_siblings(alloc, path, tag)?;
     for (index, sibling) in elements.iter().enumerate() {
-        let place = path_to(alloc, path, tag, index)?;
-        sibling.check(alloc, of, scope, place.as_slice(), near, faults)?;
+        put_index(&mut place, path.len() + 1, index)?;
+        sibling.check(alloc, of, scope, &place, near, faults)?;
     }
     Ok(())
 }

@@ -47,33 +47,16 @@ pub fn check_names(
 {
     let of = FileView { view, number };
     let scope = inside(view, Some(None), file.package.as_ref(), 0);
-    let mut near = first_guess(scope);
+    let mut guess = first_guess(scope);
+    let near = &mut guess;
     let messages = &file.message_type;
     let enums = &file.enum_type;
     let services = &file.service;
     let extensions = &file.extension;
-    check_each(
-        alloc,
-        &of,
-        scope,
-        &[],
-        MESSAGE_TYPE,
-        messages,
-        &mut near,
-        faults,
-    )?;
-    check_each(alloc, &of, scope, &[], ENUM_TYPE, enums, &mut near, faults)?;
-    check_each(alloc, &of, scope, &[], SERVICE, services, &mut near, faults)?;
-    check_each(
-        alloc,
-        &of,
-        scope,
-        &[],
-        EXTENSION,
-        extensions,
-        &mut near,
-        faults,
-    )
+    check_each(alloc, &of, scope, &[], MESSAGE_TYPE, messages, near, faults)?;
+    check_each(alloc, &of, scope, &[], ENUM_TYPE, enums, near, faults)?;
+    check_each(alloc, &of, scope, &[], SERVICE, services, near, faults)?;
+    check_each(alloc, &of, scope, &[], EXTENSION, extensions, near, faults)
 }
 
 /// Adds all that is wrong with a file of a set: with its imports, its package, and the names that it

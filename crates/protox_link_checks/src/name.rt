@@ -118,8 +118,8 @@ pub(crate) fn check_name(
 ) -> Result<Option<Option<usize>>, AllocError>
     ensures { (full : List ℕ) → IsFoundScope of.now.view.now.symbols.now full scope → IfOk result
         (IsChecked of.now.view.now.symbols.now of.now.view.now.sees.now of.now.view.now.packages
-        of.now.number path.now full
-        (option_copied name.entry) faults.old.items faults.new.items) }
+        of.now.number path.now full (option_copied name.entry)
+        faults.old.items faults.new.items) }
 {
     let name = text_of(name);
     if !is_identifier(name) {

@@ -1,7 +1,7 @@
 //! The tree.
 
-ghost use Rattle.std.specs.Prelude.{◌≡◌, ◌≤◌, [], true, false, length};
-ghost use Rattle.std.specs.Prelude.{IfNone, IfOk, IfSome, OnErr, OnOk};
+ghost use Rattle.std.specs.Prelude.{◌≡◌, ◌↔◌, ◌≤◌, [], true, false, length};
+ghost use Rattle.std.specs.Prelude.{IfNone, IfOk, IfSome, IsTrue, OnErr, OnOk};
 ghost use Rattle.protox_names.specs.Names as words;
 ghost use Rattle.protox_names.specs.Tree.{name_of_place};
 ghost use Rattle.protox_scopes.specs.Scopes.{IsOuter};
@@ -214,6 +214,19 @@ impl NameTree {
         self.child(place, rest)
     }
 
+    /// Whether what has a number stands in this place under this name. Then the name is an
+    /// identifier. Nothing stands in a place that the tree doesn't have.
+    pub fn is_part(&self, number: usize, place: Option<usize>, name: &str) -> bool
+        ensures { IsTrue result ↔ IsPart self.now number place name.now }
+    {
+        // for the proof: a full name has one number
+        let _count = self.len();
+        match self.part(number) {
+            Some((outer, own)) => outer == place && own == name,
+            None => false,
+        }
+    }
+
     /// The same as `find`, for one who guesses that `near` is the number. It is quicker where the
     /// guess is right; whatever it is, the answer is the same.
     pub fn find_near(&self, place: Option<usize>, name: &str, near: usize) -> Option<usize>
@@ -221,10 +234,8 @@ impl NameTree {
     {
         // for the proof: a full name has one number
         let _count = self.len();
-        if let Some((outer, own)) = self.part(near) {
-            if outer == place && own == name {
-                return Some(near);
-            }
+        if self.is_part(near, place, name) {
+            return Some(near);
         }
         self.find(place, name)
     }

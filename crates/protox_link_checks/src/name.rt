@@ -1,10 +1,12 @@
 //! What is wrong with the name of a declaration.
 
-ghost use Rattle.std.specs.Prelude.{◌≡◌, ◌++◌, ℕ, Bool, List, IfOk, OnOk};
+ghost use Rattle.std.specs.Prelude.{◌≡◌, ◌++◌, ℕ, Bool, List, Option, Some, true, false};
+ghost use Rattle.std.specs.Prelude.{IfNone, IfOk, IfSome, OnOk};
 ghost use Rattle.std.specs.Option.{option_copied};
 ghost use Rattle.protox_link_checks.specs.Checked.{IsChecked};
 ghost use Rattle.protox_link_checks.specs.Faults.{bad_name, clash_faults, is_declared_at};
 ghost use Rattle.protox_name_tree.specs.Tree.{name_in, number_of};
+ghost use Rattle.protox_names.specs.Names.{is_identifier};
 ghost use Rattle.protox_symbols.specs.Scopes.{IsFoundScope};
 ghost use Rattle.protox_walk.specs.Declarations.{full_name, text_of};
 
@@ -94,14 +96,44 @@ fn bad_name(name: &str) -> LinkFaultKind
     }
 }
 
-// The number of what has this name in a scope, if anything has it. `near` is a guess at it. As names
-// are checked in the order in which they have numbers, the next guess is the number behind it.
-fn find_next(symbols: &Symbols, scope: Option<usize>, name: &str, near: &mut usize) -> Option<usize>
-    ensures { result ≡ number_of symbols.now.names (name_in symbols.now.names scope name.now) }
+// The number of what has this name in a scope, if anything has it, and None if the name is no
+// identifier. With no scope, nothing has it. `near` is a guess at the number.
+fn number_near(
+    symbols: &Symbols,
+    scope: Option<Option<usize>>,
+    name: &str,
+    near: usize,
+) -> Option<Option<usize>>
+    ensures bad { IfNone result (is_identifier name.now ≡ false) }
+    ensures good { IfSome result (λ number. is_identifier name.now ≡ true) }
+    ensures number { IfSome result (λ number. (place : Option ℕ) → scope ≡ Some place
+        → number ≡ number_of symbols.now.names (name_in symbols.now.names place name.now)) }
 {
-    let number = symbols.find_near(scope, name, *near)?;
-    *near = number.saturating_add(1);
-    Some(number)
+    // for the proof: a full name has one number
+    let _count = symbols.len();
+    let Some(place) = scope else {
+        return if is_identifier(name) {
+            Some(None)
+        } else {
+            None
+        };
+    };
+    // what is in the table has an identifier for its name
+    if symbols.is_part(near, place, name) {
+        return Some(Some(near));
+    }
+    if !is_identifier(name) {
+        return None;
+    }
+    Some(symbols.find(place, name))
+}
+
+// The next guess: names are checked in the order in which they have numbers.
+fn behind(number: Option<usize>, near: usize) -> usize {
+    match number {
+        Some(number) => number.saturating_add(1),
+        None => near,
+    }
 }
 
 /// Adds what is wrong with the name of a declaration in a scope. If the names that it uses are to be
@@ -122,16 +154,16 @@ pub(crate) fn check_name(
         faults.old.items faults.new.items) }
 {
     let name = text_of(name);
-    if !is_identifier(name) {
+    let Some(number) = number_near(of.view.symbols, scope, name, *near) else {
         add_fault(alloc, of.number, path, NAME, bad_name(name), faults)?;
         return Ok(None);
-    }
+    };
     let Some(scope) = scope else {
         return Ok(None);
     };
     // for the proof: a full name has one number
     let _count = of.view.symbols.len();
-    let number = find_next(of.view.symbols, scope, name, near);
+    *near = behind(number, *near);
     check_clash(alloc, of.view, of.number, path, number, faults)?;
     Ok(Some(scope))
 }

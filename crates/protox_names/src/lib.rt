@@ -32,7 +32,7 @@ fn is_identifier_byte(byte: u8) -> bool
 }
 
 // Whether each byte belongs to an identifier.
-fn is_all_identifier(bytes: &[u8]) -> bool
+fn is_each_identifier(bytes: &[u8]) -> bool
     ensures { result ≡ list_all words.is_identifier_byte bytes.now }
 {
     let mut rest = bytes;
@@ -43,6 +43,22 @@ fn is_all_identifier(bytes: &[u8]) -> bool
         rest = more;
     }
     true
+}
+
+// The same, four bytes at a time, as that is faster.
+fn is_all_identifier(bytes: &[u8]) -> bool
+    ensures { result ≡ list_all words.is_identifier_byte bytes.now }
+{
+    let mut rest = bytes;
+    while let [first, second, third, fourth, more @ ..] = rest {
+        let front = is_identifier_byte(*first) && is_identifier_byte(*second);
+        let back = is_identifier_byte(*third) && is_identifier_byte(*fourth);
+        if !(front && back) {
+            return false;
+        }
+        rest = more;
+    }
+    is_each_identifier(rest)
 }
 
 /// Whether this can be the name of a declaration: at least one character, each of them a letter of

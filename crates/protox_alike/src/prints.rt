@@ -9,10 +9,11 @@ ghost use Rattle.protox_names.specs.Cases.{without_case};
 use crate::keys::{spelled, without_prefix};
 
 // The number of a key with one byte more.
+#[inline(always)]
 fn mix(print: u32, byte: u8) -> u32
     ensures { result ≡ mix print byte }
 {
-    ((print as u64 * 31 + byte as u64) % 4294967291) as u32
+    ((print as u64 * 31 + byte as u64) % 4_294_967_296) as u32
 }
 
 /// The number of the key of a field.

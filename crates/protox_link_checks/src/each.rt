@@ -6,9 +6,10 @@ ghost use Rattle.protox_link_checks.specs.Faults.{declared_faults};
 ghost use Rattle.protox_symbols.specs.Scopes.{IsFoundScope};
 ghost use Rattle.protox_walk.specs.Declarations.{At, all_in, nth, siblings_at};
 
+use crate::file_view::FileView;
 use protox_descriptor::values::{Items, Numbers};
 use protox_link_fault::LinkFault;
-use protox_views::View;
+use protox_symbols::paths::{path_of_siblings, put_index};
 use std::alloc::{AllocError, Global};
 
 /// What declares something.
@@ -17,19 +18,21 @@ pub(crate) trait Checked {
     ghost declares: { Self → List ℕ → At };
 
     /// Adds what is wrong with what it declares, in a scope of the table; with no scope, the table
-    /// doesn't have it.
+    /// doesn't have it. `near` is a guess at the number of the first name that it declares, and
+    /// then of the first one behind it.
     fn check(
         &self,
         alloc: Global,
-        view: &View<'_>,
-        file: usize,
+        of: &FileView<'_>,
         scope: Option<Option<usize>>,
         path: &[i32],
+        near: &mut usize,
         faults: &mut Vec<LinkFault>,
     ) -> Result<(), AllocError>
-        ensures { (full : List ℕ) → IsFoundScope view.now.symbols.now full scope → OnOk result
-            (faults.new.items ≡ faults.old.items ++ flat_map (declared_faults view.now.symbols.now
-            view.now.sees.now view.now.packages file) (declares self.now full path.now)) };
+        ensures { (full : List ℕ) → IsFoundScope of.now.view.now.symbols.now full scope
+            → OnOk result (faults.new.items ≡ faults.old.items
+            ++ flat_map (declared_faults of.now.view.now.symbols.now of.now.view.now.sees.now
+            of.now.view.now.packages of.now.number) (declares self.now full path.now)) };
 }
 
 /// The path of the sibling at an index.
@@ -50,23 +53,28 @@ pub(crate) fn path_to(
 /// Adds what is wrong with what each of like siblings declares.
 pub(crate) fn check_each<C: Checked>(
     alloc: Global,
-    view: &View<'_>,
-    file: usize,
+    of: &FileView<'_>,
     scope: Option<Option<usize>>,
     path: &[i32],
     tag: i32,
     siblings: &Items<C>,
+    near: &mut usize,
     faults: &mut Vec<LinkFault>,
 ) -> Result<(), AllocError>
-    ensures { (full : List ℕ) → IsFoundScope view.now.symbols.now full scope → OnOk result
-        (faults.new.items ≡ faults.old.items ++ flat_map (declared_faults view.now.symbols.now
-        view.now.sees.now view.now.packages file)
+    ensures { (full : List ℕ) → IsFoundScope of.now.view.now.symbols.now full scope
+        → OnOk result (faults.new.items ≡ faults.old.items
+        ++ flat_map (declared_faults of.now.view.now.symbols.now of.now.view.now.sees.now
+        of.now.view.now.packages of.now.number)
         (siblings_at path.now tag (all_in C.declares full siblings.now))) }
 {
     let elements = siblings.as_slice();
+    if elements.is_empty() {
+        return Ok(());
+    }
+    let mut place = path_of_siblings(alloc, path, tag)?;
     for (index, sibling) in elements.iter().enumerate() {
-        let place = path_to(alloc, path, tag, index)?;
-        sibling.check(alloc, view, file, scope, place.as_slice(), faults)?;
+        put_index(&mut place, path.len() + 1, index)?;
+        sibling.check(alloc, of, scope, &place, near, faults)?;
     }
     Ok(())
 }

@@ -5,6 +5,7 @@ ghost use Rattle.protox_link_checks.specs.Faults.{all_declared_faults};
 ghost use Rattle.protox_link_checks.specs.File.{file_faults};
 
 use crate::each::check_each;
+use crate::file_view::FileView;
 use crate::imports::check_imports;
 use crate::name::{inside, text_of};
 use crate::package::check_package;
@@ -14,6 +15,15 @@ use protox_descriptor::tag::file::{ENUM_TYPE, EXTENSION, MESSAGE_TYPE, SERVICE};
 use protox_link_fault::LinkFault;
 use protox_views::View;
 use std::alloc::{AllocError, Global};
+
+// A guess at the number of the first name that a file declares: what is in a package has numbers
+// behind that of the package.
+fn first_guess(scope: Option<Option<usize>>) -> usize {
+    match scope {
+        Some(Some(package)) => package.saturating_add(1),
+        _ => 0,
+    }
+}
 
 /// Adds what is wrong with the names that a file declares, and with those that it uses: of types, of
 /// what is extended, and of what methods take and give. The faults are in the order of the file's
@@ -35,33 +45,18 @@ pub fn check_names(
         ++ all_declared_faults view.now.symbols.now view.now.sees.now view.now.packages number
         file.now) }
 {
-    let scope = inside(view, Some(None), file.package.as_ref());
+    let of = FileView { view, number };
+    let scope = inside(view, Some(None), file.package.as_ref(), 0);
+    let mut guess = first_guess(scope);
+    let near = &mut guess;
     let messages = &file.message_type;
     let enums = &file.enum_type;
     let services = &file.service;
     let extensions = &file.extension;
-    check_each(
-        alloc,
-        view,
-        number,
-        scope,
-        &[],
-        MESSAGE_TYPE,
-        messages,
-        faults,
-    )?;
-    check_each(alloc, view, number, scope, &[], ENUM_TYPE, enums, faults)?;
-    check_each(alloc, view, number, scope, &[], SERVICE, services, faults)?;
-    check_each(
-        alloc,
-        view,
-        number,
-        scope,
-        &[],
-        EXTENSION,
-        extensions,
-        faults,
-    )
+    check_each(alloc, &of, scope, &[], MESSAGE_TYPE, messages, near, faults)?;
+    check_each(alloc, &of, scope, &[], ENUM_TYPE, enums, near, faults)?;
+    check_each(alloc, &of, scope, &[], SERVICE, services, near, faults)?;
+    check_each(alloc, &of, scope, &[], EXTENSION, extensions, near, faults)
 }
 
 /// Adds all that is wrong with a file of a set: with its imports, its package, and the names that it

@@ -7,6 +7,7 @@ mod empty;
 mod extended;
 mod extensions;
 mod file;
+mod file_view;
 mod imports;
 mod itself;
 mod name;

@@ -2,6 +2,7 @@
 
 use crate::defaults::check_default;
 use crate::each::{Checked, check_each};
+use crate::file_view::FileView;
 use crate::itself::{check_enum_itself, check_message_itself};
 use crate::name::{check_name, inside};
 use crate::numbers::check_number;
@@ -16,7 +17,6 @@ use protox_descriptor::tag::message::{ENUM_TYPE, EXTENSION, FIELD, NESTED_TYPE, 
 use protox_descriptor::tag::method::{INPUT_TYPE, OUTPUT_TYPE};
 use protox_descriptor::tag::service::METHOD;
 use protox_link_fault::LinkFault;
-use protox_views::View;
 use std::alloc::{AllocError, Global};
 
 impl Checked for FieldDescriptorProto {
@@ -27,23 +27,29 @@ impl Checked for FieldDescriptorProto {
     fn check(
         &self,
         alloc: Global,
-        view: &View<'_>,
-        file: usize,
+        of: &FileView<'_>,
         scope: Option<Option<usize>>,
         path: &[i32],
+        near: &mut usize,
         faults: &mut Vec<LinkFault>,
     ) -> Result<(), AllocError> {
         let name = self.name.as_ref();
-        let Some(scope) = check_name(alloc, view, file, scope, path, name, faults)? else {
+        let Some(scope) = check_name(alloc, of, scope, path, name, near, faults)? else {
             return Ok(());
         };
-        check_number(alloc, file, path, self, faults)?;
+        check_number(alloc, of.number, path, self, faults)?;
         let of_type = self.type_name.as_ref();
-        check_type(alloc, view, file, scope, path, TYPE_NAME, of_type, faults)?;
+        check_type(
+            alloc, of.view, of.number, scope, path, TYPE_NAME, of_type, faults,
+        )?;
         let extendee = self.extendee();
-        check_message(alloc, view, file, scope, path, EXTENDEE, extendee, faults)?;
+        check_message(
+            alloc, of.view, of.number, scope, path, EXTENDEE, extendee, faults,
+        )?;
         let default = self.default_value();
-        check_default(alloc, view, file, scope, path, of_type, default, faults)
+        check_default(
+            alloc, of.view, of.number, scope, path, of_type, default, faults,
+        )
     }
 }
 
@@ -55,14 +61,14 @@ impl Checked for OneofDescriptorProto {
     fn check(
         &self,
         alloc: Global,
-        view: &View<'_>,
-        file: usize,
+        of: &FileView<'_>,
         scope: Option<Option<usize>>,
         path: &[i32],
+        near: &mut usize,
         faults: &mut Vec<LinkFault>,
     ) -> Result<(), AllocError> {
         let name = self.name.as_ref();
-        check_name(alloc, view, file, scope, path, name, faults)?;
+        check_name(alloc, of, scope, path, name, near, faults)?;
         Ok(())
     }
 }
@@ -75,14 +81,14 @@ impl Checked for EnumValueDescriptorProto {
     fn check(
         &self,
         alloc: Global,
-        view: &View<'_>,
-        file: usize,
+        of: &FileView<'_>,
         scope: Option<Option<usize>>,
         path: &[i32],
+        near: &mut usize,
         faults: &mut Vec<LinkFault>,
     ) -> Result<(), AllocError> {
         let name = self.name.as_ref();
-        check_name(alloc, view, file, scope, path, name, faults)?;
+        check_name(alloc, of, scope, path, name, near, faults)?;
         Ok(())
     }
 }
@@ -96,14 +102,14 @@ impl Checked for EnumDescriptorProto {
     fn check(
         &self,
         alloc: Global,
-        view: &View<'_>,
-        file: usize,
+        of: &FileView<'_>,
         scope: Option<Option<usize>>,
         path: &[i32],
+        near: &mut usize,
         faults: &mut Vec<LinkFault>,
     ) -> Result<(), AllocError> {
-        check_enum_itself(alloc, view, file, scope, path, self, faults)?;
-        check_each(alloc, view, file, scope, path, VALUE, &self.value, faults)
+        check_enum_itself(alloc, of, scope, path, self, near, faults)?;
+        check_each(alloc, of, scope, path, VALUE, &self.value, near, faults)
     }
 }
 
@@ -115,20 +121,31 @@ impl Checked for MethodDescriptorProto {
     fn check(
         &self,
         alloc: Global,
-        view: &View<'_>,
-        file: usize,
+        of: &FileView<'_>,
         scope: Option<Option<usize>>,
         path: &[i32],
+        near: &mut usize,
         faults: &mut Vec<LinkFault>,
     ) -> Result<(), AllocError> {
         let name = self.name.as_ref();
-        let Some(scope) = check_name(alloc, view, file, scope, path, name, faults)? else {
+        let Some(scope) = check_name(alloc, of, scope, path, name, near, faults)? else {
             return Ok(());
         };
         let input = self.input_type.as_ref();
-        check_message(alloc, view, file, scope, path, INPUT_TYPE, input, faults)?;
+        check_message(
+            alloc, of.view, of.number, scope, path, INPUT_TYPE, input, faults,
+        )?;
         let output = self.output_type.as_ref();
-        check_message(alloc, view, file, scope, path, OUTPUT_TYPE, output, faults)
+        check_message(
+            alloc,
+            of.view,
+            of.number,
+            scope,
+            path,
+            OUTPUT_TYPE,
+            output,
+            faults,
+        )
     }
 }
 
@@ -140,16 +157,16 @@ impl Checked for ServiceDescriptorProto {
     fn check(
         &self,
         alloc: Global,
-        view: &View<'_>,
-        file: usize,
+        of: &FileView<'_>,
         scope: Option<Option<usize>>,
         path: &[i32],
+        near: &mut usize,
         faults: &mut Vec<LinkFault>,
     ) -> Result<(), AllocError> {
         let name = self.name.as_ref();
-        check_name(alloc, view, file, scope, path, name, faults)?;
-        let inner = inside(view, scope, name);
-        check_each(alloc, view, file, inner, path, METHOD, &self.method, faults)
+        check_name(alloc, of, scope, path, name, near, faults)?;
+        let inner = inside(of.view, scope, name, near.saturating_sub(1));
+        check_each(alloc, of, inner, path, METHOD, &self.method, near, faults)
     }
 }
 
@@ -161,33 +178,22 @@ impl Checked for DescriptorProto {
     fn check(
         &self,
         alloc: Global,
-        view: &View<'_>,
-        file: usize,
+        of: &FileView<'_>,
         scope: Option<Option<usize>>,
         path: &[i32],
+        near: &mut usize,
         faults: &mut Vec<LinkFault>,
     ) -> Result<(), AllocError> {
-        check_message_itself(alloc, view, file, scope, path, self, faults)?;
-        let inner = inside(view, scope, self.name.as_ref());
+        check_message_itself(alloc, of, scope, path, self, near, faults)?;
+        let inner = inside(of.view, scope, self.name.as_ref(), near.saturating_sub(1));
         let messages = &self.nested_type;
         let enums = &self.enum_type;
         let extensions = &self.extension;
         let oneofs = &self.oneof_decl;
-        check_each(alloc, view, file, inner, path, FIELD, &self.field, faults)?;
-        check_each(
-            alloc,
-            view,
-            file,
-            inner,
-            path,
-            NESTED_TYPE,
-            messages,
-            faults,
-        )?;
-        check_each(alloc, view, file, inner, path, ENUM_TYPE, enums, faults)?;
-        check_each(
-            alloc, view, file, inner, path, EXTENSION, extensions, faults,
-        )?;
-        check_each(alloc, view, file, inner, path, ONEOF_DECL, oneofs, faults)
+        check_each(alloc, of, inner, path, FIELD, &self.field, near, faults)?;
+        check_each(alloc, of, inner, path, NESTED_TYPE, messages, near, faults)?;
+        check_each(alloc, of, inner, path, ENUM_TYPE, enums, near, faults)?;
+        check_each(alloc, of, inner, path, EXTENSION, extensions, near, faults)?;
+        check_each(alloc, of, inner, path, ONEOF_DECL, oneofs, near, faults)
     }
 }

@@ -1,16 +1,19 @@
 -- What a node stands in, and its own name; and full names from their parts.
-use Rattle.std.proofs.Common.{◌≡◌, ◌≢◌, ◌≤◌, ◌<◌, ℕ, true, List, [], ◌∷◌, ◌++◌, length, map, Option, Some, None, Bor, refl, sym, ap, subst, ◌∙◌, arith, append-nil, append_assoc, unwrap_or}
+use Rattle.std.proofs.Common.{◌≡◌, ◌≢◌, ◌≤◌, ◌<◌, ℕ, true, List, [], ◌∷◌, ◌++◌, length, map, Option, Some, None, Bor, refl, sym, ap, subst, ◌∙◌, arith, append-nil, append_assoc, eqb, unwrap_or}
 use Rattle.std.specs.List.{slice_get}
-use Rattle.std.specs.Option.{option_copied, option_map}
-use Rattle.std.proofs.lemmas.Bool.{false≢true}
+use Rattle.std.specs.Option.{option_copied, option_eq, option_map}
+use Rattle.std.proofs.lemmas.Bool.{eqb-true, false≢true}
+use Rattle.std.proofs.lemmas.Bool.Decides.{Decides-eqb}
 use Rattle.std.proofs.lemmas.List.{length-append, length-map}
 use Rattle.std.proofs.lemmas.Option.{get_or_from_slice_get, none-some, same_Some, slice_get-map, slice_get_past, slice_get_within, unwrap_or-slice_get}
+use Rattle.protox_names.proofs.Joining.{full_names_differ, identifiers_are_one_part}
 use Rattle.protox_names.specs.Names.{is_identifier, within}
 use Rattle.protox_names.specs.Tree.{name_of_place}
 use Rattle.protox_name_tree.specs.declared.nodes.Node.{Node}
 use Rattle.protox_name_tree.specs.Keys.{key_of, kinds_of, names_of}
 use Rattle.protox_name_tree.specs.Sound.{IsNode, IsSound}
-use Rattle.protox_name_tree.specs.Tree.{IsPart, Names, dotted, name_at, name_at_place, outwards}
+use Rattle.protox_name_tree.specs.Tree.{AreTreeNames, IsPart, Names, dotted, name_at, name_at_place, name_in, number_of, outwards}
+use Rattle.protox_name_tree.proofs.FullNames.{known_name, same_place}
 use Rattle.protox_name_tree.proofs.Outwards.{past_if_none}
 
 module _ (texts : List (List ℕ)) (nodes : List Node) (sound : IsSound texts (map key_of nodes) (names_of texts (map key_of nodes))) (n : ℕ) where
@@ -90,3 +93,27 @@ one_part_written made with_dot with_name whole parts rest own pop dot name befor
     ∙ append_assoc made (46 ∷ own) (outwards rest)
     ∙ ap (λ back. made ++ back) (sym (outwards_push rest own) ∙ ap outwards (sym pop))
     ∙ before
+
+-- the number of what stands in a place under a name
+pub part_number : (tree : Names) (n : ℕ) (place : Option ℕ) (own : List ℕ) → AreTreeNames tree.full_names → IsPart tree n place own → Some n ≡ number_of tree (name_in tree place own)
+part_number tree n place own names part =
+    sym (names.numbered.number_of (name_in tree place own) n (known_name tree.full_names n part.within_tree ∙ ap (λ name. Some name) part.full_name))
+
+pub same_place_told : (one other : Option ℕ) → option_eq eqb one other ≡ true → one ≡ other
+same_place_told None None same = refl
+same_place_told None (Some m) same = cc
+same_place_told (Some n) None same = cc
+same_place_told (Some n) (Some m) same = ap (λ number. Some number) (eqb-true n m same)
+
+place_is_told : (place : Option ℕ) → option_eq eqb place place ≡ true
+place_is_told None = refl
+place_is_told (Some n) = (Decides-eqb n n).1 refl
+
+pub place_told : (one other : Option ℕ) → one ≡ other → option_eq eqb one other ≡ true
+place_told one other same = ap (option_eq eqb one) (sym same) ∙ place_is_told one
+
+-- what has a number stands in one place, under one name
+pub same_part : (tree : Names) (n : ℕ) (place other : Option ℕ) (own name : List ℕ) → AreTreeNames tree.full_names → IsPart tree n place own → IsPart tree n other name → (place ≡ other) × (own ≡ name)
+same_part tree n place other own name names one two =
+    let both = full_names_differ (name_of_place (name_at tree) place) (name_of_place (name_at tree) other) own name (identifiers_are_one_part own one.identifier) (identifiers_are_one_part name two.identifier) (sym one.full_name ∙ two.full_name) in
+    (same_place tree.full_names place other names one.known two.known both.0, both.1)

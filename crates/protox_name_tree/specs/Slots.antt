@@ -1,5 +1,5 @@
 -- Slots that hold numbers.
-use Rattle.std.specs.Prelude.{◌≡◌, ◌<◌, ◌+◌, ◌-◌, ◌*◌, ◌%◌, ℕ, zero, suc, List, [], ◌∷◌, Option, Some, None, fold, length, slice_index_or}
+use Rattle.std.specs.Prelude.{◌≡◌, ◌<◌, ◌+◌, ◌-◌, ◌*◌, ◌%◌, ℕ, zero, suc, List, ◌∷◌, Option, Some, None, fold, length, slice_index_or}
 
 -- what the slot at an index holds
 abbrev pub held : List (Option ℕ) → ℕ → Option ℕ

@@ -1,7 +1,7 @@
 //! The tree.
 
-ghost use Rattle.std.specs.Prelude.{◌≡◌, ◌≤◌, [], true, false, length};
-ghost use Rattle.std.specs.Prelude.{IfNone, IfOk, IfSome, OnErr, OnOk};
+ghost use Rattle.std.specs.Prelude.{◌≡◌, ◌↔◌, ◌≤◌, [], true, false, length};
+ghost use Rattle.std.specs.Prelude.{IfNone, IfOk, IfSome, IsTrue, OnErr, OnOk};
 ghost use Rattle.protox_names.specs.Names as words;
 ghost use Rattle.protox_names.specs.Tree.{name_of_place};
 ghost use Rattle.protox_scopes.specs.Scopes.{IsOuter};
@@ -11,7 +11,7 @@ ghost use Rattle.protox_name_tree.specs.Tree.{with_declared, with_name};
 
 use crate::nodes::{Node, Nodes};
 use crate::texts::Texts;
-use protox_names::is_identifier;
+use protox_names::{is_identifier, split_front};
 use protox_scopes::Kind;
 use std::alloc::{AllocError, Global};
 use std::marker::Model;
@@ -207,11 +207,37 @@ impl NameTree {
     {
         let mut place = self.known(place);
         let mut rest = name;
-        while let Some((part, more)) = rest.split_once('.') {
+        while let Some((part, more)) = split_front(rest) {
             place = Some(self.child(place, part)?);
             rest = more;
         }
         self.child(place, rest)
+    }
+
+    /// Whether what has a number stands in this place under this name. Then the name is an
+    /// identifier. Nothing stands in a place that the tree doesn't have.
+    pub fn is_part(&self, number: usize, place: Option<usize>, name: &str) -> bool
+        ensures { IsTrue result ↔ IsPart self.now number place name.now }
+    {
+        // for the proof: a full name has one number
+        let _count = self.len();
+        match self.part(number) {
+            Some((outer, own)) => outer == place && own == name,
+            None => false,
+        }
+    }
+
+    /// The same as `find`, for one who guesses that `near` is the number. It is quicker where the
+    /// guess is right; whatever it is, the answer is the same.
+    pub fn find_near(&self, place: Option<usize>, name: &str, near: usize) -> Option<usize>
+        ensures { result ≡ number_of self.now (name_in self.now place name.now) }
+    {
+        // for the proof: a full name has one number
+        let _count = self.len();
+        if self.is_part(near, place, name) {
+            return Some(near);
+        }
+        self.find(place, name)
     }
 
     /// The number of what has this name in the scope with this full name, if anything has it. The

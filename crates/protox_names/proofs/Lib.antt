@@ -1,3 +1,4 @@
+pub mod Dots
 pub mod Joining
 pub mod Found
 pub mod Named

@@ -2,3 +2,4 @@ pub mod Names
 pub mod Cases
 pub mod Tree
 pub mod Unique
+pub mod inner

@@ -4,3 +4,4 @@ pub mod Standing
 pub mod Found
 pub mod Inside
 pub mod Packages
+pub mod Siblings

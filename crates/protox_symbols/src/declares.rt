@@ -3,10 +3,11 @@
 ghost use Rattle.std.specs.Prelude.{◌≡◌, ℕ, ℤ, List, IfOk, OnOk};
 ghost use Rattle.std.specs.Option.{option_copied};
 ghost use Rattle.protox_name_tree.specs.Tree.{IsKnown};
-ghost use Rattle.protox_walk.specs.Declarations.{At, all_in, full_name, nth, siblings_at, text_of};
+ghost use Rattle.protox_walk.specs.Declarations.{At, all_in, full_name, siblings_at, text_of};
 ghost use Rattle.protox_symbols.specs.Things.{with_entry};
 ghost use Rattle.protox_symbols.specs.Scopes.{IsFoundScope, scope_name, with_declarations};
 
+use crate::paths::{path_of_siblings, put_index};
 use crate::{Symbols, Thing};
 use protox_descriptor::values::{Items, Numbers, Text};
 use protox_scopes::Kind;
@@ -42,16 +43,6 @@ pub(crate) fn text_of(name: Option<&Text>) -> &str
     }
 }
 
-// The path of the sibling at an index.
-fn path_to(alloc: Global, path: &[i32], tag: i32, index: usize) -> Result<Numbers, AllocError>
-    ensures { IfOk result (λ made. made ≡ nth path.now tag index) }
-{
-    if index > 2147483647 {
-        return Err(AllocError);
-    }
-    Numbers::joined(alloc, path, &[tag, index as i32])
-}
-
 /// Adds what each of like siblings declares.
 pub(crate) fn declare_each<D: Declares>(
     alloc: Global,
@@ -70,9 +61,13 @@ pub(crate) fn declare_each<D: Declares>(
     ensures kept { OnOk result (scope_name symbols.new scope ≡ scope_name symbols.old scope) }
 {
     let elements = siblings.as_slice();
+    if elements.is_empty() {
+        return Ok(());
+    }
+    let mut place = path_of_siblings(alloc, path, tag)?;
     for (index, sibling) in elements.iter().enumerate() {
-        let place = path_to(alloc, path, tag, index)?;
-        sibling.declare(alloc, symbols, file, scope, place.as_slice())?;
+        put_index(&mut place, path.len() + 1, index)?;
+        sibling.declare(alloc, symbols, file, scope, &place)?;
     }
     Ok(())
 }

@@ -4,6 +4,7 @@
 mod declares;
 mod files;
 mod parts;
+pub mod paths;
 mod scopes;
 mod symbols;
 mod thing;

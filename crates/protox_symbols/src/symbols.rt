@@ -1,10 +1,10 @@
 //! The table.
 
-ghost use Rattle.std.specs.Prelude.{◌≡◌, [], true, length, IfOk, OnErr, OnOk};
+ghost use Rattle.std.specs.Prelude.{◌≡◌, ◌↔◌, [], true, length, IfOk, IsTrue, OnErr, OnOk};
 ghost use Rattle.std.specs.List.{slice_get};
 ghost use Rattle.std.specs.Option.{option_copied};
 ghost use Rattle.protox_names.specs.Names.{is_identifier, is_one_part, within};
-ghost use Rattle.protox_name_tree.specs.Tree.{IsNameTree, dotted, kind_at, name_at};
+ghost use Rattle.protox_name_tree.specs.Tree.{IsNameTree, IsPart, dotted, kind_at, name_at};
 ghost use Rattle.protox_name_tree.specs.Tree.{name_in, number_of};
 ghost use Rattle.protox_scopes.specs.Scopes.{IsOuter};
 ghost use Rattle.protox_symbols.specs.Symbols.{with_added, with_thing};
@@ -175,6 +175,22 @@ impl Symbols {
         ensures { result ≡ number_of self.now.names (name_in self.now.names scope name.now) }
     {
         self.names.find(scope, name)
+    }
+
+    /// Whether what has a number stands in this scope under this name. Then the name is an
+    /// identifier. Nothing stands in a scope that the table doesn't have.
+    pub fn is_part(&self, number: usize, scope: Option<usize>, name: &str) -> bool
+        ensures { IsTrue result ↔ IsPart self.now.names number scope name.now }
+    {
+        self.names.is_part(number, scope, name)
+    }
+
+    /// The same as `find`, for one who guesses that `near` is the number. It is quicker where the
+    /// guess is right; whatever it is, the answer is the same.
+    pub fn find_near(&self, scope: Option<usize>, name: &str, near: usize) -> Option<usize>
+        ensures { result ≡ number_of self.now.names (name_in self.now.names scope name.now) }
+    {
+        self.names.find_near(scope, name, near)
     }
 
     /// A name without dots, to look for in many scopes.

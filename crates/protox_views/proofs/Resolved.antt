@@ -7,7 +7,8 @@ use Rattle.std.proofs.lemmas.Option.{get_or_from_slice_get, none-some}
 use Rattle.protox_names.specs.Names.{front, is_absolute, is_dot, is_one_part, within}
 use Rattle.protox_names.proofs.Joining.{within_nests}
 use Rattle.protox_name_tree.proofs.FullNames.{found_name}
-use Rattle.protox_name_tree.specs.Tree.{Names, name_at, name_in, number_of}
+use Rattle.protox_name_tree.proofs.Outwards.{none_within}
+use Rattle.protox_name_tree.specs.Tree.{AreTreeNames, Names, name_at, name_in, number_of}
 use Rattle.protox_name_tree.specs.Word.{Sought}
 use Rattle.protox_scopes.specs.Scopes.{fits, holds_names, step, step_from}
 use Rattle.protox_scopes.specs.declared.kind.Kind.{Kind}
@@ -69,3 +70,24 @@ ends_inside kind seen wanted name scope thing found first more holds is =
     ∙ sym (ap (step_from kind seen wanted name scope) first
     ∙ ap (λ one. cond one (cond (fits wanted (kind thing)) (Ends (Some thing)) GoesOn) (cond (holds_names (kind thing)) (Ends inside) GoesOn)) more
     ∙ ap (λ holds. cond holds (Ends inside) GoesOn) holds)
+
+-- ---- the nameless scope
+
+-- what is found under the first part
+pub found_at_top : (sought : Sought) (names : Names) (name : List ℕ) (found : Option ℕ) → sought.tree ≡ names → sought.name ≡ front name → found ≡ number_of sought.tree (name_in sought.tree None sought.name) → found ≡ number_of names (front name)
+found_at_top sought names name found same first is =
+    is ∙ ap (λ tree. number_of tree sought.name) same ∙ ap (number_of names) first
+
+-- the first part of a name with a dot, unless it begins with one
+some_front : (name rest : List ℕ) → is_absolute name ≡ false → name ≡ front name ++ 46 ∷ rest → front name ≢ []
+some_front name rest relative is none =
+    true≢false (sym (ap is_absolute (is ∙ ap (λ part. part ++ 46 ∷ rest) none)) ∙ relative)
+
+within_front : (name rest : List ℕ) → is_absolute name ≡ false → name ≡ front name ++ 46 ∷ rest → within (front name) rest ≡ name
+within_front name rest relative is = nested [] (front name) rest (sym (ap is_absolute is) ∙ relative) ∙ sym is
+
+-- without what has the first part, nothing has the name
+pub none_at_top : (names : Names) (name rest : List ℕ) → AreTreeNames names.full_names → is_absolute name ≡ false → name ≡ front name ++ 46 ∷ rest → number_of names (front name) ≡ None → None ≡ number_of names name
+none_at_top names name rest tree relative is none =
+    none_within names.full_names (front name) rest tree (some_front name rest relative is) none
+    ∙ ap (number_of names) (within_front name rest relative is)

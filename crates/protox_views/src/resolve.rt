@@ -9,6 +9,7 @@ ghost use Rattle.protox_views.specs.Views.{seen};
 
 use crate::View;
 use protox_name_tree::Word;
+use protox_names::split_front;
 use protox_scopes::{Step, Wanted};
 
 // The first part of a name, and the rest behind its first dot. With no dot there is no rest.
@@ -18,7 +19,7 @@ fn cut(name: &str) -> (&str, Option<&str>)
     ensures rest { MatchOption result.1 (names.is_one_part name.now ≡ true)
         (λ rest. name.now ≡ names.front name.now ++ 46 ∷ rest.now) }
 {
-    match name.split_once('.') {
+    match split_front(name) {
         Some((front, rest)) => (front, Some(rest)),
         None => (name, None),
     }
@@ -54,6 +55,24 @@ impl View<'_> {
         }
     }
 
+    // Searches the nameless scope for a name, which `cut` cuts into `first` and `rest`.
+    fn at_top(&self, first: &Word<'_>, rest: Option<&str>) -> Option<usize>
+        requires tree { first.now.tree ≡ self.now.symbols.now.names }
+        ensures { (name : List ℕ) → names.is_absolute name ≡ false
+            → first.now.name ≡ names.front name
+            → MatchOption rest.entry (names.is_one_part name ≡ true)
+            (λ behind. name ≡ names.front name ++ 46 ∷ behind.now)
+            → result ≡ seen self.now.symbols.now self.now.sees.now self.now.packages name }
+    {
+        // for the proof: the scopes around a name of the table are in the table
+        let _count = self.symbols.len();
+        let Some(rest) = rest else {
+            return self.if_seen(first.find(None));
+        };
+        let outer = first.find(None)?;
+        self.find(Some(outer), rest)
+    }
+
     /// What a name stands for where something that stands in this scope uses it: the same as
     /// `resolve_in`. The first part is cut off and its text looked up once for all scopes.
     ///
@@ -76,6 +95,6 @@ impl View<'_> {
             }
             place = self.symbols.outer(here);
         }
-        self.find(None, name)
+        self.at_top(&first, rest)
     }
 }

@@ -2,7 +2,7 @@
 use Rattle.std.specs.Prelude.{◌≡◌, ◌<◌, ◌+◌, ◌*◌, ◌%◌, ℕ, List, [], ◌∷◌, length, get_or}
 
 abbrev pub mix : ℕ → ℕ → ℕ
-mix print byte = (print * 31 + byte) % 4294967291
+mix print byte = (print * 31 + byte) % 4294967296
 
 abbrev pub print_from : ℕ → List ℕ → ℕ
 print_from print [] = print

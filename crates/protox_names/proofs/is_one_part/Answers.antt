@@ -1,5 +1,5 @@
-use Rattle.protox_names.proofs.Found.{contains_dot}
+use Rattle.protox_names.proofs.Dots.{is_whole}
 use Rattle.protox_names.proofs.is_one_part.Goals as goal
 
 pub returns : goal.returns
-returns c = contains_dot c.args.name.now c.contains.result c.contains.ensures.cases
+returns c = is_whole c.args.name.now c.first_dot.result c.first_dot.ensures

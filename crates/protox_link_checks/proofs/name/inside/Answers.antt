@@ -9,15 +9,15 @@ returns-in_err-scope c full h =
 
 pub returns-in-Some : goal.returns-in-Some
 returns-in-Some c full h =
-    inner_found c.args.view.now.symbols.now c.len-count.ensures.tree c.in_ok-scope.scope c.args.scope full c.text_of-name.result.now (option_copied c.args.name) c.in-Some.number c.find.result
-    c.in_ok-scope.was c.text_of-name.ensures c.find.ensures c.in-Some.is h
+    inner_found c.args.view.now.symbols.now c.len-count.ensures.tree c.in_ok-scope.scope c.args.scope full c.text_of-name.result.now (option_copied c.args.name) c.in-Some.number c.find_near.result
+    c.in_ok-scope.was c.text_of-name.ensures c.find_near.ensures c.in-Some.is h
 
 pub returns-in-None-2 : goal.returns-in-None-2
 returns-in-None-2 c full h =
-    none_at_top c.args.view.now.symbols.now c.len-count.ensures.tree c.in_ok-scope.scope c.args.scope full c.text_of-name.result.now (option_copied c.args.name) c.find.result
-    c.in_ok-scope.was c.text_of-name.ensures c.find.ensures c.in-None.is c.if-is_none.ensures (sym c.is_empty.ensures ∙ c.if-is_empty.false) h
+    none_at_top c.args.view.now.symbols.now c.len-count.ensures.tree c.in_ok-scope.scope c.args.scope full c.text_of-name.result.now (option_copied c.args.name) c.find_near.result
+    c.in_ok-scope.was c.text_of-name.ensures c.find_near.ensures c.in-None.is c.if-is_none.ensures (sym c.is_empty.ensures ∙ c.if-is_empty.false) h
 
 pub returns-in-None-2-2 : goal.returns-in-None-2-2
 returns-in-None-2-2 c full h =
-    none_in_scope c.args.view.now.symbols.now c.len-count.ensures.tree c.in_ok-scope.scope c.args.scope full c.text_of-name.result.now (option_copied c.args.name) c.find.result
-    c.in_ok-scope.was c.text_of-name.ensures c.find.ensures c.in-None.is c.if-is_none.ensures h
+    none_in_scope c.args.view.now.symbols.now c.len-count.ensures.tree c.in_ok-scope.scope c.args.scope full c.text_of-name.result.now (option_copied c.args.name) c.find_near.result
+    c.in_ok-scope.was c.text_of-name.ensures c.find_near.ensures c.in-None.is c.if-is_none.ensures h

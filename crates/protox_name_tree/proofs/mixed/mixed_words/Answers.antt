@@ -1,5 +1,4 @@
-use Rattle.std.proofs.Common.{◌∙◌, ap, drop}
-use Rattle.protox_name_tree.specs.Slots.{mixed_on}
+use Rattle.std.proofs.Common.{◌∙◌}
 use Rattle.protox_name_tree.proofs.Mixing.{words_mixed}
 use Rattle.protox_name_tree.proofs.mixed.mixed_words.Goals as goal
 

@@ -7,11 +7,11 @@ use Rattle.protox_link_checks.proofs.parts.DescriptorProtoChecked.+check.Goals a
 
 pub returns : goal.returns
 returns t c full h =
-    let view = c.args.view.now in
+    let view = c.args.of.now.view.now in
     let message = c.args.self.now in
     let name = full_name full (out-DescriptorProto message).name in
     let inner = subst (λ (read : Option (List ℕ)). IsFoundScope view.symbols.now (full_name full read) c.inside-inner.result) c.as_ref.ensures.value (c.inside-inner.ensures full h) in
-    message_checked view.symbols.now view.sees.now view.packages c.args.file c.check_each-5.result message full c.args.path.now c.args.faults.now.items c.check_message_itself.new.faults.items c.check_each.new.faults.items c.check_each-2.new.faults.items c.check_each-3.new.faults.items c.check_each-4.new.faults.items c.check_each-5.new.faults.items
+    message_checked view.symbols.now view.sees.now view.packages c.args.of.now.number c.check_each-5.result message full c.args.path.now c.args.faults.now.items c.check_message_itself.new.faults.items c.check_each.new.faults.items c.check_each-2.new.faults.items c.check_each-3.new.faults.items c.check_each-4.new.faults.items c.check_each-5.new.faults.items
     (c.in_ok-check_message_itself.ensures full h)
     (c.in_ok-check_each.ensures name inner)
     (c.in_ok-check_each-2.ensures name inner)

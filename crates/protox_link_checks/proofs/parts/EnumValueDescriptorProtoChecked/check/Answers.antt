@@ -7,8 +7,8 @@ use Rattle.protox_link_checks.proofs.parts.EnumValueDescriptorProtoChecked.check
 
 pub returns : goal.returns
 returns c full h =
-    let view = c.args.view.now in
+    let view = c.args.of.now.view.now in
     let value = c.args.self.now in
-    let checked = name_read view.symbols.now view.sees.now view.packages c.args.file c.args.path.now full (option_copied c.as_ref-name.result) value.name c.args.faults.now.items c.check_name.new.faults.items c.in_ok-check_name.field-0 _ c.as_ref-name.ensures.value refl (c.in_ok-check_name.ensures full h) in
-    alone view.symbols.now view.sees.now view.packages c.args.file c.args.faults.now.items c.check_name.new.faults.items (declared c.args.path.now (full_name full value.name) (Value value))
-    (nothing_used view.symbols.now view.sees.now view.packages c.args.file c.args.path.now full value.name c.args.faults.now.items c.check_name.new.faults.items c.in_ok-check_name.field-0 checked)
+    let checked = name_read view.symbols.now view.sees.now view.packages c.args.of.now.number c.args.path.now full (option_copied c.as_ref-name.result) value.name c.args.faults.now.items c.check_name.new.faults.items c.in_ok-check_name.field-0 _ c.as_ref-name.ensures.value refl (c.in_ok-check_name.ensures full h) in
+    alone view.symbols.now view.sees.now view.packages c.args.of.now.number c.args.faults.now.items c.check_name.new.faults.items (declared c.args.path.now (full_name full value.name) (Value value))
+    (nothing_used view.symbols.now view.sees.now view.packages c.args.of.now.number c.args.path.now full value.name c.args.faults.now.items c.check_name.new.faults.items c.in_ok-check_name.field-0 checked)

@@ -14,19 +14,19 @@ use Rattle.protox_link_checks.proofs.parts.FieldDescriptorProtoChecked.check.Goa
 
 pub returns-in_default : goal.returns-in_default
 returns-in_default c full h =
-    let view = c.args.view.now in
+    let view = c.args.of.now.view.now in
     let field = c.args.self.now in
     let named = c.as_ref-name.ensures.value ∙ ap (λ (f : FieldDescriptorProto). f.name) c.self.view_is in
-    let checked = name_read view.symbols.now view.sees.now view.packages c.args.file c.args.path.now full (option_copied c.as_ref-name.result) field.name c.args.faults.now.items c.check_name.new.faults.items c.in_ok-scope.field-0 None named c.in_default.is (c.in_ok-scope.ensures full h) in
-    alone view.symbols.now view.sees.now view.packages c.args.file c.args.faults.now.items c.check_name.new.faults.items (declared c.args.path.now (full_name full field.name) (Field field))
-    (checked (field_uses view.symbols.now view.sees.now view.packages c.args.file c.args.path.now (full_name full field.name) field))
+    let checked = name_read view.symbols.now view.sees.now view.packages c.args.of.now.number c.args.path.now full (option_copied c.as_ref-name.result) field.name c.args.faults.now.items c.check_name.new.faults.items c.in_ok-scope.field-0 None named c.in_default.is (c.in_ok-scope.ensures full h) in
+    alone view.symbols.now view.sees.now view.packages c.args.of.now.number c.args.faults.now.items c.check_name.new.faults.items (declared c.args.path.now (full_name full field.name) (Field field))
+    (checked (field_uses view.symbols.now view.sees.now view.packages c.args.of.now.number c.args.path.now (full_name full field.name) field))
 
 pub returns : goal.returns
 returns c full h =
-    let view = c.args.view.now in
+    let view = c.args.of.now.view.now in
     let field = c.args.self.now in
     let t = view.symbols.now in
-    let file = c.args.file in
+    let file = c.args.of.now.number in
     let path = c.args.path.now in
     let user = within (scope_name t c.in-Some.scope) (text_of field.name) in
     let named = c.as_ref-name.ensures.value ∙ ap (λ (f : FieldDescriptorProto). f.name) c.self.view_is in

@@ -1,4 +1,4 @@
-use Rattle.std.proofs.Common.{Some, None, sym, ap, ◌∙◌, rules}
+use Rattle.std.proofs.Common.{Some, sym, ap, ◌∙◌, rules}
 use Rattle.std.specs.Option.{option_and_then}
 use Rattle.protox_names.specs.Names.{parts, within}
 use Rattle.protox_names.specs.Tree.{walk}
@@ -17,11 +17,11 @@ loop-part-init c = record {
 }
 
 pub child-requires-clause-one_part : goal.child-requires-clause-one_part
-child-requires-clause-one_part c = (cut c.loop-part.rest.now (Some (c.in-Some.part, c.in-Some.more)) c.in-Some.ensures.cases).one
+child-requires-clause-one_part c = c.in-Some.ensures.one_part
 
 pub returns-in_err-child : goal.returns-in_err-child
 returns-in_err-child c =
-    let at = cut c.loop-part.rest.now (Some (c.in-Some.part, c.in-Some.more)) c.in-Some.ensures.cases in
+    let at = cut c.loop-part.rest.now c.in-Some.part.now c.in-Some.more.now c.in-Some.ensures.one_part c.in-Some.ensures.whole in
     let names = c.args.self.now.full_names in
     c.from_residual.ensures
     ∙ ap (option_and_then (λ n. walk (child names) (Some n) (parts c.in-Some.more.now))) (sym c.in_err-child.was)
@@ -29,11 +29,11 @@ returns-in_err-child c =
     ∙ c.loop-part.invariant.walked
 
 pub loop-part-smaller : goal.loop-part-smaller
-loop-part-smaller c = (cut c.loop-part.rest.now (Some (c.in-Some.part, c.in-Some.more)) c.in-Some.ensures.cases).shorter
+loop-part-smaller c = (cut c.loop-part.rest.now c.in-Some.part.now c.in-Some.more.now c.in-Some.ensures.one_part c.in-Some.ensures.whole).shorter
 
 pub loop-part-preserved : goal.loop-part-preserved
 loop-part-preserved c =
-    let at = cut c.loop-part.rest.now (Some (c.in-Some.part, c.in-Some.more)) c.in-Some.ensures.cases in
+    let at = cut c.loop-part.rest.now c.in-Some.part.now c.in-Some.more.now c.in-Some.ensures.one_part c.in-Some.ensures.whole in
     let names = c.args.self.now.full_names in
     record {
       text = search rules;
@@ -45,7 +45,7 @@ loop-part-preserved c =
     }
 
 pub child-requires-2-clause-one_part : goal.child-requires-2-clause-one_part
-child-requires-2-clause-one_part c = cut c.loop-part.rest.now None c.in_default.ensures.cases
+child-requires-2-clause-one_part c = c.in_default.ensures.none
 
 pub returns : goal.returns
 returns c =

@@ -35,6 +35,7 @@ returns c =
     let kind = kind_at table.names in
     let sees = seen table c.args.self.now.sees.now c.args.self.now.packages in
     let name = c.args.name.now in
-    by_user kind sees c.args.wanted name (name_at table.names) c.args.scope c.find-2.result
-    (relative name (strip_prefix_char 46 name None c.in_default.ensures.cases (lit< tt)))
-    (at_top kind sees c.args.wanted name (name_at table.names) c.args.scope c.loop-place.place c.find-2.result c.in_default-place.is c.find-2.ensures c.loop-place.invariant)
+    let by_scopes = relative name (strip_prefix_char 46 name None c.in_default.ensures.cases (lit< tt)) in
+    by_user kind sees c.args.wanted name (name_at table.names) c.args.scope c.at_top.result by_scopes
+    (at_top kind sees c.args.wanted name (name_at table.names) c.args.scope c.loop-place.place c.at_top.result c.in_default-place.is
+    (c.at_top.ensures name by_scopes (c.word-first.ensures.name ∙ c.cut.ensures.front) c.cut.ensures.rest) c.loop-place.invariant)

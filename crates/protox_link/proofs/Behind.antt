@@ -24,6 +24,7 @@ use Rattle.protox_link.proofs.Standing.{none_of_first, none_of_second, package_r
 use Rattle.protox_link.specs.Files.{AreFaults, AreLinked, faults_in, linked_in}
 use Rattle.protox_link.specs.Laws.{Local}
 use Rattle.protox_link.specs.Seen.{IsSeenBy, packages_of}
+use Rattle.protox_link_checks.specs.File.{file_faults}
 use Rattle.protox_link_checks.specs.Imports.{import_faults, import_faults_from, package_faults, wrong_import}
 use Rattle.protox_link_checks.specs.Uses.{faults_at}
 use Rattle.protox_linked.specs.Linked.{linked_file}
@@ -68,7 +69,7 @@ mark_there marks h marked = elim (below_or_past h (length marks)) [
 
 module _ (all : List FileDescriptorProto) where
   abbrev IsRightAt : ℕ → FileDescriptorProto → Type 0
-  IsRightAt n file = (sees : List Bool) × (packages : List Bool) × (faults_in all n sees packages file ≡ [])
+  IsRightAt n file = (sees : List Bool) × (packages : List Bool) × (file_faults (table_of all) sees packages n (named_of (rows_of all) n) file ≡ [])
 
   right_if : (n k : ℕ) (first : FileDescriptorProto) (more : List FileDescriptorProto) (file : FileDescriptorProto) → slice_get (first ∷ more) k ≡ Some file → IsRightAt n first
       → ((j : ℕ) → slice_get more j ≡ Some file → IsRightAt ((n + 1) + j) file) → IsRightAt (n + k) file
@@ -85,7 +86,7 @@ module _ (all : List FileDescriptorProto) where
   right_from [] n k file right is = none_right n k file is
   right_from (first ∷ more) n k file right is =
       let a = split all n (first ∷ more) [] right in
-      let here : IsRightAt n first = (a.0, a.1, none_of_first (faults_in all n a.0 a.1 first) a.2 (sym a.5)) in
+      let here : IsRightAt n first = (a.0, a.1, none_of_first (file_faults (table_of all) a.0 a.1 n (named_of (rows_of all) n) first) _ (none_of_first (faults_in all n a.0 a.1 first) a.2 (sym a.5))) in
       let behind : AreFaults all (n + 1) more [] = subst (AreFaults all (n + 1) more) (none_of_second (faults_in all n a.0 a.1 first) a.2 (sym a.5)) a.4 in
       right_if n k first more file is here (λ j at. right_from more (n + 1) j file behind at)
 

@@ -26,6 +26,7 @@ use Rattle.protox_link.specs.Closed.{AreClosed, IsClosed, IsClosedFile, IsItself
 use Rattle.protox_link.specs.Files.{AreFaults, AreLinked, faults_in, linked_in}
 use Rattle.protox_link.specs.Laws.{DeclaredOnce}
 use Rattle.protox_link.specs.Seen.{IsSeenBy}
+use Rattle.protox_link_checks.specs.File.{file_faults}
 use Rattle.protox_link_checks.specs.Faults.{declared_faults, faults_named}
 use Rattle.protox_link_checks.specs.Numbers.{implementation_faults}
 use Rattle.protox_link_checks.specs.Uses.{default_faults, enum_itself, faults_at, message_faults, type_faults, wrong_message, wrong_type}
@@ -399,9 +400,10 @@ module _ (all : List FileDescriptorProto) where
       subst (λ number. IsClosedFile all number file) (omega arith) (behind k is)
 
   closed_in : (n : ℕ) (sees packages : List Bool) (file : FileDescriptorProto) → IsSeenBy all n sees packages → faults_in all n sees packages file ≡ [] → IsClosedFile all n (linked_in all sees packages file)
-  closed_in n sees packages file seen_by none =
+  closed_in n sees packages file seen_by right =
       let t = table_of all in
       let imports = named_of (rows_of all) n in
+      let none = none_of_first (file_faults t sees packages n imports file) _ right in
       let there = package_there t n (text_of file.«package») (package_right t sees packages n imports file none) in
       record {
         sees = sees;

@@ -10,15 +10,23 @@ use Rattle.protox_imports.specs.Rows.{named_of, rows_of}
 use Rattle.protox_link.proofs.Standing.{none_of_first}
 use Rattle.protox_link.specs.Files.{AreDone, AreFaults, AreLinked, IsChecked, IsDone, IsToldOf, NoFile, NoMore, OneFile, OneMore, faults_in, linked_in}
 use Rattle.protox_link.specs.Seen.{IsSeenBy}
+use Rattle.protox_link_checks.specs.Extensions.{extended_faults}
 use Rattle.protox_link_checks.specs.File.{file_faults}
 use Rattle.protox_link_fault.specs.declared.LinkFault.{LinkFault}
 use Rattle.protox_symbols.specs.Symbols.{Table}
 use Rattle.protox_symbols.specs.Things.{table_of}
 
+-- what is wrong with a file, and then with its extensions
+pub both_told : (all : List FileDescriptorProto) (table : Table) (sees packages : List Bool) (n : ℕ) (imports : List (Option ℕ)) (file : FileDescriptorProto) (before between after : List LinkFault)
+    → between ≡ before ++ file_faults table sees packages n imports file → after ≡ between ++ extended_faults all table n sees packages file
+    → after ≡ before ++ (file_faults table sees packages n imports file ++ extended_faults all table n sees packages file)
+both_told all table sees packages n imports file before between after first second =
+    second ∙ ap (λ faults. faults ++ extended_faults all table n sees packages file) first ∙ append_assoc before (file_faults table sees packages n imports file) (extended_faults all table n sees packages file)
+
 -- a file that was only checked
 pub told_one : {T E : Type 0} (r : Result T E) (all : List FileDescriptorProto) (table : Table) (n : ℕ) (sees packages : List Bool) (imports : List (Option ℕ)) (file : FileDescriptorProto) (before after : List LinkFault)
     → table ≡ table_of all → IsSeenBy all n sees packages → imports ≡ named_of (rows_of all) n
-    → OnOk r (after ≡ before ++ file_faults table sees packages n imports file)
+    → OnOk r (after ≡ before ++ (file_faults table sees packages n imports file ++ extended_faults all table n sees packages file))
     → OnOk r (IsToldOf all n file before after)
 told_one r all table n sees packages imports file before after is seen named =
     on_ok_weaker r (λ told. record {
@@ -26,20 +34,20 @@ told_one r all table n sees packages imports file before after is seen named =
       packages = packages;
       seen = seen;
       faults = told
-          ∙ ap (λ t. before ++ file_faults t sees packages n imports file) is
-          ∙ ap (λ i. before ++ file_faults (table_of all) sees packages n i file) named;
+          ∙ ap (λ t. before ++ (file_faults t sees packages n imports file ++ extended_faults all t n sees packages file)) is
+          ∙ ap (λ i. before ++ (file_faults (table_of all) sees packages n i file ++ extended_faults all (table_of all) n sees packages file)) named;
     })
 
 -- a file that was checked, and linked if nothing is wrong
 pub done : {T E : Type 0} (r : Result T E) (all : List FileDescriptorProto) (table : Table) (n : ℕ) (sees packages : List Bool) (imports : List (Option ℕ)) (file made : FileDescriptorProto) (before after : List LinkFault)
     → table ≡ table_of all → IsSeenBy all n sees packages → imports ≡ named_of (rows_of all) n
-    → OnOk r (IsChecked table sees packages n imports file made before after)
+    → OnOk r (IsChecked all table sees packages n imports file made before after)
     → OnOk r (IsDone all n file made before after)
 done r all table n sees packages imports file made before after is seen named =
     on_ok_weaker r (λ checked.
-    let in_all : IsChecked (table_of all) sees packages n (named_of (rows_of all) n) file made before after =
-    subst (λ i. IsChecked (table_of all) sees packages n i file made before after) named
-    (subst (λ t. IsChecked t sees packages n imports file made before after) is checked) in
+    let in_all : IsChecked all (table_of all) sees packages n (named_of (rows_of all) n) file made before after =
+    subst (λ i. IsChecked all (table_of all) sees packages n i file made before after) named
+    (subst (λ t. IsChecked all t sees packages n imports file made before after) is checked) in
     record {
       sees = sees;
       packages = packages;

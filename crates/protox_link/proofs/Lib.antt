@@ -3,6 +3,8 @@ pub mod Doing
 pub mod Seeing
 pub mod Closing
 pub mod Keeping
+pub mod Telling
+pub mod Extending
 pub mod Paths
 pub mod Again
 pub mod Growing

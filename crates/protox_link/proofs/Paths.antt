@@ -24,11 +24,14 @@ use Rattle.protox_imports.specs.Names.{number_of as number_of_file}
 use Rattle.protox_imports.specs.Order.{IsCycle}
 use Rattle.protox_imports.specs.Rows.{named_of, row_by, rows_of}
 use Rattle.protox_imports.specs.declared.row.FileImports.{FileImports}
+use Rattle.protox_link.proofs.Extending.{extended_told}
 use Rattle.protox_link.proofs.Seeing.{split}
+use Rattle.protox_link.proofs.Telling.{IsToldOfFile, all_flat, all_if, one}
 use Rattle.protox_link.specs.Files.{AreFaults, faults_in}
 use Rattle.protox_link.specs.Stands.{LeadsInto, LeadsWithin, Stands, ToDeclared, ToDefault, ToExtendee, ToExtensionRange, ToImport, ToImports, ToInput, ToName, ToNameOfField, ToNameOfValue, ToNumber, ToNumberOfField, ToNumberOfValue, ToOutput, ToPackage, ToRangeOfEnum, ToReservedRange, ToType}
 use Rattle.protox_link_checks.specs.Defaults.{wrong_default}
 use Rattle.protox_link_checks.specs.Empty.{empty_fault, empty_faults}
+use Rattle.protox_link_checks.specs.File.{file_faults}
 use Rattle.protox_link_checks.specs.Faults.{bad_name, clash_faults, declared_faults, is_declared_at}
 use Rattle.protox_link_checks.specs.Imports.{import_faults, import_faults_from, package_faults, wrong_import, wrong_package}
 use Rattle.protox_link_checks.specs.Numbers as numbers
@@ -57,20 +60,6 @@ use Rattle.protox_views.specs.Views.{seen}
 use Rattle.protox_walk.specs.Declarations.{Path, file_declarations, nth, text_of}
 use Rattle.protox_walk.specs.Parts.{Declared, Described, Enum, Field, Message, Method, Oneof, Service, Value}
 use Rattle.protox_walk.specs.Words.{name_of}
-
--- ---- lists
-
-module _ {X : Type 0} (P : X → Type 0) where
-  all_if : (b : Bool) (xs ys : List X) → All P xs → All P ys → All P (cond b xs ys)
-  all_if true xs ys here there = here
-  all_if false xs ys here there = there
-
-  pub one : (x : X) → P x → All P (x ∷ [])
-  one x is = All-cons P x [] is (All-nil P)
-
-  pub all_flat : {A : Type 0} (f : A → List X) (xs : List A) → All (λ x. All P (f x)) xs → All P (flat_map f xs)
-  all_flat f [] each = All-nil P
-  all_flat f (x ∷ xs) each = All-append P (f x) (flat_map f xs) (All-head (λ x. All P (f x)) x xs each) (all_flat f xs (All-tail (λ x. All P (f x)) x xs each))
 
 -- ---- parts that clash
 
@@ -227,10 +216,8 @@ module _ (P : LinkFault → Type 0) (file : ℕ) (path : Path) where
 -- ---- a file
 
 module _ (number : ℕ) (file : FileDescriptorProto) where
-  -- The fault is told of this file, at a part of it.
-  pub record IsTold (fault : LinkFault) : Type 0 where
-    pub of_file : fault.file ≡ number
-    pub leads : LeadsInto file fault.path
+  abbrev IsTold : LinkFault → Type 0
+  IsTold = IsToldOfFile number file
 
   declared_told : (t : Table) (sees packages : List Bool) (d : Declared) → Contains (file_declarations file) d → All IsTold (declared_faults t sees packages number d)
   declared_told t sees packages d here =
@@ -309,9 +296,9 @@ module _ (number : ℕ) (file : FileDescriptorProto) where
       (import_told_at i (wrong_import earlier named) (omega (arith, is)))
       (imports_told (i + 1) _ more (omega (arith, is)))
 
-  -- all that is wrong with the file of a list that has this number
-  pub file_told : (all : List FileDescriptorProto) (sees packages : List Bool) → slice_get all number ≡ Some file → All IsTold (faults_in all number sees packages file)
-  file_told all sees packages is =
+  -- all that is wrong with the file of a list that has this number, but for its extensions
+  told_itself : (all : List FileDescriptorProto) (sees packages : List Bool) → slice_get all number ≡ Some file → All IsTold (file_faults (table_of all) sees packages number (named_of (rows_of all) number) file)
+  told_itself all sees packages is =
       let t = table_of all in
       let row : slice_get (rows_of all) number ≡ Some (row_by (number_of_file all) file) = slice_get-map (row_by (number_of_file all)) all number ∙ ap (option_map (row_by (number_of_file all))) is in
       let named : named_of (rows_of all) number ≡ map (number_of_file all) file.dependency = ap (λ (o : Option FileImports). option_map_or (λ (row : FileImports). row.named) o []) row in
@@ -325,10 +312,16 @@ module _ (number : ℕ) (file : FileDescriptorProto) where
       (All-weaker (Contains (file_declarations file)) (λ d. All IsTold (declared_faults t sees packages number d)) (λ d here. declared_told t sees packages d here) (file_declarations file) (All-contains_itself (file_declarations file))))
       proto3_told))
 
+  -- all that is wrong with it
+  pub file_told : (all : List FileDescriptorProto) (sees packages : List Bool) → slice_get all number ≡ Some file → All IsTold (faults_in all number sees packages file)
+  file_told all sees packages is =
+      let t = table_of all in
+      All-append IsTold (file_faults t sees packages number (named_of (rows_of all) number) file) _ (told_itself all sees packages is) (extended_told number file t sees packages all)
+
 -- ---- all files
 
 module _ (all : List FileDescriptorProto) where
-  stands_from : (number : ℕ) (file : FileDescriptorProto) → slice_get all number ≡ Some file → (fault : LinkFault) → IsTold number file fault → Stands all fault
+  stands_from : (number : ℕ) (file : FileDescriptorProto) → slice_get all number ≡ Some file → (fault : LinkFault) → IsToldOfFile number file fault → Stands all fault
   stands_from number file is fault told = record {
     file = file;
     is_there = ap (slice_get all) told.of_file ∙ is;
@@ -342,7 +335,7 @@ module _ (all : List FileDescriptorProto) where
       let here : slice_get all n ≡ Some file = subst (λ m. slice_get all m ≡ Some file) (omega arith) (there 0 file refl) in
       subst (All (Stands all)) (sym parts.5)
       (All-append (Stands all) (faults_in all n parts.0 parts.1 file) parts.2
-      (All-weaker (IsTold n file) (Stands all) (stands_from n file here) (faults_in all n parts.0 parts.1 file) (file_told n file all parts.0 parts.1 here))
+      (All-weaker (IsToldOfFile n file) (Stands all) (stands_from n file here) (faults_in all n parts.0 parts.1 file) (file_told n file all parts.0 parts.1 here))
       (all_stand more (n + 1) parts.2 (λ k next is. subst (λ m. slice_get all m ≡ Some next) (omega arith) (there (suc k) next is)) parts.4))
 
   pub files_stand : (faults : List LinkFault) → AreFaults all 0 all faults → All (Stands all) faults

@@ -18,7 +18,10 @@ use Rattle.protox_link.specs.Link.{IsFailureOf}
 use Rattle.protox_link.specs.Seen.{IsSeenBy}
 use Rattle.protox_link_checks.specs.Faults.{declared_faults, faults_named}
 use Rattle.protox_link_checks.specs.Imports.{import_faults, package_faults}
-use Rattle.protox_link_checks.specs.Proto3.{proto3_faults}
+use Rattle.protox_link_checks.specs.Extensions.{all_extension_faults, if_message, numbered_extension, part_extension}
+use Rattle.protox_link_checks.specs.Proto3.{is_proto3, proto3_faults}
+use Rattle.protox_link_checks.specs.declared.extensions.Extension.{Extension}
+use Rattle.protox_names.specs.Names.{is_identifier}
 use Rattle.protox_link_checks.specs.Numbers.{implementation_faults}
 use Rattle.protox_link_checks.specs.Defaults.{wrong_default}
 use Rattle.protox_link_checks.specs.Uses.{default_faults, faults_at, kind_named, message_faults, type_faults, uses_of, wrong_message, wrong_type}
@@ -127,8 +130,22 @@ module _ (all : List FileDescriptorProto) (n : ℕ) (sees packages packages' : L
   declared_alike : (file : ℕ) (d : Declared) → declared_faults table sees packages file d ≡ declared_faults table sees packages' file d
   declared_alike file d = ap (faults_named table sees packages file d.path d.full_name (text_of (name_of d.part))) (uses_alike file d.path d.full_name d.part)
 
+  -- ---- the same extensions
+
+  extension_alike : (path : Path) (full_name : List ℕ) (part : Described) → part_extension table sees packages path full_name part ≡ part_extension table sees packages' path full_name part
+  extension_alike path full_name (Message message) = refl
+  extension_alike path full_name (Field field) =
+      ap (λ (s : List ℕ → Option ℕ). cond {A = List Extension} (is_identifier (text_of field.name)) (numbered_extension path field.number (number_of table.names full_name) (option_and_then (λ name. option_and_then (if_message table) (resolve (kind_at table.names) s Anything name full_name)) field.extendee)) []) seen_alike
+  extension_alike path full_name (Oneof oneof) = refl
+  extension_alike path full_name (Enum enum) = refl
+  extension_alike path full_name (Value value) = refl
+  extension_alike path full_name (Service service) = refl
+  extension_alike path full_name (Method method) = refl
+
   pub faults_alike : (file : FileDescriptorProto) → faults_in all n sees packages file ≡ faults_in all n sees packages' file
-  faults_alike file = λ i. import_faults n (named_of (rows_of all) n) ++ (package_faults table n (text_of file.«package») ++ (flat_map (λ d. declared_alike n d i) (file_declarations file) ++ proto3_faults n file))
+  faults_alike file = λ i.
+      (import_faults n (named_of (rows_of all) n) ++ (package_faults table n (text_of file.«package») ++ (flat_map (λ d. declared_alike n d i) (file_declarations file) ++ proto3_faults n file)))
+      ++ all_extension_faults all table n (is_proto3 file) (flat_map (λ d. extension_alike d.path d.full_name d.part i) (file_declarations file))
 
 -- ---- file by file
 

@@ -56,6 +56,11 @@ pub no_items : {X : Type 0} (count : ℕ) (xs : List X) → true ≡ (count == 0
 no_items count [] none is = refl
 no_items count (x ∷ xs) none is = absurd (omega (arith, is, (Decides-eqb count 0).0 (sym none)))
 
+pub some_items : {X : Type 0} (count : ℕ) (xs : List X) → false ≡ (count == 0) → count ≡ length xs → xs ≡ [] → ⊥
+some_items count xs some is none =
+    let long : count ≡ 0 = is ∙ ap length none in
+    absurd (false≢true (some ∙ (Decides-eqb count 0).1 long))
+
 pub same_text : (name : Option (List ℕ)) → linked.text_of name ≡ text_of name
 same_text None = refl
 same_text (Some name) = refl

@@ -24,16 +24,20 @@ use Rattle.protox_descriptor.specs.declared.tag.method.TheConstants as method_ta
 use Rattle.protox_imports.specs.Rows.{named_of, rows_of}
 use Rattle.protox_link.proofs.Passing.{among_filter}
 use Rattle.protox_link.proofs.Seeing.{same_faults, split}
+use Rattle.protox_link.proofs.Extending.{extension_listed}
 use Rattle.protox_link.proofs.Standing.{thing_is, true_or_false}
+use Rattle.protox_link.proofs.Telling.{among_flat}
 use Rattle.protox_link.proofs.WrongClashes.{earlier_listed, first_listed}
 use Rattle.protox_link.proofs.WrongImports.{import_listed, named_by}
 use Rattle.protox_link.proofs.WrongNames.{again_listed, own_listed}
 use Rattle.protox_link.specs.Closed.{is_message}
 use Rattle.protox_link.specs.Files.{AreFaults, faults_in}
 use Rattle.protox_link.specs.Seen.{IsSeenBy}
-use Rattle.protox_link.specs.Wrong.{AsExtendee, AsInput, AsOutput, AsType, BeginsOtherwise, Clashes, Clashing, DefaultIsNoValue, DefaultIsNoWord, EnumReservesAgain, FieldIsReserved, FieldsAreAlike, HasBadName, HasDefault, HasExtensions, HasNameOfOther, HasNoName, HasNoNumber, HasNoNumbers, HasNoValue, IsBackward, IsNamed, IsNoPackage, IsNotThere, IsTaken, IsTooDeep, IsTooLong, MessageHasDefault, MessageReservesAgain, OfExtensions, OfExtensionsReserved, OfExtensionsTwice, OfField, OfImport, OfName, OfNumber, OfPackage, OfProto3, OfReserved, OfReservedName, OfReservedTwice, OfReused, OfUse, OfValues, OfValuesTwice, StandsForNoMessage, StandsForNoType, StandsForNothing, Uses, ValueIsReserved, ValuesAreAlike, WrongImport, WrongInProto3, WrongLink, WrongName, WrongNumber, WrongPackage, WrongReserved, WrongUse, stands_for}
+use Rattle.protox_link.specs.Wrong.{AsExtendee, AsInput, AsOutput, AsType, BeginsOtherwise, Clashes, Clashing, DefaultIsNoValue, DefaultIsNoWord, EnumReservesAgain, FieldIsReserved, FieldsAreAlike, HasBadName, HasDefault, HasExtensions, HasNameOfOther, HasNoName, HasNoNumber, HasNoNumbers, HasNoValue, IsBackward, IsNamed, IsNoPackage, IsNotThere, IsTaken, IsTooDeep, IsTooLong, MessageHasDefault, MessageReservesAgain, OfExtension, OfExtensions, OfExtensionsReserved, OfExtensionsTwice, OfField, OfImport, OfName, OfNumber, OfPackage, OfProto3, OfReserved, OfReservedName, OfReservedTwice, OfReused, OfUse, OfValues, OfValuesTwice, StandsForNoMessage, StandsForNoType, StandsForNothing, Uses, ValueIsReserved, ValuesAreAlike, WrongImport, WrongInProto3, WrongLink, WrongName, WrongNumber, WrongPackage, WrongReserved, WrongUse, stands_for}
 use Rattle.protox_link_checks.specs.Defaults.{has_value, is_word, wrong_default, wrong_default_of, wrong_value}
 use Rattle.protox_link_checks.specs.Empty.{empty_fault, empty_faults}
+use Rattle.protox_link_checks.specs.Extensions.{extended_faults}
+use Rattle.protox_link_checks.specs.File.{file_faults}
 use Rattle.protox_link_checks.specs.Faults.{all_declared_faults, bad_name, clash_faults, declared_faults, is_declared_at}
 use Rattle.protox_link_checks.specs.Imports.{if_found, import_faults, is_package, no_packages, package_faults, wrong_length, wrong_package, wrong_package_found}
 use Rattle.protox_link_checks.specs.Numbers as numbers
@@ -71,10 +75,6 @@ among_map : {X Y : Type 0} (f : X → Y) (xs : List X) (x : X) → Among xs x �
 among_map f [] x there = absurd there
 among_map f (first ∷ more) x (inl is) = inl (ap f is)
 among_map f (first ∷ more) x (inr there) = inr (among_map f more x there)
-
-among_flat : {X Y : Type 0} (f : X → List Y) (xs : List X) (x : X) (y : Y) → Contains xs x → Among (f x) y → Among (flat_map f xs) y
-among_flat f xs x y has there =
-    among-flat (λ a. Among (f a) y) f y (λ a is. is) xs (somewhere-at (λ a. Among (f a) y) xs has.0 x has.1 has.2 there)
 
 not_less : (a b : ℕ) → b ≤ a → nat_lt a b ≡ false
 not_less a b below = elim (true_or_false (nat_lt a b)) [
@@ -366,7 +366,7 @@ module _ (files : List FileDescriptorProto) (n : ℕ) (file : FileDescriptorProt
   table = table_of files
 
   abbrev told_in : List LinkFault
-  told_in = faults_in files n sees packages file
+  told_in = file_faults table sees packages n (named_of (rows_of files) n) file
 
   import_in : (i : ℕ) (kind : LinkFaultKind) → slice_get files n ≡ Some file → WrongImport files file.dependency i kind → Among told_in (fault_at n (file_tag.DEPENDENCY ∷ []) (pos i) kind)
   import_in i kind here wrong =
@@ -461,30 +461,40 @@ module _ (all : List FileDescriptorProto) where
             (among-right (faults_in all n parts.0 parts.1 first) parts.2 fault (rest.3 fault there)),
       )
 
+  -- what is wrong with a file itself
+  in_front : {n : ℕ} {file : FileDescriptorProto} {sees packages : List Bool} {fault : LinkFault} → Among (file_faults (table_of all) sees packages n (named_of (rows_of all) n) file) fault → Among (faults_in all n sees packages file) fault
+  in_front {n = n} {file = file} {sees = sees} {packages = packages} {fault = fault} there =
+      among-left (file_faults (table_of all) sees packages n (named_of (rows_of all) n) file) (extended_faults all (table_of all) n sees packages file) fault there
+
   -- What is wrong with the files is a fault of the list.
   pub wrong_is_told : (faults : List LinkFault) → AreFaults all 0 all faults → (fault : LinkFault) → WrongLink all fault → Contains faults fault
   wrong_is_told faults told fault wrong = elim wrong as (λ fault _. Contains faults fault) [
     | OfImport n file i kind here wrong ↦
         let listed = file_listed all 0 faults n n file (omega arith) here told in
-        contains-from faults _ (listed.3 _ (import_in all n file listed.0 listed.1 i kind here wrong))
+        contains-from faults _ (listed.3 _ (in_front (import_in all n file listed.0 listed.1 i kind here wrong)))
     | OfPackage n file name kind here is some wrong ↦
         let listed = file_listed all 0 faults n n file (omega arith) here told in
-        contains-from faults _ (listed.3 _ (package_in all n file listed.0 listed.1 name kind is some wrong))
+        contains-from faults _ (listed.3 _ (in_front (package_in all n file listed.0 listed.1 name kind is some wrong)))
     | OfName n d kind in_file wrong ↦
         let listed = file_listed all 0 faults n n in_file.file (omega arith) in_file.is_there told in
-        contains-from faults _ (listed.3 _ (declared_in all n in_file.file listed.0 listed.1 d _ in_file.declares (name_listed (table_of all) listed.0 listed.1 n d kind wrong)))
+        contains-from faults _ (listed.3 _ (in_front (declared_in all n in_file.file listed.0 listed.1 d _ in_file.declares (name_listed (table_of all) listed.0 listed.1 n d kind wrong))))
     | OfUse n d sees packages tag kind in_file named seen wrong ↦
         let listed = file_listed all 0 faults n n in_file.file (omega arith) in_file.is_there told in
         contains-from faults _ (listed.3 _
         (subst (λ (fs : List LinkFault). Among fs (fault_at n d.path tag kind)) (same_faults all n sees listed.0 packages listed.1 in_file.file seen listed.2)
-        (within_in all n in_file.file sees packages d _ in_file.declares named (use_listed n d.path (table_of all) sees packages d.full_name d.part tag kind wrong))))
+        (in_front (within_in all n in_file.file sees packages d _ in_file.declares named (use_listed n d.path (table_of all) sees packages d.full_name d.part tag kind wrong)))))
     | OfNumber n d rest kind in_file named wrong ↦
         let listed = file_listed all 0 faults n n in_file.file (omega arith) in_file.is_there told in
-        contains-from faults _ (listed.3 _ (within_in all n in_file.file listed.0 listed.1 d _ in_file.declares named (number_listed n d.path (table_of all) listed.0 listed.1 d.full_name d.part rest kind wrong)))
+        contains-from faults _ (listed.3 _ (in_front (within_in all n in_file.file listed.0 listed.1 d _ in_file.declares named (number_listed n d.path (table_of all) listed.0 listed.1 d.full_name d.part rest kind wrong))))
     | OfReservedName n d rest kind in_file named wrong ↦
         let listed = file_listed all 0 faults n n in_file.file (omega arith) in_file.is_there told in
-        contains-from faults _ (listed.3 _ (within_in all n in_file.file listed.0 listed.1 d _ in_file.declares named (reserved_listed n d.path (table_of all) listed.0 listed.1 d.full_name d.part rest kind wrong)))
+        contains-from faults _ (listed.3 _ (in_front (within_in all n in_file.file listed.0 listed.1 d _ in_file.declares named (reserved_listed n d.path (table_of all) listed.0 listed.1 d.full_name d.part rest kind wrong))))
     | OfProto3 n d rest kind in_file is wrong ↦
         let listed = file_listed all 0 faults n n in_file.file (omega arith) in_file.is_there told in
-        contains-from faults _ (listed.3 _ (proto3_in all n in_file.file listed.0 listed.1 d rest kind in_file.declares is wrong))
+        contains-from faults _ (listed.3 _ (in_front (proto3_in all n in_file.file listed.0 listed.1 d rest kind in_file.declares is wrong)))
+    | OfExtension n file sees packages path kind here seen wrong ↦
+        let listed = file_listed all 0 faults n n file (omega arith) here told in
+        contains-from faults _ (listed.3 _
+        (subst (λ (fs : List LinkFault). Among fs (record { file = n; path = path; kind = kind })) (same_faults all n sees listed.0 packages listed.1 file seen listed.2)
+        (among-right (file_faults (table_of all) sees packages n (named_of (rows_of all) n) file) _ _ (extension_listed all n file sees packages path kind wrong))))
   ]

@@ -26,7 +26,8 @@ use Rattle.protox_descriptor.specs.declared.tag.file.TheConstants as file_tag
 use Rattle.protox_descriptor.specs.declared.tag.message.TheConstants as message_tag
 use Rattle.protox_descriptor.specs.declared.tag.method.TheConstants as method_tag
 use Rattle.protox_imports.specs.Rows.{named_of, rows_of}
-use Rattle.protox_link.proofs.Paths.{all_flat, one}
+use Rattle.protox_link.proofs.Extending.{extended_wrong}
+use Rattle.protox_link.proofs.Telling.{all_flat, one}
 use Rattle.protox_link.proofs.Passing.{all_filter}
 use Rattle.protox_link.proofs.Seeing.{split}
 use Rattle.protox_link.proofs.WrongClashes.{earlier_told, first_told}
@@ -38,6 +39,7 @@ use Rattle.protox_link.specs.Seen.{IsSeenBy}
 use Rattle.protox_link.specs.Wrong.{AsExtendee, AsInput, AsOutput, AsType, BeginsOtherwise, Clashes, Clashing, Declares, DefaultIsNoValue, DefaultIsNoWord, EnumReservesAgain, FieldIsReserved, FieldsAreAlike, HasBadName, HasDefault, HasExtensions, HasNameOfOther, HasNoName, HasNoNumber, HasNoNumbers, HasNoValue, IsBackward, IsNamed, IsNoPackage, IsNotThere, IsTaken, IsTooDeep, IsTooLong, MeetsEarlier, MeetsFirst, MessageHasDefault, MessageReservesAgain, OfExtensions, OfExtensionsReserved, OfExtensionsTwice, OfField, OfImport, OfName, OfNumber, OfPackage, OfProto3, OfReserved, OfReservedName, OfReservedTwice, OfReused, OfUse, OfValues, OfValuesTwice, StandsForNoMessage, StandsForNoType, StandsForNothing, Uses, ValueIsReserved, ValuesAreAlike, WrongInProto3, WrongLink, WrongName, WrongNumber, WrongPackage, WrongReserved, WrongUse, stands_for}
 use Rattle.protox_link_checks.specs.Defaults.{has_value, is_word, wrong_default, wrong_default_of}
 use Rattle.protox_link_checks.specs.Empty.{empty_fault, empty_faults}
+use Rattle.protox_link_checks.specs.File.{file_faults}
 use Rattle.protox_link_checks.specs.Faults.{bad_name, clash_faults, declared_faults, is_declared_at}
 use Rattle.protox_link_checks.specs.Imports.{if_found, import_faults, is_package, no_packages, package_faults, wrong_length, wrong_package, wrong_package_found}
 use Rattle.protox_link_checks.specs.Numbers as numbers
@@ -419,12 +421,14 @@ module _ (files : List FileDescriptorProto) (n : ℕ) (file : FileDescriptorProt
 
   file_told : (sees packages : List Bool) → IsSeenBy files n sees packages → All (WrongLink files) (faults_in files n sees packages file)
   file_told sees packages seen =
-      All-append (WrongLink files) (import_faults n (named_of (rows_of files) n)) _ imports_told
+      All-append (WrongLink files) (file_faults table sees packages n (named_of (rows_of files) n) file) _
+      (All-append (WrongLink files) (import_faults n (named_of (rows_of files) n)) _ imports_told
       (All-append (WrongLink files) (package_faults table n (text_of file.«package»)) _ (package_told file.«package» refl)
       (All-append (WrongLink files) (flat_map (declared_faults table sees packages n) (file_declarations file)) _
       (all_flat (WrongLink files) (declared_faults table sees packages n) (file_declarations file)
       (All-weaker (Contains (file_declarations file)) (λ d. All (WrongLink files) (declared_faults table sees packages n d)) (declared_told sees packages seen) (file_declarations file) (All-contains_itself (file_declarations file))))
-      (proto3_wrong (is_proto3 file) refl)))
+      (proto3_wrong (is_proto3 file) refl))))
+      (extended_wrong files n file sees packages here seen)
 
 -- ---- all files
 

@@ -3,6 +3,7 @@ use Rattle.std.specs.Prelude.{◌≡◌, ◌+◌, ℕ, Bool, List, [], ◌∷◌
 use Rattle.protox_descriptor.specs.declared.descriptor.FileDescriptorProto.{FileDescriptorProto}
 use Rattle.protox_imports.specs.Rows.{named_of, rows_of}
 use Rattle.protox_link.specs.Seen.{IsSeenBy}
+use Rattle.protox_link_checks.specs.Extensions.{extended_faults}
 use Rattle.protox_link_checks.specs.File.{file_faults}
 use Rattle.protox_link_fault.specs.declared.LinkFault.{LinkFault}
 use Rattle.protox_linked.specs.Linked.{linked_file}
@@ -14,6 +15,7 @@ use Rattle.protox_views.specs.Views.{meaning}
 abbrev pub faults_in : List FileDescriptorProto → ℕ → List Bool → List Bool → FileDescriptorProto → List LinkFault
 faults_in all number sees packages file =
     file_faults (table_of all) sees packages number (named_of (rows_of all) number) file
+    ++ extended_faults all (table_of all) number sees packages file
 
 -- what linking makes of a file of a list, where it sees this
 abbrev pub linked_in : List FileDescriptorProto → List Bool → List Bool → FileDescriptorProto → FileDescriptorProto
@@ -33,8 +35,8 @@ module _ (all : List FileDescriptorProto) where
 -- ---- one file
 
 -- A file was checked, where it sees this of a table, and it is linked if no fault is known.
-pub record IsChecked (table : Table) (sees packages : List Bool) (number : ℕ) (imports : List (Option ℕ)) (file made : FileDescriptorProto) (before after : List LinkFault) : Type 0 where
-  pub faults : after ≡ before ++ file_faults table sees packages number imports file
+pub record IsChecked (all : List FileDescriptorProto) (table : Table) (sees packages : List Bool) (number : ℕ) (imports : List (Option ℕ)) (file made : FileDescriptorProto) (before after : List LinkFault) : Type 0 where
+  pub faults : after ≡ before ++ (file_faults table sees packages number imports file ++ extended_faults all table number sees packages file)
   pub linked : after ≡ [] → made ≡ linked_file (meaning table sees packages) file
 
 -- The same of the file of a list that has the number n.

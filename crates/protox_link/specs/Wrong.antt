@@ -22,17 +22,20 @@ use Rattle.protox_imports.specs.Imports.{name_at}
 use Rattle.protox_link.specs.Closed.{is_message}
 use Rattle.protox_link.specs.Seen.{IsSeenBy}
 use Rattle.protox_link_checks.specs.Defaults.{has_value, is_word}
+use Rattle.protox_link_checks.specs.Extensions.{extensions_of, is_options, ranges_numbered, same_number}
 use Rattle.protox_link_checks.specs.Imports.{is_package}
 use Rattle.protox_link_checks.specs.Proto3.{is_proto3}
+use Rattle.protox_link_checks.specs.declared.extensions.Extension.{Extension}
 use Rattle.protox_link_fault.specs.declared.LinkFault.{LinkFault}
 use Rattle.protox_link_fault.specs.declared.LinkFaultKind.{LinkFaultKind}
 use Rattle.protox_link_fault.specs.declared.LinkFaultKind.TheVariants as told
 use Rattle.protox_link_fault.specs.declared.NumberFault.{NumberFault}
 use Rattle.protox_link_fault.specs.declared.NumberFault.TheVariants as how
-use Rattle.protox_name_tree.specs.Tree.{has_innermost, kind_at, number_of}
+use Rattle.protox_name_tree.specs.Tree.{dotted, has_innermost, kind_at, name_at as full_name_at, number_of}
 use Rattle.protox_names.specs.Names.{is_identifier, scopes}
 use Rattle.protox_numbers.specs.Enums.{begins_with_zero, range_spans, value_spans}
 use Rattle.protox_numbers.specs.Message.{extension_spans, field_spans, reserved_spans}
+use Rattle.protox_numbers.specs.Numbers.{single}
 use Rattle.protox_numbers.specs.Parts.{is_backward_enum_range, is_empty_extension_range, is_for_implementation}
 use Rattle.protox_numbers.specs.declared.clash.Clash.{Clash}
 use Rattle.protox_scopes.specs.Scopes.{is_type, resolve}
@@ -281,6 +284,26 @@ pub data WrongInProto3 : Described → Path → LinkFaultKind → Type 0 where
       → is_of_two e.value c ≡ true
       → WrongInProto3 (Enum e) (enum_tag.VALUE ∷ pos c.part ∷ value_tag.NAME ∷ []) (told.Alike c.«with»)
 
+-- ---- extensions
+
+-- This is wrong with an extension of a file that sees this of the table, at this path.
+pub data WrongExtension (files : List FileDescriptorProto) (sees packages : List Bool) (file : FileDescriptorProto)
+    : Path → LinkFaultKind → Type 0 where
+  -- No extension range of the message that it extends has its number.
+  IsInNoRange : (e : Extension) → Contains (extensions_of (table_of files) sees packages file) e
+      → ((range : Span) → Contains (ranges_numbered files (table_of files) e.message) range → meets (single e.number) range ≡ false)
+      → WrongExtension files sees packages file (e.path ++ field_tag.NUMBER ∷ []) (told.OutOfRanges e.message)
+  -- An earlier extension of the file has the same message and number.
+  IsReused : (c : Clash) (e earlier : Extension)
+      → MeetsEarlier same_number (extensions_of (table_of files) sees packages file) c
+      → slice_get (extensions_of (table_of files) sees packages file) c.part ≡ Some e
+      → slice_get (extensions_of (table_of files) sees packages file) c.«with» ≡ Some earlier
+      → WrongExtension files sees packages file (e.path ++ field_tag.NUMBER ∷ []) (told.ExtensionReused e.message earlier.own)
+  -- In proto3 it extends what is no message of options.
+  IsNotOfOptions : (e : Extension) → Contains (extensions_of (table_of files) sees packages file) e
+      → is_proto3 file ≡ true → is_options (dotted (full_name_at (table_of files).names e.message)) ≡ false
+      → WrongExtension files sees packages file (e.path ++ field_tag.EXTENDEE ∷ []) told.NotOfOptions
+
 -- ---- all that can be wrong
 
 -- The fault is one of these files.
@@ -316,3 +339,8 @@ pub data WrongLink (files : List FileDescriptorProto) : LinkFault → Type 0 whe
       → (in_file : Declares files n d) → is_proto3 in_file.file ≡ true
       → WrongInProto3 d.part rest kind
       → WrongLink files (record { file = n; path = d.path ++ rest; kind = kind })
+  -- It is that of an extension.
+  OfExtension : (n : ℕ) (file : FileDescriptorProto) (sees packages : List Bool) (path : Path) (kind : LinkFaultKind)
+      → slice_get files n ≡ Some file → IsSeenBy files n sees packages
+      → WrongExtension files sees packages file path kind
+      → WrongLink files (record { file = n; path = path; kind = kind })

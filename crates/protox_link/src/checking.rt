@@ -7,12 +7,14 @@ ghost use Rattle.protox_link.specs.Files.{AreFaults, IsToldOf};
 ghost use Rattle.protox_link.specs.Known.{HasRows, IsKnownOf};
 ghost use Rattle.protox_link.specs.Link.{AreWrong};
 ghost use Rattle.protox_link.specs.Stands.{Stands};
+ghost use Rattle.protox_link_checks.specs.Ranges.{AreRangesOf};
+ghost use Rattle.protox_symbols.specs.Things.{table_of};
 
 use crate::circle::told_circle;
 use crate::known::Known;
 use crate::prepare::{Prepared, prepare};
 use protox_descriptor::descriptor::FileDescriptorProto;
-use protox_link_checks::check_file;
+use protox_link_checks::{Ranges, check_extensions, check_file};
 use protox_link_fault::LinkFault;
 use std::alloc::{AllocError, Global};
 
@@ -20,18 +22,22 @@ use std::alloc::{AllocError, Global};
 fn check_one(
     alloc: Global,
     known: &Known,
+    ranges: &Ranges,
     number: usize,
     file: &FileDescriptorProto,
     faults: &mut Vec<LinkFault>,
 ) -> Result<(), AllocError>
     requires within { number < length known.now.imports.files }
     requires rows { HasRows known.now }
-    ensures { (all : List FileDescriptorProto) → IsKnownOf all known.now → OnOk result
+    ensures { (all : List FileDescriptorProto) → IsKnownOf all known.now
+        → AreRangesOf all (table_of all) ranges.now → OnOk result
         (IsToldOf all number file.now faults.old.items faults.new.items) }
 {
     let names = known.names(alloc, number)?;
     let imports = known.imports.named(number);
-    check_file(alloc, &names.view(), imports, number, file, faults)
+    let view = names.view();
+    check_file(alloc, &view, imports, number, file, faults)?;
+    check_extensions(alloc, &view, ranges, number, file, faults)
 }
 
 // All that is wrong with files that don't import one another in a circle, in order.
@@ -44,9 +50,10 @@ fn check_ready(
     ensures faults { IfOk result (λ faults. AreFaults files.now 0 files.now faults.items) }
     ensures stands { IfOk result (λ faults. All (Stands files.now) faults.items) }
 {
+    let ranges = Ranges::of(alloc, &known.symbols, files)?;
     let mut faults = Vec::new(alloc);
     for (number, file) in files.iter().enumerate() {
-        check_one(alloc, known, number, file, &mut faults)?;
+        check_one(alloc, known, &ranges, number, file, &mut faults)?;
     }
     Ok(faults)
 }

@@ -4,11 +4,13 @@ ghost use Rattle.std.specs.Prelude.{◌≡◌, ◌<◌, ℕ, List, Some, length,
 ghost use Rattle.protox_descriptor.specs.declared.descriptor.FileDescriptorProto.{FileDescriptorProto};
 ghost use Rattle.protox_link.specs.Files.{IsChecked, IsDone};
 ghost use Rattle.protox_link.specs.Known.{HasRows, IsKnownOf};
+ghost use Rattle.protox_link_checks.specs.Ranges.{AreRangesOf};
+ghost use Rattle.protox_symbols.specs.Things.{table_of};
 
 use crate::known::Known;
 use crate::packages::text_of;
 use protox_descriptor::descriptor::FileDescriptorProto;
-use protox_link_checks::check_file;
+use protox_link_checks::{Ranges, check_extensions, check_file};
 use protox_link_fault::LinkFault;
 use protox_linked::link_file;
 use protox_views::View;
@@ -18,17 +20,22 @@ use std::alloc::{AllocError, Global};
 fn check_and_link(
     alloc: Global,
     view: &View<'_>,
+    ranges: &Ranges,
     imports: &[Option<usize>],
     number: usize,
     file: &mut FileDescriptorProto,
     faults: &mut Vec<LinkFault>,
 ) -> Result<(), AllocError>
     requires { (n : ℕ) → Contains imports.now (Some n) → n < length view.now.sees.now }
-    ensures { OnOk result (IsChecked view.now.symbols.now view.now.sees.now view.now.packages
+    ensures { (all : List FileDescriptorProto) → AreRangesOf all view.now.symbols.now ranges.now
+        → OnOk result (IsChecked all view.now.symbols.now view.now.sees.now view.now.packages
         number imports.now file.old file.new faults.old.items faults.new.items) }
 {
     check_file(alloc, view, imports, number, file, faults)?;
-    if !faults.is_empty() {
+    // without faults, the table has all that linking looks up
+    let is_whole = faults.is_empty();
+    check_extensions(alloc, view, ranges, number, file, faults)?;
+    if !is_whole || !faults.is_empty() {
         return Ok(());
     }
     let package = view.symbols.find(None, text_of(file.package.as_ref()));
@@ -39,17 +46,19 @@ fn check_and_link(
 pub(crate) fn do_file(
     alloc: Global,
     known: &Known,
+    ranges: &Ranges,
     number: usize,
     file: &mut FileDescriptorProto,
     faults: &mut Vec<LinkFault>,
 ) -> Result<(), AllocError>
     requires within { number < length known.now.imports.files }
     requires rows { HasRows known.now }
-    ensures { (all : List FileDescriptorProto) → IsKnownOf all known.now → OnOk result
+    ensures { (all : List FileDescriptorProto) → IsKnownOf all known.now
+        → AreRangesOf all (table_of all) ranges.now → OnOk result
         (IsDone all number file.old file.new faults.old.items faults.new.items) }
 {
     let names = known.names(alloc, number)?;
     let view = names.view();
     let imports = known.imports.named(number);
-    check_and_link(alloc, &view, imports, number, file, faults)
+    check_and_link(alloc, &view, ranges, imports, number, file, faults)
 }

@@ -16,6 +16,7 @@ use crate::files::do_files;
 use crate::known::Known;
 use crate::prepare::{Prepared, prepare};
 use protox_descriptor::descriptor::FileDescriptorProto;
+use protox_link_checks::Ranges;
 use protox_link_fault::{LinkFailure, LinkFault};
 use std::alloc::{AllocError, Global};
 
@@ -30,9 +31,10 @@ fn finish(
     ensures { IsKnownOf files.old.items known.now → IfOk result (λ faults.
         AreDone files.old.items files.new.items faults.items) }
 {
+    let ranges = Ranges::of(alloc, &known.symbols, files.as_slice())?;
     let mut faults = Vec::new(alloc);
     if files.len() == known.imports.len() {
-        do_files(alloc, known, files.as_mut_slice(), &mut faults)?;
+        do_files(alloc, known, &ranges, files.as_mut_slice(), &mut faults)?;
     }
     Ok(faults)
 }

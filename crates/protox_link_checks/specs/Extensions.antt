@@ -75,13 +75,13 @@ abbrev pub is_message : Kind → Bool
 is_message kind.Message = true
 is_message _ = false
 
-module _ (table : Table) (sees packages : List Bool) where
-  abbrev pub if_message : ℕ → Option ℕ
-  if_message n = if is_message (kind_at table.names n) then Some n else None
+abbrev pub if_message : Table → ℕ → Option ℕ
+if_message table n = if is_message (kind_at table.names n) then Some n else None
 
+module _ (table : Table) (sees packages : List Bool) where
   -- the number of the message that a name stands for, where something with this full name uses it
   abbrev pub message_named : List ℕ → List ℕ → Option ℕ
-  message_named user name = option_and_then if_message (resolve (kind_at table.names) (seen table sees packages) Anything name user)
+  message_named user name = option_and_then (if_message table) (resolve (kind_at table.names) (seen table sees packages) Anything name user)
 
   abbrev pub extension_in : Path → List ℕ → FieldDescriptorProto → List Extension
   extension_in path full_name field =

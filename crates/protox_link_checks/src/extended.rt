@@ -208,7 +208,7 @@ fn check_all_options(
 /// # Errors
 /// `AllocError` where memory runs out, or where a list has more than 2,147,483,648 parts: no path
 /// can count them. Some faults may have been added then.
-pub(crate) fn check_extensions(
+pub fn check_extensions(
     alloc: Global,
     view: &View<'_>,
     ranges: &Ranges,

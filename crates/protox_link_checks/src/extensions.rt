@@ -23,15 +23,15 @@ use std::alloc::{AllocError, Global};
 
 /// An extension: a field that extends a message. Both have numbers in the table.
 #[derive(Drop)]
-pub(crate) struct Extension {
+pub struct Extension {
     /// The number of the message.
-    pub(crate) message: usize,
+    pub message: usize,
     /// That of the extension.
-    pub(crate) own: usize,
+    pub own: usize,
     /// The number that the extension has as a field.
-    pub(crate) number: Option<i32>,
+    pub number: Option<i32>,
     /// The path of the extension.
-    pub(crate) path: Numbers,
+    pub path: Numbers,
 }
 
 // The number of the message that a name stands for where something in a scope uses it.
@@ -148,7 +148,7 @@ fn add_messages(
     for (index, message) in messages.iter().enumerate() {
         let place = path_to(alloc, path, tag, index)?;
         let path = place.as_slice();
-        let inner = inside(view, scope, message.name.as_ref());
+        let inner = inside(view, scope, message.name.as_ref(), 0);
         let (fields, extensions) = (message.field.as_slice(), message.extension.as_slice());
         let nested = message.nested_type.as_slice();
         add_fields(alloc, view, inner, path, message::FIELD, fields, made)?;
@@ -171,7 +171,7 @@ fn add_messages(
 /// # Errors
 /// `AllocError` where memory runs out, or where a list has more than 2,147,483,648 parts: no path
 /// can count them.
-pub(crate) fn extensions_of(
+pub fn extensions_of(
     alloc: Global,
     view: &View<'_>,
     file: &FileDescriptorProto,
@@ -180,7 +180,7 @@ pub(crate) fn extensions_of(
         view.now.sees.now view.now.packages file.now) }
 {
     let mut made = Vec::new(alloc);
-    let scope = inside(view, Some(None), file.package.as_ref());
+    let scope = inside(view, Some(None), file.package.as_ref(), 0);
     let (messages, extensions) = (file.message_type.as_slice(), file.extension.as_slice());
     add_messages(
         alloc,

@@ -19,4 +19,7 @@ mod ranges;
 mod reserved;
 mod uses;
 
+pub use crate::extended::check_extensions;
+pub use crate::extensions::{Extension, extensions_of};
 pub use crate::file::{check_file, check_names};
+pub use crate::ranges::Ranges;

@@ -1,6 +1,8 @@
-use Rattle.std.proofs.Common.{List, ℕ, Option, Some, arith, ap, subst, ◌∙◌, length}
+use Rattle.std.proofs.Common.{List, ℕ, Option, Some, arith, ap, subst, sym, ◌∙◌, length}
 use Rattle.std.specs.List.{Contains}
 use Rattle.protox_imports.specs.Rows.{named_of}
+use Rattle.protox_link_checks.specs.Ranges.{AreRangesOf}
+use Rattle.protox_symbols.specs.Symbols.{Table}
 use Rattle.protox_views.specs.FilesOf.{seen_packages}
 use Rattle.protox_link.proofs.Doing.{done, seen_in}
 use Rattle.protox_link.proofs.file.do_file.Goals as goal
@@ -11,7 +13,7 @@ check_and_link-requires c n has =
     omega (arith, below, c.in_ok-names.ensures.as_many, ap length c.view-view.ensures.sees)
 
 pub returns : goal.returns
-returns c all known =
+returns c all known ranges =
     let names = c.in_ok-names.names in
     let view = c.view-view.result in
     let of_file = c.in_ok-names.ensures.of_file all known in
@@ -19,4 +21,4 @@ returns c all known =
     (c.view-view.ensures.table ∙ of_file.table)
     (seen_in all c.args.number names.sees (seen_packages names.sees names.packages.now) view.sees.now view.packages c.view-view.ensures.sees c.view-view.ensures.packages of_file.seen)
     (c.named-imports.ensures ∙ ap (λ rows. named_of rows c.args.number) known.rows)
-    c.check_and_link.ensures
+    (c.check_and_link.ensures all (subst (λ (t : Table). AreRangesOf all t c.args.ranges.now) (sym (c.view-view.ensures.table ∙ of_file.table)) ranges))

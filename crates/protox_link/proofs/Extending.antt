@@ -111,7 +111,7 @@ fails_rest false c none = none
 
 any_fails : {X : Type 0} (p : X → Bool) (xs : List X) → list_any p xs ≡ false → All (λ x. p x ≡ false) xs
 any_fails p [] none = All-nil _
-any_fails p (x ∷ xs) none = All-cons _ x xs (fails_first (p x) (list_any p xs) none) (any_fails p xs (fails_rest (p x) (list_any p xs) none))
+any_fails p (x ∷ xs) none = All-cons (λ y. p y ≡ false) x xs (fails_first (p x) (list_any p xs) none) (any_fails p xs (fails_rest (p x) (list_any p xs) none))
 
 module _ (files : List FileDescriptorProto) (n : ℕ) (file : FileDescriptorProto) (sees packages : List Bool) where
   abbrev table : Table

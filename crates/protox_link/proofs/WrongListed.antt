@@ -462,8 +462,8 @@ module _ (all : List FileDescriptorProto) where
       )
 
   -- what is wrong with a file itself
-  in_front : {n : ℕ} {file : FileDescriptorProto} {sees packages : List Bool} {fault : LinkFault} → Among (file_faults (table_of all) sees packages n (named_of (rows_of all) n) file) fault → Among (faults_in all n sees packages file) fault
-  in_front {n = n} {file = file} {sees = sees} {packages = packages} {fault = fault} there =
+  in_front : (n : ℕ) (file : FileDescriptorProto) (sees packages : List Bool) (fault : LinkFault) → Among (file_faults (table_of all) sees packages n (named_of (rows_of all) n) file) fault → Among (faults_in all n sees packages file) fault
+  in_front n file sees packages fault there =
       among-left (file_faults (table_of all) sees packages n (named_of (rows_of all) n) file) (extended_faults all (table_of all) n sees packages file) fault there
 
   -- What is wrong with the files is a fault of the list.
@@ -471,27 +471,27 @@ module _ (all : List FileDescriptorProto) where
   wrong_is_told faults told fault wrong = elim wrong as (λ fault _. Contains faults fault) [
     | OfImport n file i kind here wrong ↦
         let listed = file_listed all 0 faults n n file (omega arith) here told in
-        contains-from faults _ (listed.3 _ (in_front (import_in all n file listed.0 listed.1 i kind here wrong)))
+        contains-from faults _ (listed.3 _ (in_front n file listed.0 listed.1 _ (import_in all n file listed.0 listed.1 i kind here wrong)))
     | OfPackage n file name kind here is some wrong ↦
         let listed = file_listed all 0 faults n n file (omega arith) here told in
-        contains-from faults _ (listed.3 _ (in_front (package_in all n file listed.0 listed.1 name kind is some wrong)))
+        contains-from faults _ (listed.3 _ (in_front n file listed.0 listed.1 _ (package_in all n file listed.0 listed.1 name kind is some wrong)))
     | OfName n d kind in_file wrong ↦
         let listed = file_listed all 0 faults n n in_file.file (omega arith) in_file.is_there told in
-        contains-from faults _ (listed.3 _ (in_front (declared_in all n in_file.file listed.0 listed.1 d _ in_file.declares (name_listed (table_of all) listed.0 listed.1 n d kind wrong))))
+        contains-from faults _ (listed.3 _ (in_front n in_file.file listed.0 listed.1 _ (declared_in all n in_file.file listed.0 listed.1 d _ in_file.declares (name_listed (table_of all) listed.0 listed.1 n d kind wrong))))
     | OfUse n d sees packages tag kind in_file named seen wrong ↦
         let listed = file_listed all 0 faults n n in_file.file (omega arith) in_file.is_there told in
         contains-from faults _ (listed.3 _
         (subst (λ (fs : List LinkFault). Among fs (fault_at n d.path tag kind)) (same_faults all n sees listed.0 packages listed.1 in_file.file seen listed.2)
-        (in_front (within_in all n in_file.file sees packages d _ in_file.declares named (use_listed n d.path (table_of all) sees packages d.full_name d.part tag kind wrong)))))
+        (in_front n in_file.file sees packages _ (within_in all n in_file.file sees packages d _ in_file.declares named (use_listed n d.path (table_of all) sees packages d.full_name d.part tag kind wrong)))))
     | OfNumber n d rest kind in_file named wrong ↦
         let listed = file_listed all 0 faults n n in_file.file (omega arith) in_file.is_there told in
-        contains-from faults _ (listed.3 _ (in_front (within_in all n in_file.file listed.0 listed.1 d _ in_file.declares named (number_listed n d.path (table_of all) listed.0 listed.1 d.full_name d.part rest kind wrong))))
+        contains-from faults _ (listed.3 _ (in_front n in_file.file listed.0 listed.1 _ (within_in all n in_file.file listed.0 listed.1 d _ in_file.declares named (number_listed n d.path (table_of all) listed.0 listed.1 d.full_name d.part rest kind wrong))))
     | OfReservedName n d rest kind in_file named wrong ↦
         let listed = file_listed all 0 faults n n in_file.file (omega arith) in_file.is_there told in
-        contains-from faults _ (listed.3 _ (in_front (within_in all n in_file.file listed.0 listed.1 d _ in_file.declares named (reserved_listed n d.path (table_of all) listed.0 listed.1 d.full_name d.part rest kind wrong))))
+        contains-from faults _ (listed.3 _ (in_front n in_file.file listed.0 listed.1 _ (within_in all n in_file.file listed.0 listed.1 d _ in_file.declares named (reserved_listed n d.path (table_of all) listed.0 listed.1 d.full_name d.part rest kind wrong))))
     | OfProto3 n d rest kind in_file is wrong ↦
         let listed = file_listed all 0 faults n n in_file.file (omega arith) in_file.is_there told in
-        contains-from faults _ (listed.3 _ (in_front (proto3_in all n in_file.file listed.0 listed.1 d rest kind in_file.declares is wrong)))
+        contains-from faults _ (listed.3 _ (in_front n in_file.file listed.0 listed.1 _ (proto3_in all n in_file.file listed.0 listed.1 d rest kind in_file.declares is wrong)))
     | OfExtension n file sees packages path kind here seen wrong ↦
         let listed = file_listed all 0 faults n n file (omega arith) here told in
         contains-from faults _ (listed.3 _

@@ -37,7 +37,7 @@ PACKAGES = ['', 'a', 'b', 'a.b', 'b.a', 'a.b.c', 'c.a']
 # A line of one declaration that uses names.
 USE = re.compile(r'(optional .*;|[\w.]+ \w+ = \d+;|map<.*;|rpc .*;|extend .*|oneof .*|import .*)')
 # What is wrong in proto3 alone.
-PROTO3 = ('first value not zero', 'extensions in proto3', LIKE_ANOTHER)
+PROTO3 = ('first value not zero', 'extensions in proto3', 'not of options', LIKE_ANOTHER)
 # A fault of a name that is declared twice in a file, and one of a name that is used or of a default.
 TWICE = re.compile(r'(\S+) \S+ already defined: \S+ in \1')
 USED = re.compile(r'\S+ \S+ (not (defined|a type|a message): .*|no such value|default of a message|bad default)')
@@ -140,12 +140,12 @@ class Chance:
         self.lines.append('}')
 
     def extend(self, scope):
-        # in proto3 only messages of options may be extended, which isn't checked yet
-        if self.proto3:
-            return
         for _ in range(self.rng.choice([0, 0, 0, 1, 2])):
-            number = self.rng.randint(1000, 400000000)
-            self.lines.append(f'extend {self.used()} {{ optional int32 {self.own(scope)} = {number}; }}')
+            if self.proto3 and self.rng.random() < 0.8:
+                continue
+            number = self.rng.choice([999, 1000, 1001, self.rng.randint(1000, 400000000)])
+            optional = '' if self.proto3 else 'optional '
+            self.lines.append(f'extend {self.used()} {{ {optional}int32 {self.own(scope)} = {number}; }}')
 
 
 def by_chance(protoc, seed):

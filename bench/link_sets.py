@@ -14,6 +14,8 @@ CYCLE = re.compile(r'[^:]+:\d+:\d+: File recursively imports itself: (.*)')
 NAME, PACKAGE, IMPORTS = 1, 2, 3
 NUMBER = 3
 DEFAULT = 7
+# What is wrong with extensions, behind all else.
+OF_EXTENSIONS = [(3, 'in no extension range'), (3, 'extension number used before'), (2, 'not of options')]
 # The list of the reserved ranges of an enum.
 IN_ENUM = 4
 # What protoc says of a name that is used, and the words for it here.
@@ -37,6 +39,9 @@ OF_NUMBERS = [(re.compile(text), words) for text, words in (
     (r'Exceeds Maximum Package Depth', 'deep package'),
     (r'The first enum value must be zero in proto3\.', 'first value not zero'),
     (r'Extension ranges are not allowed in proto3\.', 'extensions in proto3'),
+    (r'".*" does not declare \d+ as an extension number\.', 'in no extension range'),
+    (r'Extension number \d+ has already been used in ".*" by extension ".*"\.', 'extension number used before'),
+    (r'Extensions in proto3 are only allowed for defining options\.', 'not of options'),
 )]
 # What it says without a place, or at that of another part.
 FOR_EXTENSIONS = re.compile(r'Extension range .* includes field "(.*)" \((\d+)\)\.')
@@ -61,8 +66,7 @@ IMPORT_TWICE = re.compile(r'Import "(.*)" was listed twice\.')
 SIBLINGS = ('Note that enum values use C++ scoping rules, meaning that enum values are siblings of their type, '
             'not children of it. ')
 # What isn't checked here yet.
-NOT_YET = re.compile(r'Enum type ".*" is not a proto3 enum, .*|Enum value in map must define 0 as the first value\.'
-                     r'|".*" does not declare \d+ as an extension number\.|Extension number \d+ has already .*')
+NOT_YET = re.compile(r'Enum type ".*" is not a proto3 enum, .*|Enum value in map must define 0 as the first value\.')
 MORE = re.compile(r'Expanded map entry type .*|Suggested field numbers for .*')
 
 
@@ -410,8 +414,8 @@ class Faults:
 
     def lines(self):
         """The lines in the order of imports, the package, and declarations: first the name of each, then
-        its numbers, the names that it reserves, and then what it uses. At the end stands what is wrong in
-        proto3 alone. Below each line stands what protoc tells."""
+        its numbers, the names that it reserves, and then what it uses. Then comes what is wrong in proto3
+        alone, and at the end what is wrong with extensions. Below each line stands what protoc tells."""
         self.add_twice()
         self.add_several()
         self.add_nowhere()
@@ -421,6 +425,9 @@ class Faults:
             order += [use for use in self.uses if use[:-1] == path] + [path + (DEFAULT,)]
         for path, _, part in self.declared:
             order += in_proto3(path, part)
+        extensions = [path for path, _, part in self.declared if hasattr(part, 'extendee') and part.extendee]
+        for tag, words in OF_EXTENSIONS:
+            order += [(path + (tag,), words) for path in extensions]
         place = {path: index for index, path in enumerate(order)}
         lines = []
         for path, words in sorted(self.texts, key=lambda fault: place.get(fault, place.get(fault[0]))):

@@ -2,7 +2,7 @@
 use Rattle.std.specs.Prelude.{ℕ, List, ◌++◌, codes}
 use Rattle.std.specs.Fmt.{signed_decimal}
 use Rattle.protox_link_text.specs.declared.error.LinkError.{LinkError}
-use Rattle.protox_link_text.specs.declared.error.LinkError.TheVariants.{MissingName, BadName, AlreadyDefined, AlreadyDefinedIn, AlreadyDefinedInFile, ValueBesideEnum, ValueBesideEnumIn, NotInTable, NotAPackage, LongPackage, DeepPackage, NotDefined, NotImported, NotDefinedInside, NotAType, NotAMessage, MessageDefault, BadDefault, NoSuchValue, NumberReused, FieldReserved, ForExtensions, ReservedTwice, ExtensionsTwice, ExtensionsReserved, ValueReserved, FieldNameReserved, ValueNameReserved, FieldNameReservedTwice, ValueNameReservedTwice, ForImplementation, EmptyExtensionRange, EmptyReservedRange, NoValue, FirstNotZero, ExtensionsInProto3, FieldsAlike, ValuesAlike, MissingImport, RepeatedImport, ImportCycle}
+use Rattle.protox_link_text.specs.declared.error.LinkError.TheVariants.{MissingName, BadName, AlreadyDefined, AlreadyDefinedIn, AlreadyDefinedInFile, ValueBesideEnum, ValueBesideEnumIn, NotInTable, NotAPackage, LongPackage, DeepPackage, NotDefined, NotImported, NotDefinedInside, NotAType, NotAMessage, MessageDefault, BadDefault, NoSuchValue, NumberReused, FieldReserved, ForExtensions, ReservedTwice, ExtensionsTwice, ExtensionsReserved, ValueReserved, FieldNameReserved, ValueNameReserved, FieldNameReservedTwice, ValueNameReservedTwice, ForImplementation, EmptyExtensionRange, EmptyReservedRange, NoValue, FirstNotZero, ExtensionsInProto3, FieldsAlike, ValuesAlike, NotDeclared, ExtensionReused, NotOfOptions, MissingImport, RepeatedImport, ImportCycle}
 
 -- The text of an error, in one line.
 abbrev pub text_of : LinkError → List ℕ
@@ -44,6 +44,9 @@ text_of FirstNotZero = codes "The first enum value must be zero in proto3."
 text_of ExtensionsInProto3 = codes "Extension ranges are not allowed in proto3."
 text_of (FieldsAlike name other) = codes "The JSON camel-case name of field \"" ++ name ++ codes "\" conflicts with field \"" ++ other ++ codes "\". This is not allowed in proto3."
 text_of (ValuesAlike name other) = codes "Enum name " ++ name ++ codes " has the same name as " ++ other ++ codes " if you ignore case and strip out the enum name prefix (if any). This is error-prone and can lead to undefined behavior. Please avoid doing this. If you are using allow_alias, please assign the same numeric value to both enums."
+text_of (NotDeclared message number) = codes "\"" ++ message ++ codes "\" does not declare " ++ signed_decimal number ++ codes " as an extension number."
+text_of (ExtensionReused number message extension) = codes "Extension number " ++ signed_decimal number ++ codes " has already been used in \"" ++ message ++ codes "\" by extension \"" ++ extension ++ codes "\"."
+text_of NotOfOptions = codes "Extensions in proto3 are only allowed for defining options."
 text_of (MissingImport name) = codes "Import \"" ++ name ++ codes "\" was not found or had errors."
 text_of (RepeatedImport name) = codes "Import \"" ++ name ++ codes "\" was listed twice."
 text_of (ImportCycle names) = codes "File recursively imports itself: " ++ names
@@ -61,4 +64,5 @@ HasFixedText LongPackage = Unit {0}
 HasFixedText DeepPackage = Unit {0}
 HasFixedText FirstNotZero = Unit {0}
 HasFixedText ExtensionsInProto3 = Unit {0}
+HasFixedText NotOfOptions = Unit {0}
 HasFixedText _ = ⊥

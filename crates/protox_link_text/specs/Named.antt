@@ -1,5 +1,5 @@
 -- The names and the numbers that errors speak of.
-use Rattle.std.specs.Prelude.{ℕ, ℤ, List, [], ◌∷◌, slice_get, if◌then◌else◌}
+use Rattle.std.specs.Prelude.{ℕ, ℤ, pos, List, [], ◌∷◌, slice_get, if◌then◌else◌}
 use Rattle.std.specs.Option.{option_and_then, unwrap_or}
 use Rattle.std.specs.Ordering.{int_eq}
 use Rattle.protox_descriptor.specs.FieldDescriptorProto.{FieldDescriptorProto}
@@ -81,3 +81,15 @@ default_in (OfMessage m) (tag ∷ n ∷ rest) =
     if int_eq tag message_tag.FIELD then default_of (out-DescriptorProto m).field n
     else default_of (out-DescriptorProto m).extension n
 default_in _ _ = []
+
+-- the number of a field or an extension with an index; an unset number counts as 0
+abbrev pub number_of_field : List FieldDescriptorProto → ℤ → ℤ
+number_of_field fields n = unwrap_or (option_and_then (λ field. field.number) (at_index fields n)) (pos 0)
+
+-- the number of the field or the extension at the end of a path
+abbrev pub number_in : Holder → List ℤ → ℤ
+number_in (OfFile f) (tag ∷ n ∷ rest) = number_of_field f.extension n
+number_in (OfMessage m) (tag ∷ n ∷ rest) =
+    if int_eq tag message_tag.FIELD then number_of_field (out-DescriptorProto m).field n
+    else number_of_field (out-DescriptorProto m).extension n
+number_in _ _ = pos 0

@@ -10,7 +10,7 @@ use Rattle.protox_link_fault.specs.declared.LinkFault.{LinkFault}
 use Rattle.protox_link_fault.specs.declared.LinkFaultKind.{LinkFaultKind}
 use Rattle.protox_link_fault.specs.declared.LinkFaultKind.TheVariants as kind
 use Rattle.protox_link_text.specs.Clashes.{clash_in}
-use Rattle.protox_link_text.specs.Named.{default_in, file_name, import_named, named_in, reserved_at, sibling_at, value_named}
+use Rattle.protox_link_text.specs.Named.{default_in, file_name, import_named, named_in, number_in, reserved_at, sibling_at, value_named}
 use Rattle.protox_link_text.specs.Places.{Holder, OfEnum, OfFile, OfMessage, OfService, Place, place_of, text_of}
 use Rattle.protox_link_text.specs.Search.{Searched, search, wanted_at}
 use Rattle.protox_link_text.specs.declared.error.LinkError.{LinkError}
@@ -117,6 +117,13 @@ abbrev pub names_alike : Holder → List ℕ → List ℕ → LinkError
 names_alike (OfEnum enum) name other = error.ValuesAlike name other
 names_alike _ name other = error.FieldsAlike name other
 
+-- The number of an extension is in no range of the message with a number, or an earlier extension has it.
+abbrev pub not_declared : Table → Holder → List ℤ → ℕ → LinkError
+not_declared table holder rest n = error.NotDeclared (name_at table.names n) (number_in holder rest)
+
+abbrev pub extension_reused : Table → Holder → List ℤ → ℕ → ℕ → LinkError
+extension_reused table holder rest n m = error.ExtensionReused (number_in holder rest) (name_at table.names n) (name_at table.names m)
+
 -- `sees` and `packages` tell what the file with this number sees of the table.
 module _ (files : List FileDescriptorProto) (table : Table) (sees packages : List Bool) (file : ℕ) where
   abbrev pub told_at : Place → LinkFaultKind → List LinkError
@@ -142,6 +149,9 @@ module _ (files : List FileDescriptorProto) (table : Table) (sees packages : Lis
   told_at place kind.FirstNotZero = error.FirstNotZero ∷ []
   told_at place kind.ExtensionsInProto3 = error.ExtensionsInProto3 ∷ []
   told_at place (kind.Alike n) = names_alike place.holder (named_in place.holder place.rest) (sibling_at place.holder n) ∷ []
+  told_at place (kind.OutOfRanges n) = not_declared table place.holder place.rest n ∷ []
+  told_at place (kind.ExtensionReused n m) = extension_reused table place.holder place.rest n m ∷ []
+  told_at place kind.NotOfOptions = error.NotOfOptions ∷ []
   told_at place kind.MissingImport = error.MissingImport (import_named place.holder place.rest) ∷ []
   told_at place kind.RepeatedImport = error.RepeatedImport (import_named place.holder place.rest) ∷ []
   told_at place (kind.ImportCycle circle_) = error.ImportCycle (circle files circle_.items) ∷ []

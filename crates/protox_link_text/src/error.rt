@@ -169,6 +169,19 @@ pub enum LinkError {
         name: Text,
         other: Text,
     },
+    /// No extension range of the message has the number of an extension.
+    NotDeclared {
+        message: Text,
+        number: i32,
+    },
+    /// An earlier extension of the file extends the message with the same number.
+    ExtensionReused {
+        number: i32,
+        message: Text,
+        extension: Text,
+    },
+    /// In proto3 an extension extends what is no message of options.
+    NotOfOptions,
     /// No file has the name of the import.
     MissingImport {
         name: Text,
@@ -203,6 +216,7 @@ fn fixed_text(error: &LinkError) -> &'static str
         LinkError::DeepPackage => "Exceeds Maximum Package Depth",
         LinkError::FirstNotZero => "The first enum value must be zero in proto3.",
         LinkError::ExtensionsInProto3 => "Extension ranges are not allowed in proto3.",
+        LinkError::NotOfOptions => "Extensions in proto3 are only allowed for defining options.",
         _ => "",
     }
 }
@@ -319,6 +333,18 @@ impl fmt::Display for LinkError {
             LinkError::ValuesAlike { name, other } => write!(
                 f,
                 "Enum name {name} has the same name as {other} if you ignore case and strip out the enum name prefix (if any). This is error-prone and can lead to undefined behavior. Please avoid doing this. If you are using allow_alias, please assign the same numeric value to both enums."
+            ),
+            LinkError::NotDeclared { message, number } => write!(
+                f,
+                "\"{message}\" does not declare {number} as an extension number."
+            ),
+            LinkError::ExtensionReused {
+                number,
+                message,
+                extension,
+            } => write!(
+                f,
+                "Extension number {number} has already been used in \"{message}\" by extension \"{extension}\"."
             ),
             LinkError::MissingImport { name } => {
                 write!(f, "Import \"{name}\" was not found or had errors.")

@@ -8,6 +8,7 @@ use crate::LinkError;
 use crate::alike::names_alike;
 use crate::clash::clash_at;
 use crate::defined::{no_package, told_twice};
+use crate::extended::{extension_reused, not_declared};
 use crate::imports::circle_text;
 use crate::lists::one;
 use crate::names::{default_in, full_name, import_named, named_in};
@@ -53,7 +54,15 @@ fn told_at(
             return not_defined(alloc, files, view.symbols, file, name, searched);
         }
         LinkFaultKind::Clash(how, with) => return clash_at(alloc, place, *with, *how),
-        LinkFaultKind::MissingName => LinkError::MissingName,
+        LinkFaultKind::OutOfRanges(message) => {
+            let error = not_declared(alloc, view.symbols, inside, rest, *message)?;
+            return one(alloc, error);
+        }
+        LinkFaultKind::ExtensionReused(message, other) => {
+            let error = extension_reused(alloc, view.symbols, inside, rest, *message, *other)?;
+            return one(alloc, error);
+        }
+        LinkFaultKind::MissingName => return one(alloc, LinkError::MissingName),
         LinkFaultKind::BadName => LinkError::BadName {
             name: Text::copy(alloc, named_in(inside, rest))?,
         },
@@ -61,28 +70,29 @@ fn told_at(
             name: Text::copy(alloc, named_in(inside, rest))?,
         },
         LinkFaultKind::NotAPackage(number) => no_package(alloc, files, view.symbols, *number)?,
-        LinkFaultKind::LongPackage => LinkError::LongPackage,
-        LinkFaultKind::DeepPackage => LinkError::DeepPackage,
+        LinkFaultKind::LongPackage => return one(alloc, LinkError::LongPackage),
+        LinkFaultKind::DeepPackage => return one(alloc, LinkError::DeepPackage),
         LinkFaultKind::NotAType(name) => LinkError::NotAType {
             name: Text::copy(alloc, name.as_str())?,
         },
         LinkFaultKind::NotAMessage(name) => LinkError::NotAMessage {
             name: Text::copy(alloc, name.as_str())?,
         },
-        LinkFaultKind::MessageDefault => LinkError::MessageDefault,
-        LinkFaultKind::BadDefault => LinkError::BadDefault,
+        LinkFaultKind::MessageDefault => return one(alloc, LinkError::MessageDefault),
+        LinkFaultKind::BadDefault => return one(alloc, LinkError::BadDefault),
         LinkFaultKind::NoSuchValue(number) => LinkError::NoSuchValue {
             of: full_name(alloc, view.symbols, *number)?,
             value: Text::copy(alloc, default_in(inside, rest))?,
         },
-        LinkFaultKind::ForImplementation => LinkError::ForImplementation,
+        LinkFaultKind::ForImplementation => return one(alloc, LinkError::ForImplementation),
         LinkFaultKind::EmptyRange => empty_range(inside),
-        LinkFaultKind::NoValue => LinkError::NoValue,
+        LinkFaultKind::NoValue => return one(alloc, LinkError::NoValue),
         LinkFaultKind::ReservedAgain(number) => reserved_again(alloc, inside, *number)?,
         LinkFaultKind::ReservedName => reserved_name(alloc, inside, rest)?,
-        LinkFaultKind::FirstNotZero => LinkError::FirstNotZero,
-        LinkFaultKind::ExtensionsInProto3 => LinkError::ExtensionsInProto3,
+        LinkFaultKind::FirstNotZero => return one(alloc, LinkError::FirstNotZero),
+        LinkFaultKind::ExtensionsInProto3 => return one(alloc, LinkError::ExtensionsInProto3),
         LinkFaultKind::Alike(number) => names_alike(alloc, inside, rest, *number)?,
+        LinkFaultKind::NotOfOptions => return one(alloc, LinkError::NotOfOptions),
         LinkFaultKind::MissingImport => LinkError::MissingImport {
             name: Text::copy(alloc, import_named(inside, rest))?,
         },

@@ -6,6 +6,7 @@ mod clash;
 mod defined;
 mod error;
 mod errors;
+mod extended;
 mod imports;
 mod lists;
 mod names;

@@ -72,3 +72,9 @@ returns-in-FieldsAlike-clause-writes g c p ok = rw c.in-FieldsAlike.is (simp app
 
 pub returns-in-ValuesAlike-clause-writes : goal.returns-in-ValuesAlike-clause-writes
 returns-in-ValuesAlike-clause-writes g c p ok = rw c.in-ValuesAlike.is (simp append_assoc (c.write-in-ValuesAlike.ensures.writes p ok))
+
+pub returns-in-NotDeclared-clause-writes : goal.returns-in-NotDeclared-clause-writes
+returns-in-NotDeclared-clause-writes g c p ok = rw c.in-NotDeclared.is (simp append_assoc (c.write-in-NotDeclared.ensures.writes p ok))
+
+pub returns-in-ExtensionReused-clause-writes : goal.returns-in-ExtensionReused-clause-writes
+returns-in-ExtensionReused-clause-writes g c p ok = rw c.in-ExtensionReused.is (simp append_assoc (c.write-in-ExtensionReused.ensures.writes p ok))

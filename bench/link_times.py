@@ -19,7 +19,7 @@ import tempfile
 # Counts that take a second or two.
 COUNTS = {
     'tree': 50, 'tree3': 50, 'name': 20000, 'absolute': 20000, 'fields': 2500, 'nested': 600, 'values': 2000, 'twice': 1000,
-    'reserved': 2000, 'defaults': 2000, 'alike': 2000,
+    'reserved': 2000, 'defaults': 2000, 'alike': 2000, 'extended': 2000,
     'chain': 1000, 'public': 1000, 'ladder': 1000, 'packages': 250, 'star': 1000, 'alone': 250, 'parts': 500,
     'cycle': 2000, 'gone': 2000,
 }

@@ -144,6 +144,12 @@ def reserved(count):
     return in_one(f'message M {{\n{names}{fields}}}\n')
 
 
+def extended(count):
+    ranges = ''.join(f'  extensions {3 * n + 1} to {3 * n + 2};\n' for n in range(count))
+    fields = ''.join(f'  optional int32 e{n} = {2 * n + 1};\n' for n in range(count))
+    return in_one(f'message M {{\n{ranges}}}\nextend M {{\n{fields}}}\n')
+
+
 def alike(count):
     fields = ''.join(f'  int32 {cased("field_of_a_message", n)} = {n + 1};\n' for n in range(count))
     values = ''.join(f'  {cased("value_of_an_enum", n)} = {n};\n' for n in range(count))
@@ -166,6 +172,7 @@ SHAPES = {
     'nested': lambda count, _: nested(count),
     'values': lambda count, _: values(count),
     'reserved': lambda count, _: reserved(count),
+    'extended': lambda count, _: extended(count),
     'defaults': lambda count, _: defaults(count),
     'alike': lambda count, _: alike(count),
     'twice': lambda count, _: in_one('message M { optional M m = 1; }\n' * count),

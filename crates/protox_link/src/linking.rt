@@ -93,10 +93,13 @@ fn refused_circle(alloc: Global, circle: Vec<usize>) -> LinkFailure
 /// the file sees, or for something of another kind, a default of a message or of no value of the
 /// enum, a package of more than 511 bytes or 100 dots, a number or a range that clashes with
 /// another one, a number from 19000 to 19999, a range without numbers, an enum without values, a
-/// name that is reserved twice, or reserved and used; and in proto3 a first value other than 0, or
-/// an extension range. The faults are in the order of the files. Those of a file are in the order
-/// of its parts, and then come those of proto3. The path of each leads to a part of its file. What
-/// a fault names by a number has it in `Symbols::of` the same files.
+/// name that is reserved twice, or reserved and used; in proto3 a first value other than 0, an
+/// extension range, or names that are alike; an extension whose number is in no extension range of
+/// the message, or used by an earlier extension of the file; and in proto3 an extension of what is
+/// no message of options. The faults are in the order of the files. Those of a file are in the
+/// order of its parts, then come those of proto3, and then those of extensions. The path of each
+/// leads to a part of its file. What a fault names by a number has it in `Symbols::of` the same
+/// files.
 /// `OutOfMemory` where memory runs out, or where a list has more than 2,147,483,648 parts: no path
 /// can count them.
 ///

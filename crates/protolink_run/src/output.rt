@@ -5,6 +5,7 @@ use crate::told::say;
 use protolink_words::Work;
 use protox_descriptor::descriptor::FileDescriptorProto;
 use protox_encode::{EncodeError, encode_entry};
+use protox_imports::{Imports, Order, in_order};
 use protox_link::LinkedSet;
 use std::alloc::{AllocError, Global};
 use std::io::{self, Write};
@@ -19,19 +20,29 @@ pub(crate) struct Set {
     pub(crate) inputs: usize,
 }
 
+// The inputs, each behind those of the others that it imports. What they import of other files has no
+// part in that, as for protoc.
+fn inputs_in_order(alloc: Global, set: &Set) -> Result<Vec<usize>, AllocError> {
+    let files = set.linked.files.as_slice();
+    let inputs = files.get(..set.inputs).unwrap_or(files);
+    let imports = Imports::new(alloc, inputs)?;
+    match in_order(alloc, &imports)? {
+        Order::Sorted(order) => Ok(order),
+        // it can't be, as the files are linked
+        Order::Cycle(files) => Ok(files),
+    }
+}
+
 /// The numbers of the files that the set has, in order: with or without what the inputs import.
 ///
 /// # Errors
 /// `AllocError` where memory runs out.
 pub(crate) fn chosen(alloc: Global, set: &Set, imports: bool) -> Result<Vec<usize>, AllocError> {
+    if !imports {
+        return inputs_in_order(alloc, set);
+    }
     let mut chosen = Vec::new(alloc);
-    if imports {
-        chosen.extend_from_slice(set.linked.order.as_slice())?;
-        return Ok(chosen);
-    }
-    for number in 0..set.inputs {
-        chosen.push(number)?;
-    }
+    chosen.extend_from_slice(set.linked.order.as_slice())?;
     Ok(chosen)
 }
 

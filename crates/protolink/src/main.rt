@@ -103,6 +103,6 @@ fn status(rt: &HostRuntime) -> io::Result<u8> {
 fn main(rt: HostRuntime) -> ExitCode {
     ExitCode::from(match status(&rt) {
         Ok(status) => status,
-        Err(error) => broken(&mut rt.stderr(), &error),
+        Err(error) => broken(rt.alloc(), &mut rt.stderr(), &error),
     })
 }

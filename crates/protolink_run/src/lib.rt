@@ -371,21 +371,27 @@ pub fn run<H: Host, W: Write, E: Write>(
     match tried(alloc, host, words, out, err) {
         Ok(true) => 0,
         Ok(false) => 1,
-        Err(error) => broken(err, &error),
+        Err(error) => broken(alloc, err, &error),
     }
 }
 
+// Says why nothing more can be written.
+fn say_why<E: Write>(alloc: Global, err: &mut E, error: &io::Error) -> io::Result<()> {
+    let why = cause(alloc, error)?;
+    say(alloc, err, "protolink: cannot write", why.as_str())
+}
+
 /// Says why nothing more is done, and answers the status.
-pub fn broken<E: Write>(err: &mut E, error: &io::Error) -> u8
+pub fn broken<E: Write>(alloc: Global, err: &mut E, error: &io::Error) -> u8
     ensures { result ≡ 2 }
 {
-    let said = if error.kind() == io::ErrorKind::OutOfMemory {
-        err.write_all("protolink: out of memory\n".as_bytes())
-    } else {
-        writeln!(err, "protolink: cannot write: {error}")
+    let said = match error.kind() {
+        io::ErrorKind::OutOfMemory => Err(AllocError.into()),
+        _ => say_why(alloc, err, error),
     };
-    match said {
-        Ok(()) => 2,
-        Err(_) => 2,
+    // Want of memory is told without asking for any. What can't be said stays unsaid.
+    if said.is_err_and(|error| is_want(&error)) {
+        let _ = err.write_all("protolink: out of memory\n".as_bytes());
     }
+    2
 }

@@ -29,9 +29,13 @@ fn note(
     file: usize,
 ) -> Result<(), AllocError> {
     let mut place = package;
-    while let Some(number) = place {
+    // A package is in fewer others than there are names.
+    for _ in 0..symbols.len() {
+        let Some(number) = place else {
+            break;
+        };
         if first.contains_key(&number) {
-            return Ok(());
+            break;
         }
         first.insert(number, file)?;
         place = symbols.outer(number);

@@ -14,35 +14,43 @@ work=$(mktemp -d)
 trap 'rm -rf "$work"' EXIT
 languages=(cpp python pyi java kotlin csharp ruby objc php)
 
-# The code that is made of a set: front_end.sh of SET into FOLDER, for the files.
+# The code that protoc's generators make of a set, into a folder: make_code SET FOLDER FILE..
 make_code() {
     local set=$1 folder=$2 language
     shift 2
     for language in "${languages[@]}"; do
         mkdir -p "$folder/$language"
-        if ! protoc "--${language}_out=$folder/$language" --descriptor_set_in="$set" "$@" 2>"$folder/$language.said"; then
+        protoc "--${language}_out=$folder/$language" --descriptor_set_in="$set" "$@" 2>"$folder/$language.said" ||
             echo refused >>"$folder/$language.said"
-        fi
     done
-    if command -v nanopb_generator.py >/dev/null; then
-        mkdir -p "$folder/nanopb"
-        cp "$set" "$folder/set.pb"
-        (cd "$folder" && nanopb_generator.py -q -T -D nanopb set.pb) >"$folder/nanopb.said" 2>&1 || echo refused >>"$folder/nanopb.said"
-        rm "$folder/set.pb"
-    fi
 }
 
-# Compares what is made of the files of a folder, in a part of the work of their own.
+# The code that nanopb makes: make_nanopb PROGRAM FOLDER FILE.. It makes code of the last file of a set.
+make_nanopb() {
+    local linker=$1 folder=$2 file
+    shift 2
+    command -v nanopb_generator.py >/dev/null || return 0
+    mkdir -p "$folder/nanopb"
+    for file in "$@"; do
+        "$linker" -I. -o"$folder/set.pb" --include_imports "$file" 2>/dev/null
+        (cd "$folder" && nanopb_generator.py -q -T -D nanopb set.pb) >>"$folder/nanopb.said" 2>&1 ||
+            echo "$file: refused" >>"$folder/nanopb.said"
+        rm "$folder/set.pb"
+    done
+}
+
+# Compares what is made of the files of a folder: compare NAME FOLDER FILE..
 compare() {
-    local name=$1 folder=$2
+    local name=$1 folder=$2 part
     shift 2
     mkdir -p "$work/$name/ours" "$work/$name/theirs"
     cd "$folder"
-    "$program" -I. -o"$work/$name/ours.pb" --include_imports --include_source_info "$@" 2>"$work/$name/warnings" ||
-        { cat "$work/$name/warnings"; exit 1; }
+    "$program" -I. -o"$work/$name/ours.pb" --include_imports --include_source_info "$@" 2>"$work/said" ||
+        { cat "$work/said"; exit 1; }
     protoc -I. -o"$work/$name/theirs.pb" --include_imports --include_source_info "$@" 2>/dev/null
-    make_code "$work/$name/ours.pb" "$work/$name/ours" "$@"
-    make_code "$work/$name/theirs.pb" "$work/$name/theirs" "$@"
+    for part in ours theirs; do make_code "$work/$name/$part.pb" "$work/$name/$part" "$@"; done
+    make_nanopb "$program" "$work/$name/ours" "$@"
+    make_nanopb protoc "$work/$name/theirs" "$@"
 }
 
 if [ $# -gt 2 ]; then

@@ -2,7 +2,8 @@
 //! and two writers.
 #![tactic(auto)]
 
-ghost use Rattle.std.specs.Prelude.{◌≡◌, ◌≤◌};
+ghost use Rattle.std.specs.Prelude.{◌≡◌, ◌≤◌, [], true, false, IfOk};
+ghost use Rattle.protox_link.specs.Link.{AreWrong};
 
 mod faults;
 mod host;
@@ -283,7 +284,11 @@ fn linked<H: Host, W: Write, E: Write>(
     loaded: Loaded,
     out: &mut W,
     err: &mut E,
-) -> io::Result<bool> {
+) -> io::Result<bool>
+    // All is well only if each file could be read, and nothing is wrong with them.
+    ensures read { IfOk result (λ well. well ≡ true → loaded.failed ≡ false) }
+    ensures right { IfOk result (λ well. well ≡ true → AreWrong loaded.files.items []) }
+{
     let faults = check(alloc, loaded.files.as_slice())?;
     tell_faults(alloc, err, work.format, &loaded, faults.as_slice())?;
     if loaded.failed || !faults.is_empty() {

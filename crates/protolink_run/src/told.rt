@@ -1,5 +1,7 @@
 //! What is told of files.
 
+ghost use Rattle.std.specs.Prelude.{◌≤◌, length};
+
 use protolink_words::Format;
 use protox_fault::error::{ParseErrorKind, Span};
 use protox_report::paint::Paint;
@@ -46,7 +48,9 @@ pub(crate) struct Told<'a> {
 }
 
 // The source, if it isn't so long that its lines can't be counted.
-fn countable(source: &str) -> &str {
+fn countable(source: &str) -> &str
+    ensures { length result.now ≤ 2147483647 }
+{
     if source.len() > 2147483647 {
         ""
     } else {

@@ -22,7 +22,7 @@ use crate::load::{Loaded, Reading, load_all, paths_of};
 use crate::output::{Set, chosen, rule, set_bytes};
 use crate::paths::{Place, places};
 use crate::search::{Input, beside_program, input_of};
-use crate::told::{cause, say};
+use crate::told::{cause, say, say_line};
 use crate::warnings::{warn_of_options, warn_of_unused};
 use protolink_words::{Asked, Work, asked_by};
 use protox_link::{check, link};
@@ -354,8 +354,8 @@ fn tried<H: Host, W: Write, E: Write>(
         Asked::Version => out.write_all(VERSION.as_bytes()).map(|_| true),
         Asked::Work(work) => done(alloc, host, &work, out, err),
         Asked::Wrong(wrong) => {
-            let text = format!(in alloc; "{wrong}\n")?;
-            err.write_all(text.as_bytes())?;
+            let text = format!(in alloc; "{wrong}")?;
+            say_line(alloc, err, text.as_str())?;
             Ok(false)
         }
     }

@@ -191,6 +191,14 @@ impl<'a> Told<'a> {
     }
 }
 
+/// Writes what is wrong with words.
+pub(crate) fn say_line<E: Write>(alloc: Global, err: &mut E, text: &str) -> io::Result<()> {
+    let mut line = String::new(alloc);
+    push_shown(alloc, &mut line, text)?;
+    line.push_str("\n")?;
+    err.write_all(line.as_bytes())
+}
+
 /// Writes what is wrong with a word or a file as a whole.
 pub(crate) fn say<E: Write>(alloc: Global, err: &mut E, name: &str, text: &str) -> io::Result<()> {
     let mut line = String::new(alloc);

@@ -68,6 +68,9 @@ FILES = {
     'u/chain_a.proto': 'syntax = "proto3";\nimport "chain_b.proto";\nmessage Ca { Cb b = 1; }\n',
     'u/chain_b.proto': 'syntax = "proto3";\nimport "chain_c.proto";\nmessage Cb { Cc c = 1; }\n',
     'u/chain_c.proto': 'syntax = "proto3";\nmessage Cc {}\n',
+    'u/alike.proto': 'syntax = "proto2";\nenum Kind {\n  KIND_A = 0;\n  A = 1; a = 2;\n}\n'
+                     'message M { enum E { X = 0; E_x = 1; } optional int32 foo_bar = 1; optional int32 fooBar = 2; }\n',
+    'u/of_alike.proto': 'syntax = "proto2";\nimport "alike.proto";\nmessage O { optional M m = 1; }\n',
     'words': '-Ia\n-Ib\na/x.proto\n',
 }
 SET = ['-oset', '--include_imports']
@@ -95,6 +98,7 @@ LINES = [
     ['-Iu', '-oset', 'of_unused.proto'], ['-Iu', '-oset', 'of_unused.proto', 'unused.proto'], ['-Iu', '-oset', 'extends.proto'],
     ['-Iu', '-oset', 'way.proto', 'deep2.proto', 'way2.proto'], ['-Iu', '-oset', 'way2.proto', 'way.proto'],
     ['-Iu', '-oset', 'chain_a.proto', 'chain_c.proto'], ['-Iu', '-oset', 'chain_a.proto', 'chain_c.proto', 'chain_b.proto'],
+    ['-Iu', '-oset', 'alike.proto'], ['-Iu', '-oset', 'of_alike.proto'], ['-Iu', '-oset', '--fatal_warnings', 'of_alike.proto'],
     ['-Iu', '-oset', '--error_format=msvs', 'unused.proto'], ['-Iu', '-oset', '--fatal_warnings', 'unused.proto'],
     ['-Iu', '-oset', '--fatal_warnings', 'way.proto'], ['-Iu', '-Inone', '-oset', '--fatal_warnings', 'way.proto'],
     ['--include_imports', '--include_imports', 'a/y.proto'], ['-Ia', '-oset', '--dependency_out=deps', 'a/y.proto', 'a/x.proto'],

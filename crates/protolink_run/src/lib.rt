@@ -5,6 +5,7 @@
 ghost use Rattle.std.specs.Prelude.{◌≡◌, ◌≤◌, [], true, false, IfOk};
 ghost use Rattle.protox_link.specs.Link.{AreWrong};
 
+mod alike;
 mod faults;
 mod host;
 mod load;
@@ -23,7 +24,7 @@ use crate::output::{Set, chosen, rule, set_bytes};
 use crate::paths::{Place, places};
 use crate::search::{Input, beside_program, input_of};
 use crate::told::{cause, say, say_line};
-use crate::warnings::{warn_of_options, warn_of_unused};
+use crate::warnings::{warn_of_alike, warn_of_options, warn_of_unused};
 use protolink_words::{Asked, Work, asked_by};
 use protox_link::{check, link};
 use protox_link_fault::LinkFailure;
@@ -50,7 +51,7 @@ Checks and links Protocol Buffers source files (proto2, proto3). The words are t
   --error_format=gcc, --error_format=msvs
                     print each fault in a line, in the form of that compiler; otherwise the line
                     of the source follows, with marks under the place
-  --fatal_warnings  fail where an import isn't used
+  --fatal_warnings  fail where there is a warning, unless it is about options or folders
   @FILE             each line of FILE is a word
   --version         print the version
   -h, --help        print this
@@ -294,8 +295,10 @@ fn linked<H: Host, W: Write, E: Write>(
     if loaded.failed || !faults.is_empty() {
         return Ok(false);
     }
-    let warned = warn_of_unused(alloc, err, work.format, &loaded)?;
+    let alike = warn_of_alike(alloc, err, work.format, &loaded)?;
+    let unused = warn_of_unused(alloc, err, work.format, &loaded)?;
     let well = link_and_write(alloc, host, work, loaded, out, err)?;
+    let warned = alike || unused;
     Ok(well && !(warned && work.fatal_warnings))
 }
 

@@ -1,6 +1,7 @@
 //! Warnings.
 
-use crate::load::Loaded;
+use crate::alike::{AlikeValue, alike_in};
+use crate::load::{Loaded, SourceFile};
 use crate::places::span_of;
 use crate::told::{Grade, say};
 use protolink_words::Format;
@@ -12,6 +13,42 @@ use std::io::{self, Write};
 
 const UNINTERPRETED: &str =
     "warning: Options stay uninterpreted.  protoc --descriptor_set_in reads them so, and checks them.  Readers of the set that look for the value of an option don't find it.";
+
+// Warns of these values of a file.
+fn warn_of_values<E: Write>(
+    alloc: Global,
+    err: &mut E,
+    format: Format,
+    file: &FileDescriptorProto,
+    source: &SourceFile,
+    values: &[AlikeValue],
+) -> io::Result<()> {
+    let told = source.told(alloc, format, file)?;
+    for value in values {
+        let span = span_of(&told, file, value.path.as_slice());
+        let text = format!(in alloc; "{}", value.error)?;
+        told.tell(alloc, err, Grade::Warning, span.as_ref(), text.as_str())?;
+    }
+    Ok(())
+}
+
+/// Warns of values of enums whose names are alike. Answers whether there are any.
+pub(crate) fn warn_of_alike<E: Write>(
+    alloc: Global,
+    err: &mut E,
+    format: Format,
+    loaded: &Loaded,
+) -> io::Result<bool> {
+    let mut warned = false;
+    for (file, source) in loaded.files.iter().zip(loaded.sources.iter()) {
+        let values = alike_in(alloc, file)?;
+        if !values.is_empty() {
+            warn_of_values(alloc, err, format, file, source, values.as_slice())?;
+            warned = true;
+        }
+    }
+    Ok(warned)
+}
 
 // Warns of these imports of a file.
 fn warn_of_imports<E: Write>(

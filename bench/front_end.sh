@@ -1,24 +1,71 @@
 #!/usr/bin/env bash
-# This parser as the front end of protoc: code for each language that protoc has, made from the set
-# that protoparse writes and from the sources, and compared.
-# usage: front_end.sh PROTOPARSE [ROOT [FILE..]]
-# Without files it takes those of google/protobuf below ROOT, which is /usr/include if not given.
-# It needs protoc (Debian: protobuf-compiler, libprotobuf-dev). Files that differ are listed; one
-# with a map field does, as its entry messages have json_name here and not in protoc's descriptor.
+# protolink as the front end of protoc: code that protoc's generators and nanopb make of the set that
+# protolink writes, and of the set that protoc writes, compared file by file.
+# usage: front_end.sh PROTOLINK [ROOT [FILE..]]
+# Without files it takes those of google/protobuf below ROOT, which is /usr/include if not given, and
+# those of two sets that come with this repository, in which no option is set.
+# It needs protoc (Debian: protobuf-compiler, libprotobuf-dev), and takes nanopb where it is installed.
+# Files of code that differ are listed. The last line is 'N files of code are the same, M differ'.
 set -euo pipefail
 program=$(realpath "$1")
+here=$(realpath "$(dirname "$0")/..")
 root=$(realpath "${2:-/usr/include}")
 work=$(mktemp -d)
 trap 'rm -rf "$work"' EXIT
-cd "$root"
-if [ $# -gt 2 ]; then files=("${@:3}"); else files=(google/protobuf/*.proto); fi
-"$program" --descriptor-set-out="$work/set.pb" "${files[@]}"
-for language in cpp python pyi java kotlin csharp ruby objc; do
-    mkdir -p "$work/ours/$language" "$work/theirs/$language"
-    protoc "--${language}_out=$work/theirs/$language" -I . "${files[@]}"
-    protoc "--${language}_out=$work/ours/$language" --descriptor_set_in="$work/set.pb" "${files[@]}"
-done
-made=$(find "$work/theirs" -type f | wc -l)
-differ=$(cd "$work" && diff -rq ours theirs | tee "$work/list" | wc -l || true)
+languages=(cpp python pyi java kotlin csharp ruby objc php)
+
+# The code that protoc's generators make of a set, into a folder: make_code SET FOLDER FILE..
+make_code() {
+    local set=$1 folder=$2 language
+    shift 2
+    for language in "${languages[@]}"; do
+        mkdir -p "$folder/$language"
+        protoc "--${language}_out=$folder/$language" --descriptor_set_in="$set" "$@" 2>"$folder/$language.said" ||
+            echo refused >>"$folder/$language.said"
+    done
+}
+
+# The code that nanopb makes: make_nanopb PROGRAM FOLDER FILE.. It makes code of the last file of a set.
+make_nanopb() {
+    local linker=$1 folder=$2 file
+    shift 2
+    command -v nanopb_generator.py >/dev/null || return 0
+    mkdir -p "$folder/nanopb"
+    for file in "$@"; do
+        "$linker" -I. -o"$folder/set.pb" --include_imports "$file" 2>/dev/null
+        (cd "$folder" && nanopb_generator.py -q -T -D nanopb set.pb) >>"$folder/nanopb.said" 2>&1 ||
+            echo "$file: refused" >>"$folder/nanopb.said"
+        rm "$folder/set.pb"
+    done
+}
+
+# Compares what is made of the files of a folder: compare NAME FOLDER FILE..
+compare() {
+    local name=$1 folder=$2 part
+    shift 2
+    mkdir -p "$work/$name/ours" "$work/$name/theirs"
+    cd "$folder"
+    "$program" -I. -o"$work/$name/ours.pb" --include_imports --include_source_info "$@" 2>"$work/said" ||
+        { cat "$work/said"; exit 1; }
+    protoc -I. -o"$work/$name/theirs.pb" --include_imports --include_source_info "$@" 2>/dev/null
+    for part in ours theirs; do make_code "$work/$name/$part.pb" "$work/$name/$part" "$@"; done
+    make_nanopb "$program" "$work/$name/ours" "$@"
+    make_nanopb protoc "$work/$name/theirs" "$@"
+}
+
+if [ $# -gt 2 ]; then
+    compare given "$root" "${@:3}"
+else
+    (cd "$root" && ls google/protobuf/*.proto) >"$work/names"
+    mapfile -t files <"$work/names"
+    compare protobuf "$root" "${files[@]}"
+    compare shop "$here/crates/protolink/data" shop.proto item.proto parts/money.proto
+    compare two_files "$here/examples/linked" shop/item.proto shop/cart.proto
+fi
+cd "$work"
+made=$(find ./*/theirs -type f ! -name '*.said' | wc -l)
+for part in */; do diff -rq "$part/ours" "$part/theirs" || true; done >"$work/list"
+differ=$(wc -l <"$work/list")
 sed 's/^/    /' "$work/list"
-echo "$((made - differ)) of $made files of code are the same"
+echo "$((made - differ)) files of code are the same, $differ differ"
+[ "$differ" -eq 0 ]

@@ -5,10 +5,10 @@ usage: refuse.py [FOLDER]       at the top of the repository; FOLDER holds the p
                                 not where `rt ci` leaves them, at crates/NAME/out/NAME
 
 A run with a refusal has to end as the run without one, or to say that memory ran out where the answer
-would stand: nothing else may change. A line for each program says how many requests it makes and how
-the runs ended. Then come words and an output that protoscan can't use, and a bound on memory that its
-answer would pass. The last line is
-'N passed, M failed'. It needs a C compiler.
+would stand, or behind what it said already: nothing else may change. A line for each program says how
+many requests it makes and how the runs ended. Then come words and an output that protoscan can't use,
+and a bound on memory that its answer would pass. The last line is 'N passed, M failed'. It needs a C
+compiler.
 """
 import collections
 import concurrent.futures
@@ -33,6 +33,7 @@ RUNS += [('protoscan', [f'../../../examples/{name}.proto']) for name in ('librar
 # A last word <FILE is the standard input.
 RUNS += [('linkcases', ['<../../../bench/two_files.txt'])]
 RUNS += [('protolink', ['-I../../protolink/data', '-o-', '--include_imports', '../../protolink/data/shop.proto'])]
+RUNS += [('protolink', ['-I../../../examples/linked', 'shop/wrong.proto'])]
 
 End = collections.namedtuple('End', 'status out err')
 
@@ -79,7 +80,8 @@ def kind_of(program, end, without):
     """How a run ended, or None where it may not end so."""
     if end == without:
         return 'as without'
-    said = (end.status, end.err) in ((2, [f'{program}: out of memory']), (1, ['Error: Kind(OutOfMemory)']))
+    told = end.err[:-1] == without.err[:len(end.err) - 1]
+    said = told and (end.status, end.err[-1:]) in ((2, [f'{program}: out of memory']), (1, ['Error: Kind(OutOfMemory)']))
     if said and (without.out.startswith(end.out)
                  or changes_nothing(end.out.splitlines(), without.out.splitlines(), whole=False)):
         return 'out of memory'

@@ -15,10 +15,19 @@ fn unless_want(error: io::Error) -> io::Result<bool> {
     Ok(false)
 }
 
+// The path of this program; none if the system doesn't tell it.
+fn program(rt: &HostRuntime) -> io::Result<Option<String>> {
+    match env::current_exe(rt) {
+        Ok(path) => Ok(Some(String::from_str(rt.alloc(), path.as_str())?)),
+        Err(error) => unless_want(error).map(|_| None),
+    }
+}
+
 /// The files of the machine.
 #[derive(Drop)]
 struct Machine<'a> {
     rt: &'a HostRuntime,
+    program: Option<String>,
 }
 
 impl Host for Machine<'_> {
@@ -36,6 +45,10 @@ impl Host for Machine<'_> {
         }
     }
 
+    fn program(&self) -> Option<&str> {
+        self.program.as_ref().map(|path| path.as_str())
+    }
+
     fn read(&self, path: &str) -> io::Result<Vec<u8>> {
         fs::read(self.rt, path)
     }
@@ -51,13 +64,15 @@ impl Host for Machine<'_> {
             return fs::write(self.rt, path, bytes);
         }
         let made = format!(in self.rt.alloc(); "{path}.part")?;
-        match fs::write(self.rt, made.as_str(), bytes) {
-            Ok(()) => fs::rename(self.rt, made.as_str(), path),
-            Err(error) => {
-                let _ = fs::remove_file(self.rt, made.as_str());
-                Err(error)
-            }
+        let written = fs::write(self.rt, made.as_str(), bytes).and_then(|_| fs::rename(
+            self.rt,
+            made.as_str(),
+            path,
+        ));
+        if written.is_err() {
+            let _ = fs::remove_file(self.rt, made.as_str());
         }
+        written
     }
 }
 
@@ -72,7 +87,8 @@ fn words(rt: &HostRuntime) -> io::Result<Vec<String>> {
 fn status(rt: &HostRuntime) -> io::Result<u8> {
     let words = words(rt)?;
     let mut out = BufWriter::new(rt.alloc(), rt.stdout())?;
-    let machine = Machine { rt };
+    let program = program(rt)?;
+    let machine = Machine { rt, program };
     let status = run(
         rt.alloc(),
         &machine,
@@ -87,6 +103,6 @@ fn status(rt: &HostRuntime) -> io::Result<u8> {
 fn main(rt: HostRuntime) -> ExitCode {
     ExitCode::from(match status(&rt) {
         Ok(status) => status,
-        Err(error) => broken(&mut rt.stderr(), &error),
+        Err(error) => broken(rt.alloc(), &mut rt.stderr(), &error),
     })
 }

@@ -1,82 +1,91 @@
-//! What is told of files that can't be linked.
+//! What is told of files that are refused, or can't be linked.
 
 use crate::load::Loaded;
-use crate::told::{Spot, Told, tell};
+use crate::places::{import_span, span_of};
+use crate::told::{Grade, Told};
 use protolink_words::Format;
 use protox_descriptor::descriptor::FileDescriptorProto;
-use protox_descriptor::descriptor::source_code_info::Location;
 use protox_link::Resolver;
-use protox_link_fault::LinkFault;
+use protox_link_fault::{LinkFault, LinkFaultKind};
 use protox_link_text::errors_of;
+use protox_parse::ParseError;
+use protox_views::View;
 use std::alloc::Global;
 use std::io::{self, Write};
 
-// How many of these locations, which are in the order of their paths, come before this path.
-fn count_before(locations: &[Location], path: &[i32]) -> usize {
-    locations.partition_point(|location| location.path.as_slice().cmp(&path).is_lt())
-}
-
-fn at(locations: &[Location], path: &[i32]) -> Option<Spot> {
-    let location = locations.get(count_before(locations, path))?;
-    let [line, column, ..] = location.span.as_slice() else {
-        return None;
-    };
-    if location.path.as_slice() != path || *line < 0 || *column < 0 {
-        return None;
+/// Writes each fault of a file that is refused.
+pub(crate) fn tell_refusal<E: Write>(
+    alloc: Global,
+    err: &mut E,
+    format: Format,
+    name: &str,
+    path: &str,
+    error: &ParseError,
+) -> io::Result<()> {
+    let told = Told::new(alloc, format, name, path, error.source())?;
+    for fault in error.errors() {
+        told.tell_fault(alloc, err, error.source(), fault)?;
     }
-    Some(Spot {
-        line: *line as usize + 1,
-        column: *column as usize + 1,
-    })
+    Ok(())
 }
 
-// The place of a part of a file; of what it is in, if the source doesn't write the part.
-fn spot_of(file: &FileDescriptorProto, path: &[i32]) -> Option<Spot> {
-    let info = file.source_code_info.as_ref()?;
-    let locations = info.location.as_slice();
-    for shorter in 0..path.len() {
-        if let Some(spot) = at(locations, &path[..path.len() - shorter]) {
-            return Some(spot);
-        }
-    }
-    None
-}
-
-// Writes what is told of a fault.
+// Writes each error that is told of a fault of a file.
 fn tell_fault<E: Write>(
+    alloc: Global,
+    err: &mut E,
+    told: &Told<'_>,
+    files: &[FileDescriptorProto],
+    file: &FileDescriptorProto,
+    view: &View<'_>,
+    fault: &LinkFault,
+) -> io::Result<()> {
+    let span = match &fault.kind {
+        LinkFaultKind::ImportCycle(circle) => import_span(told, files, file, circle.as_slice()),
+        _ => span_of(told, file, fault.path.as_slice()),
+    };
+    for error in &errors_of(alloc, files, view, fault)? {
+        let text = format!(in alloc; "{error}")?;
+        told.tell(alloc, err, Grade::Error, span.as_ref(), text.as_str())?;
+    }
+    Ok(())
+}
+
+// The number of the file at which a fault is told: its own; for files that import one another in a
+// circle, the first of them, as for protoc.
+fn told_at(fault: &LinkFault) -> usize {
+    match &fault.kind {
+        LinkFaultKind::ImportCycle(circle) => *circle.first().unwrap_or(&fault.file),
+        _ => fault.file,
+    }
+}
+
+// Writes what is told of faults that are told at the same file.
+fn tell_of_file<E: Write>(
     alloc: Global,
     err: &mut E,
     format: Format,
     loaded: &Loaded,
     resolver: &Resolver,
-    fault: &LinkFault,
+    faults: &[LinkFault],
 ) -> io::Result<()> {
+    let Some(number) = faults.first().map(told_at) else {
+        return Ok(());
+    };
     let files = loaded.files.as_slice();
-    let (Some(file), Some(path)) = (files.get(fault.file), loaded.paths.get(fault.file)) else {
+    let (Some(file), Some(source)) = (files.get(number), loaded.sources.get(number)) else {
         return Ok(());
     };
-    let Some(names) = resolver.file(alloc, fault.file)? else {
+    let Some(names) = resolver.file(alloc, number)? else {
         return Ok(());
     };
-    let name = match &file.name {
-        Some(name) => name.as_str(),
-        None => "",
-    };
-    let told = Told {
-        format,
-        name,
-        path: path.as_str(),
-        warning: false,
-    };
-    let spot = spot_of(file, fault.path.as_slice());
-    for error in &errors_of(alloc, files, &names.view(), fault)? {
-        let text = format!(in alloc; "{error}")?;
-        tell(alloc, err, told, spot, text.as_str())?;
+    let told = source.told(alloc, format, file)?;
+    for fault in faults {
+        tell_fault(alloc, err, &told, files, file, &names.view(), fault)?;
     }
     Ok(())
 }
 
-/// Writes a line for each error that is told of each fault.
+/// Writes each error that is told of each fault.
 pub(crate) fn tell_faults<E: Write>(
     alloc: Global,
     err: &mut E,
@@ -84,9 +93,12 @@ pub(crate) fn tell_faults<E: Write>(
     loaded: &Loaded,
     faults: &[LinkFault],
 ) -> io::Result<()> {
+    if faults.is_empty() {
+        return Ok(());
+    }
     let resolver = Resolver::new(alloc, loaded.files.as_slice())?;
-    for fault in faults {
-        tell_fault(alloc, err, format, loaded, &resolver, fault)?;
+    for group in faults.chunk_by(|fault, next| fault.file == next.file) {
+        tell_of_file(alloc, err, format, loaded, &resolver, group)?;
     }
     Ok(())
 }

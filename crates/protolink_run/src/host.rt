@@ -10,6 +10,9 @@ pub trait Host {
     /// Whether it is a folder. An error says that memory ran out.
     fn is_folder(&self, path: &str) -> io::Result<bool>;
 
+    /// The path of the program itself, if it is known.
+    fn program(&self) -> Option<&str>;
+
     /// The bytes of the file of this path.
     fn read(&self, path: &str) -> io::Result<Vec<u8>>;
 

@@ -2,27 +2,31 @@
 //! and two writers.
 #![tactic(auto)]
 
-ghost use Rattle.std.specs.Prelude.{◌≡◌, ◌≤◌};
+ghost use Rattle.std.specs.Prelude.{◌≡◌, ◌≤◌, [], true, false, IfOk};
+ghost use Rattle.protox_link.specs.Link.{AreWrong};
 
+mod alike;
 mod faults;
 mod host;
 mod load;
 mod output;
 mod paths;
-mod refused;
+mod places;
 mod search;
 mod told;
+mod warnings;
 
 use crate::faults::tell_faults;
 pub use crate::host::Host;
 use crate::host::is_want;
-use crate::load::{Loaded, Reading, load_all};
-use crate::output::{rule, set_bytes};
+use crate::load::{Loaded, Reading, load_all, paths_of};
+use crate::output::{Set, chosen, rule, set_bytes};
 use crate::paths::{Place, places};
-use crate::search::{Input, input_of};
-use crate::told::say;
+use crate::search::{Input, beside_program, input_of};
+use crate::told::{cause, say, say_line};
+use crate::warnings::{warn_of_alike, warn_of_options, warn_of_unused};
 use protolink_words::{Asked, Work, asked_by};
-use protox_link::{LinkedSet, check, link};
+use protox_link::{check, link};
 use protox_link_fault::LinkFailure;
 use std::alloc::{AllocError, Global};
 use std::io::{self, Write};
@@ -45,8 +49,9 @@ Checks and links Protocol Buffers source files (proto2, proto3). The words are t
   --dependency_out=FILE
                     write to FILE what the set was made of, as a rule for make
   --error_format=gcc, --error_format=msvs
-                    how faults are printed
-  --fatal_warnings  fail where there is a warning
+                    print each fault in a line, in the form of that compiler; otherwise the line
+                    of the source follows, with marks under the place
+  --fatal_warnings  fail where there is a warning, unless it is about options or folders
   @FILE             each line of FILE is a word
   --version         print the version
   -h, --help        print this
@@ -188,45 +193,60 @@ fn write<H: Host, E: Write>(
         Ok(()) => Ok(true),
         Err(error) if is_want(&error) => Err(error),
         Err(error) => {
-            let why = format!(in alloc; "{error}")?;
+            let why = cause(alloc, &error)?;
             say(alloc, err, name, why.as_str())?;
             Ok(false)
         }
     }
 }
 
-// Writes what is asked for of linked files, of which the first so many are the inputs. The set `-`
-// goes to standard output.
+// Writes the file that lists what a set was made of, if it is asked for. Answers whether all is well.
+fn write_rule<H: Host, E: Write>(
+    alloc: Global,
+    host: &H,
+    work: &Work<'_>,
+    name: &str,
+    set: &Set,
+    err: &mut E,
+) -> io::Result<bool> {
+    let Some(list) = work.dependencies else {
+        return Ok(true);
+    };
+    let text = rule(alloc, name, set)?;
+    write(alloc, host, list, text.as_str().as_bytes(), err)
+}
+
+// Writes what is asked for of linked files. The set is written last, so that it is there only if all
+// is well. The set `-` goes to standard output.
 fn write_all<H: Host, W: Write, E: Write>(
     alloc: Global,
     host: &H,
     work: &Work<'_>,
-    inputs: usize,
-    mut set: LinkedSet,
-    paths: &[String],
+    mut set: Set,
     out: &mut W,
     err: &mut E,
 ) -> io::Result<bool> {
     let Some(name) = work.set else {
         return Ok(true);
     };
-    let Some(bytes) = set_bytes(alloc, err, work, inputs, &mut set)? else {
+    let numbers = chosen(alloc, &set, work.imports)?;
+    let numbers = numbers.as_slice();
+    warn_of_options(alloc, err, name, set.linked.files.as_slice(), numbers)?;
+    let Some(bytes) = set_bytes(alloc, err, work, numbers, &mut set)? else {
         return Ok(false);
     };
-    if name == "-" {
-        out.write_all(bytes.as_slice())?;
-    } else if !write(alloc, host, name, bytes.as_slice(), err)? {
+    if !write_rule(alloc, host, work, name, &set, err)? {
         return Ok(false);
     }
-    let Some(list) = work.dependencies else {
+    if name == "-" {
+        out.write_all(bytes.as_slice())?;
         return Ok(true);
-    };
-    let text = rule(alloc, name, set.order.as_slice(), paths)?;
-    write(alloc, host, list, text.as_str().as_bytes(), err)
+    }
+    write(alloc, host, name, bytes.as_slice(), err)
 }
 
-// Links files that were read, and writes what is asked for. Answers whether all is well.
-fn linked<H: Host, W: Write, E: Write>(
+// Links files in which nothing is wrong, and writes what is asked for. Answers whether all is well.
+fn link_and_write<H: Host, W: Write, E: Write>(
     alloc: Global,
     host: &H,
     work: &Work<'_>,
@@ -234,23 +254,63 @@ fn linked<H: Host, W: Write, E: Write>(
     out: &mut W,
     err: &mut E,
 ) -> io::Result<bool> {
+    let Loaded {
+        files,
+        sources,
+        inputs,
+        ..
+    } = loaded;
+    let paths = paths_of(alloc, sources)?;
+    match link(alloc, files) {
+        Ok(linked) => {
+            let set = Set {
+                linked,
+                paths,
+                inputs,
+            };
+            write_all(alloc, host, work, set, out, err)
+        }
+        // it can't be, as nothing is wrong with the files
+        Err(LinkFailure::Refused(_)) => Ok(false),
+        Err(LinkFailure::OutOfMemory) => Err(AllocError.into()),
+    }
+}
+
+// Tells what is wrong with files that were read. If nothing is, it links them, and writes what is
+// asked for. Answers whether all is well.
+fn linked<H: Host, W: Write, E: Write>(
+    alloc: Global,
+    host: &H,
+    work: &Work<'_>,
+    loaded: Loaded,
+    out: &mut W,
+    err: &mut E,
+) -> io::Result<bool>
+    // All is well only if each file could be read, and nothing is wrong with them.
+    ensures read { IfOk result (λ well. well ≡ true → loaded.failed ≡ false) }
+    ensures right { IfOk result (λ well. well ≡ true → AreWrong loaded.files.items []) }
+{
     let faults = check(alloc, loaded.files.as_slice())?;
     tell_faults(alloc, err, work.format, &loaded, faults.as_slice())?;
     if loaded.failed || !faults.is_empty() {
         return Ok(false);
     }
-    let Loaded {
-        files,
-        paths,
-        inputs,
-        ..
-    } = loaded;
-    match link(alloc, files) {
-        Ok(set) => write_all(alloc, host, work, inputs, set, paths.as_slice(), out, err),
-        // it can't be, as nothing is wrong with the files
-        Err(LinkFailure::Refused(_)) => Ok(false),
-        Err(LinkFailure::OutOfMemory) => Err(AllocError.into()),
+    let alike = warn_of_alike(alloc, err, work.format, &loaded)?;
+    let unused = warn_of_unused(alloc, err, work.format, &loaded)?;
+    let well = link_and_write(alloc, host, work, loaded, out, err)?;
+    let warned = alike || unused;
+    Ok(well && !(warned && work.fatal_warnings))
+}
+
+// The folders in which files are looked for: those that are named, and then that of the files that
+// come with the program.
+fn all_places<H: Host>(alloc: Global, host: &H, work: &Work<'_>) -> io::Result<Vec<Place>> {
+    let mut places = places(alloc, work.folders.as_slice())?;
+    if let Some(path) = beside_program(alloc, host)? {
+        let name = String::new(alloc);
+        places.push(Place { name, path })?;
     }
+    Ok(places)
 }
 
 // Does the work. Answers whether all is well.
@@ -262,7 +322,7 @@ fn done<H: Host, W: Write, E: Write>(
     err: &mut E,
 ) -> io::Result<bool> {
     warn_of_folders(alloc, host, work, err)?;
-    let places = places(alloc, work.folders.as_slice())?;
+    let places = all_places(alloc, host, work)?;
     let places = places.as_slice();
     let Some(names) = names_of(alloc, host, places, work, err)? else {
         return Ok(false);
@@ -297,8 +357,8 @@ fn tried<H: Host, W: Write, E: Write>(
         Asked::Version => out.write_all(VERSION.as_bytes()).map(|_| true),
         Asked::Work(work) => done(alloc, host, &work, out, err),
         Asked::Wrong(wrong) => {
-            let text = format!(in alloc; "{wrong}\n")?;
-            err.write_all(text.as_bytes())?;
+            let text = format!(in alloc; "{wrong}")?;
+            say_line(alloc, err, text.as_str())?;
             Ok(false)
         }
     }
@@ -319,21 +379,27 @@ pub fn run<H: Host, W: Write, E: Write>(
     match tried(alloc, host, words, out, err) {
         Ok(true) => 0,
         Ok(false) => 1,
-        Err(error) => broken(err, &error),
+        Err(error) => broken(alloc, err, &error),
     }
 }
 
+// Says why nothing more can be written.
+fn say_why<E: Write>(alloc: Global, err: &mut E, error: &io::Error) -> io::Result<()> {
+    let why = cause(alloc, error)?;
+    say(alloc, err, "protolink: cannot write", why.as_str())
+}
+
 /// Says why nothing more is done, and answers the status.
-pub fn broken<E: Write>(err: &mut E, error: &io::Error) -> u8
+pub fn broken<E: Write>(alloc: Global, err: &mut E, error: &io::Error) -> u8
     ensures { result ≡ 2 }
 {
-    let said = if error.kind() == io::ErrorKind::OutOfMemory {
-        err.write_all("protolink: out of memory\n".as_bytes())
-    } else {
-        writeln!(err, "protolink: cannot write: {error}")
+    let said = match error.kind() {
+        io::ErrorKind::OutOfMemory => Err(AllocError.into()),
+        _ => say_why(alloc, err, error),
     };
-    match said {
-        Ok(()) => 2,
-        Err(_) => 2,
+    // Want of memory is told without asking for any. What can't be said stays unsaid.
+    if said.is_err_and(|error| is_want(&error)) {
+        let _ = err.write_all("protolink: out of memory\n".as_bytes());
     }
+    2
 }

@@ -1,24 +1,69 @@
 //! Reading files, and all that they import.
 
+use crate::faults::tell_refusal;
 use crate::host::{Host, is_want};
 use crate::paths::{Place, canonical, leads_up};
-use crate::refused::tell_refusal;
 use crate::search::path_of;
-use crate::told::say;
+use crate::told::{Grade, Told, cause, say};
 use protolink_words::Format;
 use protox_descriptor::descriptor::FileDescriptorProto;
 use protox_parse::{ParseFailure, parse};
 use std::alloc::{AllocError, Global};
 use std::collections::BTreeSet;
-use std::io::{self, Write};
+use std::io::{self, ErrorKind, Write};
+
+/// The source of a file that was read.
+#[derive(Drop)]
+pub(crate) struct SourceFile {
+    /// Where it lies.
+    pub(crate) path: String,
+    /// What it holds.
+    pub(crate) text: String,
+}
+
+impl SourceFile {
+    /// What things are told of, given the file's descriptor.
+    ///
+    /// # Errors
+    /// `AllocError` where memory runs out.
+    pub(crate) fn told<'a>(
+        &'a self,
+        alloc: Global,
+        format: Format,
+        file: &'a FileDescriptorProto,
+    ) -> Result<Told<'a>, AllocError> {
+        let (name, path) = (name_of(file), self.path.as_str());
+        Told::new(alloc, format, name, path, self.text.as_str())
+    }
+}
+
+/// The name of a file; the empty text if it has none.
+pub(crate) fn name_of(file: &FileDescriptorProto) -> &str {
+    match &file.name {
+        Some(name) => name.as_str(),
+        None => "",
+    }
+}
+
+/// Where sources lie. Their texts are let go.
+///
+/// # Errors
+/// `AllocError` where memory runs out.
+pub(crate) fn paths_of(alloc: Global, sources: Vec<SourceFile>) -> Result<Vec<String>, AllocError> {
+    let mut paths = Vec::new(alloc);
+    for source in sources {
+        paths.push(source.path)?;
+    }
+    Ok(paths)
+}
 
 /// Files that were read, by number.
 #[derive(Drop)]
 pub(crate) struct Loaded {
     /// Their descriptors, which have their names.
     pub(crate) files: Vec<FileDescriptorProto>,
-    /// Where each lies.
-    pub(crate) paths: Vec<String>,
+    /// The source of each.
+    pub(crate) sources: Vec<SourceFile>,
     /// How many of them, at the start, are inputs, if none failed.
     pub(crate) inputs: usize,
     /// Whether a file is missing, can't be read, or is refused.
@@ -56,6 +101,38 @@ impl Wanted {
     }
 }
 
+// Tells that a file can't be read.
+fn tell_unread<E: Write>(
+    alloc: Global,
+    err: &mut E,
+    name: &str,
+    path: &str,
+    error: &io::Error,
+) -> io::Result<()> {
+    let text = if error.kind() == ErrorKind::PermissionDenied {
+        format!(in alloc; "Read access is denied for file: {path}")?
+    } else {
+        let why = cause(alloc, error)?;
+        format!(in alloc; "cannot be read: {why}")?
+    };
+    say(alloc, err, name, text.as_str())
+}
+
+// Tells where bytes stop to be UTF-8, given those before.
+fn tell_no_text<E: Write>(
+    alloc: Global,
+    err: &mut E,
+    format: Format,
+    name: &str,
+    path: &str,
+    front: &[u8],
+) -> io::Result<()> {
+    let text = str::from_utf8(front).unwrap_or("");
+    let told = Told::new(alloc, format, name, path, text)?;
+    let span = text.len()..text.len();
+    told.tell(alloc, err, Grade::Error, Some(&span), "not UTF-8")
+}
+
 // The text of a file. If it has none, that is told.
 fn text_of<H: Host, E: Write>(
     alloc: Global,
@@ -68,15 +145,16 @@ fn text_of<H: Host, E: Write>(
         Ok(bytes) => bytes,
         Err(error) if is_want(&error) => return Err(error),
         Err(error) => {
-            let why = format!(in alloc; "cannot be read: {error}")?;
-            say(alloc, err, name, why.as_str())?;
+            tell_unread(alloc, err, name, path, &error)?;
             return Ok(None);
         }
     };
-    match str::from_utf8(bytes.as_slice()) {
+    let bytes = bytes.as_slice();
+    match str::from_utf8(bytes) {
         Ok(text) => Ok(Some(String::from_str(alloc, text)?)),
-        Err(_) => {
-            say(alloc, err, name, "not UTF-8")?;
+        Err(error) => {
+            let front = bytes.get(..error.valid_up_to()).unwrap_or(bytes);
+            tell_no_text(alloc, err, reading.format, name, path, front)?;
             Ok(None)
         }
     }
@@ -138,11 +216,11 @@ fn load<H: Host, E: Write>(
     let Some(text) = text_of(alloc, err, reading, name, path.as_str())? else {
         return Ok(false);
     };
-    let (format, text) = (reading.format, text.as_str());
-    let Some(file) = parsed(alloc, err, format, name, path.as_str(), text)? else {
+    let (format, source) = (reading.format, text.as_str());
+    let Some(file) = parsed(alloc, err, format, name, path.as_str(), source)? else {
         return Ok(false);
     };
-    loaded.paths.push(path)?;
+    loaded.sources.push(SourceFile { path, text })?;
     loaded.files.push(file)?;
     Ok(true)
 }
@@ -164,7 +242,7 @@ pub(crate) fn load_all<H: Host, E: Write>(
     }
     let mut loaded = Loaded {
         files: Vec::new(alloc),
-        paths: Vec::new(alloc),
+        sources: Vec::new(alloc),
         inputs: wanted.names.len(),
         failed: false,
     };

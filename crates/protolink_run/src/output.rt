@@ -1,30 +1,48 @@
 //! What is written of files that are linked.
 
+use crate::load::name_of;
 use crate::told::say;
 use protolink_words::Work;
 use protox_descriptor::descriptor::FileDescriptorProto;
 use protox_encode::{EncodeError, encode_entry};
+use protox_imports::{Imports, Order, in_order};
 use protox_link::LinkedSet;
 use std::alloc::{AllocError, Global};
 use std::io::{self, Write};
 
-// The numbers of the files of the set, in order.
-fn chosen(
-    alloc: Global,
-    order: &[usize],
-    inputs: usize,
-    imports: bool,
-) -> Result<Vec<usize>, AllocError> {
-    let mut chosen = Vec::new(alloc);
-    if imports {
-        for number in order {
-            chosen.push(*number)?;
-        }
-    } else {
-        for number in 0..inputs {
-            chosen.push(number)?;
-        }
+/// Linked files, of which a set is made.
+#[derive(Drop)]
+pub(crate) struct Set {
+    pub(crate) linked: LinkedSet,
+    /// Where each file lies.
+    pub(crate) paths: Vec<String>,
+    /// How many of the files, at the start, are inputs.
+    pub(crate) inputs: usize,
+}
+
+// The inputs, each behind those of the others that it imports. What they import of other files has no
+// part in that, as for protoc.
+fn inputs_in_order(alloc: Global, set: &Set) -> Result<Vec<usize>, AllocError> {
+    let files = set.linked.files.as_slice();
+    let inputs = files.get(..set.inputs).unwrap_or(files);
+    let imports = Imports::new(alloc, inputs)?;
+    match in_order(alloc, &imports)? {
+        Order::Sorted(order) => Ok(order),
+        // it can't be, as the files are linked
+        Order::Cycle(files) => Ok(files),
     }
+}
+
+/// The numbers of the files that the set has, in order: with or without what the inputs import.
+///
+/// # Errors
+/// `AllocError` where memory runs out.
+pub(crate) fn chosen(alloc: Global, set: &Set, imports: bool) -> Result<Vec<usize>, AllocError> {
+    if !imports {
+        return inputs_in_order(alloc, set);
+    }
+    let mut chosen = Vec::new(alloc);
+    chosen.extend_from_slice(set.linked.order.as_slice())?;
     Ok(chosen)
 }
 
@@ -35,10 +53,7 @@ fn tell_no_bytes<E: Write>(
     file: &FileDescriptorProto,
     error: EncodeError,
 ) -> io::Result<()> {
-    let name = match &file.name {
-        Some(name) => name.as_str(),
-        None => "",
-    };
+    let name = name_of(file);
     match error {
         EncodeError::TooLarge => say(alloc, err, name, "its descriptor takes 2 GiB or more"),
         EncodeError::NotAFloat => say(alloc, err, name, "the value of an option is no float"),
@@ -72,22 +87,21 @@ fn strip(files: &mut [FileDescriptorProto]) {
     }
 }
 
-/// The bytes of the set that is asked for, of linked files of which the first so many are the inputs.
-/// None if a file has no bytes, and that is told.
+/// The bytes of the set that has the files with these numbers. None if a file has no bytes, and that
+/// is told.
 pub(crate) fn set_bytes<E: Write>(
     alloc: Global,
     err: &mut E,
     work: &Work<'_>,
-    inputs: usize,
-    set: &mut LinkedSet,
+    numbers: &[usize],
+    set: &mut Set,
 ) -> io::Result<Option<Vec<u8>>> {
     if !work.source_info {
-        strip(set.files.as_mut_slice());
+        strip(set.linked.files.as_mut_slice());
     }
     let mut bytes = Vec::new(alloc);
-    let numbers = chosen(alloc, set.order.as_slice(), inputs, work.imports)?;
-    for number in numbers.as_slice() {
-        if let Some(file) = set.files.get(*number) {
+    for number in numbers {
+        if let Some(file) = set.linked.files.get(*number) {
             if !add(alloc, err, &mut bytes, file)? {
                 return Ok(None);
             }
@@ -97,19 +111,17 @@ pub(crate) fn set_bytes<E: Write>(
 }
 
 /// The text of the file that lists what a set was made of, for `make`.
-pub(crate) fn rule(
-    alloc: Global,
-    set: &str,
-    order: &[usize],
-    paths: &[String],
-) -> Result<String, AllocError> {
-    let mut text = String::from_str(alloc, set)?;
+///
+/// # Errors
+/// `AllocError` where memory runs out.
+pub(crate) fn rule(alloc: Global, name: &str, set: &Set) -> Result<String, AllocError> {
+    let mut text = String::from_str(alloc, name)?;
     text.push_str(":")?;
-    for (index, number) in order.iter().enumerate() {
+    for (index, number) in set.linked.order.iter().enumerate() {
         if index > 0 {
             text.push_str("\\\n")?;
         }
-        if let Some(path) = paths.get(*number) {
+        if let Some(path) = set.paths.get(*number) {
             text.push_str(" ")?;
             text.push_str(path.as_str())?;
         }

@@ -20,7 +20,7 @@ pub(crate) enum Input {
     Folder,
 }
 
-// The path of the first file that has this name in one of the folders, if there is one.
+// The path of the first thing that has this name in one of the folders, if there is one.
 fn first_path<H: Host>(
     alloc: Global,
     host: &H,
@@ -30,6 +30,24 @@ fn first_path<H: Host>(
     for place in places {
         if let Some(path) = moved(alloc, name, place.name.as_str(), place.path.as_str())? {
             if host.exists(path.as_str())? {
+                return Ok(Some(path));
+            }
+        }
+    }
+    Ok(None)
+}
+
+// The path of the first file that has this name in one of the folders, if there is one. A folder
+// of this name is passed by.
+fn first_file<H: Host>(
+    alloc: Global,
+    host: &H,
+    places: &[Place],
+    name: &str,
+) -> io::Result<Option<String>> {
+    for place in places {
+        if let Some(path) = moved(alloc, name, place.name.as_str(), place.path.as_str())? {
+            if host.exists(path.as_str())? && !host.is_folder(path.as_str())? {
                 return Ok(Some(path));
             }
         }
@@ -47,7 +65,7 @@ pub(crate) fn path_of<H: Host>(
     if leads_up(name) || canonical(alloc, name)?.as_str() != name {
         return Ok(None);
     }
-    first_path(alloc, host, places, name)
+    first_file(alloc, host, places, name)
 }
 
 // The name of a path in the first folder that holds it, and how many folders come before that one.
@@ -100,4 +118,33 @@ pub(crate) fn input_of<H: Host>(
         return Ok(Input::Folder);
     }
     Ok(Input::Named(name))
+}
+
+// Whether a folder holds the files that come with the program.
+fn holds_own_files<H: Host>(alloc: Global, host: &H, folder: &str) -> io::Result<bool> {
+    let path = format!(in alloc; "{folder}/google/protobuf/descriptor.proto")?;
+    host.exists(path.as_str())
+}
+
+/// The folder of the files that come with the program: the one in which the program is, or `include`
+/// in that, or `include` beside that; the first that has them.
+pub(crate) fn beside_program<H: Host>(alloc: Global, host: &H) -> io::Result<Option<String>> {
+    let Some((folder, _)) = host.program().and_then(|path| path.rsplit_once('/')) else {
+        return Ok(None);
+    };
+    if holds_own_files(alloc, host, folder)? {
+        return Ok(Some(String::from_str(alloc, folder)?));
+    }
+    let inner = format!(in alloc; "{folder}/include")?;
+    if holds_own_files(alloc, host, inner.as_str())? {
+        return Ok(Some(inner));
+    }
+    let Some((outer, _)) = folder.rsplit_once('/') else {
+        return Ok(None);
+    };
+    let beside = format!(in alloc; "{outer}/include")?;
+    if holds_own_files(alloc, host, beside.as_str())? {
+        return Ok(Some(beside));
+    }
+    Ok(None)
 }

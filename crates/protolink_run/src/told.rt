@@ -1,66 +1,199 @@
 //! What is told of files.
 
+ghost use Rattle.std.specs.Prelude.{◌≤◌, length};
+
 use protolink_words::Format;
+use protox_fault::error::{ParseErrorKind, Span};
+use protox_report::paint::Paint;
+use protox_report::report::{Source, place_of};
 use protox_report::shown::push_shown;
+use protox_shown::shown::ShownFault;
 use std::alloc::{AllocError, Global};
 use std::io::{self, Write};
 
-/// The place of a fault, counted from 1.
-#[derive(Clone, Copy)]
-pub(crate) struct Spot {
-    pub(crate) line: usize,
-    pub(crate) column: usize,
+/// How grave it is what is told.
+#[derive(Clone, Copy, PartialEq)]
+pub(crate) enum Grade {
+    Error,
+    Warning,
 }
 
-/// How faults are told.
-#[derive(Clone, Copy)]
-pub(crate) struct Told<'a> {
-    pub(crate) format: Format,
-    /// What the file is called.
-    pub(crate) name: &'a str,
-    /// Where it lies.
-    pub(crate) path: &'a str,
-    /// In front of the text: nothing, or a word for warnings.
-    pub(crate) warning: bool,
-}
-
-// What stands in front of the text.
-fn push_front(
-    alloc: Global,
-    line: &mut String,
-    told: Told<'_>,
-    spot: Option<Spot>,
-) -> Result<(), AllocError> {
-    let name = match told.format {
-        Format::Gcc => told.name,
-        Format::Msvs => told.path,
-    };
-    push_shown(alloc, line, name)?;
-    match (told.format, spot) {
-        (Format::Gcc, Some(Spot { line: row, column })) => write!(line, ":{row}:{column}")?,
-        (Format::Msvs, Some(Spot { line: row, column })) => {
-            let word = if told.warning { "warning" } else { "error" };
-            write!(line, "({row}) : {word} in column={column}")?;
+impl Grade {
+    // what stands in front of the text
+    fn front(self) -> &'static str {
+        match self {
+            Grade::Error => "",
+            Grade::Warning => "warning: ",
         }
-        (_, None) => (),
     }
-    line.push_str(": ")?;
-    match told.format {
-        Format::Gcc if told.warning => line.push_str("warning: "),
-        _ => Ok(()),
+
+    // what it is called where each line has a word for it
+    fn word(self) -> &'static str {
+        match self {
+            Grade::Error => "error",
+            Grade::Warning => "warning",
+        }
     }
 }
 
-/// Writes a line with the place and the text of a fault.
-pub(crate) fn tell<E: Write>(
-    alloc: Global,
-    err: &mut E,
-    told: Told<'_>,
-    spot: Option<Spot>,
-    text: &str,
-) -> io::Result<()> {
+/// A file that something is told of.
+#[derive(Drop)]
+pub(crate) struct Told<'a> {
+    format: Format,
+    // what the file is called
+    name: &'a str,
+    // where it lies
+    path: &'a str,
+    source: Source<'a>,
+}
+
+// The source, if it isn't so long that its lines can't be counted.
+fn countable(source: &str) -> &str
+    ensures { length result.now ≤ 2147483647 }
+{
+    if source.len() > 2147483647 {
+        ""
+    } else {
+        source
+    }
+}
+
+impl<'a> Told<'a> {
+    /// A file, by its name, its path and its source.
+    ///
+    /// # Errors
+    /// `AllocError` where memory runs out.
+    pub(crate) fn new(
+        alloc: Global,
+        format: Format,
+        name: &'a str,
+        path: &'a str,
+        text: &'a str,
+    ) -> Result<Told<'a>, AllocError> {
+        let source = Source::new(alloc, name, countable(text), Paint::NONE)?;
+        Ok(Told {
+            format,
+            name,
+            path,
+            source,
+        })
+    }
+
+    /// The part of the source from one place up to another, both by line and column from 0.
+    pub(crate) fn span(&self, start: (i32, i32), end: (i32, i32)) -> Option<Span> {
+        let from = self.source.offset_at(start.0, start.1)?;
+        let to = self.source.offset_at(end.0, end.1)?;
+        Some(from..to)
+    }
+
+    // Adds what stands in front of the text, in one of the formats of a line.
+    fn push_front(
+        &self,
+        alloc: Global,
+        line: &mut String,
+        grade: Grade,
+        span: Option<&Span>,
+    ) -> Result<(), AllocError> {
+        let is_msvs = self.format == Format::Msvs;
+        push_shown(alloc, line, if is_msvs { self.path } else { self.name })?;
+        if let Some(span) = span {
+            let (row, column) = self.source.position(span.start);
+            if is_msvs {
+                let word = grade.word();
+                write!(line, "({row}) : {word} in column={column}")?;
+            } else {
+                write!(line, ":{row}:{column}")?;
+            }
+        }
+        line.push_str(": ")
+    }
+
+    fn push_line(
+        &self,
+        alloc: Global,
+        line: &mut String,
+        grade: Grade,
+        span: Option<&Span>,
+        text: &str,
+    ) -> Result<(), AllocError> {
+        self.push_front(alloc, line, grade, span)?;
+        line.push_str(grade.front())?;
+        push_shown(alloc, line, text)?;
+        line.push_str("\n")
+    }
+
+    // Adds what is told: a line, or a report with the line of the source.
+    fn push(
+        &self,
+        alloc: Global,
+        out: &mut String,
+        grade: Grade,
+        span: Option<&Span>,
+        text: &str,
+    ) -> Result<(), AllocError> {
+        match span {
+            Some(span) if self.format == Format::Report => {
+                let front = grade.front();
+                let text = format!(in alloc; "{front}{text}")?;
+                self.source.push_text(alloc, out, span, text.as_str())
+            }
+            _ => self.push_line(alloc, out, grade, span, text),
+        }
+    }
+
+    /// Writes what is told of a place; of the file as a whole, if there is none.
+    pub(crate) fn tell<E: Write>(
+        &self,
+        alloc: Global,
+        err: &mut E,
+        grade: Grade,
+        span: Option<&Span>,
+        text: &str,
+    ) -> io::Result<()> {
+        let mut out = String::new(alloc);
+        self.push(alloc, &mut out, grade, span, text)?;
+        err.write_all(out.as_bytes())
+    }
+
+    // Adds a fault of syntax, in one of the formats of a line.
+    fn push_fault_line(
+        &self,
+        alloc: Global,
+        out: &mut String,
+        source: &str,
+        fault: &ParseErrorKind,
+    ) -> Result<(), AllocError> {
+        let text = format!(in alloc; "{}", ShownFault(fault))?;
+        let place = place_of(source, fault);
+        let span = place..place;
+        let span = match fault {
+            ParseErrorKind::FileTooLarge => None,
+            _ => Some(&span),
+        };
+        self.push_line(alloc, out, Grade::Error, span, text.as_str())
+    }
+
+    /// Writes a fault of syntax in this source.
+    pub(crate) fn tell_fault<E: Write>(
+        &self,
+        alloc: Global,
+        err: &mut E,
+        source: &str,
+        fault: &ParseErrorKind,
+    ) -> io::Result<()> {
+        let mut out = String::new(alloc);
+        if self.format == Format::Report {
+            self.source.push_fault(alloc, &mut out, fault)?;
+        } else {
+            self.push_fault_line(alloc, &mut out, source, fault)?;
+        }
+        err.write_all(out.as_bytes())
+    }
+}
+
+/// Writes what is wrong with words.
+pub(crate) fn say_line<E: Write>(alloc: Global, err: &mut E, text: &str) -> io::Result<()> {
     let mut line = String::new(alloc);
-    push_front(alloc, &mut line, told, spot)?;
     push_shown(alloc, &mut line, text)?;
     line.push_str("\n")?;
     err.write_all(line.as_bytes())
@@ -74,4 +207,13 @@ pub(crate) fn say<E: Write>(alloc: Global, err: &mut E, name: &str, text: &str) 
     push_shown(alloc, &mut line, text)?;
     line.push_str("\n")?;
     err.write_all(line.as_bytes())
+}
+
+/// What the system says of an error, without its number.
+pub(crate) fn cause(alloc: Global, error: &io::Error) -> Result<String, AllocError> {
+    let text = format!(in alloc; "{error}")?;
+    match text.as_str().rsplit_once(" (os error ") {
+        Some((front, _)) => String::from_str(alloc, front),
+        None => Ok(text),
+    }
 }

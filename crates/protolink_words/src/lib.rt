@@ -24,6 +24,8 @@ pub struct Folder<'a> {
 /// How a fault is printed.
 #[derive(Clone, Copy, PartialEq, Debug)]
 pub enum Format {
+    /// `FILE:LINE:COLUMN: TEXT`, and then the line of the source, with marks under the place
+    Report,
     /// `FILE:LINE:COLUMN: TEXT`
     Gcc,
     /// `FILE(LINE) : error in column=COLUMN: TEXT`
@@ -208,7 +210,7 @@ fn no_work<'a>(alloc: Global) -> Work<'a>
         dependencies: None,
         imports: false,
         source_info: false,
-        format: Format::Gcc,
+        format: Format::Report,
         fatal_warnings: false,
     }
 }

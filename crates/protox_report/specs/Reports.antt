@@ -34,6 +34,16 @@ abbrev pub title : Paint → List ℕ → List ℕ → ParseErrorKind → List �
 title paint name source fault =
     paint.place.now ++ (shown name ++ (position_text source fault ++ (paint.end.now ++ (codes " " ++ (shown (text_of fault) ++ codes "\n")))))
 
+-- `:LINE:COLUMN:` of an offset, both from 1
+abbrev pub position_at : List ℕ → ℕ → List ℕ
+position_at source offset =
+    place_text (line source (min offset (length source)) + 1) (column source (min offset (length source)) + 1)
+
+-- `FILE:LINE:COLUMN: text`, of any text at an offset
+abbrev pub title_at : Paint → List ℕ → List ℕ → ℕ → List ℕ → List ℕ
+title_at paint name source offset text =
+    paint.place.now ++ (shown name ++ (position_at source offset ++ (paint.end.now ++ (codes " " ++ (shown text ++ codes "\n")))))
+
 -- the dots for a part that is left out
 abbrev pub dots : Bool → List ℕ
 dots cut = if cut then codes "..." else []
@@ -131,3 +141,7 @@ pub record IsReported (name source : List ℕ) (paint : Paint) (fault : ParseErr
   pub told : List ℕ
   pub excerpts : AreTold source paint fault (old ++ title paint name source fault) told
   pub helped : new ≡ told ++ help_if (help_text fault)
+
+-- The report of any text at a span is added: its title, and the lines that show the span.
+pub record IsTextReported (name source : List ℕ) (paint : Paint) (span : Span) (text old new : List ℕ) : Type 0 where
+  pub excerpt : Tells source paint span [] (old ++ title_at paint name source span.start text) new

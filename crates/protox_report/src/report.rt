@@ -1,12 +1,12 @@
 //! The report of a fault as text.
 
-ghost use Rattle.std.specs.Prelude.{◌≡◌, ◌≤◌, ◌<◌, ◌+◌, ◌++◌, min, ℕ, List, IfOk, OnOk, codes, false, true, length, replicate, string_capacity, string_len};
+ghost use Rattle.std.specs.Prelude.{◌≡◌, ◌≤◌, ◌<◌, ◌+◌, ◌++◌, min, ℕ, List, IfOk, IfSome, OnOk, codes, pos, false, true, length, replicate, string_capacity, string_len};
 ghost use Rattle.std.specs.String.{string_bytes};
 ghost use Rattle.protox_fault.specs.FaultTexts.{text_of};
 ghost use Rattle.protox_report.specs.Shown.{shown};
 ghost use Rattle.protox_places.specs.Lines.{line, column, starts};
 ghost use Rattle.protox_report.specs.Excerpts.{IsExcerpt};
-ghost use Rattle.protox_report.specs.Reports.{behind_blank, below, below_dots, carets, dots, excerpt_line, excerpt_lines, excerpt_marks, help_if, help_line, help_text, number_of, numbered, position_text, first_place, has_place, label_text, place_in, place_text, title, AreTold, IsReported, Tells};
+ghost use Rattle.protox_report.specs.Reports.{behind_blank, below, below_dots, carets, dots, excerpt_line, excerpt_lines, excerpt_marks, help_if, help_line, help_text, number_of, numbered, position_at, position_text, first_place, has_place, label_text, place_in, place_text, title, title_at, AreTold, IsReported, IsTextReported, Tells};
 
 use crate::excerpt::{Excerpt, excerpt_of};
 use crate::paint::Paint;
@@ -252,8 +252,9 @@ impl<'a> Source<'a> {
         out.reserve(self.name.len().saturating_add(USUAL)).is_ok()
     }
 
-    // Line and column of an offset, both from 1.
-    fn position(&self, offset: usize) -> (u32, u32)
+    /// Line and column of an offset, both from 1; columns count bytes. An offset behind the source
+    /// counts as its end.
+    pub fn position(&self, offset: usize) -> (u32, u32)
         ensures line { result.0 ≡ line self.now.text.now (min offset (length self.now.text.now)) + 1 }
         ensures column { result.1 ≡ column self.now.text.now (min offset (length self.now.text.now)) + 1 }
     {
@@ -402,5 +403,89 @@ impl<'a> Source<'a> {
         // The room is given back also if memory ran out.
         give_back(out, grew);
         done
+    }
+
+    // Adds `:LINE:COLUMN:` of an offset, both from 1.
+    fn push_position_at(&self, out: &mut String, offset: usize) -> Result<(), AllocError>
+        ensures { OnOk result (string_bytes out.new ≡ string_bytes out.old ++ position_at self.now.text.now offset) }
+    {
+        let (line, column) = self.position(offset);
+        push_place(out, line, column)
+    }
+
+    // Adds `FILE:LINE:COLUMN: text`, of any text.
+    fn push_title_at(
+        &self,
+        alloc: Global,
+        out: &mut String,
+        offset: usize,
+        text: &str,
+    ) -> Result<(), AllocError>
+        ensures { OnOk result (string_bytes out.new ≡ string_bytes out.old ++ title_at self.now.paint self.now.name.now self.now.text.now offset text.now) }
+    {
+        out.push_str(self.paint.place)?;
+        push_shown(alloc, out, self.name)?;
+        self.push_position_at(out, offset)?;
+        out.push_str(self.paint.end)?;
+        out.push_str(" ")?;
+        push_shown(alloc, out, text)?;
+        out.push_str("\n")?;
+        Ok(())
+    }
+
+    // The first offset that is in this line or behind it; the end of the source, if none is.
+    fn line_start(&self, number: i32) -> usize
+        ensures { result ≤ length self.now.text.now }
+    {
+        let mut low = 0;
+        let mut high = self.text.len();
+        'search: while low < high {
+            let middle = low + (high - low) / 2;
+            if self.lines.resolve(middle).0 < number {
+                low = middle + 1;
+            } else {
+                high = middle;
+            }
+        }
+        low
+    }
+
+    /// The offset of a place, given by line and column, both from 0; columns count bytes. None if the
+    /// source has no such place. It is found by a search in the table of lines.
+    pub fn offset_at(&self, in_line: i32, in_column: i32) -> Option<usize>
+        ensures within { IfSome result (λ offset. offset ≤ length self.now.text.now) }
+        ensures line { IfSome result (λ offset. pos (line self.now.text.now offset) ≡ in_line) }
+        ensures column { IfSome result (λ offset. pos (column self.now.text.now offset) ≡ in_column) }
+    {
+        if in_column < 0 {
+            return None;
+        }
+        let offset = self.line_start(in_line).saturating_add(in_column as usize);
+        if offset > self.text.len() {
+            return None;
+        }
+        let (found_line, found_column) = self.lines.resolve(offset);
+        if found_line == in_line && found_column == in_column {
+            Some(offset)
+        } else {
+            None
+        }
+    }
+
+    /// Adds the report of any text at a span of the source: the title and the excerpt of a fault
+    /// that has one place, without label and help. The span may be any; it is in bytes. `AllocError`
+    /// if memory runs out. Then a part of the report may have been added.
+    pub fn push_text(
+        &self,
+        alloc: Global,
+        out: &mut String,
+        span: &Span,
+        text: &str,
+    ) -> Result<(), AllocError>
+        ensures { OnOk result (IsTextReported self.now.name.now self.now.text.now self.now.paint span.now text.now (string_bytes out.old) (string_bytes out.new)) }
+    {
+        self.push_title_at(alloc, out, span.start, text)?;
+        self.push_excerpt(alloc, out, span, "")?;
+        Ok(())
     }
 }

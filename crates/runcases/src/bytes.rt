@@ -9,7 +9,8 @@ use std::alloc::Global;
 use std::fs;
 use std::io::{self, Write};
 
-fn write_hex<W: Write>(out: &mut W, bytes: &[u8]) -> io::Result<()> {
+/// Writes bytes in hex, 40 in a line.
+pub fn write_hex<W: Write>(out: &mut W, bytes: &[u8]) -> io::Result<()> {
     for line in bytes.chunks(40) {
         for byte in line {
             write!(out, "{byte:02x}")?;

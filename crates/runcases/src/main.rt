@@ -1,16 +1,19 @@
-//! `runcases [--bytes LIST] [--scans LIST] [--words LIST]` prints bytes of descriptors, and what
-//! the programs do. Its lines are in `stdout`.
+//! `runcases [--bytes LIST] [--scans LIST] [--words LIST] [--links LIST]` prints bytes of
+//! descriptors, and what the programs do. Its lines are in `stdout`.
 //!
 //! - `--bytes`: the bytes of the descriptors of the files that the lines of the list name
 //! - `--scans`: what `protoscan` does with the words of each line of the list
 //! - `--words`: what `protoparse` does with the words of each line of the list
+//! - `--links`: what `protolink` does with the words of each line of the list
 #![tactic(auto)]
 
 mod bytes;
+mod links;
 mod scans;
 mod words;
 
 use bytes::write_bytes;
+use links::write_links;
 use scans::write_scans;
 use std::io::{self, BufWriter, Write};
 use std::process::ExitCode;
@@ -23,6 +26,7 @@ enum Mode {
     Bytes,
     Scans,
     Words,
+    Links,
 }
 
 // The mode that a word sets for the lists behind it.
@@ -31,6 +35,7 @@ fn mode_of(word: &str) -> Option<Mode> {
         "--bytes" => Some(Mode::Bytes),
         "--scans" => Some(Mode::Scans),
         "--words" => Some(Mode::Words),
+        "--links" => Some(Mode::Links),
         _ => None,
     }
 }
@@ -44,6 +49,10 @@ fn write_list<W: Write>(rt: &HostRuntime, out: &mut W, mode: Mode, name: &str) -
         Mode::Words => {
             out.flush()?;
             write_words(rt, list.as_str())
+        }
+        Mode::Links => {
+            out.flush()?;
+            write_links(rt, list.as_str())
         }
     }
 }

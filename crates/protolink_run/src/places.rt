@@ -1,0 +1,59 @@
+//! Where the parts of a file stand in its source.
+
+use crate::told::Told;
+use protox_descriptor::descriptor::FileDescriptorProto;
+use protox_descriptor::descriptor::source_code_info::Location;
+use protox_descriptor::tag::file::DEPENDENCY;
+use protox_fault::error::Span;
+
+// How many of these locations, which are in the order of their paths, come before this path.
+fn count_before(locations: &[Location], path: &[i32]) -> usize {
+    locations.partition_point(|location| location.path.as_slice().cmp(&path).is_lt())
+}
+
+// The part of the source that the location with this path has.
+fn at(told: &Told<'_>, locations: &[Location], path: &[i32]) -> Option<Span> {
+    let location = locations.get(count_before(locations, path))?;
+    if location.path.as_slice() != path {
+        return None;
+    }
+    match location.span.as_slice() {
+        [line, column, end] => told.span((*line, *column), (*line, *end)),
+        [line, column, last, end] => told.span((*line, *column), (*last, *end)),
+        _ => None,
+    }
+}
+
+/// Where a part of a file stands; where that is in which it is, if the source doesn't write the part.
+pub(crate) fn span_of(told: &Told<'_>, file: &FileDescriptorProto, path: &[i32]) -> Option<Span> {
+    let info = file.source_code_info.as_ref()?;
+    let locations = info.location.as_slice();
+    for shorter in 0..path.len() {
+        if let Some(span) = at(told, locations, &path[..path.len() - shorter]) {
+            return Some(span);
+        }
+    }
+    None
+}
+
+// The index of the import of this name.
+fn import_of(file: &FileDescriptorProto, name: &str) -> Option<i32> {
+    let index = file
+        .dependency
+        .iter()
+        .position(|import| import.as_str() == name)?;
+    i32::try_from(index).ok()
+}
+
+/// Where a file imports the next one of a circle, which the file begins.
+pub(crate) fn import_span(
+    told: &Told<'_>,
+    files: &[FileDescriptorProto],
+    file: &FileDescriptorProto,
+    circle: &[usize],
+) -> Option<Span> {
+    let next = circle.get(1).or(circle.first())?;
+    let name = files.get(*next)?.name.as_ref()?;
+    let index = import_of(file, name.as_str())?;
+    span_of(told, file, &[DEPENDENCY, index])
+}

@@ -9,3 +9,4 @@ pub mod Extending
 pub mod InExtensions
 pub mod Ranging
 pub mod Reusing
+pub mod Without

@@ -11,6 +11,7 @@ ghost use Rattle.protox_symbols.specs.Scopes.{IsFoundScope};
 ghost use Rattle.protox_walk.specs.Declarations.{Path, all_in, field_at, full_name, message_at};
 ghost use Rattle.protox_walk.specs.Declarations.{nth, siblings_at};
 
+use crate::bare::{may_extend, may_hold_extensions};
 use crate::each::path_to;
 use crate::name::{inside, text_of};
 use protox_descriptor::descriptor::{DescriptorProto, FieldDescriptorProto, FileDescriptorProto};
@@ -180,8 +181,11 @@ pub fn extensions_of(
         view.now.sees.now view.now.packages file.now) }
 {
     let mut made = Vec::new(alloc);
-    let scope = inside(view, Some(None), file.package.as_ref(), 0);
     let (messages, extensions) = (file.message_type.as_slice(), file.extension.as_slice());
+    if !may_extend(extensions) && !may_hold_extensions(messages) {
+        return Ok(made);
+    }
+    let scope = inside(view, Some(None), file.package.as_ref(), 0);
     add_messages(
         alloc,
         view,

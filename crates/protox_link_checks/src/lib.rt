@@ -1,6 +1,7 @@
 //! What is wrong with the names of a set of files, in the order of their parts.
 #![tactic(auto)]
 
+mod bare;
 mod defaults;
 mod each;
 mod empty;

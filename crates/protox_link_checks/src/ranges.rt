@@ -1,6 +1,6 @@
 //! The extension ranges of messages, by the numbers that these have in a table.
 
-ghost use Rattle.std.specs.Prelude.{◌≡◌, ◌≤◌, ◌++◌, ℕ, List, map, All, IfOk, OnOk};
+ghost use Rattle.std.specs.Prelude.{◌≡◌, ◌≤◌, ◌++◌, [], false, ℕ, List, map, All, IfOk, OnOk};
 ghost use Rattle.std.specs.List.{list_any};
 ghost use Rattle.std.specs.Option.{option_copied};
 ghost use Rattle.protox_descriptor.specs.declared.descriptor.FileDescriptorProto.{FileDescriptorProto};
@@ -9,8 +9,10 @@ ghost use Rattle.protox_link_checks.specs.Ranges.{AreRangesOf, IsSmall, moved};
 ghost use Rattle.protox_numbers.specs.Message.{extension_spans};
 ghost use Rattle.protox_numbers.specs.Numbers as numbers;
 ghost use Rattle.protox_spans.specs.Spans.{meets};
+ghost use Rattle.protox_spans.specs.declared.span.Span.{Span};
 ghost use Rattle.protox_symbols.specs.Symbols.{Table};
 
+use crate::bare::may_have_ranges;
 use protox_descriptor::descriptor::{DescriptorProto, FileDescriptorProto};
 use protox_descriptor::tag::{file, message};
 use protox_numbers::{of_extension_range, single};
@@ -128,6 +130,39 @@ fn push_numbered(
     push_ranges(alloc, number, of, spans)
 }
 
+// Whether any message of the files has an extension range.
+fn any_ranges(files: &[FileDescriptorProto]) -> bool
+    ensures { result ≡ false → (table : Table) (n : ℕ)
+        → words.ranges_numbered files.now table n ≡ [] }
+{
+    for file in files {
+        if may_have_ranges(file.message_type.as_slice()) {
+            return true;
+        }
+    }
+    false
+}
+
+// All extension ranges, each moved to where those of its message are kept.
+fn spans_of(
+    alloc: Global,
+    symbols: &Symbols,
+    files: &[FileDescriptorProto],
+) -> Result<Vec<Span>, AllocError>
+    ensures { IfOk result (λ made. (n : ℕ) (s : Span) → IsSmall s
+        → list_any (meets (moved n s)) made.items
+        ≡ list_any (meets s) (words.ranges_numbered files.now symbols.now n)) }
+{
+    let mut made = Vec::new(alloc);
+    if !any_ranges(files) {
+        return Ok(made);
+    }
+    for number in 0..symbols.len() {
+        push_numbered(alloc, files, symbols, number, &mut made)?;
+    }
+    Ok(made)
+}
+
 impl Ranges {
     /// Those of these files. `symbols` is their table.
     ///
@@ -140,10 +175,7 @@ impl Ranges {
     ) -> Result<Ranges, AllocError>
         ensures { IfOk result (AreRangesOf files.now symbols.now) }
     {
-        let mut spans = Vec::new(alloc);
-        for number in 0..symbols.len() {
-            push_numbered(alloc, files, symbols, number, &mut spans)?;
-        }
+        let spans = spans_of(alloc, symbols, files)?;
         let spans = SpanSet::of(alloc, spans)?;
         Ok(Ranges { spans })
     }

@@ -1,6 +1,8 @@
 # The forms of the packages, each made of the folder $work/parts: a tar.gz, two packages for Debian,
 # a wheel and a crate. package/build reads this file. $folder is where they go.
 tuple=x86_64-linux-gnu
+linked=(examples/linked/shop/cart.proto examples/linked/shop/item.proto
+    examples/linked/shop/wrong.proto)
 examples=(examples/foo.proto examples/library.proto examples/refused.proto examples/shop.proto
     examples/store.proto)
 
@@ -17,11 +19,11 @@ settle() {
 }
 
 put_programs() { # ROOT
-    put 755 "$1/bin" "$work"/parts/protoparse "$work"/parts/protoscan
+    put 755 "$1/bin" "$work"/parts/{protoparse,protoscan,protolink}
     put 644 "$1/share/man/man1" "$work"/parts/man/*.1
     put 644 "$1/share/fish/vendor_completions.d" package/completions/*.fish
     local name
-    for name in protoparse protoscan; do
+    for name in protoparse protoscan protolink; do
         mkdir -p "$1/share/bash-completion/completions"
         install -m 644 "package/completions/$name.bash" \
             "$1/share/bash-completion/completions/$name"
@@ -64,6 +66,7 @@ make_tar() {
     install -m 644 /usr/share/common-licenses/Apache-2.0 "$root/share/doc/protox/LICENSE-APACHE"
     put_examples "$root/share/doc/protox/examples" "${examples[@]}" \
         examples/ffi/check.c examples/many/Makefile
+    put 644 "$root/share/doc/protox/examples/linked/shop" "${linked[@]}"
     settle "$root"
     tar -C "$work/tar" --sort=name --mtime="@$SOURCE_DATE_EPOCH" --owner=0 --group=0 \
         --numeric-owner --format=gnu -cf - "$name" |
@@ -113,7 +116,8 @@ make_tools_deb() {
     put 644 "$root/usr/share/zsh/vendor-completions" package/completions/_*
     put_debian "$root" protox-tools
     put_examples "$root/usr/share/doc/protox-tools/examples" "${examples[@]}" examples/many/Makefile
-    build_deb "$root" protox-tools "$root/usr/bin/protoparse" "$root/usr/bin/protoscan"
+    put 644 "$root/usr/share/doc/protox-tools/examples/linked/shop" "${linked[@]}"
+    build_deb "$root" protox-tools "$root"/usr/bin/{protoparse,protoscan,protolink}
 }
 
 make_library_deb() {

@@ -3,8 +3,8 @@
 
 usage: package/options.py        anywhere; it takes well under a second
 
-The options in the help of protoparse are the source. The reader of the options in
-crates/protoparse_words, the man page and the completions must name the same ones. The man page of
+The options in the help of a program are the source: of protoparse and of protolink. The reader of
+the options, the man page and the completions must name the same ones. The man page of
 the C library must declare the calls of protox.h and name its statuses. The version is that of
 `protoparse --version`; CHANGELOG.md must begin with it. The kit that README and `--version`
 name must be the one that proves. The last line is 'N passed, M failed'.
@@ -63,9 +63,9 @@ def options_of_bash(source):
 
 
 def options_of_zsh(source):
-    """What stands between the first quote of a line and `[`, without the marks `*`, `+`, `=`."""
+    """What stands between the first quote of a line and `[`, without `*`, `(-)`, `+` and `=`."""
     found = set()
-    lines = re.findall(r"^ +'(?:\(-\)'\{(.*?)\}'|\*(-.*?))\[", source, flags=re.M)
+    lines = re.findall(r"^ +'(?:\(-\)'\{(.*?)\}'|(?:\*|\(-\))(-.*?))\[", source, flags=re.M)
     for braces, plain in lines:
         found.update(it.rstrip('+=') for it in (braces or plain).split(','))
     return sorted(found)
@@ -74,6 +74,26 @@ def options_of_zsh(source):
 def options_of_fish(source):
     short, long = re.findall(r' -s (\S)', source), re.findall(r' -l (\S+)', source)
     return sorted(['-' + it for it in short] + ['--' + it for it in long])
+
+
+def options_of_link(source):
+    """Those of the help of protolink, which writes `-IPATH` and `-oFILE`."""
+    text = re.search(r'const HELP: &str = "(.*?)";', source, flags=re.S).group(1)
+    text = re.sub(r'^  (-[Io])(?:PATH|FILE),', r'  \1,', text, flags=re.M)
+    return words_of(re.findall(r'^  (-.*?)(?:  |$)', text, flags=re.M))
+
+
+def compare_options_of_link():
+    wanted = options_of_link(read('crates/protolink_run/src/lib.rt'))
+    reader = set(options_of_reader(read('crates/protolink_words/src/flags.rt')))
+    # protoc takes this one too, and does nothing
+    reader -= {'--experimental_allow_proto3_optional'}
+    compare('options that protolink reads', wanted, sorted(reader))
+    compare('protolink(1)', wanted, options_of_man(read('package/man/protolink.1')))
+    folder = 'package/completions'
+    compare('protolink in bash', wanted, options_of_bash(read(f'{folder}/protolink.bash')))
+    compare('protolink in zsh', wanted, options_of_zsh(read(f'{folder}/_protolink')))
+    compare('protolink in fish', wanted, options_of_fish(read(f'{folder}/protolink.fish')))
 
 
 def compare_options():
@@ -100,7 +120,7 @@ def usage_of_man(page):
 
 
 def compare_usage():
-    for name in ('protoparse', 'protoscan'):
+    for name in ('protoparse', 'protoscan', 'protolink'):
         source = read(f'crates/{name}_run/src/lib.rt')
         usage = re.search(rf'"usage: {name} (.*?)(?: \(|\\n|\n)', source).group(1)
         found = usage_of_man(read(f'package/man/{name}.1')).replace(' ...', '..')
@@ -132,11 +152,15 @@ def compare_version():
     compare('the kit in README.md', ran.stdout.decode().split()[:1], named)
     told = re.findall(r'^const VERSION: &str = "protoparse [0-9.]+ \((.*)\)$', source, flags=re.M)
     compare('the kit in protoparse --version', named, told)
+    link = read('crates/protolink_run/src/lib.rt')
+    told = re.findall(r'^const VERSION: &str = "protolink ([0-9.]+) \((.*)\)$', link, flags=re.M)
+    compare('protolink --version', list(zip(version, named)), told)
 
 
 def main():
     os.chdir(os.path.join(os.path.dirname(os.path.abspath(__file__)), '..'))
     compare_options()
+    compare_options_of_link()
     compare_usage()
     compare_header()
     compare_version()

@@ -55,7 +55,7 @@ make_record() {
 make_texts() {
     local page
     mkdir man
-    for page in protoparse.1 protoscan.1 protox.3; do
+    for page in protoparse.1 protoscan.1 protolink.1 protox.3; do
         fill "$top/package/man/$page" >"man/$page"
     done
     cp "$top"/{README.md,CHANGELOG.md,docs/PROVED.md} .

@@ -2,7 +2,8 @@
 # The two scripts read this file. It changes into the top of the clone.
 top=$(cd "$(dirname "${BASH_SOURCE[0]}")/.." && pwd)
 python=${PYTHON:-/usr/bin/python3}
-programs=(crates/protoparse/out/protoparse crates/protoscan/out/protoscan)
+programs=(crates/protoparse/out/protoparse crates/protoscan/out/protoscan
+    crates/protolink/out/protolink)
 library=crates/protox_ffi/out/libprotox_ffi.a
 export LC_ALL=C TZ=UTC
 umask 022

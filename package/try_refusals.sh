@@ -16,7 +16,7 @@ leave() {
 case $1 in
     version) echo stub ;;
     ci)
-        for name in protoparse protoscan; do leave "crates/$name/out/$name"; done
+        for name in protoparse protoscan protolink; do leave "crates/$name/out/$name"; done
         echo "$ENDS"
         [ "$ENDS" != broken ]
         ;;

@@ -24,10 +24,19 @@ try_protoscan() {
     diff <(echo '4.0.2.0 5,8,20') <(in_documents protoscan examples/foo.proto 4.0.2.0)
 }
 
+# A file and what it imports are linked. The set holds both, the one that is imported first.
+try_protolink() {
+    in_documents protolink -I examples/linked -o /try/set --include_imports shop/cart.proto
+    grep -c -a 'shop/item.proto' "$system/try/set" >/dev/null
+    grep -a '[.]shop[.]Item' "$system/try/set" >/dev/null
+    ! in_documents protolink -I examples/linked -o /try/none shop/wrong.proto >"$work/said" 2>&1
+    [ ! -e "$system/try/none" ] && grep -F ' | ' "$work/said" >/dev/null
+}
+
 # The page of each program and each call is there, and neither formatter finds fault with it.
 try_man_pages() { # FOLDER WITH man1 AND man3
     local name page
-    for name in protoparse.1 protoscan.1 protox.3 protox_report.3 protox_version.3; do
+    for name in protoparse.1 protoscan.1 protolink.1 protox.3 protox_report.3 protox_version.3; do
         page=$(ls "$1/man${name##*.}/$name"*)
         mandoc -T lint -W warning "$page"
         (cd "$1" && man --warnings -E UTF-8 -l -Tutf8 -Z "$page" >/dev/null) 2>"$work/warnings"
@@ -81,6 +90,7 @@ try_system() {
     mkdir "$system/try"
     check "dpkg -i: to a refused file with its caret in a minute" try_minute
     check "dpkg -i: protoscan" try_protoscan
+    check "dpkg -i: protolink" try_protolink
     check "dpkg -i: man pages" try_man_pages "$system/usr/share/man"
     check "dpkg -i: a program with the shared library" try_linked
     check "dpkg -i: the library's tests" try_tests

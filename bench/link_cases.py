@@ -40,7 +40,8 @@ USE = re.compile(r'(optional .*;|[\w.]+ \w+ = \d+;|map<.*;|rpc .*;|extend .*|one
 PROTO3 = ('first value not zero', 'extensions in proto3', 'not of options', LIKE_ANOTHER)
 # A fault of a name that is declared twice in a file, and one of a name that is used or of a default.
 TWICE = re.compile(r'(\S+) \S+ already defined: \S+ in \1')
-USED = re.compile(r'\S+ \S+ (not (defined|a type|a message): .*|no such value|default of a message|bad default)')
+USED = re.compile(r'\S+ \S+ (not (defined|a type|a message): .*|no such value|default of a message|bad default'
+                  r'|in no extension range|extension number used before|not of options)')
 
 
 class Chance:

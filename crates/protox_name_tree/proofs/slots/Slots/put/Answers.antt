@@ -19,9 +19,9 @@ was_free slots index number other there free =
     elim (eqb_tells other index) [
       | inl same ↦ absurd (none-some number (sym free.nothing ∙ ap (held (slice_set slots index (Some number))) same.1 ∙ put_there slots index number there))
       | inr apart ↦ record {
-          there = subst (λ n. other < n) (length-set slots index (Some number)) free.there;
-          nothing = sym (get_or-set_other slots index other (Some number) None apart.1) ∙ free.nothing;
-        }
+        there = subst (λ n. other < n) (length-set slots index (Some number)) free.there;
+        nothing = sym (get_or-set_other slots index other (Some number) None apart.1) ∙ free.nothing;
+      }
     ]
 
 -- and that number is in its window

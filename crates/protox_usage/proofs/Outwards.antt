@@ -1,5 +1,5 @@
 -- The way outwards from a scope, and what a search meets on it.
-use Rattle.std.proofs.Common.{◌≡◌, ◌+◌, ℕ, Bool, true, false, Bor, List, [], ◌∷◌, ◌++◌, append-nil, fold, length, MatchOption, Option, None, Some, ap, sym, ◌∙◌}
+use Rattle.std.proofs.Common.{◌≡◌, ◌+◌, ℕ, true, false, Bor, List, [], ◌∷◌, ◌++◌, append-nil, fold, length, MatchOption, Option, None, Some, ap, sym, ◌∙◌}
 use Rattle.std.proofs.lemmas.Bool.{false≢true, true≢false}
 use Rattle.std.proofs.lemmas.Grind.{fold-append}
 use Rattle.protox_names.specs.Names.{scopes}

@@ -1,5 +1,5 @@
 -- The first file in each package, file by file in an order.
-use Rattle.std.proofs.Common.{◌≡◌, ◌<◌, ◌≤◌, ◌+◌, ℕ, zero, suc, Bool, true, false, cond, List, [], ◌∷◌, length, get_or, map, take, Option, Some, None, refl, sym, ap, ◌∙◌, arith}
+use Rattle.std.proofs.Common.{◌≡◌, ◌<◌, ◌≤◌, ◌+◌, ℕ, zero, suc, Bool, false, cond, List, [], ◌∷◌, length, get_or, map, take, Option, Some, None, refl, sym, ap, ◌∙◌, arith}
 use Rattle.std.specs.Prelude.{slice_get}
 use Rattle.std.specs.List.{find}
 use Rattle.std.specs.Option.{option_or}
@@ -9,7 +9,7 @@ use Rattle.protox_link.specs.Seen.{packages_of}
 use Rattle.protox_name_tree.specs.Tree.{Names, number_of}
 use Rattle.protox_symbols.specs.Things.{table_of}
 use Rattle.protox_usage.proofs.Firsts.{found_all, found_more, or_none}
-use Rattle.protox_usage.specs.First.{AreFirst, first_in_package}
+use Rattle.protox_usage.specs.First.{AreFirst}
 use Rattle.protox_views.specs.FilesOf.{is_in_package}
 use Rattle.protox_views.specs.Packages.{is_on_the_way}
 use Rattle.protox_walk.specs.Declarations.{text_of}

@@ -1,5 +1,5 @@
 -- What was noted tells which imports a file uses.
-use Rattle.std.proofs.Common.{◌≡◌, ◌<◌, ◌≤◌, ◌==◌, ◌&&◌, ◌||◌, ◌⊎◌, inl, inr, ℕ, zero, suc, Bool, true, false, not, List, [], ◌∷◌, filter, fold, get_or, length, map, replicate, Option, Some, None, refl, sym, ap, ◌∙◌, arith, rules}
+use Rattle.std.proofs.Common.{◌≡◌, ◌<◌, ◌==◌, ◌&&◌, ◌||◌, inl, inr, ℕ, zero, suc, Bool, true, false, not, List, [], ◌∷◌, filter, fold, get_or, length, map, replicate, Option, Some, None, refl, sym, ap, ◌∙◌, arith}
 use Rattle.std.specs.Prelude.{position, slice_get}
 use Rattle.std.specs.List.{flat_map, list_any, range_with_len}
 use Rattle.std.specs.Option.{option_and_then, option_map_or}
@@ -24,7 +24,7 @@ use Rattle.protox_usage.specs.Known.{is_not_found}
 use Rattle.protox_usage.specs.Lookups.{Lookup, lookups_in_file, may_use_all}
 use Rattle.protox_usage.specs.Met.{met}
 use Rattle.protox_usage.specs.Searched.{with_mark}
-use Rattle.protox_usage.specs.Unused.{file_named, has_public, is_of_file, is_public, is_unused, met_in_file, unused_imports, uses_file}
+use Rattle.protox_usage.specs.Unused.{file_named, has_public, is_of_file, is_public, is_unused, unused_imports, uses_file}
 use Rattle.protox_usage.specs.declared.searcher.Found.{Found}
 use Rattle.protox_views.specs.Views.{seen}
 

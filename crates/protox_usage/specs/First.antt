@@ -4,7 +4,7 @@ use Rattle.std.specs.List.{find}
 use Rattle.protox_descriptor.specs.declared.descriptor.FileDescriptorProto.{FileDescriptorProto}
 use Rattle.protox_imports.specs.DepthFirst.{Visits, all_files}
 use Rattle.protox_imports.specs.Order.{IsCycle}
-use Rattle.protox_imports.specs.Rows.{ImportsIn, rows_of}
+use Rattle.protox_imports.specs.Rows.{ImportsIn}
 use Rattle.protox_imports.specs.declared.row.FileImports.{FileImports}
 use Rattle.protox_link.specs.Seen.{packages_of}
 use Rattle.protox_name_tree.specs.Tree.{kind_at}

@@ -1,5 +1,5 @@
 -- What the search for a name comes upon, on its way to what the name stands for.
-use Rattle.std.specs.Prelude.{ℕ, Bool, true, false, not, ◌&&◌, List, [], ◌∷◌, ◌++◌, drop, Option, Some, None, if◌then◌else◌}
+use Rattle.std.specs.Prelude.{ℕ, not, ◌&&◌, List, [], ◌∷◌, ◌++◌, drop, Option, Some, None, if◌then◌else◌}
 use Rattle.protox_names.specs.Names.{front, is_absolute, is_one_part, scopes, within}
 use Rattle.protox_scopes.specs.Scopes.{holds_names, step}
 use Rattle.protox_scopes.specs.declared.kind.Kind.{Kind}

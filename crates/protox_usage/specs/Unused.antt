@@ -1,5 +1,5 @@
 -- Imports that nothing of a file uses.
-use Rattle.std.specs.Prelude.{◌≡◌, ℕ, ◌==◌, ℤ, pos, Bool, false, not, ◌&&◌, ◌||◌, List, [], length, filter, Option, slice_get, MatchOption}
+use Rattle.std.specs.Prelude.{◌≡◌, ℕ, ◌==◌, pos, Bool, false, not, ◌&&◌, ◌||◌, List, [], length, filter, Option, slice_get, MatchOption}
 use Rattle.std.specs.List.{flat_map, list_any, range_with_len}
 use Rattle.std.specs.Option.{option_and_then, option_map_or}
 use Rattle.std.specs.Ordering.{int_eq}

@@ -1,4 +1,4 @@
-use Rattle.std.proofs.Common.{◌≡◌, ◌∙◌, ◌<◌, ℕ, List, Option, None, Some, ap, cond, get_or, length, refl, sym, subst, take}
+use Rattle.std.proofs.Common.{◌≡◌, ◌∙◌, ◌<◌, ℕ, Option, None, Some, ap, cond, get_or, length, sym}
 use Rattle.std.specs.Prelude.{slice_get}
 use Rattle.std.specs.Option.{option_or}
 use Rattle.std.proofs.lemmas.Bool.{ltb-false}
@@ -9,7 +9,6 @@ use Rattle.protox_name_tree.specs.Tree.{number_of}
 use Rattle.protox_symbols.specs.Symbols.{Table}
 use Rattle.protox_symbols.specs.Things.{table_of}
 use Rattle.protox_usage.proofs.Packages.{no_file, one_file}
-use Rattle.protox_usage.specs.First.{AreFirst}
 use Rattle.protox_views.specs.Packages.{is_on_the_way}
 use Rattle.protox_walk.specs.Declarations.{text_of}
 use Rattle.protox_usage.proofs.first.note_all.Goals.{in-Some, in_default}

@@ -1,4 +1,4 @@
-use Rattle.std.proofs.Common.{◌≡◌, ◌∙◌, ℕ, Bool, Bor, List, Option, None, Some, ap, cond, drop, subst, sym, lit<}
+use Rattle.std.proofs.Common.{◌≡◌, ◌∙◌, ℕ, Bool, Bor, List, Option, None, ap, cond, drop, subst, sym, lit<}
 use Rattle.std.proofs.lemmas.Str.Pattern.{strip_prefix_char}
 use Rattle.protox_names.specs.Names.{scopes}
 use Rattle.protox_scopes.proofs.Outwards.{relative}

@@ -12,7 +12,7 @@ use Rattle.protox_usage.proofs.Telling.{none_of_none, told}
 use Rattle.protox_usage.proofs.Uses.{AreFound, all_noted, found_unused, named_in_rows}
 use Rattle.protox_usage.specs.Known.{is_not_found}
 use Rattle.protox_usage.specs.Lookups.{lookups_in_file}
-use Rattle.protox_usage.specs.Unused.{AreUnused, AreUnusedIn, is_unused, unused_imports}
+use Rattle.protox_usage.specs.Unused.{AreUnused, is_unused}
 use Rattle.protox_views.specs.FilesOf.{seen_packages}
 use Rattle.protox_usage.proofs.unused.Usage.unused.Goals as goal
 

@@ -1,8 +1,10 @@
 //! What a file uses of its imports, and whether it sets options.
 #![tactic(auto)]
 
+mod first;
 mod options;
 mod search;
+mod searcher;
 mod unused;
 
 pub use crate::options::has_options;

@@ -1,16 +1,25 @@
 //! Imports that a file doesn't use.
 
-use crate::search::Searcher;
+ghost use Rattle.std.specs.Prelude.{◌≡◌, pos, false, filter, length, replicate, IfOk};
+ghost use Rattle.std.specs.List.{flat_map, range_with_len};
+ghost use Rattle.std.specs.Ordering.{int_eq};
+ghost use Rattle.protox_usage.specs.Lookups.{lookups_in_file, may_use_all};
+ghost use Rattle.protox_usage.specs.Searched.{met_by, noted};
+ghost use Rattle.protox_usage.specs.Known.{is_not_found, is_not_met};
+ghost use Rattle.protox_usage.specs.Unused.{AreUnused, has_public, is_public};
+
+use crate::first::{first_files, order_of, text_of};
+use crate::options::options_of_file;
+use crate::search::Sight;
+use crate::searcher::{Found, Searcher};
 use protox_descriptor::descriptor::FileDescriptorProto;
-use protox_imports::{Imports, Order, in_order};
+use protox_imports::Imports;
 use protox_link::Resolver;
 use protox_marks::Marks;
 use protox_names::within;
-use protox_symbols::Symbols;
 use protox_walk::walk;
-use protox_written::HasUninterpreted;
 use std::alloc::{AllocError, Global};
-use std::collections::BTreeMap;
+use std::marker::Model;
 
 /// What tells which imports the files of a list don't use.
 #[derive(Drop)]
@@ -18,87 +27,62 @@ pub struct Usage<'a> {
     files: &'a [FileDescriptorProto],
     imports: Imports,
     resolver: Resolver,
-    first: BTreeMap<usize, usize>,
+    first: Vec<Option<usize>>,
 }
 
-// Notes that a file is in a package, and so in those around it, if no file before it is.
-fn note(
-    symbols: &Symbols,
-    first: &mut BTreeMap<usize, usize>,
-    package: Option<usize>,
-    file: usize,
-) -> Result<(), AllocError> {
-    let mut place = package;
-    // A package is in fewer others than there are names.
-    for _ in 0..symbols.len() {
-        let Some(number) = place else {
-            break;
-        };
-        if first.contains_key(&number) {
-            break;
-        }
-        first.insert(number, file)?;
-        place = symbols.outer(number);
-    }
-    Ok(())
+impl<'a> Model for Usage<'a> {
+    ghost use Rattle.std.specs.Coded.{codes};
+    ghost use Rattle.std.specs.Prelude.{List};
+    ghost use Rattle.protox_descriptor.specs.contracts.descriptor.DescriptorProto as message;
+    ghost use Rattle.protox_descriptor.specs.declared.descriptor.FileDescriptorProto.{FileDescriptorProto};
+    ghost use Rattle.protox_usage.specs.Known.{IsUsageOf};
+
+    ghost Value = { List FileDescriptorProto };
+
+    ghost coded = { Prim.hlevel (codes, message.the_row.coded) };
+
+    ghost view = { λ u. u.files.now };
+
+    ghost invariant = { λ u. IsUsageOf u.files.now u.imports.files u.resolver u.first.items };
 }
 
-// The first file of each package, by the number of the package: first where each file stands behind
-// what it imports.
-fn first_files(
-    alloc: Global,
-    files: &[FileDescriptorProto],
-    symbols: &Symbols,
-    order: &[usize],
-) -> Result<BTreeMap<usize, usize>, AllocError> {
-    let mut first = BTreeMap::new(alloc);
-    for number in order {
-        if let Some(file) = files.get(*number) {
-            if let Some(package) = &file.package {
-                note(
-                    symbols,
-                    &mut first,
-                    symbols.find(None, package.as_str()),
-                    *number,
-                )?;
-            }
-        }
-    }
-    Ok(first)
-}
-
-// An order of the files in which each stands behind what it imports; none, where they import one
-// another in a circle.
-fn order_of(alloc: Global, imports: &Imports) -> Result<Vec<usize>, AllocError> {
-    match in_order(alloc, imports)? {
-        Order::Sorted(order) => Ok(order),
-        Order::Cycle(_) => Ok(Vec::new(alloc)),
-    }
+// Whether a number of a list of public imports is this index.
+fn is_index(number: i32, index: usize) -> bool
+    ensures { result ≡ int_eq number (pos index) }
+{
+    number >= 0 && number as usize == index
 }
 
 // Whether an import is public, by its index.
-fn is_public(file: &FileDescriptorProto, index: usize) -> bool {
-    file.public_dependency.iter().any(|public| usize::try_from(*public).is_ok_and(|public| public
-        == index))
+fn is_public(file: &FileDescriptorProto, index: usize) -> bool
+    ensures { result ≡ is_public file.now index }
+{
+    file.public_dependency
+        .iter()
+        .any(|number| is_index(*number, index))
 }
 
-// Searches for what the options of a file as a whole name. They are searched for in its package, as
-// by something that stands there.
+// Searches for all names that a file uses.
 fn search_file(
     alloc: Global,
     file: &FileDescriptorProto,
-    searcher: &mut Searcher<'_>,
-) -> Result<(), AllocError> {
-    let Some(options) = &file.options else {
-        return Ok(());
+    sight: &Sight<'_>,
+    count: usize,
+) -> Result<Found, AllocError>
+    ensures used { IfOk result (λ found. found.used ≡ noted sight.now (replicate count false)
+        (flat_map (met_by sight.now) (lookups_in_file file.now))) }
+    ensures guesses { IfOk result (λ found. found.guesses ≡ may_use_all file.now) }
+{
+    let package = text_of(file.package.as_ref());
+    let user = within(alloc, package, "")?;
+    let mut found = Found {
+        used: Marks::new(alloc, count)?,
+        guesses: false,
     };
-    let package = match &file.package {
-        Some(package) => package.as_str(),
-        None => "",
-    };
-    let user = within(alloc, package, "option")?;
-    searcher.search_options(options.uninterpreted(), user.as_str());
-    Ok(())
+    sight.search_options(options_of_file(file), user.as_str(), &mut found);
+    let mut searcher = Searcher { sight, found };
+    walk(alloc, file, &mut searcher)?;
+    Ok(searcher.found)
 }
 
 impl<'a> Usage<'a> {
@@ -108,7 +92,9 @@ impl<'a> Usage<'a> {
     /// # Errors
     /// `AllocError` where memory runs out, or where a list has more than 2,147,483,648 parts: no
     /// path can count them.
-    pub fn new(alloc: Global, files: &'a [FileDescriptorProto]) -> Result<Usage<'a>, AllocError> {
+    pub fn new(alloc: Global, files: &'a [FileDescriptorProto]) -> Result<Usage<'a>, AllocError>
+        ensures { IfOk result (λ usage. usage ≡ files.entry.now) }
+    {
         let imports = Imports::new(alloc, files)?;
         let order = order_of(alloc, &imports)?;
         let resolver = Resolver::new(alloc, files)?;
@@ -121,39 +107,53 @@ impl<'a> Usage<'a> {
         })
     }
 
-    // The file that an import names, if protoc asks whether that is used: not where the import is
-    // public, or where that file itself imports something publicly.
-    fn asked(
+    // Whether the file with a number has public imports.
+    fn has_public(&self, number: usize) -> bool
+        ensures { result ≡ has_public self.now number }
+    {
+        match self.files.get(number) {
+            Some(file) => !file.public_dependency.is_empty(),
+            None => false,
+        }
+    }
+
+    // Whether an import of a file, which names this file, was not come upon. It isn't asked where
+    // the import is public, or where the file that it names has public imports.
+    fn is_not_found(
         &self,
         file: &FileDescriptorProto,
         index: usize,
         named: Option<usize>,
-    ) -> Option<usize> {
-        let number = named?;
-        let import = self.files.get(number)?;
-        if is_public(file, index) || !import.public_dependency.is_empty() {
-            return None;
+        found: &Found,
+    ) -> bool
+        ensures { result ≡ is_not_met self.now file.now found.now index named }
+    {
+        let Some(number) = named else {
+            return false;
+        };
+        if is_public(file, index) || self.has_public(number) {
+            return false;
         }
-        Some(number)
+        !found.guesses && !found.used.has(number)
     }
 
     // The imports of a file that a search for the names in it didn't come upon.
+    #[tactic(auto, using(crate::proofs::Adding::one_kept, crate::proofs::Adding::none_kept))]
     fn not_found(
         &self,
         alloc: Global,
         file: &FileDescriptorProto,
-        number: usize,
-        searcher: &Searcher<'_>,
-    ) -> Result<Vec<usize>, AllocError> {
+        named: &[Option<usize>],
+        found: &Found,
+    ) -> Result<Vec<usize>, AllocError>
+        ensures { IfOk result (λ unused. unused.items
+            ≡ filter (is_not_found self.now file.now named.now found.now)
+            (range_with_len 0 (length named.now))) }
+    {
         let mut unused = Vec::new(alloc);
-        if number >= self.imports.len() {
-            return Ok(unused);
-        }
-        for (index, named) in self.imports.named(number).iter().enumerate() {
-            if let Some(import) = self.asked(file, index, *named) {
-                if !searcher.has(import) {
-                    unused.push(index)?;
-                }
+        for (index, number) in named.iter().enumerate() {
+            if self.is_not_found(file, index, *number, found) {
+                unused.push(index)?;
             }
         }
         Ok(unused)
@@ -169,21 +169,26 @@ impl<'a> Usage<'a> {
     ///
     /// # Errors
     /// `AllocError` where memory runs out.
-    pub fn unused(&self, alloc: Global, number: usize) -> Result<Vec<usize>, AllocError> {
+    pub fn unused(&self, alloc: Global, number: usize) -> Result<Vec<usize>, AllocError>
+        ensures { IfOk result (λ unused. AreUnused self.now number unused.items) }
+    {
         let Some(file) = self.files.get(number) else {
+            return Ok(Vec::new(alloc));
+        };
+        let Some(names) = self.resolver.file(alloc, number)? else {
             return Ok(Vec::new(alloc));
         };
         if file.dependency.is_empty() {
             return Ok(Vec::new(alloc));
         }
-        let Some(names) = self.resolver.file(alloc, number)? else {
-            return Ok(Vec::new(alloc));
-        };
+        // for the proof: each number of the table has a kind
+        let _count = names.symbols.len();
         let view = names.view();
-        let used = Marks::new(alloc, self.files.len())?;
-        let mut searcher = Searcher::new(&view, &self.first, used);
-        search_file(alloc, file, &mut searcher)?;
-        walk(alloc, file, &mut searcher)?;
-        self.not_found(alloc, file, number, &searcher)
+        let sight = Sight {
+            view: &view,
+            first: self.first.as_slice(),
+        };
+        let found = search_file(alloc, file, &sight, self.files.len())?;
+        self.not_found(alloc, file, self.imports.named(number), &found)
     }
 }

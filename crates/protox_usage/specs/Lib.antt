@@ -1,0 +1,7 @@
+pub mod Options
+pub mod Lookups
+pub mod Met
+pub mod First
+pub mod Unused
+pub mod Searched
+pub mod Known

@@ -1,0 +1,81 @@
+//! The bytes of a linked set, or the records of what is wrong with files.
+
+ghost use Rattle.std.specs.Prelude.{◌≡◌, ◌∷◌, [], IfOk, MatchResult};
+ghost use Rattle.protox_ffi.specs.Linked.{HasNoAnswer, IsAnswer, IsFound, given, given_input};
+ghost use Rattle.protox_link_bytes.specs.Given as link;
+
+use crate::outcome::Reason;
+use protox_link_bytes::{LinkBytesFailure, SourceFile, link_to_bytes};
+use std::alloc::{AllocError, Global};
+
+/// A file as a C caller gives it. `struct protox_file` has the same layout.
+#[repr(C)]
+pub struct Input<'a> {
+    /// The name under which other files import it.
+    pub name: &'a [u8],
+    /// Its source.
+    pub source: &'a [u8],
+}
+
+/// What is found for files.
+#[derive(Drop)]
+pub enum Found {
+    /// The bytes of a set.
+    Set(Vec<u8>),
+    /// The records of what is wrong.
+    Records(Vec<u8>),
+}
+
+// A file as the library takes it. None if its name or its source is not UTF-8.
+fn text_of<'a>(file: &Input<'a>) -> Option<SourceFile<'a>> {
+    let name = str::from_utf8(file.name).ok()?;
+    let source = str::from_utf8(file.source).ok()?;
+    Some(SourceFile { name, source })
+}
+
+// The files as the library takes them.
+fn texts_of<'a>(alloc: Global, files: &[Input<'a>]) -> Result<Vec<SourceFile<'a>>, Reason> {
+    let mut texts = Vec::new(alloc);
+    for file in files {
+        let Some(text) = text_of(file) else {
+            return Err(Reason::NotUtf8);
+        };
+        let Ok(()) = texts.push(text) else {
+            return Err(Reason::OutOfMemory);
+        };
+    }
+    Ok(texts)
+}
+
+// The bytes, if there are fewer than 2 GiB of them.
+fn within(bytes: Vec<u8>) -> Option<Vec<u8>> {
+    if bytes.len() < 0x8000_0000 {
+        Some(bytes)
+    } else {
+        None
+    }
+}
+
+// What is found for texts.
+fn found(alloc: Global, texts: &[SourceFile<'_>]) -> Result<Found, Reason> {
+    match link_to_bytes(alloc, texts) {
+        Ok(bytes) => Ok(Found::Set(bytes)),
+        Err(LinkBytesFailure::Refused(records)) => match within(records) {
+            Some(records) => Ok(Found::Records(records)),
+            None => Err(Reason::TooLarge),
+        },
+        Err(LinkBytesFailure::TooLarge) => Err(Reason::TooLarge),
+        Err(LinkBytesFailure::NotAFloat) => Err(Reason::NotAFloat),
+        Err(LinkBytesFailure::OutOfMemory) => Err(Reason::OutOfMemory),
+    }
+}
+
+/// The bytes of the set of files, or the records of what is wrong with them, or why there are none.
+pub fn linked(alloc: Global, files: &[Input<'_>]) -> Result<Found, Reason>
+    ensures { MatchResult result (IsFound (given files.now)) (HasNoAnswer (given files.now)) }
+{
+    match texts_of(alloc, files) {
+        Ok(texts) => found(alloc, texts.as_slice()),
+        Err(reason) => Err(reason),
+    }
+}

@@ -1,5 +1,5 @@
 -- Where the parts of a file stand in its source.
-use Rattle.std.specs.Prelude.{ℕ, zero, suc, ℤ, pos, ◌+◌, min, List, [], ◌∷◌, Option, Some, None, length, slice_get, slice_index_or, take, ⊤, MatchOption}
+use Rattle.std.specs.Prelude.{ℕ, zero, suc, ℤ, pos, ◌+◌, ◌-◌, ◌==◌, if◌then◌else◌, min, List, [], ◌∷◌, Option, Some, None, length, slice_get, slice_index_or, take, ⊤, MatchOption}
 use Rattle.std.specs.Int.{unsigned_abs}
 use Rattle.std.specs.List.{position}
 use Rattle.std.specs.Option.{option_and_then, unwrap_or}
@@ -20,8 +20,7 @@ use Rattle.protox_places.specs.Order.{AreByPath}
 
 -- The offset of the first byte of a line; that of the end if the source has no such line.
 abbrev pub line_start : List ℕ → ℕ → ℕ
-line_start source zero = 0
-line_start source (suc line) = slice_index_or (starts 0 source) line (length source)
+line_start source line = if line == 0 then 0 else slice_index_or (starts 0 source) (line - 1) (length source)
 
 -- The offset of a line and a column, both from 0; that of the end if they lie behind it.
 abbrev pub offset_of : List ℕ → ℤ → ℤ → ℕ

@@ -17,7 +17,7 @@ pub(crate) struct SourceLines<'a> {
     starts: Vec<usize>,
 }
 
-impl Model for SourceLines<'_> {
+impl<'a> Model for SourceLines<'a> {
     ghost use Rattle.std.specs.Prelude.{◌≡◌, List, ℕ};
     ghost use Rattle.protox_places.specs.Lines.{starts};
 

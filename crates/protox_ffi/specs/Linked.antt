@@ -26,6 +26,10 @@ abbrev pub IsFound : List GivenFile → Found → Type 0
 IsFound files (Set bytes) = IsLinkedSet files bytes.items
 IsFound files (Records bytes) = AreRefused files bytes.items
 
+-- The name or the source is not UTF-8.
+abbrev pub IsNoText : GivenFile → Type 0
+IsNoText file = IsUtf8 file.name × IsUtf8 file.source → ⊥
+
 -- Some name or source is not UTF-8.
 abbrev pub AreNotAllTexts : List GivenFile → Type 0
 AreNotAllTexts files = All (λ file. IsUtf8 file.name × IsUtf8 file.source) files → ⊥

@@ -1,12 +1,12 @@
 //! The bytes of a linked set, or the records of what is wrong with files.
 
-ghost use Rattle.std.specs.Prelude.{◌≡◌, ◌∷◌, [], IfOk, MatchResult};
-ghost use Rattle.protox_ffi.specs.Linked.{HasNoAnswer, IsAnswer, IsFound, given, given_input};
-ghost use Rattle.protox_link_bytes.specs.Given as link;
+ghost use Rattle.std.specs.Prelude.{◌≡◌, ◌≤◌, ◌<◌, ◌^◌, length, MatchOption, MatchResult};
+ghost use Rattle.protox_ffi.specs.Linked.{HasNoAnswer, IsFound, IsNoText, given, given_input};
+ghost use Rattle.protox_link_bytes.specs.Given.{given as given_texts, given_file};
 
 use crate::outcome::Reason;
 use protox_link_bytes::{LinkBytesFailure, SourceFile, link_to_bytes};
-use std::alloc::{AllocError, Global};
+use std::alloc::Global;
 
 /// A file as a C caller gives it. `struct protox_file` has the same layout.
 #[repr(C)]
@@ -27,14 +27,22 @@ pub enum Found {
 }
 
 // A file as the library takes it. None if its name or its source is not UTF-8.
-fn text_of<'a>(file: &Input<'a>) -> Option<SourceFile<'a>> {
-    let name = str::from_utf8(file.name).ok()?;
-    let source = str::from_utf8(file.source).ok()?;
+fn text_of<'a>(file: &Input<'a>) -> Option<SourceFile<'a>>
+    ensures { MatchOption result (IsNoText (given_input file.now)) (λ text. given_file text ≡ given_input file.now) }
+{
+    let Ok(name) = str::from_utf8(file.name) else {
+        return None;
+    };
+    let Ok(source) = str::from_utf8(file.source) else {
+        return None;
+    };
     Some(SourceFile { name, source })
 }
 
 // The files as the library takes them.
-fn texts_of<'a>(alloc: Global, files: &[Input<'a>]) -> Result<Vec<SourceFile<'a>>, Reason> {
+fn texts_of<'a>(alloc: Global, files: &[Input<'a>]) -> Result<Vec<SourceFile<'a>>, Reason>
+    ensures { MatchResult result (λ texts. given_texts texts.items ≡ given files.now) (HasNoAnswer (given files.now)) }
+{
     let mut texts = Vec::new(alloc);
     for file in files {
         let Some(text) = text_of(file) else {
@@ -48,7 +56,9 @@ fn texts_of<'a>(alloc: Global, files: &[Input<'a>]) -> Result<Vec<SourceFile<'a>
 }
 
 // The bytes, if there are fewer than 2 GiB of them.
-fn within(bytes: Vec<u8>) -> Option<Vec<u8>> {
+fn within(bytes: Vec<u8>) -> Option<Vec<u8>>
+    ensures { MatchOption result (2 ^ 31 ≤ length bytes.items) (λ same. same.items ≡ bytes.items) }
+{
     if bytes.len() < 0x8000_0000 {
         Some(bytes)
     } else {
@@ -57,7 +67,9 @@ fn within(bytes: Vec<u8>) -> Option<Vec<u8>> {
 }
 
 // What is found for texts.
-fn found(alloc: Global, texts: &[SourceFile<'_>]) -> Result<Found, Reason> {
+fn found(alloc: Global, texts: &[SourceFile<'_>]) -> Result<Found, Reason>
+    ensures { MatchResult result (IsFound (given_texts texts.now)) (HasNoAnswer (given_texts texts.now)) }
+{
     match link_to_bytes(alloc, texts) {
         Ok(bytes) => Ok(Found::Set(bytes)),
         Err(LinkBytesFailure::Refused(records)) => match within(records) {

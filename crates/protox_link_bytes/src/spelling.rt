@@ -17,6 +17,8 @@ fn push_file(
     number: usize,
 ) -> Result<(), EncodeError>
     ensures exact { OnOk result (bytes.new.items ≡ bytes.old.items ++ bytes_of (file_at files.now number)) }
+    ensures too_large { IsErrOf result EncodeError.TooLarge → 2 ^ 31 ≤ length (bytes_of (file_at files.now number)) }
+    ensures not_a_float { IsErrOf result EncodeError.NotAFloat → list_all has_floats (file_at files.now number) ≡ false }
 {
     let Some(file) = files.get(number) else {
         return Ok(());

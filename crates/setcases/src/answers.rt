@@ -67,6 +67,6 @@ pub(crate) fn write_set<W: Write>(
         Err(LinkBytesFailure::Refused(records)) => write_records(out, sources, records.as_slice()),
         Err(LinkBytesFailure::TooLarge) => writeln!(out, "too large"),
         Err(LinkBytesFailure::NotAFloat) => writeln!(out, "not a float"),
-        Err(LinkBytesFailure::OutOfMemory) => Err(AllocError.into()),
+        Err(LinkBytesFailure::OutOfMemory) => writeln!(out, "out of memory"),
     }
 }

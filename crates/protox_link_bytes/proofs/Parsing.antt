@@ -1,0 +1,112 @@
+-- One file more is parsed.
+use Rattle.std.proofs.Common.{◌≡◌, ◌<◌, ℕ, List, [], ◌∷◌, ◌++◌, append-nil, length, refl, ap, sym, subst, ◌∙◌}
+use Rattle.std.specs.Prelude.{All}
+use Rattle.std.proofs.lemmas.List.Elements.{All-append, All-cons, All-head, All-nil, All-tail}
+use Rattle.protox_ast.specs.Accepted.{IsAccepted}
+use Rattle.protox_ast.specs.Ast as ast_of
+use Rattle.protox_ast.specs.Places.{Place}
+use Rattle.protox_ast.specs.Tree as tree
+use Rattle.protox_descriptor.specs.declared.descriptor.FileDescriptorProto.{FileDescriptorProto}
+use Rattle.protox_generate.specs.File.{AreSorted}
+use Rattle.protox_link_bytes.specs.Given.{GivenFile}
+use Rattle.protox_link_bytes.specs.Parsed.{AreFiles, AreParsed, AreSyntaxRecords, AreTranslations, HaveSyntaxFaults, IsRefusal, RightFile, WrongFile}
+use Rattle.protox_link_records.specs.LinkRecords.{syntax_records}
+use Rattle.protox_parse.proofs.AnswerLaws.{one_translation}
+use Rattle.protox_parse.specs.Failures.{IsOutOfMemory, IsRefusalOf}
+use Rattle.protox_parse.specs.FaultLists.{AreAllFound, AreLexicalAlone, AreListedOf, AreStanding, ExpectsTruly, NoCheckIsLost}
+use Rattle.protox_parse.specs.Files.{IsFile, IsTranslation}
+use Rattle.protox_parse.specs.FirstFault.{BeginsWithFirst}
+use Rattle.protox_parse.specs.Refusal.{Refusal}
+use Rattle.protox_parse.specs.declared.failure.ParseFailure.{ParseFailure}
+use Rattle.protox_parse.specs.declared.failure.ParseFailure.TheVariants.{Refused, OutOfMemory}
+
+-- ---- lists
+
+pub all_front : {X : Type 0} (P : X → Type 0) (xs ys : List X) → All P (xs ++ ys) → All P xs
+all_front P [] ys h = All-nil P
+all_front P (x ∷ xs) ys h = All-cons P x xs (All-head P x (xs ++ ys) h) (all_front P xs ys (All-tail P x (xs ++ ys) h))
+
+pub all_last : {X : Type 0} (P : X → Type 0) (xs : List X) (y : X) → All P (xs ++ y ∷ []) → P y
+all_last P [] y h = All-head P y [] h
+all_last P (x ∷ xs) y h = all_last P xs y (All-tail P x (xs ++ y ∷ []) h)
+
+-- ---- translations
+
+translations-more : (sources : List GivenFile) (files : List FileDescriptorProto) (source : GivenFile) (file : FileDescriptorProto) → AreTranslations sources files
+    → IsTranslation source.name source.source file → AreTranslations (sources ++ source ∷ []) (files ++ file ∷ [])
+translations-more [] [] source file h is = (is, tt)
+translations-more [] (d ∷ files) source file h is = absurd h
+translations-more (s ∷ sources) [] source file h is = absurd h
+translations-more (s ∷ sources) (d ∷ files) source file h is = (h.0, translations-more sources files source file h.1 is)
+
+-- Sources have one list of translations.
+pub one_list : (sources : List GivenFile) (files others : List FileDescriptorProto) → AreTranslations sources files → AreTranslations sources others → files ≡ others
+one_list [] [] [] h k = refl
+one_list [] (d ∷ files) others h k = absurd h
+one_list [] [] (e ∷ others) h k = absurd k
+one_list (s ∷ sources) [] others h k = absurd h
+one_list (s ∷ sources) (d ∷ files) [] h k = absurd k
+one_list (s ∷ sources) (d ∷ files) (e ∷ others) h k =
+    ap (λ f. f ∷ files) (one_translation s.name s.source d e h.0 k.0) ∙ ap (λ fs. e ∷ fs) (one_list sources files others h.1 k.1)
+
+is_file : (name source : List ℕ) (d : FileDescriptorProto) → IsTranslation name source d → IsFile source
+is_file name source d is = (is.0, is.1, is.2)
+
+pub are_files : (sources : List GivenFile) (files : List FileDescriptorProto) → AreTranslations sources files → AreFiles sources
+are_files [] [] h = All-nil (λ (file : GivenFile). IsFile file.source)
+are_files [] (d ∷ files) h = absurd h
+are_files (s ∷ sources) [] h = absurd h
+are_files (s ∷ sources) (d ∷ files) h = All-cons (λ (file : GivenFile). IsFile file.source) s sources (is_file s.name s.source d h.0) (are_files sources files h.1)
+
+-- ---- one source more
+
+pub parsed-right : (before : List GivenFile) (files : List FileDescriptorProto) (source : GivenFile) (file : FileDescriptorProto) → AreParsed before files
+    → IsTranslation source.name source.source file → AreSorted file → AreParsed (before ++ source ∷ []) (files ++ file ∷ [])
+parsed-right before files source file h is sorted =
+    record {
+      translated = translations-more before files source file h.translated is;
+      sorted = All-append AreSorted files (file ∷ []) h.sorted (All-cons AreSorted file [] sorted (All-nil AreSorted));
+      told = RightFile before [] source h.told (is_file source.name source.source file is);
+    }
+
+pub faults-right : (before : List GivenFile) (bytes : List ℕ) (source : GivenFile) (file : FileDescriptorProto) → HaveSyntaxFaults before bytes
+    → IsTranslation source.name source.source file → HaveSyntaxFaults (before ++ source ∷ []) bytes
+faults-right before bytes source file h is =
+    record {
+      wrong = λ all. h.wrong (all_front (λ (it : GivenFile). IsFile it.source) before (source ∷ []) all);
+      told = RightFile before bytes source h.told (is_file source.name source.source file is);
+    }
+
+refused-more : (before : List GivenFile) (bytes : List ℕ) (source : GivenFile) (refusal : Refusal) → AreSyntaxRecords before bytes
+    → IsRefusal source.name source.source refusal → HaveSyntaxFaults (before ++ source ∷ []) (bytes ++ syntax_records (length before) refusal.source refusal.errors)
+refused-more before bytes source refusal told is =
+    record {
+      wrong = λ all. is.wrong (all_last (λ (it : GivenFile). IsFile it.source) before source all);
+      told = WrongFile before bytes source refusal told is;
+    }
+
+pub refused : (before : List GivenFile) (bytes after : List ℕ) (number : ℕ) (source : GivenFile) (refusal : Refusal) → length before ≡ number
+    → AreSyntaxRecords before bytes → IsRefusal source.name source.source refusal → after ≡ bytes ++ syntax_records number refusal.source refusal.errors
+    → HaveSyntaxFaults (before ++ source ∷ []) after
+refused before bytes after number source refusal count told is e =
+    subst (λ bs. HaveSyntaxFaults (before ++ source ∷ []) bs) (sym (e ∙ ap (λ n. bytes ++ syntax_records n refusal.source refusal.errors) (sym count)))
+    (refused-more before bytes source refusal told is)
+
+-- What `parse` promises of a refusal.
+pub refusal : (name source : List ℕ) (failure : ParseFailure) (r : Refusal) → failure ≡ Refused r
+    → IsRefusalOf name source failure → (IsFile source → IsOutOfMemory failure) → BeginsWithFirst source failure
+    → ((f : tree.File Place) → IsAccepted source f → AreListedOf (ast_of.file (length source) f) failure)
+    → AreStanding source failure → AreLexicalAlone source failure → AreAllFound source failure → NoCheckIsLost source failure → ExpectsTruly source failure
+    → IsRefusal name source r
+refusal name source failure r is of_source only first checked stands lexical all_found no_check_lost words =
+    record {
+      wrong = λ right. subst IsOutOfMemory is (only right);
+      of_source = subst (λ (f : ParseFailure). IsRefusalOf name source f) is of_source;
+      first = subst (λ (f : ParseFailure). BeginsWithFirst source f) is first;
+      checked = λ f accepted. subst (λ (e : ParseFailure). AreListedOf (ast_of.file (length source) f) e) is (checked f accepted);
+      stands = subst (λ (f : ParseFailure). AreStanding source f) is stands;
+      lexical = subst (λ (f : ParseFailure). AreLexicalAlone source f) is lexical;
+      all_found = subst (λ (f : ParseFailure). AreAllFound source f) is all_found;
+      no_check_lost = subst (λ (f : ParseFailure). NoCheckIsLost source f) is no_check_lost;
+      words = subst (λ (f : ParseFailure). ExpectsTruly source f) is words;
+    }

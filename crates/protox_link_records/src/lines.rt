@@ -1,6 +1,6 @@
 //! Offsets of lines and columns.
 
-ghost use Rattle.std.specs.Prelude.{◌≡◌, ◌≤◌, length, map, IfOk};
+ghost use Rattle.std.specs.Prelude.{◌≡◌, ◌==◌, if◌then◌else◌, [], ◌∷◌, ◌++◌, IfOk, OnOk};
 ghost use Rattle.protox_link_records.specs.LinkPlaces as places;
 ghost use Rattle.protox_link_records.specs.LinkRecords.{texts};
 ghost use Rattle.protox_places.specs.Lines.{starts as starts_in};
@@ -14,7 +14,7 @@ use std::marker::Model;
 pub(crate) struct SourceLines<'a> {
     source: &'a str,
     // the offsets behind its newlines
-    starts: Vec<usize>,
+    begins: Vec<usize>,
 }
 
 impl<'a> Model for SourceLines<'a> {
@@ -25,7 +25,17 @@ impl<'a> Model for SourceLines<'a> {
 
     ghost view = { λ lines. lines.source.now };
 
-    ghost invariant = { λ lines. lines.starts.items ≡ starts 0 lines.source.now };
+    ghost invariant = { λ lines. lines.begins.items ≡ starts 0 lines.source.now };
+}
+
+// Adds the offset behind a byte if that is a newline.
+fn push_start(found: &mut Vec<usize>, byte: u8, behind: usize) -> Result<(), AllocError>
+    ensures { OnOk result (found.new.items ≡ found.old.items ++ (if byte == 10 then behind ∷ [] else [])) }
+{
+    if byte == b'\n' {
+        found.push(behind)?;
+    }
+    Ok(())
 }
 
 // The offsets behind the newlines.
@@ -36,9 +46,7 @@ fn starts_of(alloc: Global, source: &[u8]) -> Result<Vec<usize>, AllocError>
     let mut seen = 0;
     for byte in source {
         seen += 1;
-        if *byte == b'\n' {
-            found.push(seen)?;
-        }
+        push_start(&mut found, *byte, seen)?;
     }
     Ok(found)
 }
@@ -51,8 +59,8 @@ impl<'a> SourceLines<'a> {
     pub(crate) fn new(alloc: Global, source: &'a str) -> Result<SourceLines<'a>, AllocError>
         ensures { IfOk result (λ lines. lines ≡ source.now) }
     {
-        let starts = starts_of(alloc, source.as_bytes())?;
-        Ok(SourceLines { source, starts })
+        let begins = starts_of(alloc, source.as_bytes())?;
+        Ok(SourceLines { source, begins })
     }
 
     // The offset of the first byte of a line; that of the end if there is no such line.
@@ -62,7 +70,7 @@ impl<'a> SourceLines<'a> {
         if line == 0 {
             return 0;
         }
-        match self.starts.get(line - 1) {
+        match self.begins.get(line - 1) {
             Some(start) => *start,
             None => self.source.len(),
         }

@@ -1,6 +1,7 @@
 //! Where the parts of a file stand in its source.
 
 ghost use Rattle.std.specs.Prelude.{◌≡◌};
+ghost use Rattle.std.specs.Option.{option_copied};
 ghost use Rattle.protox_link_records.specs.LinkPlaces as found;
 
 use crate::lines::SourceLines;
@@ -45,7 +46,7 @@ fn place_between(lines: &SourceLines<'_>, start: (i32, i32), end: (i32, i32)) ->
 
 /// The place of a location.
 pub(crate) fn place_of(lines: &SourceLines<'_>, location: Option<&Location>) -> Place
-    ensures { result ≡ found.place_of lines.now location.entry }
+    ensures { result ≡ found.place_of lines.now (option_copied location.entry) }
 {
     let Some(location) = location else {
         return no_place();

@@ -1,6 +1,11 @@
 -- Slots that hold numbers.
 use Rattle.std.specs.Prelude.{◌≡◌, ◌<◌, ◌+◌, ◌-◌, ◌*◌, ◌%◌, ℕ, zero, suc, List, ◌∷◌, Option, Some, None, fold, length, slice_index_or}
 
+-- the number in a slot: none is written as zero, and a number as one more than it is
+abbrev pub number_in : ℕ → Option ℕ
+number_in zero = None
+number_in (suc n) = Some n
+
 -- what the slot at an index holds
 abbrev pub held : List (Option ℕ) → ℕ → Option ℕ
 held slots index = slice_index_or slots index None

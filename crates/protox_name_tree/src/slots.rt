@@ -1,6 +1,6 @@
 //! Slots in which numbers are looked for.
 
-ghost use Rattle.std.specs.Prelude.{◌≡◌, ◌<◌, ◌≤◌, ◌+◌, ◌*◌, ◌^◌, ℕ, Some, None, [], false, true, length, IfNone, IfSome, OnOk};
+ghost use Rattle.std.specs.Prelude.{◌≡◌, ◌<◌, ◌≤◌, ◌+◌, ◌*◌, ◌/◌, ◌^◌, ℕ, Some, None, [], false, true, length, IfNone, IfOk, IfSome, OnOk};
 ghost use Rattle.protox_name_tree.specs.Slots.{AreTaken, IsFree, IsInWindow, held, scattered, window_start};
 
 use crate::sought::Sought;
@@ -10,21 +10,26 @@ use std::marker::Model;
 /// How many slots are looked at for a number.
 const WINDOW: usize = 8;
 
+/// How many slots are made at once.
+const ROW: usize = 16;
+
 /// Slots that hold numbers. What has a number is mixed to another one, which tells a window of eight
 /// slots. Its number is in the first of these that was free, so a search ends at the first that is
 /// free. If all eight were taken, its number is kept elsewhere. So a search takes few steps, whatever
 /// is looked for.
 #[derive(Drop)]
 pub(crate) struct Slots {
-    slots: Vec<Option<usize>>,
+    // for each slot, one more than its number, or zero
+    slots: Vec<usize>,
 }
 
 impl Model for Slots {
-    ghost use Rattle.std.specs.Prelude.{List, Option, ℕ};
+    ghost use Rattle.std.specs.Prelude.{List, Option, ℕ, map};
+    ghost use Rattle.protox_name_tree.specs.Slots.{number_in};
 
     ghost Value = { List (Option ℕ) };
 
-    ghost view = { λ s. s.slots.items };
+    ghost view = { λ s. map number_in s.slots.items };
 }
 
 // Numbers that are close to one another are scattered, as names are often numbered.
@@ -32,6 +37,17 @@ fn scattered(mixed: u64) -> u64
     ensures { result ≡ scattered mixed }
 {
     mixed % 4_294_967_296 * 2_654_435_769 % 4_294_967_296
+}
+
+// Free slots, so many rows of them. A row is copied whole, which is faster than slot by slot.
+fn free_rows(alloc: Global, rows: usize) -> Result<Vec<usize>, AllocError>
+    ensures { IfOk result (λ slots. length slots.items ≡ rows * 16) }
+{
+    let mut slots = Vec::with_capacity(alloc, rows.saturating_mul(ROW))?;
+    for row in 0..rows {
+        slots.extend_from_slice(&[0; ROW])?;
+    }
+    Ok(slots)
 }
 
 impl Slots {
@@ -44,19 +60,19 @@ impl Slots {
         }
     }
 
-    /// Makes slots for about `room` numbers, if there are none: three for each.
+    /// Makes slots for about `room` numbers, if there are none: three for each, in whole rows.
     ///
     /// # Errors
     /// `AllocError` where memory runs out.
     pub(crate) fn open(&mut self, alloc: Global, room: usize) -> Result<(), AllocError>
         ensures made { OnOk result (0 < length self.new) }
-        ensures room { self.old ≡ [] → room * 3 + 8 < 2 ^ 64 → OnOk result (length self.new ≡ room * 3 + 8) }
+        ensures room { self.old ≡ [] → room * 3 + 24 < 2 ^ 64 → OnOk result
+            (length self.new ≡ ((room * 3 + 8) / 16 + 1) * 16) }
         ensures kept { (mixed n : ℕ) → IsInWindow self.old mixed n → IsInWindow self.new mixed n }
     {
         if self.slots.is_empty() {
-            let count = room.saturating_add(room).saturating_add(room);
-            let count = count.saturating_add(WINDOW);
-            self.slots = vec![in alloc; None; count]?;
+            let count = room.saturating_mul(3).saturating_add(WINDOW);
+            self.slots = free_rows(alloc, count / ROW + 1)?;
         }
         Ok(())
     }
@@ -66,7 +82,7 @@ impl Slots {
         ensures start { result ≡ window_start (length self.now) mixed }
         ensures small { result < 2 ^ 62 }
     {
-        let slots: &[Option<usize>] = &self.slots;
+        let slots: &[usize] = &self.slots;
         match slots.len().saturating_sub(WINDOW) {
             0 => 0,
             count => (scattered(mixed) % count as u64) as usize,
@@ -78,7 +94,7 @@ impl Slots {
         ensures { result ≡ held self.now index }
     {
         match self.slots.get(index) {
-            Some(slot) => *slot,
+            Some(slot) => slot.checked_sub(1),
             None => None,
         }
     }
@@ -88,7 +104,7 @@ impl Slots {
         ensures yes { result ≡ true → IsFree self.now index }
         ensures no { IsFree self.now index → result ≡ true }
     {
-        index < self.slots.len() && self.slots[index].is_none()
+        index < self.slots.len() && self.slots[index] == 0
     }
 
     // The index of the first slot in the window that holds nothing.
@@ -108,15 +124,19 @@ impl Slots {
         None
     }
 
-    /// Puts a number into a slot of the window, if one holds nothing. Answers whether it did.
+    /// Puts a number into a slot of the window, if one holds nothing. Answers whether it did. The
+    /// largest number of all has no slot.
     pub(crate) fn put(&mut self, mixed: u64, number: usize) -> bool
-        ensures full { result ≡ false → AreTaken self.old mixed 8 }
+        ensures full { number + 1 < 2 ^ 64 → result ≡ false → AreTaken self.old mixed 8 }
         ensures kept { (m n : ℕ) → IsInWindow self.old m n → IsInWindow self.new m n }
         ensures put { result ≡ true → IsInWindow self.new mixed number }
     {
+        let Some(slot) = number.checked_add(1) else {
+            return false;
+        };
         match self.free(mixed) {
             Some(index) => {
-                self.slots[index] = Some(number);
+                self.slots[index] = slot;
                 true
             }
             None => false,
@@ -131,13 +151,11 @@ impl Slots {
     {
         let start = self.window(mixed);
         for step in 0..WINDOW {
-            if self.is_free(start + step) {
+            let Some(number) = self.get(start + step) else {
                 return None;
-            }
-            if let Some(number) = self.get(start + step) {
-                if sought.is_at(number) {
-                    return Some(number);
-                }
+            };
+            if sought.is_at(number) {
+                return Some(number);
             }
         }
         None

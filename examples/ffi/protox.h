@@ -28,7 +28,7 @@
  * the room that is needed, and nothing was written to `out`. The next call parses again, so give
  * room enough at first: 8 bytes for each byte of the source and 64 KiB more serve nearly every
  * file, as memory that is never written to costs little. Reports need less. For protox_link count
- * the bytes of all sources.
+ * the bytes of all sources; its records need more only where many messages repeat long names.
  *
  * THREADS. The library has no state. Any number of threads may call at once, each with its own
  * `out` and `out_len`. Memory comes from malloc, realloc and free, which must be of one allocator;

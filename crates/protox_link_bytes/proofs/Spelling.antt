@@ -26,8 +26,8 @@ pub next : (files : List FileDescriptorProto) (order : List ℕ) (i n : ℕ) (by
     → bytes ≡ bytes_of (in_order files (take i order)) → after ≡ bytes ++ bytes_of (file_at files n) → after ≡ bytes_of (in_order files (take (i + 1) order))
 next files order i n bytes after lt is so_far e =
     let split : in_order files (take (i + 1) order) ≡ in_order files (take i order) ++ file_at files n =
-        ap (in_order files) (take_more order i 0 lt) ∙ in_order-append files (take i order) (get_or order i 0 ∷ [])
-        ∙ ap (λ m. in_order files (take i order) ++ in_order files (m ∷ [])) (sym is) ∙ ap (λ fs. in_order files (take i order) ++ fs) (in_order-one files n) in
+    ap (in_order files) (take_more order i 0 lt) ∙ in_order-append files (take i order) (get_or order i 0 ∷ [])
+    ∙ ap (λ m. in_order files (take i order) ++ in_order files (m ∷ [])) (sym is) ∙ ap (λ fs. in_order files (take i order) ++ fs) (in_order-one files n) in
     e ∙ ap (λ bs. bs ++ bytes_of (file_at files n)) so_far ∙ sym (sets_join (in_order files (take i order)) (file_at files n)) ∙ ap bytes_of (sym split)
 
 -- The files of an order, with those of one number apart.
@@ -35,7 +35,7 @@ apart : (files : List FileDescriptorProto) (order : List ℕ) (i n : ℕ) → i 
     → in_order files order ≡ in_order files (take i order) ++ (file_at files n ++ in_order files (drop (i + 1) order))
 apart files order i n lt is =
     let whole : order ≡ take i order ++ (n ∷ drop (i + 1) order) =
-        sym (take-append-drop i order) ∙ ap (λ rest. take i order ++ rest) (drop_more order i 0 lt ∙ ap (λ m. m ∷ drop (i + 1) order) (sym is)) in
+    sym (take-append-drop i order) ∙ ap (λ rest. take i order ++ rest) (drop_more order i 0 lt ∙ ap (λ m. m ∷ drop (i + 1) order) (sym is)) in
     ap (in_order files) whole ∙ in_order-append files (take i order) (n ∷ drop (i + 1) order)
 
 pub larger : (files : List FileDescriptorProto) (order : List ℕ) (i n : ℕ) → i < length order → n ≡ get_or order i 0
@@ -43,9 +43,9 @@ pub larger : (files : List FileDescriptorProto) (order : List ℕ) (i n : ℕ) �
 larger files order i n lt is large =
     let front = in_order files (take i order) in let back = in_order files (drop (i + 1) order) in
     let whole : bytes_of (in_order files order) ≡ bytes_of front ++ (bytes_of (file_at files n) ++ bytes_of back) =
-        ap bytes_of (apart files order i n lt is) ∙ sets_join front (file_at files n ++ back) ∙ ap (λ bs. bytes_of front ++ bs) (sets_join (file_at files n) back) in
+    ap bytes_of (apart files order i n lt is) ∙ sets_join front (file_at files n ++ back) ∙ ap (λ bs. bytes_of front ++ bs) (sets_join (file_at files n) back) in
     let size : length (bytes_of (in_order files order)) ≡ length (bytes_of front) + (length (bytes_of (file_at files n)) + length (bytes_of back)) =
-        ap length whole ∙ length-append (bytes_of front) (bytes_of (file_at files n) ++ bytes_of back) ∙ ap (λ m. length (bytes_of front) + m) (length-append (bytes_of (file_at files n)) (bytes_of back)) in
+    ap length whole ∙ length-append (bytes_of front) (bytes_of (file_at files n) ++ bytes_of back) ∙ ap (λ m. length (bytes_of front) + m) (length-append (bytes_of (file_at files n)) (bytes_of back)) in
     omega (arith, size, large)
 
 false-within : (a b c : Bool) → b ≡ false → (a && (b && c)) ≡ false

@@ -74,10 +74,7 @@ fn linked(
 /// the faults that `link` finds, in order.
 /// `TooLarge` if the bytes would be 2 GiB or more. `NotAFloat` if an option needs a float and its
 /// value is none. `OutOfMemory` if memory runs out, or if a list has more than 2,147,483,648 parts.
-pub fn link_to_bytes(
-    alloc: Global,
-    files: &[SourceFile<'_>],
-) -> Result<Vec<u8>, LinkBytesFailure>
+pub fn link_to_bytes(alloc: Global, files: &[SourceFile<'_>]) -> Result<Vec<u8>, LinkBytesFailure>
     // The bytes are those of the set that linking makes of the translations of the sources.
     ensures set { IfOk result (λ bytes. IsLinkedSet (given files.now) bytes.items) }
     // Else something is wrong, and the records tell what; or the set has no bytes.

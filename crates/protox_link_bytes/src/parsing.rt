@@ -76,10 +76,7 @@ fn with_source(
 ///
 /// # Errors
 /// `AllocError` where memory runs out.
-pub(crate) fn parse_all(
-    alloc: Global,
-    sources: &[SourceFile<'_>],
-) -> Result<Parsed, AllocError>
+pub(crate) fn parse_all(alloc: Global, sources: &[SourceFile<'_>]) -> Result<Parsed, AllocError>
     ensures { IfOk result (IsParsedOf (given sources.now)) }
 {
     let mut parsed = Parsed::Files(Vec::new(alloc));

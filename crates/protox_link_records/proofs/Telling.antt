@@ -15,8 +15,8 @@ pub told_next : (sources : List (List ℕ)) (files : List FileDescriptorProto) (
     → AreTold sources files (before ++ take i faults) bytes → AreTold sources files (before ++ take (i + 1) faults) after
 told_next sources files before faults i fault bytes after sees packages lt is seen e so_far =
     let next : AreTold sources files ((before ++ take i faults) ++ fault ∷ []) (bytes ++ fault_records sources files sees packages fault) =
-        OneMore (before ++ take i faults) bytes fault sees packages so_far seen in
+    OneMore (before ++ take i faults) bytes fault sees packages so_far seen in
     let all : (before ++ take i faults) ++ fault ∷ [] ≡ before ++ take (i + 1) faults =
-        append_assoc before (take i faults) (fault ∷ []) ∙ ap (λ t. before ++ t) (take_next faults i fault lt is) in
+    append_assoc before (take i faults) (fault ∷ []) ∙ ap (λ t. before ++ t) (take_next faults i fault lt is) in
     subst (λ bs. AreTold sources files (before ++ take (i + 1) faults) bs) (sym e)
     (subst (λ fs. AreTold sources files fs (bytes ++ fault_records sources files sees packages fault)) all next)

@@ -43,13 +43,6 @@ pub fn link_records(
     let lines = lines_of(alloc, sources)?;
     let resolver = Resolver::new(alloc, files)?;
     let mut out = Vec::new(alloc);
-    push_all(
-        alloc,
-        &mut out,
-        lines.as_slice(),
-        files,
-        &resolver,
-        faults,
-    )?;
+    push_all(alloc, &mut out, lines.as_slice(), files, &resolver, faults)?;
     Ok(out)
 }

@@ -1,14 +1,22 @@
 -- One file more is parsed.
 use Rattle.std.proofs.Common.{◌≡◌, ◌<◌, ℕ, List, [], ◌∷◌, ◌++◌, append-nil, length, refl, ap, sym, subst, ◌∙◌}
-use Rattle.std.specs.Prelude.{All}
+use Rattle.std.specs.Prelude.{All, MatchOption, ⊤, Option, Some, None}
+use Rattle.std.proofs.lemmas.Option.{slice_get_within}
 use Rattle.std.proofs.lemmas.List.Elements.{All-append, All-cons, All-head, All-nil, All-tail}
 use Rattle.protox_ast.specs.Accepted.{IsAccepted}
 use Rattle.protox_ast.specs.Ast as ast_of
 use Rattle.protox_ast.specs.Places.{Place}
 use Rattle.protox_ast.specs.Tree as tree
 use Rattle.protox_descriptor.specs.declared.descriptor.FileDescriptorProto.{FileDescriptorProto}
+use Rattle.protox_descriptor.specs.declared.descriptor.SourceCodeInfo.{SourceCodeInfo}
 use Rattle.protox_generate.specs.File.{AreSorted}
-use Rattle.protox_link_bytes.specs.Given.{GivenFile}
+use Rattle.protox_link.specs.Stands.{Stands}
+use Rattle.protox_link_fault.specs.declared.LinkFault.{LinkFault}
+use Rattle.protox_link_records.specs.LinkPlaces.{IsSorted}
+use Rattle.protox_link_records.specs.LinkRecords as records
+use Rattle.protox_link_records.specs.declared.source.SourceFile.{SourceFile}
+use Rattle.protox_places.specs.Order.{AreByPath}
+use Rattle.protox_link_bytes.specs.Given.{GivenFile, given, texts}
 use Rattle.protox_link_bytes.specs.Parsed.{AreFiles, AreParsed, AreSyntaxRecords, AreTranslations, HaveSyntaxFaults, IsRefusal, RightFile, WrongFile}
 use Rattle.protox_link_records.specs.LinkRecords.{syntax_records}
 use Rattle.protox_parse.proofs.AnswerLaws.{one_translation}
@@ -110,3 +118,24 @@ refusal name source failure r is of_source only first checked stands lexical all
       no_check_lost = subst (λ (f : ParseFailure). NoCheckIsLost source f) is no_check_lost;
       words = subst (λ (f : ParseFailure). ExpectsTruly source f) is words;
     }
+
+-- ---- what records need
+
+sorted_if : (info : Option SourceCodeInfo) → (elim info as (λ _. Type 0) [ None ↦ ⊥ | Some it ↦ AreByPath it.location ]) → MatchOption info ⊤ (λ it. AreByPath it.location)
+sorted_if None h = absurd h
+sorted_if (Some info) h = h
+
+pub sorted : (files : List FileDescriptorProto) → All AreSorted files → All IsSorted files
+sorted [] h = All-nil IsSorted
+sorted (file ∷ files) h = All-cons IsSorted file files (sorted_if file.source_code_info (All-head AreSorted file files h)) (sorted files (All-tail AreSorted file files h))
+
+pub stand : (files : List FileDescriptorProto) (faults : List LinkFault) → All (Stands files) faults → All (λ fault. fault.file < length files) faults
+stand files [] h = All-nil (λ (fault : LinkFault). fault.file < length files)
+stand files (fault ∷ faults) h =
+    let first = All-head (Stands files) fault faults h in
+    All-cons (λ (it : LinkFault). it.file < length files) fault faults (slice_get_within files fault.file first.file first.is_there) (stand files faults (All-tail (Stands files) fault faults h))
+
+-- The texts that records speak of are those of the files.
+pub same_texts : (files : List SourceFile) → records.texts files ≡ texts (given files)
+same_texts [] = refl
+same_texts (file ∷ files) = ap (λ rest. file.source.now ∷ rest) (same_texts files)

@@ -1,6 +1,6 @@
 //! The records of what is told of faults.
 
-ghost use Rattle.std.specs.Prelude.{◌≡◌, ◌≤◌, ◌<◌, ◌++◌, List, All, drop, length, take, OnOk};
+ghost use Rattle.std.specs.Prelude.{◌≡◌, ◌≤◌, ◌<◌, [], ◌∷◌, ◌++◌, List, All, length, take, OnOk};
 ghost use Rattle.protox_descriptor.specs.declared.descriptor.FileDescriptorProto.{FileDescriptorProto};
 ghost use Rattle.protox_link.specs.Known.{IsKnownOf};
 ghost use Rattle.protox_link.specs.Seen.{IsSeenBy};
@@ -24,6 +24,13 @@ use protox_link_fault::LinkFault;
 use protox_link_text::{LinkError, errors_of};
 use protox_views::View;
 use std::alloc::{AllocError, Global};
+
+// Adds the number of the file, and that of the kind.
+fn push_front(out: &mut Vec<u8>, file: usize, error: &LinkError) -> Result<(), AllocError>
+    ensures { OnOk result (out.new.items ≡ out.old.items ++ (spelled.number file ++ spelled.number (kind_of error.now))) }
+{
+    push_both(out, file, kind_number(error))
+}
 
 // Adds what is wrong.
 fn push_message(alloc: Global, out: &mut Vec<u8>, error: &LinkError) -> Result<(), AllocError>
@@ -54,7 +61,7 @@ fn push_error(
 ) -> Result<(), AllocError>
     ensures { OnOk result (out.new.items ≡ out.old.items ++ error_record file place.now error.now) }
 {
-    push_both(out, file, kind_number(error))?;
+    push_front(out, file, error)?;
     push_place(out, place)?;
     push_message(alloc, out, error)?;
     push_end(out)?;

@@ -10,4 +10,4 @@ pub returns : goal.returns
 returns c =
     front4 c.args.out.now.items (number c.args.file) (number (kind_of c.args.error.now)) (place_bytes c.args.place.now)
     (counted (text_of c.args.error.now)) (counted [] ++ (counted [] ++ number 0))
-    c.in_ok-push_both.ensures c.in_ok-push_place.ensures c.in_ok-push_message.ensures c.in_ok-push_end.ensures
+    c.in_ok-push_front.ensures c.in_ok-push_place.ensures c.in_ok-push_message.ensures c.in_ok-push_end.ensures

@@ -1,3 +1,3 @@
-pub mod Parsing
 pub mod Refusing
-pub mod Spelling
+pub mod Sets
+pub mod Sources

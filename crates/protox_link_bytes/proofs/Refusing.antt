@@ -5,7 +5,7 @@ use Rattle.protox_descriptor.specs.declared.descriptor.FileDescriptorProto.{File
 use Rattle.protox_imports.proofs.NamesAgree.{ordered_has_no_cycle}
 use Rattle.protox_link.proofs.Seeing.{one_list}
 use Rattle.protox_link.specs.Link.{AreOfFiles}
-use Rattle.protox_link_bytes.proofs.Parsing as parsing
+use Rattle.protox_link_bytes.proofs.Sources as sources_of
 use Rattle.protox_link_bytes.specs.Given.{GivenFile}
 use Rattle.protox_link_bytes.specs.Outcomes.{AreLinkable, AreRefused, HasNoSet, IsNoRefusal}
 use Rattle.protox_link_bytes.specs.declared.failure.LinkBytesFailure.{LinkBytesFailure}
@@ -17,10 +17,10 @@ nothing_wrong sources can faults (inl circle) = ordered_has_no_cycle can.files c
 nothing_wrong sources can faults (inr wrong) = wrong.0 (one_list can.files can.files 0 faults [] wrong.1 can.right)
 
 not_refused : (sources : List GivenFile) (bytes : List ℕ) → AreLinkable sources → AreRefused sources bytes → ⊥
-not_refused sources bytes can (inl syntax) = syntax.wrong (parsing.are_files sources can.files can.translated)
+not_refused sources bytes can (inl syntax) = syntax.wrong (sources_of.are_files sources can.files can.translated)
 not_refused sources bytes can (inr linking) =
     nothing_wrong sources can linking.faults
-    (subst (λ files. AreOfFiles files linking.faults) (parsing.one_list sources linking.files can.files linking.translated can.translated) linking.wrong)
+    (subst (λ files. AreOfFiles files linking.faults) (sources_of.one_list sources linking.files can.files linking.translated can.translated) linking.wrong)
 
 no_refusal : (sources : List GivenFile) (failure : LinkBytesFailure) → AreLinkable sources → HasNoSet sources failure → IsNoRefusal failure
 no_refusal sources (Refused bytes) can h = not_refused sources bytes.items can h

@@ -1,6 +1,6 @@
 -- Files that can be linked are not refused.
-use Rattle.std.proofs.Common.{◌≡◌, ℕ, List, [], Result, Ok, Err, IfErr, sym, subst}
-use Rattle.std.specs.Prelude.{IsErrOf, ◌⊎◌, inl, inr}
+use Rattle.std.proofs.Common.{◌≡◌, ℕ, List, [], Result, Ok, Err, IfErr, inl, inr, sym, subst}
+use Rattle.std.specs.Prelude.{◌⊎◌}
 use Rattle.protox_descriptor.specs.declared.descriptor.FileDescriptorProto.{FileDescriptorProto}
 use Rattle.protox_imports.proofs.NamesAgree.{ordered_has_no_cycle}
 use Rattle.protox_link.proofs.Seeing.{one_list}
@@ -16,7 +16,7 @@ nothing_wrong : (sources : List GivenFile) (can : AreLinkable sources) (faults :
 nothing_wrong sources can faults (inl circle) = ordered_has_no_cycle can.files can.order circle.2.circle can.ordered circle.2.is
 nothing_wrong sources can faults (inr wrong) = wrong.0 (one_list can.files can.files 0 faults [] wrong.1 can.right)
 
-not_refused : (sources : List GivenFile) (bytes : List ℕ) → AreLinkable sources → AreRefused sources bytes → ⊥
+pub not_refused : (sources : List GivenFile) (bytes : List ℕ) → AreLinkable sources → AreRefused sources bytes → ⊥
 not_refused sources bytes can (inl syntax) = syntax.wrong (sources_of.are_files sources can.files can.translated)
 not_refused sources bytes can (inr linking) =
     nothing_wrong sources can linking.faults

@@ -1,5 +1,7 @@
 -- One file more is parsed.
-use Rattle.std.proofs.Common.{◌≡◌, ◌<◌, ℕ, List, [], ◌∷◌, ◌++◌, append-nil, length, refl, ap, sym, subst, ◌∙◌}
+use Rattle.std.proofs.Common.{◌≡◌, ◌<◌, ◌+◌, ℕ, List, [], ◌∷◌, ◌++◌, get_or, length, take, refl, ap, sym, subst, ◌∙◌}
+use Rattle.std.proofs.lemmas.List.{map-append}
+use Rattle.protox_link_records.proofs.Telling.{take_next}
 use Rattle.std.specs.Prelude.{All, MatchOption, ⊤, Option, Some, None}
 use Rattle.std.proofs.lemmas.Option.{slice_get_within}
 use Rattle.std.proofs.lemmas.List.Elements.{All-append, All-cons, All-head, All-nil, All-tail}
@@ -16,8 +18,8 @@ use Rattle.protox_link_records.specs.LinkPlaces.{IsSorted}
 use Rattle.protox_link_records.specs.LinkRecords as records
 use Rattle.protox_link_records.specs.declared.source.SourceFile.{SourceFile}
 use Rattle.protox_places.specs.Order.{AreByPath}
-use Rattle.protox_link_bytes.specs.Given.{GivenFile, given, texts}
-use Rattle.protox_link_bytes.specs.Parsed.{AreFiles, AreParsed, AreSyntaxRecords, AreTranslations, HaveSyntaxFaults, IsRefusal, RightFile, WrongFile}
+use Rattle.protox_link_bytes.specs.Given.{GivenFile, given, given_file, texts}
+use Rattle.protox_link_bytes.specs.Parsed.{AreFiles, AreParsed, AreSyntaxRecords, AreTranslations, HaveSyntaxFaults, IsRefusal, NoFile, RightFile, WrongFile}
 use Rattle.protox_link_records.specs.LinkRecords.{syntax_records}
 use Rattle.protox_parse.proofs.AnswerLaws.{one_translation}
 use Rattle.protox_parse.specs.Failures.{IsOutOfMemory, IsRefusalOf}
@@ -139,3 +141,9 @@ stand files (fault ∷ faults) h =
 pub same_texts : (files : List SourceFile) → records.texts files ≡ texts (given files)
 same_texts [] = refl
 same_texts (file ∷ files) = ap (λ rest. file.source.now ∷ rest) (same_texts files)
+
+pub parsed-none : AreParsed [] []
+parsed-none = record { translated = tt; sorted = All-nil AreSorted; told = NoFile; }
+
+pub given_more : (files : List SourceFile) (i : ℕ) (file : SourceFile) → i < length files → file ≡ get_or files i file → given (take i files) ++ given_file file ∷ [] ≡ given (take (i + 1) files)
+given_more files i file lt is = sym (map-append given_file (take i files) (file ∷ [])) ∙ ap given (take_next files i file lt is)

@@ -23,7 +23,7 @@ pub(crate) enum Parsed {
 // Adds the descriptor of one file more, if none is refused.
 fn with_file(parsed: Parsed, file: FileDescriptorProto) -> Result<Parsed, AllocError>
     requires { AreSorted file }
-    ensures { (before : List GivenFile) (source : GivenFile) → IsParsedOf before parsed.entry → IsTranslation source.name source.source file.entry
+    ensures { (before : List GivenFile) (source : GivenFile) → IsParsedOf before parsed → IsTranslation source.name source.source file
         → IfOk result (IsParsedOf (before ++ source ∷ [])) }
 {
     match parsed {
@@ -44,7 +44,7 @@ fn with_refusal(
     error: &ParseError,
 ) -> Result<Parsed, AllocError>
     requires { length error.now.source ≤ 2147483647 }
-    ensures { (before : List GivenFile) (source : GivenFile) → length before ≡ number → IsParsedOf before parsed.entry
+    ensures { (before : List GivenFile) (source : GivenFile) → length before ≡ number → IsParsedOf before parsed
         → IsRefusal source.name source.source error.now → IfOk result (IsParsedOf (before ++ source ∷ [])) }
 {
     let mut told = match parsed {
@@ -62,7 +62,7 @@ fn with_source(
     number: usize,
     source: &SourceFile<'_>,
 ) -> Result<Parsed, AllocError>
-    ensures { (before : List GivenFile) → length before ≡ number → IsParsedOf before parsed.entry
+    ensures { (before : List GivenFile) → length before ≡ number → IsParsedOf before parsed
         → IfOk result (IsParsedOf (before ++ given_file source.now ∷ [])) }
 {
     match parse(alloc, source.name, source.source) {

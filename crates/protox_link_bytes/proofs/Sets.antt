@@ -3,6 +3,7 @@ use Rattle.std.proofs.Common.{◌≡◌, ◌≤◌, ◌<◌, ◌+◌, ◌^◌, �
 use Rattle.std.proofs.lemmas.List.{drop_more, length-append, take_more, take-append-drop}
 use Rattle.std.proofs.lemmas.List.Folds.{list_all-append}
 use Rattle.std.specs.List.{flat_map, list_all}
+use Rattle.std.specs.Prelude.{Option, Some, None, slice_get}
 use Rattle.protox_descriptor.specs.declared.descriptor.FileDescriptorProto.{FileDescriptorProto}
 use Rattle.protox_encode.proofs.OneKind.{sets_join}
 use Rattle.protox_encode.specs.Floats.{has_floats}
@@ -13,6 +14,19 @@ use Rattle.protox_link_bytes.specs.Spelled.{bytes_of, file_at, in_order}
 pub none : bytes_of [] ≡ []
 unfolding file_set
 none = refl
+
+at : (files : List FileDescriptorProto) (found : Option FileDescriptorProto) (n : ℕ) → slice_get files n ≡ found
+    → file_at files n ≡ (elim found as (λ _. List FileDescriptorProto) [ None ↦ [] | Some file ↦ file ∷ [] ])
+at files found n is = ap (λ (it : Option FileDescriptorProto). elim it as (λ _. List FileDescriptorProto) [ None ↦ [] | Some file ↦ file ∷ [] ]) is
+
+-- Nothing is added where there is no file.
+pub nothing_at : (files : List FileDescriptorProto) (n : ℕ) (old : List ℕ) → slice_get files n ≡ None → old ≡ old ++ bytes_of (file_at files n)
+nothing_at files n old is = sym (ap (λ fs. old ++ bytes_of fs) (at files None n is) ∙ ap (λ bs. old ++ bs) none ∙ append-nil old)
+
+-- What is said of one file is said of what has its number.
+pub of_file : (files : List FileDescriptorProto) (n : ℕ) (file : FileDescriptorProto) (P : List FileDescriptorProto → Type 0) → slice_get files n ≡ Some file
+    → P (file ∷ []) → P (file_at files n)
+of_file files n file P is h = subst P (sym (at files (Some file) n is)) h
 
 in_order-append : (files : List FileDescriptorProto) (these those : List ℕ) → in_order files (these ++ those) ≡ in_order files these ++ in_order files those
 in_order-append files [] those = refl

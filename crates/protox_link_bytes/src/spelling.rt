@@ -9,6 +9,18 @@ use protox_descriptor::descriptor::FileDescriptorProto;
 use protox_encode::{EncodeError, encode_entry};
 use std::alloc::Global;
 
+// Adds bytes. The only error is that memory runs out.
+fn add(bytes: &mut Vec<u8>, more: &[u8]) -> Result<(), EncodeError>
+    ensures exact { OnOk result (bytes.new.items ≡ bytes.old.items ++ more.now) }
+    ensures large { IsErrOf result EncodeError.TooLarge → ⊥ }
+    ensures floats { IsErrOf result EncodeError.NotAFloat → ⊥ }
+{
+    match bytes.extend_from_slice(more) {
+        Ok(()) => Ok(()),
+        Err(_) => Err(EncodeError::OutOfMemory),
+    }
+}
+
 // Adds the file with this number.
 fn push_file(
     alloc: Global,
@@ -23,9 +35,10 @@ fn push_file(
     let Some(file) = files.get(number) else {
         return Ok(());
     };
-    let entry = encode_entry(alloc, file)?;
-    bytes.extend_from_slice(entry.as_slice())?;
-    Ok(())
+    match encode_entry(alloc, file) {
+        Ok(entry) => add(bytes, entry.as_slice()),
+        Err(error) => Err(error),
+    }
 }
 
 /// The bytes of the set of the files with these numbers, in this order.
@@ -44,7 +57,9 @@ pub(crate) fn set_bytes(
 {
     let mut bytes = Vec::new(alloc);
     for number in order {
-        push_file(alloc, &mut bytes, files, *number)?;
+        if let Err(error) = push_file(alloc, &mut bytes, files, *number) {
+            return Err(error);
+        }
     }
     if bytes.len() >= 0x8000_0000 {
         return Err(EncodeError::TooLarge);

@@ -1,4 +1,5 @@
-use Rattle.std.proofs.Common.{List, [], arith, length-map, length-take, sym, subst, take}
+use Rattle.std.proofs.Common.{List, [], arith, length-take, sym, subst, take}
+use Rattle.std.proofs.lemmas.List.{length-map}
 use Rattle.protox_descriptor.specs.declared.descriptor.FileDescriptorProto.{FileDescriptorProto}
 use Rattle.protox_link_bytes.proofs.Sources.{given_more, parsed-none}
 use Rattle.protox_link_bytes.specs.Given.{GivenFile, given, given_file}
@@ -12,5 +13,5 @@ pub loop-number-preserved : goal.loop-number-preserved
 loop-number-preserved c =
     let before = take c.loop-number.number c.args.sources.now in
     subst (λ (files : List GivenFile). IsParsedOf files c.in_ok-parsed.parsed)
-    (given_more c.args.sources.now c.loop-number.number c.index-sources-number.result (omega arith) c.index-sources-number.is)
+    (given_more c.args.sources.now c.loop-number.number c.source-item.result (omega arith) c.source-item.is)
     (c.in_ok-parsed.ensures (given before) (omega (arith, length-map given_file before, length-take c.loop-number.number c.args.sources.now)) c.loop-number.invariant)

@@ -1,7 +1,6 @@
 -- One file more is parsed.
 use Rattle.std.proofs.Common.{◌≡◌, ◌<◌, ◌+◌, ℕ, List, [], ◌∷◌, ◌++◌, get_or, length, take, refl, ap, sym, subst, ◌∙◌}
-use Rattle.std.proofs.lemmas.List.{map-append}
-use Rattle.protox_link_records.proofs.Telling.{take_next}
+use Rattle.std.proofs.lemmas.List.{map-append, take_more}
 use Rattle.std.specs.Prelude.{All, MatchOption, ⊤, Option, Some, None}
 use Rattle.std.proofs.lemmas.Option.{slice_get_within}
 use Rattle.std.proofs.lemmas.List.Elements.{All-append, All-cons, All-head, All-nil, All-tail}
@@ -143,7 +142,7 @@ same_texts [] = refl
 same_texts (file ∷ files) = ap (λ rest. file.source.now ∷ rest) (same_texts files)
 
 pub parsed-none : AreParsed [] []
-parsed-none = record { translated = tt; sorted = All-nil AreSorted; told = NoFile; }
+parsed-none = record { translated = tt; sorted = All-nil AreSorted; told = NoFile }
 
-pub given_more : (files : List SourceFile) (i : ℕ) (file : SourceFile) → i < length files → file ≡ get_or files i file → given (take i files) ++ given_file file ∷ [] ≡ given (take (i + 1) files)
-given_more files i file lt is = sym (map-append given_file (take i files) (file ∷ [])) ∙ ap given (take_next files i file lt is)
+pub given_more : (files : List SourceFile) (i : ℕ) (d : SourceFile) → i < length files → given (take i files) ++ given_file (get_or files i d) ∷ [] ≡ given (take (i + 1) files)
+given_more files i d lt = sym (map-append given_file (take i files) (get_or files i d ∷ [])) ∙ ap given (sym (take_more files i d lt))

@@ -5,6 +5,7 @@ use Rattle.protox_link_bytes.proofs.Sources.{one_list, same_texts, stand}
 use Rattle.protox_link_bytes.specs.Given.{given}
 use Rattle.protox_link_bytes.specs.Parsed.{IsParsedOf}
 use Rattle.protox_link_fault.specs.declared.LinkFault.{LinkFault}
+use Rattle.protox_link_records.specs.LinkRecords as records
 use Rattle.protox_link_records.specs.LinkRecords.{AreTold}
 use Rattle.protox_link_bytes.proofs.linking.told.Goals as goal
 
@@ -23,5 +24,5 @@ returns-in-Ok c =
       faults = c.args.faults.now;
       wrong = c.requires.2;
       told = subst (λ (texts : List (List ℕ)). AreTold texts c.requires.0 c.args.faults.now c.in-Ok.records.items) (same_texts c.args.sources.now)
-          (subst (λ (files : List FileDescriptorProto). AreTold _ files c.args.faults.now c.in-Ok.records.items) same c.in-Ok.ensures);
+          (subst (λ (files : List FileDescriptorProto). AreTold (records.texts c.args.sources.now) files c.args.faults.now c.in-Ok.records.items) same c.in-Ok.ensures);
     }

@@ -13,5 +13,5 @@ pub loop-number-preserved : goal.loop-number-preserved
 loop-number-preserved c =
     let before = take c.loop-number.number c.args.sources.now in
     subst (λ (files : List GivenFile). IsParsedOf files c.in_ok-parsed.parsed)
-    (given_more c.args.sources.now c.loop-number.number c.source-item.result (omega arith) c.source-item.is)
+    (given_more c.args.sources.now c.loop-number.number _ (omega arith))
     (c.in_ok-parsed.ensures (given before) (omega (arith, length-map given_file before, length-take c.loop-number.number c.args.sources.now)) c.loop-number.invariant)

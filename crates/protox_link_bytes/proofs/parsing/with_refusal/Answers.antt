@@ -11,7 +11,7 @@ returns c before source count so_far is =
     let old = c.match-parsed.told.items in
     let n = c.args.number in
     let e = c.in_ok-push_syntax_records.ensures ∙ ap (λ (text : List ℕ). old ++ syntax_records n text c.errors.result.now) c.source.ensures
-        ∙ ap (λ (faults : List ParseErrorKind). old ++ syntax_records n c.args.error.now.source faults) c.errors.ensures.value in
+    ∙ ap (λ (faults : List ParseErrorKind). old ++ syntax_records n c.args.error.now.source faults) c.errors.ensures.value in
     elim c.match-parsed.branch [
       | in-Files w ↦
           refused before old c.push_syntax_records.new.out.items n source c.args.error.now count

@@ -10,10 +10,9 @@ loop-at-preserved c =
     let faults = c.args.faults.now in
     let at = c.loop-at.at in
     let count = c.run_length-count.result in
-    let rest : take (length faults - at) (drop at faults) ≡ drop at faults = take_all (length faults - at) (drop at faults) (omega (arith, length-drop at faults)) in
-    (
+    let rest : take (length faults - at) (drop at faults) ≡ drop at faults = take_all (length faults - at) (drop at faults) (omega (arith, length-drop at faults)) in (
       λ first. subst (λ (told : List LinkFault). AreTold c.args.lines.now c.args.files.now told c.push_faults_of_file.new.out.items)
-      (ap (λ (left : List LinkFault). take at faults ++ take count left) rest ∙ sym (take-add at count faults))
-      (c.in_ok-push_faults_of_file.ensures (take at faults) (c.loop-at.invariant.0 first)),
+          (ap (λ (left : List LinkFault). take at faults ++ take count left) rest ∙ sym (take-add at count faults))
+          (c.in_ok-push_faults_of_file.ensures (take at faults) (c.loop-at.invariant.0 first)),
       omega (arith, c.run_length-count.ensures.within, ap length rest, length-drop at faults, c.loop-at.invariant.1),
     )

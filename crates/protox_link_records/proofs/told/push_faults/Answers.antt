@@ -12,7 +12,7 @@ loop-fault-preserved c before so_far =
     let fault = c.fault-item.result in
     let lt : c.loop-fault.fault-index < length c.args.faults.now = omega arith in
     let same : fault.file ≡ c.args.number =
-        ap (λ (f : LinkFault). f.file) c.fault-item.is ∙ All-get_or (λ (f : LinkFault). f.file ≡ c.args.number) c.args.faults.now c.loop-fault.fault-index fault lt c.requires.same in
+    ap (λ (f : LinkFault). f.file) c.fault-item.is ∙ All-get_or (λ (f : LinkFault). f.file ≡ c.args.number) c.args.faults.now c.loop-fault.fault-index fault lt c.requires.same in
     told_next c.args.lines.now c.args.files.now before c.args.faults.now c.loop-fault.fault-index fault c.loop-fault.out.items c.push_fault.new.out.items
     c.args.view.now.sees.now c.args.view.now.packages lt c.fault-item.is
     (subst (λ (n : ℕ). IsSeenBy c.args.files.now n c.args.view.now.sees.now c.args.view.now.packages) (sym same) c.requires.seen)

@@ -21,7 +21,7 @@ answered_by Found Missing done old new len status bytes lent found is (without r
 
 pub not_all_texts : (files : List Input) (i : ℕ) (file : Input) → i < length files → file ≡ get_or files i file → IsNoText (given_input file) → AreNotAllTexts (linked.given files)
 not_all_texts files i file lt is none all =
-    let within : i < length (linked.given files) = omega (arith, lt, length-map files) in
+    let within : i < length (linked.given files) = omega (arith, lt, length-map {B = GivenFile} files) in
     let at : get_or (linked.given files) i (given_input file) ≡ given_input file = get_or-map given_input files i file (given_input file) lt ∙ ap given_input (sym is) in
     none (subst (λ (it : GivenFile). IsUtf8 it.name × IsUtf8 it.source) at
     (All-get_or (λ (it : GivenFile). IsUtf8 it.name × IsUtf8 it.source) (linked.given files) i (given_input file) within all))

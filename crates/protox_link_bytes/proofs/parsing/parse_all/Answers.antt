@@ -14,4 +14,4 @@ loop-number-preserved c =
     let before = take c.loop-number.number c.args.sources.now in
     subst (λ (files : List GivenFile). IsParsedOf files c.in_ok-parsed.parsed)
     (given_more c.args.sources.now c.loop-number.number _ (omega arith))
-    (c.in_ok-parsed.ensures (given before) (omega (arith, length-map before, length-take c.loop-number.number c.args.sources.now)) c.loop-number.invariant)
+    (c.in_ok-parsed.ensures (given before) (omega (arith, length-map {B = GivenFile} before, length-take c.loop-number.number c.args.sources.now)) c.loop-number.invariant)

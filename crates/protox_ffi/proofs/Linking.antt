@@ -19,12 +19,11 @@ answered_by Found Missing done old new len status bytes lent found is (given b e
 answered_by Found Missing done old new len status bytes lent found is (short b e fits l n s) = too_short done b (subst (Found done) (sym (e ∙ is)) found) fits l n s
 answered_by Found Missing done old new len status bytes lent found is (without reason none l n s) = absurd none
 
-pub not_all_texts : (files : List Input) (i : ℕ) (file : Input) → i < length files → file ≡ get_or files i file → IsNoText (given_input file) → AreNotAllTexts (linked.given files)
-not_all_texts files i file lt is none all =
+pub not_all_texts : (files : List Input) (i : ℕ) (other : Input) → i < length files → IsNoText (given_input (get_or files i other)) → AreNotAllTexts (linked.given files)
+not_all_texts files i other lt none all =
     let within : i < length (linked.given files) = omega (arith, lt, length-map {B = GivenFile} files) in
-    let at : get_or (linked.given files) i (given_input file) ≡ given_input file = get_or-map given_input files i file (given_input file) lt ∙ ap given_input (sym is) in
-    none (subst (λ (it : GivenFile). IsUtf8 it.name × IsUtf8 it.source) at
-    (All-get_or (λ (it : GivenFile). IsUtf8 it.name × IsUtf8 it.source) (linked.given files) i (given_input file) within all))
+    none (subst (λ (it : GivenFile). IsUtf8 it.name × IsUtf8 it.source) (get_or-map given_input files i other (given_input (get_or files i other)) lt)
+    (All-get_or (λ (it : GivenFile). IsUtf8 it.name × IsUtf8 it.source) (linked.given files) i (given_input (get_or files i other)) within all))
 
 pub text_more : (files : List Input) (i : ℕ) (file : Input) (before after : List SourceFile) (made : SourceFile) → i < length files → file ≡ get_or files i file
     → given_file made ≡ given_input file → after ≡ before ++ made ∷ [] → text.given before ≡ linked.given (take i files) → text.given after ≡ linked.given (take (i + 1) files)

@@ -67,7 +67,7 @@ fn within(bytes: Vec<u8>) -> Option<Vec<u8>>
 }
 
 // What is found for texts.
-fn found(alloc: Global, texts: &[SourceFile<'_>]) -> Result<Found, Reason>
+fn found_for(alloc: Global, texts: &[SourceFile<'_>]) -> Result<Found, Reason>
     ensures { MatchResult result (IsFound (given_texts texts.now)) (HasNoAnswer (given_texts texts.now)) }
 {
     match link_to_bytes(alloc, texts) {
@@ -87,7 +87,7 @@ pub fn linked(alloc: Global, files: &[Input<'_>]) -> Result<Found, Reason>
     ensures { MatchResult result (IsFound (given files.now)) (HasNoAnswer (given files.now)) }
 {
     match texts_of(alloc, files) {
-        Ok(texts) => found(alloc, texts.as_slice()),
+        Ok(texts) => found_for(alloc, texts.as_slice()),
         Err(reason) => Err(reason),
     }
 }

@@ -1,5 +1,9 @@
 //! Reading files, and all that they import.
 
+ghost use Rattle.std.specs.Prelude.{All, IfOk, IfSome, OnOk, string_bytes};
+ghost use Rattle.protox_parse.specs.Files.{IsTranslation};
+ghost use Rattle.protolink_run.specs.Outcomes.{IsReadFile};
+
 use crate::faults::tell_refusal;
 use crate::host::{Host, is_want};
 use crate::paths::{Place, canonical, leads_up};
@@ -140,7 +144,9 @@ fn text_of<H: Host, E: Write>(
     reading: &Reading<'_, H>,
     name: &str,
     path: &str,
-) -> io::Result<Option<String>> {
+) -> io::Result<Option<String>>
+    ensures { IfOk result (λ text. IfSome text (λ text. H.holds reading.now.host.now path.now (string_bytes text))) }
+{
     let bytes = match reading.host.read(path) {
         Ok(bytes) => bytes,
         Err(error) if is_want(&error) => return Err(error),
@@ -168,7 +174,9 @@ fn parsed<E: Write>(
     name: &str,
     path: &str,
     text: &str,
-) -> io::Result<Option<FileDescriptorProto>> {
+) -> io::Result<Option<FileDescriptorProto>>
+    ensures { IfOk result (λ file. IfSome file (IsTranslation name.now text.now)) }
+{
     match parse(alloc, name, text) {
         Ok(file) => Ok(Some(file)),
         Err(ParseFailure::Refused(error)) => {
@@ -209,7 +217,10 @@ fn load<H: Host, E: Write>(
     reading: &Reading<'_, H>,
     name: &str,
     loaded: &mut Loaded,
-) -> io::Result<bool> {
+) -> io::Result<bool>
+    ensures { All (IsReadFile H.holds reading.now.host.now) loaded.old.files.items
+        → OnOk result (All (IsReadFile H.holds reading.now.host.now) loaded.new.files.items) }
+{
     let Some(path) = found(alloc, err, reading, name)? else {
         return Ok(false);
     };
@@ -234,7 +245,9 @@ pub(crate) fn load_all<H: Host, E: Write>(
     err: &mut E,
     reading: &Reading<'_, H>,
     inputs: &[String],
-) -> io::Result<Loaded> {
+) -> io::Result<Loaded>
+    ensures { IfOk result (λ loaded. All (IsReadFile H.holds reading.now.host.now) loaded.files.items) }
+{
     let (names, known) = (Vec::new(alloc), BTreeSet::new(alloc));
     let mut wanted = Wanted { names, known };
     for name in inputs {

@@ -32,6 +32,7 @@ RUNS += [('protoscan', words) for words in (['foo.proto'], ['foo.proto', '4.0'],
 RUNS += [('protoscan', [f'../../../examples/{name}.proto']) for name in ('library', 'store')]
 # A last word <FILE is the standard input.
 RUNS += [('linkcases', ['<../../../bench/two_files.txt'])]
+RUNS += [('setcases', ['<../../../bench/two_files.txt'])]
 RUNS += [('protolink', ['-I../../protolink/data', '-o-', '--include_imports', '../../protolink/data/shop.proto'])]
 RUNS += [('protolink', ['-I../../../examples/linked', 'shop/wrong.proto'])]
 

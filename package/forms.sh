@@ -40,7 +40,7 @@ put_library() { # ROOT LIBDIR PREFIX
     mkdir -p "$1/$2/pkgconfig"
     fill package/protox.pc "PREFIX=$3" "LIBDIR=$2" >"$1/$2/pkgconfig/protox.pc"
     put 644 "$1/share/man/man3" "$work"/parts/man/*.3
-    for call in protox_parse_to_descriptor protox_report protox_version; do
+    for call in protox_parse_to_descriptor protox_report protox_link protox_version; do
         ln -s protox.3 "$1/share/man/man3/$call.3"
     done
 }
@@ -65,7 +65,7 @@ make_tar() {
     put 644 "$root/share/doc/protox" "$work/parts/CHANGELOG.md"
     install -m 644 /usr/share/common-licenses/Apache-2.0 "$root/share/doc/protox/LICENSE-APACHE"
     put_examples "$root/share/doc/protox/examples" "${examples[@]}" \
-        examples/ffi/check.c examples/many/Makefile
+        examples/ffi/{check,link}.c examples/many/Makefile
     put 644 "$root/share/doc/protox/examples/linked/shop" "${linked[@]}"
     settle "$root"
     tar -C "$work/tar" --sort=name --mtime="@$SOURCE_DATE_EPOCH" --owner=0 --group=0 \
@@ -124,7 +124,7 @@ make_library_deb() {
     local root=$work/library
     put_library "$root/usr" "lib/$tuple" /usr
     put_debian "$root" libprotox-dev
-    put_examples "$root/usr/share/doc/libprotox-dev/examples" examples/ffi/check.c \
+    put_examples "$root/usr/share/doc/libprotox-dev/examples" examples/ffi/{check,link}.c \
         examples/refused.proto examples/foo.proto
     mkdir -p "$root/DEBIAN"
     echo 'activate-noawait ldconfig' >"$root/DEBIAN/triggers"
@@ -155,5 +155,7 @@ make_crate() {
     install -m 644 examples/ffi/rust/src/protox.rs "$root/src/lib.rs"
     sed 's/^mod protox;$/use protox_ffi as protox;/' examples/ffi/rust/src/main.rs \
         >"$root/examples/messages.rs"
+    sed -e '/^#\[path/d' -e 's/^mod protox;$/use protox_ffi as protox;/' \
+        examples/ffi/rust/src/bin/link.rs >"$root/examples/link.rs"
     settle "$root"
 }

@@ -102,11 +102,11 @@ import protox
 
 assert os.path.exists(os.path.join(os.path.dirname(protox.__file__), 'py.typed'))
 assert protox.__doc__
-for name in ('report', 'parse', 'parse_file', 'comments', 'messages', 'build'):
+for name in ('report', 'parse', 'parse_file', 'link', 'comments', 'messages', 'build'):
     call = getattr(protox, name)
     assert call.__doc__, name
     assert set(typing.get_type_hints(call)) == {*inspect.signature(call).parameters, 'return'}, name
-for name in ('Place', 'Fault', 'ParseError'):
+for name in ('Place', 'Fault', 'ParseError', 'LinkError'):
     assert getattr(protox, name).__doc__, name
 LINES
 }

@@ -4,7 +4,7 @@
 # They are built in another folder, so that they take the installed header.
 build_tests() { # INCLUDE LIBRARY PROGRAM
     mkdir -p "$work/outside"
-    cp examples/ffi/tests.c examples/ffi/trying.h "$work/outside/"
+    cp examples/ffi/{tests.c,trying.h,linking.h} "$work/outside/"
     gcc -std=c11 -O2 -Wall -Wextra -Werror "-I$1" "$work/outside/tests.c" "$2" -pthread \
         -Wl,--wrap=malloc,--wrap=realloc,--wrap=free -o "$3"
 }

@@ -17,7 +17,7 @@ protoparse=$(realpath -m "${2:-$top/crates/protoparse/out/protoparse}")
 python=${PYTHON:-/usr/bin/python3}
 made=$here/out
 mkdir -p "$made"
-rm -f "$made"/{tests,check,header,libprotox.so}
+rm -f "$made"/{tests,check,link,header,libprotox.so}
 passed=0 failed=0
 
 count() { # STATUS NAME: counts a step
@@ -81,6 +81,17 @@ refused.proto:4:19: message numbers must be between 1 and 536870911 (defined her
 LINES
 count $? "check.c says what is wrong"
 
+gcc $flags "$here/link.c" $archives -o link
+count $? "link.c builds"
+(cd "$top/examples/linked" && "$made/link" "$made/set" shop/cart.proto shop/item.proto) > link.out
+count $? "link.c links"
+(cd "$top/examples/linked" && "$made/link" "$made/set.not" shop/wrong.proto shop/item.proto) \
+    > link.out
+[ $? -eq 1 ] && diff - link.out <<'LINES'
+shop/wrong.proto:8:12: "Itm" is not defined.
+LINES
+count $? "link.c says what is wrong"
+
 # C++ takes the header.
 if has g++; then
     echo '#include "protox.h"' > header.cc
@@ -95,6 +106,15 @@ count $? "libprotox.so is made"
 PYTHONDONTWRITEBYTECODE=1 PYTHONPATH=$here "$python" "$here/messages.py" \
     "$top/examples/library.proto" "$top/examples/refused.proto" > python.out 2>&1
 count $? "messages.py runs"
+(cd "$top/examples/linked" && PYTHONDONTWRITEBYTECODE=1 PYTHONPATH=$here "$python" \
+    "$here/link.py" shop/cart.proto shop/item.proto) > link.out
+diff - link.out <<'LINES'
+shop.Item.kind: .shop.Item.Kind
+shop.Cart.items: .shop.Item
+shop.Cart.kinds: .shop.Cart.KindsEntry
+shop.Cart.KindsEntry.value: .shop.Item.Kind
+LINES
+count $? "link.py lists what names stand for"
 PYTHONDONTWRITEBYTECODE=1 PYTHONPATH=$here "$python" "$here/test_protox.py" > python.tests
 count $? "test_protox.py"
 cat python.tests
@@ -111,5 +131,9 @@ if has cargo; then
     "$made/rust/release/messages" "$top/examples/refused.proto" 2> rust.err
     [ $? -eq 1 ] && grep -q 'refused.proto:4:19: message numbers must be between ' rust.err
     count $? "the Rust program says what is wrong"
+    (cd "$top/examples/linked" && "$made/rust/release/link" shop/wrong.proto shop/item.proto) \
+        > link.out
+    [ $? -eq 1 ] && grep -qx 'shop/wrong.proto:8:12: "Itm" is not defined.' link.out
+    count $? "the Rust program says what is wrong with names"
 fi
 end

@@ -1,10 +1,11 @@
 /*
  * protox.h: a parser of Protocol Buffers source files (proto2 and proto3), as a C library.
  *
- * There are three calls. `protox_parse_to_descriptor` makes of a file's name and text the bytes of
+ * There are four calls. `protox_parse_to_descriptor` makes of a file's name and text the bytes of
  * its FileDescriptorProto, with SourceCodeInfo: paths, spans and comments. `protox_report` says
- * all that is wrong with a file, with places. `protox_version` numbers these calls and what they
- * write.
+ * all that is wrong with a file, with places. `protox_link` makes of several files the bytes of a
+ * FileDescriptorSet in which all names are resolved, or says all that is wrong with them.
+ * `protox_version` numbers these calls and what they write.
  *
  * With a package, link with libprotox, the shared or the static library:
  *
@@ -20,23 +21,28 @@
  * free.
  *
  * LENGTHS are in bytes. Texts need no NUL at their end, and may hold NULs. No pointer may be null,
- * also where its length is 0. `out` and `out_len` may not lie within the texts or one another.
+ * also where its length is 0, nor may one in a struct protox_file. `out` and `out_len` may not lie
+ * within the texts, the array of files or one another.
  *
  * ROOM. You give the buffer. Where it is too short the status is PROTOX_TOO_SHORT, `*out_len` is
  * the room that is needed, and nothing was written to `out`. The next call parses again, so give
  * room enough at first: 8 bytes for each byte of the source and 64 KiB more serve nearly every
- * file, as memory that is never written to costs little. Reports need less.
+ * file, as memory that is never written to costs little. Reports need less. For protox_link count
+ * the bytes of all sources; its records need more only where many messages repeat long names.
  *
  * THREADS. The library has no state. Any number of threads may call at once, each with its own
  * `out` and `out_len`. Memory comes from malloc, realloc and free, which must be of one allocator;
  * when it runs out that is a status. Don't call from a signal handler.
  *
  * A SOURCE THAT YOU DON'T TRUST may be any bytes. A byte of it costs up to some 1,100 bytes of
- * memory while it is parsed, so bound its length.
+ * memory while it is parsed, so bound its length. protox_link holds the descriptors of all files at
+ * once: bound the sum of the lengths. No file is opened: an import names one of the given files.
  *
- * VERSIONS. PROTOX_VERSION changes when a call, a status, a kind or a record does. A program that
- * loads the library at run time compares it with protox_version(). Numbers of kinds and statuses
- * keep their meaning, and new ones may come.
+ * VERSIONS. PROTOX_VERSION changes when a call, a status, a kind or a record changes. A program
+ * that loads the library at run time compares it with protox_version(). Numbers of kinds and
+ * statuses keep their meaning, and new ones may come. A call that is new, as protox_link was,
+ * doesn't change it: a program that needs the call fails to link, or to load, with a library that
+ * lacks it.
  */
 #ifndef PROTOX_H
 #define PROTOX_H
@@ -51,13 +57,14 @@ extern "C" {
 #define PROTOX_VERSION 1
 
 /* What a call answers. protox_parse_to_descriptor writes to `out` where it answers PROTOX_ACCEPTED,
- * and protox_report where it answers PROTOX_REFUSED; else `out` stays as it was. */
+ * protox_report where it answers PROTOX_REFUSED, and protox_link at both; else `out` stays as it
+ * was. */
 enum protox_status {
-    PROTOX_ACCEPTED = 0,      /* nothing is wrong with the source */
-    PROTOX_REFUSED = 1,       /* something is; protox_report says what */
+    PROTOX_ACCEPTED = 0,      /* nothing is wrong with the source, or with any of the files */
+    PROTOX_REFUSED = 1,       /* something is; protox_report and protox_link say what */
     PROTOX_OUT_OF_MEMORY = 2, /* memory ran out; nothing is said of the source */
     PROTOX_TOO_SHORT = 3,     /* `out` is too short; *out_len is the room that is needed */
-    PROTOX_NOT_UTF8 = 4,      /* the name or the source is not UTF-8 */
+    PROTOX_NOT_UTF8 = 4,      /* a name or a source is not UTF-8 */
     PROTOX_TOO_LARGE = 5,     /* what is to be written takes 2 GiB or more */
     PROTOX_NOT_A_FLOAT = 6    /* an option's value is no float; no file is known that has this */
 };
@@ -111,7 +118,44 @@ uint32_t protox_report(const uint8_t *name, size_t name_len,
                        const uint8_t *source, size_t source_len,
                        uint8_t *out, size_t out_capacity, size_t *out_len);
 
-/* The kinds of faults. */
+/* A file for protox_link: the name by which other files import it, and its text. */
+struct protox_file {
+    const uint8_t *name;
+    size_t name_len;
+    const uint8_t *source;
+    size_t source_len;
+};
+
+/*
+ * Parses the n files at `files` and links them: each name that they use becomes a dot and the full
+ * name of what it stands for, fields of named types get the type of a message or an enum, and each
+ * field gets a name in JSON, as by protoc. Options stay unresolved. Writes the bytes of the
+ * FileDescriptorSet, with SourceCodeInfo, or records of what is wrong, and to `*out_len` how many
+ * bytes there are.
+ *
+ * Give every file that one of them imports, and each under one name: google/protobuf/ as well.
+ *
+ * PROTOX_ACCEPTED: `out` holds the set. In it each file stands behind all that it imports.
+ * PROTOX_REFUSED: `out` holds records, one at least. PROTOX_TOO_SHORT: call again with more room.
+ * Any other status: `*out_len` is 0.
+ *
+ * If some files have faults of syntax, there is a record for each of these, in the order of the
+ * files, and linking isn't tried. Else there is a record for each error of linking, with a kind of
+ * enum protox_link_kind; of a few faults two errors are told, one behind the other. A record is one
+ * of protox_report with the number of its file in front:
+ *
+ *     number  file        the index in `files`
+ *     number  kind        enum protox_kind or enum protox_link_kind
+ *     number  start       and so on, as for protox_report
+ *
+ * An error of linking stands at the part of the file that it is told of: a name, a number, a range,
+ * an import. Where the source doesn't write that part, it stands at the innermost part around it.
+ * Files that import one another in a circle are told of alone, at an import of the first of them.
+ */
+uint32_t protox_link(const struct protox_file *files, size_t n,
+                     uint8_t *out, size_t out_capacity, size_t *out_len);
+
+/* The kinds of faults of syntax. */
 enum protox_kind {
     PROTOX_INVALID_TOKEN = 1,                     /* no token begins with this character */
     PROTOX_INTEGER_OUT_OF_RANGE = 2,              /* an integer above 2^64 - 1 */
@@ -149,6 +193,54 @@ enum protox_kind {
     PROTOX_EMPTY_ONEOF = 34,                      /* a oneof without a field */
     PROTOX_MESSAGE_NESTING_TOO_DEEP = 35,         /* more than 31 levels of messages and groups */
     PROTOX_FILE_TOO_LARGE = 36                    /* a source of more than 2,147,483,647 bytes */
+};
+
+/* The kinds of errors of linking. */
+enum protox_link_kind {
+    PROTOX_LINK_MISSING_NAME = 101,              /* a declaration has no name */
+    PROTOX_LINK_BAD_NAME = 102,                  /* a name is no identifier */
+    PROTOX_LINK_ALREADY_DEFINED = 103,           /* the file has the full name before */
+    PROTOX_LINK_ALREADY_DEFINED_IN = 104,        /* the scope has the name before */
+    PROTOX_LINK_ALREADY_DEFINED_IN_FILE = 105,   /* another file declares the full name */
+    PROTOX_LINK_VALUE_BESIDE_ENUM = 106,         /* why a value clashes beside its enum */
+    PROTOX_LINK_VALUE_BESIDE_ENUM_IN = 107,      /* the same in a scope */
+    PROTOX_LINK_NOT_IN_TABLE = 108,              /* this can't be */
+    PROTOX_LINK_NOT_A_PACKAGE = 109,             /* a package has the name of something else */
+    PROTOX_LINK_LONG_PACKAGE = 110,              /* the name of a package has more than 511 bytes */
+    PROTOX_LINK_DEEP_PACKAGE = 111,              /* it has more than 100 dots */
+    PROTOX_LINK_NOT_DEFINED = 112,               /* a name stands for nothing */
+    PROTOX_LINK_NOT_IMPORTED = 113,              /* a name stands for what no import shows */
+    PROTOX_LINK_NOT_DEFINED_INSIDE = 114,        /* what a name begins with lacks the rest */
+    PROTOX_LINK_NOT_A_TYPE = 115,                /* a name stands for no message or enum */
+    PROTOX_LINK_NOT_A_MESSAGE = 116,             /* a name stands for what is no message */
+    PROTOX_LINK_MESSAGE_DEFAULT = 117,           /* a default on a field of a message type */
+    PROTOX_LINK_BAD_DEFAULT = 118,               /* the default of an enum is no identifier */
+    PROTOX_LINK_NO_SUCH_VALUE = 119,             /* the default of an enum is none of its values */
+    PROTOX_LINK_NUMBER_REUSED = 120,             /* two fields have the same number */
+    PROTOX_LINK_FIELD_RESERVED = 121,            /* the number of a field is reserved */
+    PROTOX_LINK_FOR_EXTENSIONS = 122,            /* a field's number is in an extension range */
+    PROTOX_LINK_RESERVED_TWICE = 123,            /* a reserved range overlaps another one */
+    PROTOX_LINK_EXTENSIONS_TWICE = 124,          /* an extension range overlaps another one */
+    PROTOX_LINK_EXTENSIONS_RESERVED = 125,       /* an extension range overlaps a reserved one */
+    PROTOX_LINK_VALUE_RESERVED = 126,            /* the number of a value is reserved */
+    PROTOX_LINK_FIELD_NAME_RESERVED = 127,       /* the name of a field is reserved */
+    PROTOX_LINK_VALUE_NAME_RESERVED = 128,       /* the name of a value is reserved */
+    PROTOX_LINK_FIELD_NAME_RESERVED_TWICE = 129, /* a message reserves a name twice */
+    PROTOX_LINK_VALUE_NAME_RESERVED_TWICE = 130, /* an enum reserves a name twice */
+    PROTOX_LINK_FOR_IMPLEMENTATION = 131,        /* a number from 19000 to 19999 */
+    PROTOX_LINK_EMPTY_EXTENSION_RANGE = 132,     /* an extension range has no number */
+    PROTOX_LINK_EMPTY_RESERVED_RANGE = 133,      /* a reserved range has no number */
+    PROTOX_LINK_NO_VALUE = 134,                  /* an enum has no value */
+    PROTOX_LINK_FIRST_NOT_ZERO = 135,            /* proto3: an enum doesn't begin with 0 */
+    PROTOX_LINK_EXTENSIONS_IN_PROTO3 = 136,      /* proto3: an extension range */
+    PROTOX_LINK_FIELDS_ALIKE = 137,              /* proto3: two fields are one in JSON */
+    PROTOX_LINK_VALUES_ALIKE = 138,              /* proto3: two values are alike */
+    PROTOX_LINK_NOT_DECLARED = 139,              /* an extension's number is in no range */
+    PROTOX_LINK_EXTENSION_REUSED = 140,          /* two extensions have the same number */
+    PROTOX_LINK_NOT_OF_OPTIONS = 141,            /* proto3: extends no message of options */
+    PROTOX_LINK_MISSING_IMPORT = 142,            /* no file has the name of an import */
+    PROTOX_LINK_REPEATED_IMPORT = 143,           /* a file imports another one twice */
+    PROTOX_LINK_IMPORT_CYCLE = 144               /* files import one another in a circle */
 };
 
 #ifdef __cplusplus

@@ -1,8 +1,9 @@
 """A parser of Protocol Buffers source files, by the C library libprotox.
 
 `parse(name, source)` and `parse_file(path)` return a FileDescriptorProto or raise ParseError, and
-`report(name, source)` returns what is wrong. `messages(file)` lists the messages of a descriptor
-with their comments:
+`report(name, source)` returns what is wrong. `link(files)` returns a FileDescriptorSet with all
+names resolved, or raises LinkError. `messages(file)` lists the messages of a descriptor with their
+comments:
 
     import protox
     for name, comment in protox.messages(protox.parse_file("foo.proto")):
@@ -15,9 +16,13 @@ import ctypes
 import os
 import struct
 from dataclasses import dataclass, field
-from typing import Any, Callable, Dict, Iterable, Iterator, List, Tuple, Union
+from typing import Any, Callable, Dict, Iterable, Iterator, List, Mapping, Tuple, Union
 
-from google.protobuf.descriptor_pb2 import DescriptorProto, FileDescriptorProto
+from google.protobuf.descriptor_pb2 import (
+    DescriptorProto,
+    FileDescriptorProto,
+    FileDescriptorSet,
+)
 
 VERSION = 1
 ACCEPTED, REFUSED, OUT_OF_MEMORY, TOO_SHORT, NOT_UTF8, TOO_LARGE, NOT_A_FLOAT = range(7)
@@ -46,6 +51,15 @@ if _library.protox_version() != VERSION:
     raise ImportError("libprotox.so is of another version than protox.py")
 
 
+class _File(ctypes.Structure):
+    """struct protox_file"""
+
+    _fields_ = [
+        ("name", ctypes.c_char_p), ("name_len", ctypes.c_size_t),
+        ("source", ctypes.c_char_p), ("source_len", ctypes.c_size_t),
+    ]
+
+
 @dataclass
 class Place:
     """Offsets in bytes; line and column from 0, columns in bytes."""
@@ -59,13 +73,17 @@ class Place:
 
 @dataclass
 class Fault:
-    """One thing that is wrong with a source. `kind` is a number of `enum protox_kind`."""
+    """One thing that is wrong. `kind` is a number of `enum protox_kind` or `enum protox_link_kind`.
+
+    `file` is the name of the file, if `link` tells it.
+    """
 
     kind: int
     place: Place
     message: str
     help: str
     others: List[Place] = field(default_factory=list)
+    file: str = ""
 
 
 class ParseError(Exception):
@@ -77,12 +95,21 @@ class ParseError(Exception):
         super().__init__(f"{name}:{self.line + 1}:{self.column + 1}: {faults[0].message}")
 
 
+class LinkError(Exception):
+    """What is wrong with files: `faults`, and `file`, `line` and `column` of the first, from 0."""
+
+    def __init__(self, faults: List[Fault]) -> None:
+        self.faults, self.file = faults, faults[0].file
+        self.line, self.column = faults[0].place.line, faults[0].place.column
+        super().__init__(f"{self.file}:{self.line + 1}:{self.column + 1}: {faults[0].message}")
+
+
 def _call_with_room(
-    call: Callable[..., int], name: bytes, source: bytes, room: int
+    call: Callable[..., int], given: Tuple[Any, ...], room: int
 ) -> Tuple[int, bytes]:
     while True:
         out, length = ctypes.create_string_buffer(room), ctypes.c_size_t()
-        status = call(name, len(name), source, len(source), out, room, ctypes.byref(length))
+        status = call(*given, out, room, ctypes.byref(length))
         if status != TOO_SHORT:
             return status, out[: length.value]
         room = length.value
@@ -116,7 +143,7 @@ def _raise_unless_good(status: int) -> None:
     if status == OUT_OF_MEMORY:
         raise MemoryError
     if status == NOT_UTF8:
-        raise UnicodeError("the name or the source is not UTF-8")
+        raise UnicodeError("a name or a source is not UTF-8")
     if status in WORDS:
         raise ValueError(WORDS[status])
 
@@ -124,7 +151,7 @@ def _raise_unless_good(status: int) -> None:
 def report(name: Text, source: Text) -> List[Fault]:
     """The faults of a source, which is bytes or a str; an empty list where nothing is wrong."""
     name, source = _as_bytes(name), _as_bytes(source)
-    status, data = _call_with_room(_calls[1], name, source, 1 << 14)
+    status, data = _call_with_room(_calls[1], _given(name, source), 1 << 14)
     _raise_unless_good(status)
     reader, faults = _Reader(data), []
     while reader.at < len(data):
@@ -135,11 +162,52 @@ def report(name: Text, source: Text) -> List[Fault]:
 def parse(name: Text, source: Text) -> FileDescriptorProto:
     """The descriptor of a source, which is bytes or a str, or ParseError with what is wrong."""
     name, source = _as_bytes(name), _as_bytes(source)
-    status, data = _call_with_room(_calls[0], name, source, 8 * len(source) + (1 << 14))
+    room = 8 * len(source) + (1 << 14)
+    status, data = _call_with_room(_calls[0], _given(name, source), room)
     if status == REFUSED:
         raise ParseError(name.decode(), report(name, source))
     _raise_unless_good(status)
     return FileDescriptorProto.FromString(data)
+
+
+def _link_call() -> Callable[..., int]:
+    try:
+        call = _library.protox_link
+    except AttributeError:
+        raise NotImplementedError("this libprotox.so has no protox_link") from None
+    call.restype = ctypes.c_uint32
+    call.argtypes = [
+        ctypes.POINTER(_File), ctypes.c_size_t,
+        ctypes.c_char_p, ctypes.c_size_t, ctypes.POINTER(ctypes.c_size_t),
+    ]
+    return call
+
+
+def link(files: Mapping[str, Text]) -> FileDescriptorSet:
+    """The files, by name and source, with all names resolved; each behind what it imports.
+
+    Give each file that one of them imports. LinkError says what is wrong: the faults of syntax of
+    all files, or else what is wrong with the names and numbers in them.
+    """
+    names = list(files)
+    texts = [(name.encode(), _as_bytes(files[name])) for name in names]
+    array = (_File * len(texts))(*(_given(name, source) for name, source in texts))
+    room = 8 * sum(len(source) for _, source in texts) + (1 << 14)
+    status, data = _call_with_room(_link_call(), (array, len(texts)), room)
+    _raise_unless_good(status)
+    if status == REFUSED:
+        raise LinkError(_link_faults(names, data))
+    return FileDescriptorSet.FromString(data)
+
+
+def _link_faults(names: List[str], data: bytes) -> List[Fault]:
+    reader, faults = _Reader(data), []
+    while reader.at < len(data):
+        (number,) = reader.numbers(1)
+        fault = reader.fault()
+        fault.file = names[number]
+        faults.append(fault)
+    return faults
 
 
 def build() -> Union[str, None]:
@@ -187,6 +255,10 @@ def _messages(
         at, name = (*path, index), front + message.name
         yield name, known.get(at, "").strip()
         yield from _messages(message.nested_type, (*at, 3), name + ".", known)
+
+
+def _given(name: bytes, source: bytes) -> Tuple[bytes, int, bytes, int]:
+    return name, len(name), source, len(source)
 
 
 def _as_bytes(text: Text) -> bytes:

@@ -1,12 +1,23 @@
 """Tests of protox.py."""
 import os
+import shutil
+import subprocess
 import tempfile
 import unittest
+
+from google.protobuf import descriptor_pool
+from google.protobuf.descriptor_pb2 import FileDescriptorSet
 
 import protox
 
 GOOD = "// A.\nmessage A {\n  optional int32 b = 1 [default = 2];\n}\n"
 WRONG = "message A { optional int32 b = 0; }\n"
+CHAIN = {
+    "a.proto": 'import "b.proto";\nmessage A {\n  optional p.B b = 1;\n'
+    "  repeated p.C some_cs = 2;\n}\n",
+    "b.proto": 'package p;\nimport public "c.proto";\nmessage B {\n  optional C c = 1;\n}\n',
+    "c.proto": "package p;\nmessage C {}\n",
+}
 TWICE = "package a;\n\n package b;\n"
 
 
@@ -63,6 +74,66 @@ class Calls(unittest.TestCase):
     def test_not_utf8(self):
         with self.assertRaises(UnicodeError):
             protox.parse("a.proto", b"\xff")
+
+    def test_link(self):
+        found = protox.link(CHAIN)
+        self.assertEqual([it.name for it in found.file], ["c.proto", "b.proto", "a.proto"])
+        fields = found.file[2].message_type[0].field
+        self.assertEqual([it.type for it in fields], [11, 11])
+        self.assertEqual([it.type_name for it in fields], [".p.B", ".p.C"])
+        self.assertEqual([it.json_name for it in fields], ["b", "someCs"])
+        self.assertEqual(found, protox.link(dict(reversed(CHAIN.items()))))
+
+    def test_linked_files_make_classes(self):
+        pool = descriptor_pool.DescriptorPool()
+        for file in protox.link(CHAIN).file:
+            pool.AddSerializedFile(file.SerializeToString())
+        message = pool.FindMessageTypeByName("A")
+        self.assertEqual(message.fields_by_name["b"].message_type.full_name, "p.B")
+
+    @unittest.skipUnless(shutil.which("protoc"), "protoc is not there")
+    def test_link_as_protoc(self):
+        with tempfile.TemporaryDirectory() as folder:
+            for name, source in CHAIN.items():
+                with open(os.path.join(folder, name), "w") as file:
+                    file.write(source)
+            words = ["protoc", "-I.", "--include_imports", "--include_source_info"]
+            words += ["--descriptor_set_out=set", "a.proto"]
+            subprocess.run(words, cwd=folder, check=True, stderr=subprocess.DEVNULL)
+            with open(os.path.join(folder, "set"), "rb") as file:
+                files = FileDescriptorSet.FromString(file.read())
+        for file in files.file:
+            file.source_code_info.location.sort(key=lambda it: list(it.path))
+        self.assertEqual(protox.link(CHAIN), files)
+
+    def test_link_error(self):
+        wrong = CHAIN["b.proto"].replace("C c", "Gone c").replace("public ", "")
+        files = {**CHAIN, "b.proto": wrong}
+        with self.assertRaises(protox.LinkError) as caught:
+            protox.link(files)
+        first, second = caught.exception.faults
+        # PROTOX_LINK_NOT_IMPORTED and PROTOX_LINK_NOT_DEFINED
+        self.assertEqual((first.file, first.kind), ("a.proto", 113))
+        self.assertEqual((second.file, second.kind), ("b.proto", 112))
+        self.assertEqual((second.place.line, second.place.column), (3, 11))
+        self.assertEqual((second.place.start, second.place.end), (52, 56))
+        self.assertEqual(second.message, '"Gone" is not defined.')
+        error = caught.exception
+        self.assertEqual((error.file, error.line, error.column), ("a.proto", 3, 11))
+
+    def test_link_syntax(self):
+        with self.assertRaises(protox.LinkError) as caught:
+            protox.link({"a.proto": GOOD, "b.proto": WRONG})
+        (fault,) = caught.exception.faults
+        self.assertEqual((fault.file, fault.kind, fault.place.column), ("b.proto", 19, 31))
+        self.assertEqual(str(caught.exception), "b.proto:1:32: " + fault.message)
+
+    def test_link_nothing(self):
+        self.assertEqual(list(protox.link({}).file), [])
+
+    def test_link_not_utf8(self):
+        with self.assertRaises(UnicodeError):
+            protox.link({"a.proto": GOOD, "b.proto": b"\xff"})
 
     def test_room(self):
         many = "".join(f"message M{i} {{}}\n" for i in range(3000))

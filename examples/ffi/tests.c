@@ -6,6 +6,7 @@
  * and refuses requests in turn. */
 #define _POSIX_C_SOURCE 200809L
 #include <pthread.h>
+#include "linking.h"
 #include "trying.h"
 
 /* Both calls say of a file what protoparse says of it. */
@@ -239,6 +240,7 @@ int main(int count, char **given)
         no_memory(protox_report, fine, PROTOX_ACCEPTED, all, "report of an accepted source");
     }
     odd_texts();
+    test_link();
     two_threads(fine, wrong);
     compare(repeated("empty.proto", "", "", 0));
     compare(repeated("second.proto", "package a;\n\n  package b;\n", "", 0));

@@ -21,3 +21,12 @@ pub data Answered (Found : List ℕ → Type 0) (Missing : Reason → Type 0) (d
       → Answered Found Missing done old new len status
   without : (reason : Reason) → Missing reason → len ≡ 0 → new ≡ old → status ≡ status_of reason
       → Answered Found Missing done old new len status
+
+-- The same of a call that finds bytes of more than one kind, each with a status of its own.
+pub data AnsweredBy (Found : ℕ → List ℕ → Type 0) (Missing : Reason → Type 0) (old new : List ℕ) (len status : ℕ) : Type 0 where
+  written : (bytes : List ℕ) → Found status bytes → length bytes ≤ length old → len ≡ length bytes → new ≡ bytes ++ drop (length bytes) old
+      → AnsweredBy Found Missing old new len status
+  too_short : (kind : ℕ) (bytes : List ℕ) → Found kind bytes → length old < length bytes → len ≡ length bytes → new ≡ old → status ≡ 3
+      → AnsweredBy Found Missing old new len status
+  nothing : (reason : Reason) → Missing reason → len ≡ 0 → new ≡ old → status ≡ status_of reason
+      → AnsweredBy Found Missing old new len status

@@ -3,13 +3,17 @@
 #![tactic(auto)]
 
 ghost use Rattle.std.specs.Prelude.{◌≡◌};
-ghost use Rattle.protox_ffi.specs.Answers.{Answered};
+ghost use Rattle.protox_ffi.specs.Answers.{Answered, AnsweredBy};
+ghost use Rattle.protox_ffi.specs.Linked.{HasNoAnswer, IsAnswer, given};
 ghost use Rattle.protox_ffi.specs.Outcomes.{HasNoDescriptor, HasNoReport, IsDescriptor, IsReport};
 
 mod found;
+mod linked;
 mod outcome;
 
 use found::{descriptor, report};
+pub use linked::Input;
+use linked::{Found, linked as link};
 use outcome::{deliver, status};
 use std::alloc::Global;
 
@@ -54,6 +58,27 @@ pub extern "C" fn protox_report(
 {
     match report(alloc, name, source) {
         Ok(bytes) => deliver(bytes.as_slice(), 1, out, out_len),
+        Err(reason) => {
+            *out_len = 0;
+            status(reason)
+        }
+    }
+}
+
+/// Writes the bytes of the linked set of these files to `out`, or the records of what is wrong with
+/// them, and how many bytes there are to `out_len`.
+#[unsafe(no_mangle)]
+pub extern "C" fn protox_link(
+    alloc: Global,
+    files: &[Input<'_>],
+    out: &mut [u8],
+    out_len: &mut usize,
+) -> u32
+    ensures { AnsweredBy (IsAnswer (given files.now)) (HasNoAnswer (given files.now)) out.old out.new out_len.new result }
+{
+    match link(alloc, files) {
+        Ok(Found::Set(bytes)) => deliver(bytes.as_slice(), 0, out, out_len),
+        Ok(Found::Records(bytes)) => deliver(bytes.as_slice(), 1, out, out_len),
         Err(reason) => {
             *out_len = 0;
             status(reason)

@@ -1,4 +1,6 @@
 //! A safe wrapper of the C library.
+// A program may use a part of it.
+#![allow(dead_code)]
 
 type Call =
     unsafe extern "C" fn(*const u8, usize, *const u8, usize, *mut u8, usize, *mut usize) -> u32;
@@ -11,6 +13,18 @@ extern "C" {
     fn protox_report(
         name: *const u8, name_len: usize, source: *const u8, source_len: usize,
         out: *mut u8, out_capacity: usize, out_len: *mut usize) -> u32;
+    fn protox_link(
+        files: *const File, n: usize,
+        out: *mut u8, out_capacity: usize, out_len: *mut usize) -> u32;
+}
+
+/// `struct protox_file`
+#[repr(C)]
+struct File {
+    name: *const u8,
+    name_len: usize,
+    source: *const u8,
+    source_len: usize,
 }
 
 /// What is wrong. Line and column are from 0.
@@ -22,6 +36,19 @@ pub struct Fault {
 
 pub enum Failure {
     Refused(Vec<Fault>),
+    /// Memory ran out, or the answer takes 2 GiB or more.
+    NoAnswer,
+}
+
+/// What is wrong with a file that was given to `link`.
+pub struct FileFault {
+    /// The index of the file.
+    pub file: usize,
+    pub fault: Fault,
+}
+
+pub enum LinkFailure {
+    Refused(Vec<FileFault>),
     /// Memory ran out, or the answer takes 2 GiB or more.
     NoAnswer,
 }
@@ -77,4 +104,42 @@ pub fn parse(name: &str, source: &str) -> Result<Vec<u8>, Failure> {
         faults.push(fault(&mut rest));
     }
     Err(if status == 1 { Failure::Refused(faults) } else { Failure::NoAnswer })
+}
+
+fn link_call(files: &[File], room: usize) -> (u32, Vec<u8>) {
+    let (mut out, mut len) = (vec![0; room], 0);
+    // SAFETY: each pointer goes with the length of what it points to, and `out` overlaps none.
+    let status = unsafe {
+        protox_link(files.as_ptr(), files.len(), out.as_mut_ptr(), room, &mut len)
+    };
+    if status == 3 {
+        return link_call(files, len);
+    }
+    out.truncate(len);
+    (status, out)
+}
+
+/// The bytes of the FileDescriptorSet of files, each with its name and its source, in which all
+/// names are resolved; or what is wrong with them. Give each file that one of them imports.
+pub fn link(files: &[(&str, &str)]) -> Result<Vec<u8>, LinkFailure> {
+    let lens = files.iter().map(|(_, source)| source.len());
+    let room = 8 * lens.sum::<usize>() + 65536;
+    let file = |(name, source): &(&str, &str)| File {
+        name: name.as_ptr(),
+        name_len: name.len(),
+        source: source.as_ptr(),
+        source_len: source.len(),
+    };
+    let (status, bytes) = link_call(&files.iter().map(file).collect::<Vec<_>>(), room);
+    match status {
+        0 => return Ok(bytes),
+        1 => {}
+        _ => return Err(LinkFailure::NoAnswer),
+    }
+    let (mut rest, mut faults) = (bytes.as_slice(), Vec::new());
+    while !rest.is_empty() {
+        let file = number(&mut rest) as usize;
+        faults.push(FileFault { file, fault: fault(&mut rest) });
+    }
+    Err(LinkFailure::Refused(faults))
 }

@@ -1,0 +1,4 @@
+pub mod Errors
+pub mod Refusing
+pub mod Sets
+pub mod Sources

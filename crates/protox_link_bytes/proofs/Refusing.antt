@@ -1,0 +1,33 @@
+-- Files that can be linked are not refused.
+use Rattle.std.proofs.Common.{◌≡◌, ℕ, List, [], Result, Ok, Err, IfErr, inl, inr, sym, subst}
+use Rattle.std.specs.Prelude.{◌⊎◌}
+use Rattle.protox_descriptor.specs.declared.descriptor.FileDescriptorProto.{FileDescriptorProto}
+use Rattle.protox_imports.proofs.NamesAgree.{ordered_has_no_cycle}
+use Rattle.protox_link.proofs.Seeing.{one_list}
+use Rattle.protox_link.specs.Link.{AreOfFiles}
+use Rattle.protox_link_bytes.proofs.Sources as sources_of
+use Rattle.protox_link_bytes.specs.Given.{GivenFile}
+use Rattle.protox_link_bytes.specs.Outcomes.{AreLinkable, AreRefused, HasNoSet, IsNoRefusal}
+use Rattle.protox_link_bytes.specs.declared.failure.LinkBytesFailure.{LinkBytesFailure}
+use Rattle.protox_link_bytes.specs.declared.failure.LinkBytesFailure.TheVariants.{Refused, TooLarge, NotAFloat, OutOfMemory}
+use Rattle.protox_link_fault.specs.declared.LinkFault.{LinkFault}
+
+nothing_wrong : (sources : List GivenFile) (can : AreLinkable sources) (faults : List LinkFault) → AreOfFiles can.files faults → ⊥
+nothing_wrong sources can faults (inl circle) = ordered_has_no_cycle can.files can.order circle.2.circle can.ordered circle.2.is
+nothing_wrong sources can faults (inr wrong) = wrong.0 (one_list can.files can.files 0 faults [] wrong.1 can.right)
+
+pub not_refused : (sources : List GivenFile) (bytes : List ℕ) → AreLinkable sources → AreRefused sources bytes → ⊥
+not_refused sources bytes can (inl syntax) = syntax.wrong (sources_of.are_files sources can.files can.translated)
+not_refused sources bytes can (inr linking) =
+    nothing_wrong sources can linking.faults
+    (subst (λ files. AreOfFiles files linking.faults) (sources_of.one_list sources linking.files can.files linking.translated can.translated) linking.wrong)
+
+no_refusal : (sources : List GivenFile) (failure : LinkBytesFailure) → AreLinkable sources → HasNoSet sources failure → IsNoRefusal failure
+no_refusal sources (Refused bytes) can h = not_refused sources bytes.items can h
+no_refusal sources TooLarge can h = tt
+no_refusal sources NotAFloat can h = tt
+no_refusal sources OutOfMemory can h = tt
+
+pub not_refused_if : {V : Type 0} (sources : List GivenFile) (r : Result V LinkBytesFailure) → AreLinkable sources → IfErr r (HasNoSet sources) → IfErr r IsNoRefusal
+not_refused_if {V} sources (Ok v) can h = tt
+not_refused_if {V} sources (Err failure) can h = no_refusal sources failure can h

@@ -1,0 +1,4 @@
+pub mod Given
+pub mod Outcomes
+pub mod Parsed
+pub mod Spelled

@@ -1,0 +1,4 @@
+pub mod Chains
+pub mod Nearest
+pub mod Starts
+pub mod Telling

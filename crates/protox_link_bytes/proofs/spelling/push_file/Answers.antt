@@ -19,7 +19,7 @@ pub returns-in-Ok-clause-exact : goal.returns-in-Ok-clause-exact
 returns-in-Ok-clause-exact c =
     on_ok_weaker c.add.result
     (λ e. e ∙ ap (λ bs. c.args.bytes.now.items ++ bs)
-        (c.as_slice.ensures.value ∙ of_file c.args.files.now c.args.number c.in-Some.file.now (λ files. c.in-Ok.entry.items ≡ bytes_of files) (slice_get_read c.args.files.now (length c.args.files.now) c.args.number c.in-Some.file.now refl (ltb-true c.args.number (length c.args.files.now) (sym c.in-Some.ensures.lookup.0)) c.in-Some.ensures.lookup.1) c.in-Ok.ensures.exact))
+    (c.as_slice.ensures.value ∙ of_file c.args.files.now c.args.number c.in-Some.file.now (λ files. c.in-Ok.entry.items ≡ bytes_of files) (slice_get_read c.args.files.now (length c.args.files.now) c.args.number c.in-Some.file.now refl (ltb-true c.args.number (length c.args.files.now) (sym c.in-Some.ensures.lookup.0)) c.in-Some.ensures.lookup.1) c.in-Ok.ensures.exact))
     c.add.ensures.exact
 
 pub returns-in-Err-clause-too_large : goal.returns-in-Err-clause-too_large

@@ -15,13 +15,14 @@ ghost use Rattle.std.specs.List.{flat_map};
 
 use crate::kinds::kind_number;
 use crate::lines::SourceLines;
-use crate::parts::{push_both, push_number, push_place, push_text};
+use crate::parts::{push_both, push_place};
 use crate::places::Place;
 use crate::search::{fault_place, file_told};
 use protox_descriptor::descriptor::FileDescriptorProto;
 use protox_link::Resolver;
 use protox_link_fault::LinkFault;
 use protox_link_text::{LinkError, errors_of};
+use protox_records::parts::{push_number, push_text};
 use protox_views::View;
 use std::alloc::{AllocError, Global};
 

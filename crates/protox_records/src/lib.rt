@@ -6,7 +6,7 @@ ghost use Rattle.protox_places.specs.Lines.{starts};
 ghost use Rattle.protox_records.specs.Records as spelled;
 
 pub mod kinds;
-mod parts;
+pub mod parts;
 
 use parts::push_record;
 use protox_fault::error::ParseErrorKind;

@@ -15,9 +15,12 @@ use protox_places::faults::first_place;
 use protox_places::lines::LineResolver;
 use std::alloc::{AllocError, Global};
 
-// Adds a number.
+/// Adds a number: four bytes, the lowest first. Of one that four bytes cannot hold, the lowest four.
+///
+/// # Errors
+/// `AllocError` where memory runs out. Then nothing is said of the bytes.
 #[tactic(auto, unfolding(crate::specs::Records::number))]
-fn push_number(out: &mut Vec<u8>, n: usize) -> Result<(), AllocError>
+pub fn push_number(out: &mut Vec<u8>, n: usize) -> Result<(), AllocError>
     ensures { OnOk result (out.new.items ≡ out.old.items ++ spelled.number n) }
 {
     let bytes = [
@@ -29,8 +32,11 @@ fn push_number(out: &mut Vec<u8>, n: usize) -> Result<(), AllocError>
     out.extend_from_slice(&bytes)
 }
 
-// Adds a text behind its length.
-fn push_text(out: &mut Vec<u8>, text: &str) -> Result<(), AllocError>
+/// Adds a text behind its length in bytes.
+///
+/// # Errors
+/// `AllocError` where memory runs out. Then nothing is said of the bytes.
+pub fn push_text(out: &mut Vec<u8>, text: &str) -> Result<(), AllocError>
     ensures { OnOk result (out.new.items ≡ out.old.items ++ spelled.counted text.now) }
 {
     push_number(out, text.len())?;
@@ -200,8 +206,12 @@ fn push_second(
     }
 }
 
-/// Adds the record of a fault.
-pub(crate) fn push_record(
+/// Adds the record of a fault of a source, whose lines `lines` knows: what `records` puts there for
+/// each fault.
+///
+/// # Errors
+/// `AllocError` where memory runs out. Then nothing is said of the bytes.
+pub fn push_record(
     alloc: Global,
     out: &mut Vec<u8>,
     source: &str,

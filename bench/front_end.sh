@@ -1,10 +1,11 @@
 #!/usr/bin/env bash
-# protolink as the front end of protoc: code that protoc's generators and nanopb make of the set that
-# protolink writes, and of the set that protoc writes, compared file by file.
+# protolink as the front end of protoc: code that protoc's generators, nanopb and prost-build make of the
+# set that protolink writes, and of the set that protoc writes, compared file by file.
 # usage: front_end.sh PROTOLINK [ROOT [FILE..]]
 # Without files it takes those of google/protobuf below ROOT, which is /usr/include if not given, and
 # those of two sets that come with this repository, in which no option is set.
-# It needs protoc (Debian: protobuf-compiler, libprotobuf-dev), and takes nanopb where it is installed.
+# It needs protoc (Debian: protobuf-compiler, libprotobuf-dev), and takes nanopb and prost-build (Debian:
+# nanopb; cargo and librust-prost-build-dev) where they are installed.
 # Files of code that differ are listed. The last line is 'N files of code are the same, M differ'.
 set -euo pipefail
 program=$(realpath "$1")
@@ -39,6 +40,23 @@ make_nanopb() {
     done
 }
 
+# Builds a program that calls prost-build, where Debian's package has brought its sources.
+build_prost() {
+    ls /usr/share/cargo/registry/prost-build-* >/dev/null 2>&1 && command -v cargo >/dev/null || return 0
+    cp -r "$here/bench/prost" "$work/.generate"
+    (cd "$work/.generate" && cargo build --offline --quiet)
+    prost=$work/.generate/target/debug/generate
+}
+
+# The code that prost-build makes with a program in protoc's place: make_prost PROGRAM FOLDER FILE..
+make_prost() {
+    local linker=$1 folder=$2
+    shift 2
+    [ -n "$prost" ] || return 0
+    mkdir -p "$folder/prost"
+    PROTOC=$linker "$prost" "$folder/prost" "$@" 2>"$folder/prost.said" || echo refused >>"$folder/prost.said"
+}
+
 # Compares what is made of the files of a folder: compare NAME FOLDER FILE..
 compare() {
     local name=$1 folder=$2 part
@@ -51,7 +69,12 @@ compare() {
     for part in ours theirs; do make_code "$work/$name/$part.pb" "$work/$name/$part" "$@"; done
     make_nanopb "$program" "$work/$name/ours" "$@"
     make_nanopb protoc "$work/$name/theirs" "$@"
+    make_prost "$program" "$work/$name/ours" "$@"
+    make_prost "$(command -v protoc)" "$work/$name/theirs" "$@"
 }
+
+prost=
+build_prost
 
 if [ $# -gt 2 ]; then
     compare given "$root" "${@:3}"

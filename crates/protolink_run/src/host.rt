@@ -1,9 +1,14 @@
 //! Where files are read and written.
 
+ghost use Rattle.std.specs.Prelude.{ℕ, List, IfOk};
+
 use std::io::{self, ErrorKind};
 
 /// Where files are read and written.
 pub trait Host {
+    /// Under this path it may give these bytes.
+    ghost holds: { Self → List ℕ → List ℕ → Type 0 };
+
     /// Whether there is something of this path. An error says that memory ran out.
     fn exists(&self, path: &str) -> io::Result<bool>;
 
@@ -14,7 +19,8 @@ pub trait Host {
     fn program(&self) -> Option<&str>;
 
     /// The bytes of the file of this path.
-    fn read(&self, path: &str) -> io::Result<Vec<u8>>;
+    fn read(&self, path: &str) -> io::Result<Vec<u8>>
+        ensures { IfOk result (λ bytes. holds self.now path.now bytes.items) };
 
     /// Makes a file of this path, which has these bytes. If it can't be written whole, what was
     /// there before stays.

@@ -2,7 +2,8 @@
 //! and two writers.
 #![tactic(auto)]
 
-ghost use Rattle.std.specs.Prelude.{◌≡◌, ◌≤◌, [], true, false, IfOk};
+ghost use Rattle.std.specs.Prelude.{◌≡◌, ◌≢◌, ◌≤◌, [], ◌∷◌, ◌++◌, true, false, All, IfOk, IfSome, IsSome, OnOk, map, slice_index, string_bytes};
+ghost use Rattle.protolink_run.specs.Outcomes.{AreRight, IsPlainWord};
 ghost use Rattle.protox_link.specs.Link.{AreWrong};
 
 mod alike;
@@ -60,7 +61,9 @@ Status: 0 where all is well, 2 where memory runs out or nothing can be said, els
 ";
 
 // The word behind `@`, if it names a file of words.
-fn argument_file(word: &str) -> Option<&str> {
+fn argument_file(word: &str) -> Option<&str>
+    ensures { IsSome result → slice_index word.now 0 ≡ 64 }
+{
     word.strip_prefix('@')
 }
 
@@ -85,6 +88,27 @@ fn add_lines<H: Host>(
     Ok(true)
 }
 
+// Adds a word, or the words of the file that it names. Answers whether that could be read, or else
+// its name.
+fn add_word<'a, H: Host>(
+    alloc: Global,
+    host: &H,
+    word: &'a str,
+    words: &mut Vec<String>,
+) -> io::Result<Option<&'a str>>
+    ensures { slice_index word.entry.now 0 ≢ 64 → OnOk result (map string_bytes words.new.items
+        ≡ map string_bytes words.old.items ++ word.entry.now ∷ []) }
+{
+    let Some(name) = argument_file(word) else {
+        words.push(String::from_str(alloc, word)?)?;
+        return Ok(None);
+    };
+    if add_lines(alloc, host, name, words)? {
+        return Ok(None);
+    }
+    Ok(Some(name))
+}
+
 // The words, with those of files of words in their place. None if such a file can't be read, and
 // that is told.
 fn expanded<H: Host, E: Write>(
@@ -92,15 +116,12 @@ fn expanded<H: Host, E: Write>(
     host: &H,
     words: &[String],
     err: &mut E,
-) -> io::Result<Option<Vec<String>>> {
+) -> io::Result<Option<Vec<String>>>
+    ensures { All IsPlainWord words.now → IfOk result (λ all. IfSome all (λ all. map string_bytes all.items ≡ map string_bytes words.now)) }
+{
     let mut all = Vec::new(alloc);
     for word in words {
-        let word = word.as_str();
-        let Some(name) = argument_file(word) else {
-            all.push(String::from_str(alloc, word)?)?;
-            continue;
-        };
-        if !add_lines(alloc, host, name, &mut all)? {
+        if let Some(name) = add_word(alloc, host, word.as_str(), &mut all)? {
             say(alloc, err, "Failed to open argument file", name)?;
             return Ok(None);
         }
@@ -169,7 +190,9 @@ fn names_of<H: Host, E: Write>(
     places: &[Place],
     work: &Work<'_>,
     err: &mut E,
-) -> io::Result<Option<Vec<String>>> {
+) -> io::Result<Option<Vec<String>>>
+    ensures { work.now.files.items ≢ [] → IfOk result (λ names. IfSome names (λ names. names.items ≢ [])) }
+{
     let mut names = Vec::new(alloc);
     let mut all = true;
     for word in work.files.as_slice() {
@@ -320,7 +343,9 @@ fn done<H: Host, W: Write, E: Write>(
     work: &Work<'_>,
     out: &mut W,
     err: &mut E,
-) -> io::Result<bool> {
+) -> io::Result<bool>
+    ensures { work.now.files.items ≢ [] → IfOk result (λ well. well ≡ true → AreRight H.holds host.now) }
+{
     warn_of_folders(alloc, host, work, err)?;
     let places = all_places(alloc, host, work)?;
     let places = places.as_slice();
@@ -344,7 +369,11 @@ fn tried<H: Host, W: Write, E: Write>(
     words: &[String],
     out: &mut W,
     err: &mut E,
-) -> io::Result<bool> {
+) -> io::Result<bool>
+    ensures none { words.now ≡ [] → IfOk result (λ well. well ≡ true) }
+    ensures right { words.now ≢ [] → All IsPlainWord words.now
+        → IfOk result (λ well. well ≡ true → AreRight H.holds host.now) }
+{
     if words.is_empty() {
         out.write_all(HELP.as_bytes())?;
         return Ok(true);
@@ -374,7 +403,13 @@ pub fn run<H: Host, W: Write, E: Write>(
     out: &mut W,
     err: &mut E,
 ) -> u8
-    ensures { result ≤ 2 }
+    ensures status { result ≤ 2 }
+    // With no word it prints the help. Only that can fail.
+    ensures no_word { words.now ≡ [] → result ≢ 1 }
+    // Where each word is a file's name, the status is 0 only if files were read in which nothing is
+    // wrong.
+    ensures right { words.now ≢ [] → All IsPlainWord words.now → result ≡ 0
+        → AreRight H.holds host.now }
 {
     match tried(alloc, host, words, out, err) {
         Ok(true) => 0,

@@ -1,5 +1,9 @@
 //! Reading files, and all that they import.
 
+ghost use Rattle.std.specs.Prelude.{◌≡◌, ◌≢◌, [], true, false, All, IfOk, IfSome, OnOk, string_bytes};
+ghost use Rattle.protox_parse.specs.Files.{IsTranslation};
+ghost use Rattle.protolink_run.specs.Outcomes.{IsReadFile};
+
 use crate::faults::tell_refusal;
 use crate::host::{Host, is_want};
 use crate::paths::{Place, canonical, leads_up};
@@ -86,14 +90,20 @@ struct Wanted {
 }
 
 impl Wanted {
-    fn add(&mut self, alloc: Global, name: &str) -> Result<(), AllocError> {
+    fn add(&mut self, alloc: Global, name: &str) -> Result<(), AllocError>
+        // The first name is new, and names stay.
+        ensures first { self.old.known.keys ≡ [] → OnOk result (self.new.names.items ≢ []) }
+        ensures more { self.old.names.items ≢ [] → OnOk result (self.new.names.items ≢ []) }
+    {
         if self.known.insert(String::from_str(alloc, name)?)? {
             self.names.push(String::from_str(alloc, name)?)?;
         }
         Ok(())
     }
 
-    fn add_imports(&mut self, alloc: Global, file: &FileDescriptorProto) -> Result<(), AllocError> {
+    fn add_imports(&mut self, alloc: Global, file: &FileDescriptorProto) -> Result<(), AllocError>
+        ensures { self.old.names.items ≢ [] → OnOk result (self.new.names.items ≢ []) }
+    {
         for name in file.dependency.as_slice() {
             self.add(alloc, name.as_str())?;
         }
@@ -140,7 +150,9 @@ fn text_of<H: Host, E: Write>(
     reading: &Reading<'_, H>,
     name: &str,
     path: &str,
-) -> io::Result<Option<String>> {
+) -> io::Result<Option<String>>
+    ensures { IfOk result (λ text. IfSome text (λ text. H.holds reading.now.host.now path.now (string_bytes text))) }
+{
     let bytes = match reading.host.read(path) {
         Ok(bytes) => bytes,
         Err(error) if is_want(&error) => return Err(error),
@@ -168,7 +180,9 @@ fn parsed<E: Write>(
     name: &str,
     path: &str,
     text: &str,
-) -> io::Result<Option<FileDescriptorProto>> {
+) -> io::Result<Option<FileDescriptorProto>>
+    ensures { IfOk result (λ file. IfSome file (IsTranslation name.now text.now)) }
+{
     match parse(alloc, name, text) {
         Ok(file) => Ok(Some(file)),
         Err(ParseFailure::Refused(error)) => {
@@ -209,7 +223,13 @@ fn load<H: Host, E: Write>(
     reading: &Reading<'_, H>,
     name: &str,
     loaded: &mut Loaded,
-) -> io::Result<bool> {
+) -> io::Result<bool>
+    ensures read { All (IsReadFile H.holds reading.now.host.now) loaded.old.files.items
+        → OnOk result (All (IsReadFile H.holds reading.now.host.now) loaded.new.files.items) }
+    ensures added { IfOk result (λ added. added ≡ true → loaded.new.files.items ≢ []) }
+    ensures more { loaded.old.files.items ≢ [] → OnOk result (loaded.new.files.items ≢ []) }
+    ensures failed { OnOk result (loaded.new.failed ≡ loaded.old.failed) }
+{
     let Some(path) = found(alloc, err, reading, name)? else {
         return Ok(false);
     };
@@ -234,7 +254,11 @@ pub(crate) fn load_all<H: Host, E: Write>(
     err: &mut E,
     reading: &Reading<'_, H>,
     inputs: &[String],
-) -> io::Result<Loaded> {
+) -> io::Result<Loaded>
+    ensures read { IfOk result (λ loaded. All (IsReadFile H.holds reading.now.host.now) loaded.files.items) }
+    // Where there are inputs and none of the files failed, some were read.
+    ensures some { inputs.now ≢ [] → IfOk result (λ loaded. loaded.failed ≡ false → loaded.files.items ≢ []) }
+{
     let (names, known) = (Vec::new(alloc), BTreeSet::new(alloc));
     let mut wanted = Wanted { names, known };
     for name in inputs {

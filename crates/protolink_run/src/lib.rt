@@ -406,8 +406,8 @@ pub fn run<H: Host, W: Write, E: Write>(
     ensures status { result ≤ 2 }
     // With no word it prints the help. Only that can fail.
     ensures no_word { words.now ≡ [] → result ≢ 1 }
-    // Where each word is a file's name, the status is 0 only if files were read in which nothing is
-    // wrong.
+    // Where each word is a file's name, the status is 0 only if files were read, at least one, in
+    // which nothing is wrong.
     ensures right { words.now ≢ [] → All IsPlainWord words.now → result ≡ 0
         → AreRight H.holds host.now }
 {

@@ -227,8 +227,6 @@ fn load<H: Host, E: Write>(
     ensures read { All (IsReadFile H.holds reading.now.host.now) loaded.old.files.items
         → OnOk result (All (IsReadFile H.holds reading.now.host.now) loaded.new.files.items) }
     ensures added { IfOk result (λ added. added ≡ true → loaded.new.files.items ≢ []) }
-    ensures more { loaded.old.files.items ≢ [] → OnOk result (loaded.new.files.items ≢ []) }
-    ensures failed { OnOk result (loaded.new.failed ≡ loaded.old.failed) }
 {
     let Some(path) = found(alloc, err, reading, name)? else {
         return Ok(false);
@@ -243,6 +241,30 @@ fn load<H: Host, E: Write>(
     loaded.sources.push(SourceFile { path, text })?;
     loaded.files.push(file)?;
     Ok(true)
+}
+
+// Reads a file, and wants all that it imports. If it can't be read, that is told and noted.
+fn load_next<H: Host, E: Write>(
+    alloc: Global,
+    err: &mut E,
+    reading: &Reading<'_, H>,
+    name: &str,
+    wanted: &mut Wanted,
+    loaded: &mut Loaded,
+) -> io::Result<()>
+    ensures read { All (IsReadFile H.holds reading.now.host.now) loaded.old.files.items
+        → OnOk result (All (IsReadFile H.holds reading.now.host.now) loaded.new.files.items) }
+    ensures some { OnOk result (loaded.new.failed ≡ false → loaded.new.files.items ≢ []) }
+    ensures names { wanted.old.names.items ≢ [] → OnOk result (wanted.new.names.items ≢ []) }
+{
+    if !load(alloc, err, reading, name, loaded)? {
+        loaded.failed = true;
+        return Ok(());
+    }
+    if let Some(file) = loaded.files.last() {
+        wanted.add_imports(alloc, file)?;
+    }
+    Ok(())
 }
 
 /// Reads the files of these names, and all that they import. What can't be read is told.
@@ -275,11 +297,7 @@ pub(crate) fn load_all<H: Host, E: Write>(
             break;
         };
         let name = String::from_str(alloc, name.as_str())?;
-        if !load(alloc, err, reading, name.as_str(), &mut loaded)? {
-            loaded.failed = true;
-        } else if let Some(file) = loaded.files.last() {
-            wanted.add_imports(alloc, file)?;
-        }
+        load_next(alloc, err, reading, name.as_str(), &mut wanted, &mut loaded)?;
     }
     Ok(loaded)
 }

@@ -1,2 +1,2 @@
-mod Plain
+pub mod Plain
 pub mod Reading

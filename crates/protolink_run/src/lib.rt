@@ -4,6 +4,7 @@
 
 ghost use Rattle.std.specs.Prelude.{◌≡◌, ◌≢◌, ◌≤◌, [], ◌∷◌, ◌++◌, true, false, All, IfOk, IfSome, IsSome, OnOk, map, slice_index, string_bytes};
 ghost use Rattle.protolink_run.specs.Outcomes.{AreRight, IsPlainWord};
+ghost use Rattle.protolink_words.specs.Asking.{IsNameWord};
 ghost use Rattle.protox_link.specs.Link.{AreWrong};
 
 mod alike;
@@ -362,7 +363,31 @@ fn done<H: Host, W: Write, E: Write>(
     linked(alloc, host, work, loaded, out, err)
 }
 
+// Does what the words ask for, once the files of words are read. Answers whether all is well.
+fn done_as_asked<H: Host, W: Write, E: Write>(
+    alloc: Global,
+    host: &H,
+    words: &[String],
+    out: &mut W,
+    err: &mut E,
+) -> io::Result<bool>
+    ensures { words.now ≢ [] → All IsNameWord words.now
+        → IfOk result (λ well. well ≡ true → AreRight H.holds host.now) }
+{
+    match asked_by(alloc, words)? {
+        Asked::Help => out.write_all(HELP.as_bytes()).map(|_| true),
+        Asked::Version => out.write_all(VERSION.as_bytes()).map(|_| true),
+        Asked::Work(work) => done(alloc, host, &work, out, err),
+        Asked::Wrong(wrong) => {
+            let text = format!(in alloc; "{wrong}")?;
+            say_line(alloc, err, text.as_str())?;
+            Ok(false)
+        }
+    }
+}
+
 // Does what the words ask for. Answers whether all is well.
+#[tactic(auto, using(crate::proofs::Plain::named, crate::proofs::Plain::some_words))]
 fn tried<H: Host, W: Write, E: Write>(
     alloc: Global,
     host: &H,
@@ -381,16 +406,7 @@ fn tried<H: Host, W: Write, E: Write>(
     let Some(words) = expanded(alloc, host, words, err)? else {
         return Ok(false);
     };
-    match asked_by(alloc, words.as_slice())? {
-        Asked::Help => out.write_all(HELP.as_bytes()).map(|_| true),
-        Asked::Version => out.write_all(VERSION.as_bytes()).map(|_| true),
-        Asked::Work(work) => done(alloc, host, &work, out, err),
-        Asked::Wrong(wrong) => {
-            let text = format!(in alloc; "{wrong}")?;
-            say_line(alloc, err, text.as_str())?;
-            Ok(false)
-        }
-    }
+    done_as_asked(alloc, host, words.as_slice(), out, err)
 }
 
 /// Does what the words ask for: links files, tells what is wrong with them, and writes what is asked

@@ -1,7 +1,7 @@
 //! The words of the program `protolink`: what they ask for. They are protoc's words.
 #![tactic(auto)]
 
-ghost use Rattle.std.specs.Prelude.{◌≡◌, ◌++◌, ◌∷◌, [], ℕ, List, None, All, IfOk, IfSome, OnOk, map, string_bytes};
+ghost use Rattle.std.specs.Prelude.{◌≡◌, ◌≢◌, ◌++◌, ◌∷◌, [], ℕ, List, None, All, MatchBool, IfOk, IfSome, OnOk, map, string_bytes};
 ghost use Rattle.protolink_words.specs.Asking.{IsName, IsNameWord, IsPlain, IsPlainWork, names_of};
 ghost use Rattle.protolink_words.specs.declared.Taken.TheVariants.{More};
 
@@ -64,11 +64,24 @@ pub enum Asked<'a> {
 }
 
 // What comes of one word, or of an option with its value.
+#[derive(Drop)]
 enum Taken<'a> {
     More,
     Help,
     Version,
     Wrong(Wrong<'a>),
+}
+
+impl Taken<'_> {
+    // Whether the next word is to be taken.
+    fn is_more(&self) -> bool
+        ensures { MatchBool result (self.now ≡ More) (self.now ≢ More) }
+    {
+        match self {
+            Taken::More => true,
+            _ => false,
+        }
+    }
 }
 
 // Adds the folders that a value lists, with colons between them.
@@ -229,6 +242,47 @@ fn ended<'a>(work: Work<'a>, waits: Option<&'a str>) -> Asked<'a>
     }
 }
 
+// Takes a word. An option that waits for it gets it.
+fn take_next<'a>(
+    work: &mut Work<'a>,
+    waits: &mut Option<&'a str>,
+    word: &'a str,
+) -> Result<Taken<'a>, AllocError>
+    ensures more { IsName word.now → waits.old ≡ None → IfOk result (λ taken. taken ≡ More) }
+    ensures waits { IsName word.now → waits.old ≡ None → OnOk result (waits.new ≡ None) }
+    ensures plain { (names : List (List ℕ)) → IsName word.now → waits.old ≡ None
+        → IsPlain names work.old → OnOk result (IsPlain (names ++ word.now ∷ []) work.new) }
+{
+    let Some(option) = waits.take() else {
+        return take_word(work, waits, word);
+    };
+    if word.starts_with('-') {
+        return Ok(Taken::Wrong(Wrong::NoValue(option)));
+    }
+    take_option(work, option, word)
+}
+
+// Takes the words, up to one that says what is to be done, or with which something is wrong.
+fn take_all<'a>(
+    work: &mut Work<'a>,
+    waits: &mut Option<&'a str>,
+    words: &'a [String],
+) -> Result<Taken<'a>, AllocError>
+    requires { waits.old ≡ None }
+    ensures more { All IsNameWord words.now → IfOk result (λ taken. taken ≡ More) }
+    ensures waits { All IsNameWord words.now → OnOk result (waits.new ≡ None) }
+    ensures plain { All IsNameWord words.now → IsPlain [] work.old
+        → OnOk result (IsPlain (map string_bytes words.now) work.new) }
+{
+    for word in words {
+        let taken = take_next(work, waits, word.as_str())?;
+        if !taken.is_more() {
+            return Ok(taken);
+        }
+    }
+    Ok(Taken::More)
+}
+
 /// What the words ask for.
 ///
 /// # Errors
@@ -239,22 +293,10 @@ pub fn asked_by(alloc: Global, words: &[String]) -> Result<Asked<'_>, AllocError
 {
     let mut work = no_work(alloc);
     let mut waits: Option<&str> = None;
-    for word in words {
-        let word = word.as_str();
-        let taken = match waits {
-            Some(option) if word.starts_with('-') => Taken::Wrong(Wrong::NoValue(option)),
-            Some(option) => {
-                waits = None;
-                take_option(&mut work, option, word)?
-            }
-            None => take_word(&mut work, &mut waits, word)?,
-        };
-        match taken {
-            Taken::More => (),
-            Taken::Help => return Ok(Asked::Help),
-            Taken::Version => return Ok(Asked::Version),
-            Taken::Wrong(wrong) => return Ok(Asked::Wrong(wrong)),
-        }
+    match take_all(&mut work, &mut waits, words)? {
+        Taken::More => Ok(ended(work, waits)),
+        Taken::Help => Ok(Asked::Help),
+        Taken::Version => Ok(Asked::Version),
+        Taken::Wrong(wrong) => Ok(Asked::Wrong(wrong)),
     }
-    Ok(ended(work, waits))
 }

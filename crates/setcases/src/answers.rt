@@ -1,7 +1,7 @@
 //! What is printed for a set.
 
 use crate::Source;
-use crate::record::{Record, record};
+use crate::record::{Record, next_record};
 use protox_link_bytes::{LinkBytesFailure, SourceFile, link_to_bytes};
 use std::alloc::{AllocError, Global};
 use std::io::{self, Write};
@@ -43,7 +43,7 @@ fn write_record<W: Write>(out: &mut W, sources: &[Source], record: &Record<'_>) 
 fn write_records<W: Write>(out: &mut W, sources: &[Source], bytes: &[u8]) -> io::Result<()> {
     let mut left = bytes;
     for _ in 0..bytes.len() {
-        let Some((record, rest)) = record(left) else {
+        let Some((record, rest)) = next_record(left) else {
             break;
         };
         write_record(out, sources, &record)?;

@@ -67,7 +67,7 @@ fn placed(file: u32, bytes: &[u8]) -> Option<(Record<'_>, &[u8])> {
 }
 
 /// The record at the front, and what is behind it. None if there is no whole record.
-pub(crate) fn record(bytes: &[u8]) -> Option<(Record<'_>, &[u8])> {
+pub(crate) fn next_record(bytes: &[u8]) -> Option<(Record<'_>, &[u8])> {
     let (file, rest) = number(bytes)?;
     let (_kind, rest) = number(rest)?;
     placed(file, rest)

@@ -1,6 +1,7 @@
 -- How texts are mixed to numbers, four bytes at a time.
-use Rattle.std.proofs.Common.{◌≡◌, ℕ, ◌+◌, ◌<◌, ◌≤◌, List, [], ◌∷◌, length, drop, refl, ap, ◌∙◌, sym, arith}
+use Rattle.std.proofs.Common.{◌≡◌, ℕ, ◌+◌, ◌*◌, ◌^◌, ◌<◌, ◌≤◌, List, [], ◌∷◌, length, drop, refl, ap, ◌∙◌, sym, arith}
 use Rattle.std.proofs.lemmas.List.{drop_more}
+use Rattle.std.proofs.lemmas.Nat.{mul-le}
 use Rattle.std.specs.List.{fold}
 use Rattle.std.specs.Prelude.{slice_index}
 use Rattle.protox_name_tree.specs.Slots.{mixed, mixed_on, word}
@@ -31,3 +32,7 @@ few_mixed so_far (a ∷ []) few = refl
 few_mixed so_far (a ∷ b ∷ []) few = refl
 few_mixed so_far (a ∷ b ∷ c ∷ []) few = refl
 few_mixed so_far (a ∷ b ∷ c ∷ d ∷ more) few = absurd (omega arith)
+
+-- The product of two numbers of 32 bits has 64 bits.
+pub product_fits : (x count : ℕ) → x < 4294967296 → count ≤ 4294967295 → x * count < 2 ^ 64
+product_fits x count below near = omega (arith, mul-le x count 4294967295 4294967295 (omega (arith, below)) near)

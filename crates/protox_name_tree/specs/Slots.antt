@@ -1,5 +1,5 @@
 -- Slots that hold numbers.
-use Rattle.std.specs.Prelude.{◌≡◌, ◌<◌, ◌+◌, ◌-◌, ◌*◌, ◌%◌, ℕ, zero, suc, List, ◌∷◌, Option, Some, None, fold, length, slice_index_or}
+use Rattle.std.specs.Prelude.{◌≡◌, ◌<◌, ◌+◌, ◌-◌, ◌*◌, ◌/◌, ◌%◌, ◌^◌, ℕ, zero, suc, List, ◌∷◌, Option, Some, None, fold, length, min, slice_index_or}
 
 -- the number in a slot: none is written as zero, and a number as one more than it is
 abbrev pub number_in : ℕ → Option ℕ
@@ -10,18 +10,14 @@ number_in (suc n) = Some n
 abbrev pub held : List (Option ℕ) → ℕ → Option ℕ
 held slots index = slice_index_or slots index None
 
--- where a window begins, if it may begin at so many indices
-abbrev pub start_among : ℕ → ℕ → ℕ
-start_among zero mixed = 0
-start_among (suc n) mixed = mixed % suc n
-
 -- numbers that are close to one another are scattered over all below 2 to the 32nd
-abbrev pub scattered : ℕ → ℕ
-scattered mixed = ((mixed % 4294967296) * 2654435769) % 4294967296
+unfoldable pub scattered : ℕ → ℕ
+scattered mixed = ((mixed * 11400714819323198485) % 2 ^ 64) / 4294967296
 
--- where the window begins of what is mixed to a number
-abbrev pub window_start : ℕ → ℕ → ℕ
-window_start count mixed = start_among (count - 8) (scattered mixed)
+-- Where the window begins of what is mixed to a number, among so many slots: as far along them as the
+-- scattered number stands among all below 2 to the 32nd.
+unfoldable pub window_start : ℕ → ℕ → ℕ
+window_start count mixed = (scattered mixed * min (count - 8) 4294967295) / 4294967296
 
 -- There is a slot, and it holds nothing.
 pub record IsFree (slots : List (Option ℕ)) (index : ℕ) : Type 0 where

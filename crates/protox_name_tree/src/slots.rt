@@ -32,11 +32,15 @@ impl Model for Slots {
     ghost view = { λ s. map number_in s.slots.items };
 }
 
-// Numbers that are close to one another are scattered, as names are often numbered.
+// Numbers that are close to one another are scattered, as names are often numbered: 2 to the 64th is
+// divided by the golden ratio, and the upper half is taken. The lower bits of the product would follow
+// those of the number, so that some counts of slots would fit some sets of names badly.
+#[tactic(auto, unfolding(crate::specs::Slots::scattered))]
 fn scattered(mixed: u64) -> u64
-    ensures { result ≡ scattered mixed }
+    ensures is { result ≡ scattered mixed }
+    ensures small { result < 4294967296 }
 {
-    mixed % 4_294_967_296 * 2_654_435_769 % 4_294_967_296
+    mixed.wrapping_mul(11_400_714_819_323_198_485) / 4_294_967_296
 }
 
 // Free slots, so many rows of them. A row is copied whole, which is faster than slot by slot.
@@ -78,15 +82,14 @@ impl Slots {
     }
 
     // Where the window begins of what is mixed to a number.
+    #[tactic(auto, using(crate::proofs::Mixing::product_fits), unfolding(crate::specs::Slots::window_start))]
     fn window(&self, mixed: u64) -> usize
         ensures start { result ≡ window_start (length self.now) mixed }
         ensures small { result < 2 ^ 62 }
     {
         let slots: &[usize] = &self.slots;
-        match slots.len().saturating_sub(WINDOW) {
-            0 => 0,
-            count => (scattered(mixed) % count as u64) as usize,
-        }
+        let count = slots.len().saturating_sub(WINDOW).min(0xFFFF_FFFF);
+        (scattered(mixed) * count as u64 / 4_294_967_296) as usize
     }
 
     // What the slot at an index holds.

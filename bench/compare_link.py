@@ -76,6 +76,8 @@ def main():
             sys.exit(f'a line of {group} begins as those that part files')
         sets.append((group, made, order, files))
     found = answers_of(words.program, ''.join(written(group[0], files) for group, _, _, files in sets))
+    if len(found) != len(sets):
+        sys.exit(f'{words.program} answers to {len(found)} of {len(sets)} sets')
     wrong = lines = 0
     for (group, made, order, _), here in zip(sets, found):
         answer = linked_lines(made, order)

@@ -231,6 +231,8 @@ def main():
             out.writelines('\n'.join([f'== set {title}', *answer]) + '\n' for title, _, answer in cases)
         return
     found = answers_of(''.join(written(title, files) for title, files, _ in cases))
+    if len(found) != len(cases):
+        sys.exit(f'{len(found)} of {len(cases)} sets are answered')
     wrong = lines = 0
     for index, ((title, files, answer), here) in enumerate(zip(cases, found)):
         if index >= len(sets):

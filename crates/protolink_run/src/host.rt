@@ -1,13 +1,13 @@
 //! Where files are read and written.
 
-ghost use Rattle.std.specs.Prelude.{ℕ, List, IfOk};
+ghost use Rattle.std.specs.Prelude.{⊤, ℕ, List, IfOk};
 
 use std::io::{self, ErrorKind};
 
 /// Where files are read and written.
 pub trait Host {
-    /// Under this path it may give these bytes.
-    ghost holds: { Self → List ℕ → List ℕ → Type 0 };
+    /// Under this path it may give these bytes. By default that is not known.
+    ghost holds: { Self → List ℕ → List ℕ → Type 0 } = { λ _ _ _. ⊤ };
 
     /// Whether there is something of this path. An error says that memory ran out.
     fn exists(&self, path: &str) -> io::Result<bool>;

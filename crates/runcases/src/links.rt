@@ -23,11 +23,6 @@ struct Machine<'a> {
 }
 
 impl Host for Machine<'_> {
-    ghost use Rattle.std.specs.Prelude.{⊤};
-
-    // What a file holds is not known.
-    ghost holds = { λ _ _ _. ⊤ };
-
     fn exists(&self, path: &str) -> io::Result<bool> {
         match fs::exists(self.rt, path) {
             Ok(exists) => Ok(exists),

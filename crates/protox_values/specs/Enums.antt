@@ -1,5 +1,6 @@
 -- What a statement says to a field whose type is an enum.
-use Rattle.std.specs.Prelude.{◌≡◌, ℕ, ◌%◌, ◌^◌, ◌==◌, ℤ, pos, Bool, true, false, List, find, Option, Some, None, Result, Ok, Err, option_map, ok_or, unwrap_or}
+use Rattle.std.specs.Prelude.{◌≡◌, ℕ, ◌%◌, ◌^◌, ◌==◌, ℤ, pos, Bool, true, List, find, Option, Some, None, Result, Err, option_map, ok_or, unwrap_or}
+use Rattle.std.specs.Option.{option_eq}
 use Rattle.std.specs.Cmp.Lexicographic.{pointwise}
 use Rattle.std.specs.Int.{w32, w64, cast_signed, cast_unsigned}
 use Rattle.protox_descriptor.specs.declared.descriptor.EnumValueDescriptorProto.{EnumValueDescriptorProto}
@@ -9,13 +10,9 @@ use Rattle.protox_values.specs.declared.fault.EnumFault.TheVariants.{NotIdentifi
 use Rattle.protox_values.specs.declared.setting.SettingValue.{SettingValue}
 use Rattle.protox_values.specs.declared.setting.SettingValue.TheVariants as on_wire
 
-abbrev pub is_text : List ℕ → Option (List ℕ) → Bool
-is_text name None = false
-is_text name (Some text) = pointwise ◌==◌ text name
-
 -- Whether the value has this name.
 abbrev pub is_named : List ℕ → EnumValueDescriptorProto → Bool
-is_named name value = is_text name value.name
+is_named name value = option_eq (pointwise ◌==◌) value.name (Some name)
 
 -- An unset number counts as 0.
 abbrev pub number_of : EnumValueDescriptorProto → ℤ
@@ -30,10 +27,6 @@ enum_says values (Some name) = ok_or (option_map number_of (find (is_named name)
 -- The number of a value on the wire: the 64 bits of it.
 abbrev pub number_wire : ℤ → SettingValue
 number_wire n = on_wire.Varint (cast_unsigned w64 n)
-
-abbrev pub enum_wire : Result ℤ EnumFault → Result SettingValue EnumFault
-enum_wire (Ok n) = Ok (number_wire n)
-enum_wire (Err fault) = Err fault
 
 -- What a reader of protobuf takes for the number: the lowest 32 bits, with the sign by the highest
 -- of them.

@@ -73,7 +73,7 @@ bytes_in bytes = ok_or (option_map Bytes bytes) NotString
 
 -- ---- what a statement says
 
-abbrev pub mapped : {T U : Type 0} → (T → U) → Result T ValueFault → Result U ValueFault
+abbrev pub mapped : {T U E : Type 0} → (T → U) → Result T E → Result U E
 mapped f (Ok x) = Ok (f x)
 mapped f (Err fault) = Err fault
 

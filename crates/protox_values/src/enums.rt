@@ -3,7 +3,8 @@
 ghost use Rattle.std.specs.Prelude.{◌≡◌, find, IfOk};
 ghost use Rattle.std.specs.Option.{option_copied};
 ghost use Rattle.std.specs.Result.{result_ok};
-ghost use Rattle.protox_values.specs.Enums.{enum_reading, enum_says, enum_wire, is_named, number_of};
+ghost use Rattle.protox_values.specs.Enums.{enum_reading, enum_says, is_named, number_of, number_wire};
+ghost use Rattle.protox_values.specs.Values.{mapped};
 
 use crate::fault::EnumFault;
 use crate::setting::SettingValue;
@@ -61,7 +62,7 @@ pub fn enum_value(
     option: &UninterpretedOption,
     values: &[EnumValueDescriptorProto],
 ) -> Result<SettingValue, EnumFault>
-    ensures says { result ≡ enum_wire (enum_says values.now option.now.identifier_value) }
+    ensures says { result ≡ mapped number_wire (enum_says values.now option.now.identifier_value) }
     ensures reads_back { IfOk result (λ payload. enum_reading payload ≡ result_ok (enum_says values.now option.now.identifier_value)) }
 {
     match number(option, values) {

@@ -15,7 +15,7 @@ use Rattle.protox_values.specs.declared.types.Held.TheVariants as held
 use Rattle.protox_values.specs.declared.types.ScalarType.{ScalarType}
 
 -- What a field holds: an integer, a truth value, the bits of a float of 32 or of 64 bits, or the
--- bytes of a text or of bytes.
+-- bytes of a string.
 pub data Value : Type 0 where
   Integer : ℤ → Value
   Truth : Bool → Value
@@ -73,6 +73,7 @@ bytes_in bytes = ok_or (option_map Bytes bytes) NotString
 
 -- ---- what a statement says
 
+-- The answer with its value turned into another one.
 abbrev pub mapped : {T U E : Type 0} → (T → U) → Result T E → Result U E
 mapped f (Ok x) = Ok (f x)
 mapped f (Err fault) = Err fault

@@ -1,0 +1,3 @@
+pub mod Parts
+pub mod Paths
+pub mod Types

@@ -1,0 +1,4 @@
+pub mod Fields
+pub mod Failure
+pub mod Names
+pub mod Settings

@@ -1,0 +1,15 @@
+//! What the statement of an option sets: each part of its name leads to a field, from the message of
+//! options on, and its value is one of the type of the last field.
+#![tactic(auto)]
+
+mod enums;
+mod fault;
+mod fields;
+mod names;
+mod setting;
+
+pub use crate::enums::enum_numbered;
+pub use crate::fault::{NameFailure, NameFault, NameFaultKind, SettingFailure, SettingFault};
+pub use crate::fields::{field_numbered, message_of_type};
+pub use crate::names::fields_of;
+pub use crate::setting::{Said, field_said};

@@ -21,26 +21,10 @@ FOLDER = 'crates/settingcases'
 PROGRAM = f'{FOLDER}/out/settingcases'
 KINDS = {0: 'varint', 1: 'eight', 5: 'four'}
 GROUP = 3
-# What protoc says of a name, and the word for it. The name in it ends with the part that is wrong.
-NAMES = (
-    (r'Option "(.*)" unknown\. .*', 'unknown'),
-    (r'Option "(.*?)" is resolved to .*', 'unknown'),
-    (r'Option field "(.*)" is not a field or extension of message ".*"\.', 'of another message'),
-    (r'Option "(.*)" is an atomic type, not a message\.', 'not a message'),
-    (r'Option field "(.*)" is a repeated message\. .*', 'repeated'),
-    (r'Option must not use reserved name "(.*)"\.', 'reserved'),
-)
-VALUES = (
-    (r'Value out of range for .*', 'out of range'),
-    (r'Value must be integer for .*', 'not integer'),
-    (r'Value must be non-negative integer for .*', 'not non-negative'),
-    (r'Value must be number for .*', 'not number'),
-    (r'Value must be identifier for .*', 'not identifier'),
-    (r'Value must be "true" or "false" for .*', 'not truth'),
-    (r'Value must be quoted string for .*', 'not string'),
-    (r'Enum type ".*" has no value named ".*" for option ".*"\.', 'no such value'),
-    (r'Option ".*" is a message\. To set the entire message, .*', 'not in braces'),
-)
+# What protoc says where the first part of a name is found in a scope and the others aren't. The text of
+# `NameFaultText` has no such scope, so it is held beside what protoc says of other unknown names.
+IN_SCOPE = re.compile(r'Option "(.*?)" is resolved to "\(.*\)", which is not defined\. .*')
+UNKNOWN = 'Option "{}" unknown. Ensure that your proto definition file imports the proto which defines the option.'
 
 
 def sets(text):
@@ -157,15 +141,9 @@ def said(data, source):
 
 
 def wrong(text):
-    """What is wrong, by what protoc says."""
-    for pattern, word in NAMES:
-        found = re.fullmatch(pattern, text)
-        if found:
-            return f'{word} at {parts(found[1]) - 1}'
-    for pattern, word in VALUES:
-        if re.fullmatch(pattern, text):
-            return word
-    return f'not known: {text}'
+    """What is wrong, in protoc's words."""
+    found = IN_SCOPE.fullmatch(text)
+    return UNKNOWN.format(found[1]) if found else text
 
 
 def answer(protoc, files):

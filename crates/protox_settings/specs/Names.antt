@@ -31,7 +31,7 @@ may_stand in_parentheses field = in_parentheses || not (is_some field.extendee)
 abbrev pub field_from : Table → ℕ → Bool → ℕ → Option FieldDescriptorProto → Result ℕ NameFaultKind
 field_from table message in_parentheses n None = Err Unknown
 field_from table message in_parentheses n (Some field) =
-    if may_stand in_parentheses field then (if is_of table message n field then Ok n else Err OfOtherMessage)
+    if may_stand in_parentheses field then (if is_of table message n field then Ok n else Err (OfOtherMessage message))
     else Err Unknown
 
 -- The message that is the type of a field. A part behind the field's name needs one, and not many.

@@ -15,8 +15,8 @@ pub enum NameFaultKind {
     Reserved,
     /// The part stands for no field, or for none that the file sees.
     Unknown,
-    /// The part stands for a field of another message.
-    OfOtherMessage,
+    /// The part stands for a field of another message than the one with this number.
+    OfOtherMessage(usize),
     /// Further parts follow, and the type of the part's field is no message.
     NotAMessage,
     /// Further parts follow, and the part's field is repeated.

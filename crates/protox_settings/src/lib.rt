@@ -7,9 +7,11 @@ mod fault;
 mod fields;
 mod names;
 mod setting;
+mod text;
 
 pub use crate::enums::enum_numbered;
 pub use crate::fault::{NameFailure, NameFault, NameFaultKind, SettingFailure, SettingFault};
 pub use crate::fields::{field_numbered, message_of_type};
 pub use crate::names::fields_of;
 pub use crate::setting::{Said, field_said};
+pub use crate::text::{NameFaultText, NotInBracesText};

@@ -59,7 +59,7 @@ fn field_from(
     if is_of(view.symbols, message, number, field) {
         Ok(number)
     } else {
-        Err(NameFaultKind::OfOtherMessage)
+        Err(NameFaultKind::OfOtherMessage(message))
     }
 }
 

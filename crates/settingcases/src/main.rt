@@ -8,7 +8,7 @@
 //!
 //! For each statement it prints a line: the numbers of the fields that its name goes through, with
 //! dots, and what it says to the last of them on the wire, or of which message it has the text in
-//! braces; or what is wrong, and at which part of the name.
+//! braces; or what is wrong, in protoc's words.
 #![tactic(auto)]
 
 mod answers;

@@ -1,46 +1,24 @@
 //! What is printed for a statement.
 
 use crate::answers::Known;
-use protox_descriptor::descriptor::UninterpretedOption;
+use protox_descriptor::descriptor::uninterpreted_option::NamePart;
+use protox_descriptor::descriptor::{FieldDescriptorProto, UninterpretedOption};
 use protox_settings::{
-    NameFailure, NameFault, NameFaultKind, Said, SettingFailure, SettingFault, field_numbered,
-    field_said, fields_of,
+    NameFailure, NameFault, NameFaultKind, NameFaultText, NotInBracesText, Said, SettingFailure,
+    SettingFault, field_numbered, field_said, fields_of,
 };
-use protox_values::{EnumFault, SettingValue, ValueFault};
+use protox_values::{EnumFaultText, FaultText, SettingValue};
 use std::alloc::{AllocError, Global};
 use std::io::{self, Write};
 
-fn name_word(kind: NameFaultKind) -> &'static str {
-    match kind {
-        NameFaultKind::NoName => "no name",
-        NameFaultKind::Reserved => "reserved",
-        NameFaultKind::Unknown => "unknown",
-        NameFaultKind::OfOtherMessage => "of another message",
-        NameFaultKind::NotAMessage => "not a message",
-        NameFaultKind::Repeated => "repeated",
-    }
+// The full name with a number, and the last part of it.
+fn full_name(alloc: Global, known: Known<'_>, number: usize) -> Result<String, AllocError> {
+    let dotted = known.view.symbols.dotted(alloc, number)?;
+    String::from_str(alloc, dotted.as_str().trim_start_matches('.'))
 }
 
-fn value_word(fault: ValueFault) -> &'static str {
-    match fault {
-        ValueFault::OutOfRange => "out of range",
-        ValueFault::NotInteger => "not integer",
-        ValueFault::NotNonNegative => "not non-negative",
-        ValueFault::NotNumber => "not number",
-        ValueFault::NotIdentifier => "not identifier",
-        ValueFault::NotTruth => "not truth",
-        ValueFault::NotString => "not string",
-    }
-}
-
-fn setting_word(fault: SettingFault) -> &'static str {
-    match fault {
-        SettingFault::WrongValue(_, wrong) => value_word(wrong),
-        SettingFault::WrongEnum(EnumFault::NotIdentifier) => "not identifier",
-        SettingFault::WrongEnum(EnumFault::NoSuchValue) => "no such value",
-        SettingFault::NotInBraces => "not in braces",
-        SettingFault::Untyped => "untyped",
-    }
+fn own_name(full_name: &str) -> &str {
+    full_name.rsplit('.').next().unwrap_or("")
 }
 
 fn shown(alloc: Global, value: &SettingValue) -> Result<String, AllocError> {
@@ -77,11 +55,74 @@ fn write_numbers<W: Write>(out: &mut W, known: Known<'_>, fields: &[usize]) -> i
     Ok(())
 }
 
+// What is wrong with the value that a statement gives a field, in protoc's words.
+fn value_text(
+    alloc: Global,
+    fault: SettingFault,
+    field: &FieldDescriptorProto,
+    full_name: &str,
+    statement: &UninterpretedOption,
+) -> Result<String, AllocError> {
+    let name = own_name(full_name);
+    let empty = "";
+    match fault {
+        SettingFault::WrongValue(scalar, fault) => {
+            let text = FaultText {
+                fault,
+                scalar,
+                full_name,
+                name,
+            };
+            format!(in alloc; "{text}")
+        }
+        SettingFault::WrongEnum(fault) => {
+            let of = field
+                .type_name
+                .as_ref()
+                .map(|name| name.as_str())
+                .unwrap_or(empty);
+            let of = of.trim_start_matches('.');
+            let value = &statement.identifier_value;
+            let value = value.as_ref().map(|word| word.as_str()).unwrap_or(empty);
+            let text = EnumFaultText {
+                fault,
+                of,
+                value,
+                full_name,
+            };
+            format!(in alloc; "{text}")
+        }
+        SettingFault::NotInBraces => {
+            let text = NotInBracesText { full_name, name };
+            format!(in alloc; "{text}")
+        }
+        SettingFault::Untyped => String::from_str(alloc, "untyped"),
+    }
+}
+
+fn write_value_fault<W: Write>(
+    alloc: Global,
+    out: &mut W,
+    known: Known<'_>,
+    last: usize,
+    fault: SettingFault,
+    statement: &UninterpretedOption,
+) -> io::Result<()> {
+    let Some(field) = field_numbered(known.view.symbols, known.files, last) else {
+        return Ok(());
+    };
+    let full_name = full_name(alloc, known, last)?;
+    let text = value_text(alloc, fault, field, full_name.as_str(), statement)?;
+    writeln!(out, "{text}")
+}
+
 fn write_said<W: Write>(
     alloc: Global,
     out: &mut W,
     known: Known<'_>,
     fields: &[usize],
+    last: usize,
+    statement: &UninterpretedOption,
     answer: &Result<Said, SettingFailure>,
 ) -> io::Result<()> {
     match answer {
@@ -89,7 +130,9 @@ fn write_said<W: Write>(
             write_numbers(out, known, fields)?;
             writeln!(out, " {}", said_text(alloc, known, said)?)
         }
-        Err(SettingFailure::Fault(fault)) => writeln!(out, "{}", setting_word(*fault)),
+        Err(SettingFailure::Fault(fault)) => {
+            write_value_fault(alloc, out, known, last, *fault, statement)
+        }
         Err(SettingFailure::OutOfMemory) => Err(AllocError)?,
     }
 }
@@ -108,11 +151,28 @@ fn write_setting<W: Write>(
         return Ok(());
     };
     let answer = field_said(alloc, known.view.symbols, known.files, field, statement);
-    write_said(alloc, out, known, fields, &answer)
+    write_said(alloc, out, known, fields, *last, statement, &answer)
 }
 
-fn write_fault<W: Write>(out: &mut W, fault: NameFault) -> io::Result<()> {
-    writeln!(out, "{} at {}", name_word(fault.kind), fault.part)
+// What is wrong with a name, in protoc's words.
+fn write_fault<W: Write>(
+    alloc: Global,
+    out: &mut W,
+    known: Known<'_>,
+    name: &[NamePart],
+    fault: NameFault,
+) -> io::Result<()> {
+    let kind = fault.kind;
+    let message = match kind {
+        NameFaultKind::OfOtherMessage(message) => full_name(alloc, known, message)?,
+        _ => String::new(alloc),
+    };
+    let text = NameFaultText {
+        kind,
+        name: &name[..name.len().min(fault.part.saturating_add(1))],
+        message: own_name(message.as_str()),
+    };
+    writeln!(out, "{text}")
 }
 
 /// What the statement sets, in the options of the message type with this full name. What has the
@@ -131,7 +191,7 @@ pub(crate) fn write_statement<W: Write>(
     let name = statement.name.as_slice();
     match fields_of(alloc, known.view, known.files, scope, message, name) {
         Ok(fields) => write_setting(alloc, out, known, fields.as_slice(), statement),
-        Err(NameFailure::Fault(fault)) => write_fault(out, fault),
+        Err(NameFailure::Fault(fault)) => write_fault(alloc, out, known, name, fault),
         Err(NameFailure::OutOfMemory) => Err(AllocError)?,
     }
 }

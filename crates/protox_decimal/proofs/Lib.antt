@@ -1,0 +1,9 @@
+pub mod Limbs
+pub mod Nearest
+pub mod Powers
+pub mod Room
+pub mod Rounding
+pub mod Same
+pub mod Scaled
+pub mod Sizes
+pub mod Trimmed

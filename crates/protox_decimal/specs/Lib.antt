@@ -1,0 +1,3 @@
+pub mod inner
+pub mod Rounded
+pub mod Texts

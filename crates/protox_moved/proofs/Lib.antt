@@ -1,0 +1,7 @@
+pub mod Ties
+pub mod Paths
+pub mod Starts
+pub mod Outermost
+pub mod SortedList
+pub mod Finding
+pub mod SameMoves

@@ -15,7 +15,7 @@ import sys
 import tempfile
 
 from google.protobuf.descriptor_pb2 import FileDescriptorSet
-from value_cases import fields
+from value_cases import fields, varint
 
 FOLDER = 'crates/settingcases'
 PROGRAM = f'{FOLDER}/out/settingcases'
@@ -52,15 +52,6 @@ def statement(source):
     found = re.findall(r'(?:\boption\s+|\[)(\S+)\s*=\s*(\S+)', source)
     assert len(found) == 1, source
     return found[0][0], found[0][1].startswith('{')
-
-
-def varint(data, at):
-    number = shift = 0
-    while True:
-        number |= (data[at] & 127) << shift
-        shift, at = shift + 7, at + 1
-        if data[at - 1] < 128:
-            return number, at
 
 
 def inner(data):

@@ -1,0 +1,4 @@
+pub mod Runs
+pub mod StableSort
+pub mod ByNumber
+pub mod Steps

@@ -1,0 +1,9 @@
+pub mod Firsts
+pub mod NameEnds
+pub mod ScalarEnds
+pub mod Passing
+pub mod Turns
+pub mod Sound
+pub mod Complete
+pub mod Steps
+pub mod Stops

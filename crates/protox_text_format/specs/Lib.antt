@@ -1,0 +1,4 @@
+pub mod Failure
+pub mod Pieces
+pub mod Spelling
+pub mod inner

@@ -1,0 +1,4 @@
+pub mod Enums
+pub mod Failure
+pub mod Scalars
+pub mod inner

@@ -27,7 +27,8 @@ pub enum Said {
     Aggregate(usize),
 }
 
-fn type_numbered(number: i32) -> Option<FieldType>
+/// The type of fields with a number.
+pub fn type_numbered(number: i32) -> Option<FieldType>
     ensures { result ≡ words.type_numbered number }
 {
     FieldType::from_number(number)

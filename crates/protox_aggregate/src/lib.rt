@@ -1,0 +1,14 @@
+//! Messages in text format, read by the types of their fields: what they say, as steps through the
+//! fields that are set.
+#![tactic(auto)]
+
+mod fault;
+mod fields;
+mod level;
+mod names;
+mod reading;
+mod unsaid;
+mod values;
+
+pub use fault::{AggregateFailure, AggregateFault, AggregateFaultKind};
+pub use reading::entries_of;

@@ -1,12 +1,13 @@
 -- What a message in text format says, step by step.
-use Rattle.std.specs.Prelude.{ℕ, ◌+◌, Bool, true, false, not, ◌&&◌, List, [], ◌∷◌, ◌++◌, Option, Some, None, Result, Ok, Err, is_some, if◌then◌else◌}
+use Rattle.std.specs.Prelude.{ℕ, ◌+◌, Bool, true, false, not, ◌&&◌, List, [], ◌∷◌, ◌++◌, length, Option, Some, None, Result, Ok, Err, is_some, if◌then◌else◌}
+use Rattle.protox_aggregate.specs.Complete.{completed}
 use Rattle.protox_aggregate.specs.Fields.{is_group, is_implicit, is_in_proto3, is_packed, is_zero, wire_number}
+use Rattle.protox_aggregate.specs.Levels.{Level, telling, unread, wrong_with_naming}
 use Rattle.protox_aggregate.specs.Names.{field_in_text}
 use Rattle.protox_aggregate.specs.Values.{value_said}
 use Rattle.protox_aggregate.specs.declared.fault.AggregateFault.{AggregateFault}
 use Rattle.protox_aggregate.specs.declared.fault.AggregateFaultKind.{AggregateFaultKind}
 use Rattle.protox_aggregate.specs.declared.fault.AggregateFaultKind.TheVariants as kind
-use Rattle.protox_aggregate.specs.declared.level.Level.{Level}
 use Rattle.protox_aggregate.specs.declared.level.Named.{Named}
 use Rattle.protox_descriptor.specs.FieldDescriptorProto.{FieldDescriptorProto}
 use Rattle.protox_descriptor.specs.declared.descriptor.FileDescriptorProto.{FileDescriptorProto}
@@ -20,52 +21,59 @@ use Rattle.protox_text_format.specs.declared.item.Piece.{Piece}
 use Rattle.protox_text_values.specs.Scalars.{shapes_of}
 use Rattle.protox_values.specs.declared.setting.SettingValue.{SettingValue}
 
--- What was read: the innermost message, with the field that was named last in it; the messages around
--- it, the innermost first; and what was said.
+-- What was read: the innermost message; the messages around it, the innermost first; and what was
+-- said.
 pub record Reading : Type 0 where
   pub level : Level
   pub outer : List Level
   pub entries : List Entry
 
--- what is said besides
-abbrev pub says_too : Reading → List Entry → Reading
-says_too reading more = record reading { entries = reading.entries ++ more }
+-- ---- what becomes of what was read
 
--- the same with a field named in the innermost message
+-- a field is named in the innermost message
 abbrev pub naming : Reading → Bool → ℕ → Reading
-naming reading colon n = record reading { level = record { message = reading.level.message; field = Some (record { number = n; colon = colon }) } }
+naming reading colon n = record reading { level = record reading.level { field = Some (record { number = n; colon = colon }) } }
 
--- a message begins
-abbrev pub into : Reading → ℕ → Entry → Reading
-into reading message said = record {
-  level = record { message = message; field = None };
-  outer = reading.level ∷ reading.outer;
-  entries = reading.entries ++ said ∷ [];
+-- the field that was named has a value
+abbrev pub told : Level → Named → FieldDescriptorProto → Level
+told level named field = record level { told = telling level.told named.number field }
+
+-- It has this value, which isn't a message.
+abbrev pub saying : Reading → Named → FieldDescriptorProto → Entry → Reading
+saying reading named field said = record reading { level = told reading.level named field; entries = reading.entries ++ said ∷ [] }
+
+-- Its value is a message of this type, which begins.
+abbrev pub into : Reading → Named → FieldDescriptorProto → ℕ → Reading
+into reading named field message = record {
+  level = unread message;
+  outer = told reading.level named field ∷ reading.outer;
+  entries = reading.entries ++ entry.Open (wire_number field) (is_group field) ∷ [];
 }
 
--- a message ends
-abbrev pub out_of : Reading → List Level → Result Reading AggregateFaultKind
-out_of reading [] = Err kind.Misplaced
-out_of reading (level ∷ outer) = Ok (record { level = level; outer = outer; entries = reading.entries ++ entry.Close ∷ [] })
+-- A message ends, and this is said besides.
+abbrev pub out_of : Reading → List Level → List Entry → Result Reading AggregateFaultKind
+out_of reading [] more = Err kind.Misplaced
+out_of reading (level ∷ outer) more = Ok (record { level = level; outer = outer; entries = (reading.entries ++ more) ++ entry.Close ∷ [] })
 
-abbrev pub with_field : Named → Option FieldDescriptorProto → Result (Named × FieldDescriptorProto) AggregateFaultKind
-with_field named None = Err kind.Misplaced
-with_field named (Some field) = Ok (named, field)
+abbrev pub unless_wrong : Reading → Option AggregateFaultKind → Result Reading AggregateFaultKind
+unless_wrong reading None = Ok reading
+unless_wrong reading (Some wrong) = Err wrong
 
--- A value of a field. What sets nothing isn't said.
-abbrev pub entries_for : Bool → FieldDescriptorProto → SettingValue → List Entry
-entries_for in_proto3 field value =
-    if is_implicit in_proto3 field then (if is_zero value then [] else entry.Value (wire_number field) (is_packed in_proto3 field) value ∷ [])
-    else entry.Value (wire_number field) (is_packed in_proto3 field) value ∷ []
+-- ---- values
+
+abbrev pub value_entry : Bool → FieldDescriptorProto → SettingValue → Entry
+value_entry in_proto3 field value = entry.Value (wire_number field) (is_packed in_proto3 field) value
+
+-- A field has a value that is no message. What sets nothing isn't said.
+abbrev pub said_of : Reading → Named → Bool → FieldDescriptorProto → SettingValue → Reading
+said_of reading named in_proto3 field value =
+    if is_implicit in_proto3 field && is_zero value then reading
+    else saying reading named field (value_entry in_proto3 field value)
 
 -- The message that begins as the value of a field, if its type is one.
-abbrev pub opened_as : Named → FieldDescriptorProto → Option ℕ → Result (ℕ × Entry) AggregateFaultKind
-opened_as named field (Some message) = Ok (message, entry.Open (wire_number field) (is_group field))
-opened_as named field None = if named.colon then Err kind.NotScalar else Err kind.NoColon
-
-abbrev pub listed_as : Reading → Option AggregateFaultKind → Result Reading AggregateFaultKind
-listed_as reading None = Ok reading
-listed_as reading (Some wrong) = Err wrong
+abbrev pub opened_as : Reading → Named → FieldDescriptorProto → Option ℕ → Result Reading AggregateFaultKind
+opened_as reading named field (Some message) = Ok (into reading named field message)
+opened_as reading named field None = if named.colon then Err kind.NotScalar else Err kind.NoColon
 
 module _ (table : Table) where
   -- What is wrong with a list of values of a field, if anything. The field is to be repeated, and a
@@ -75,6 +83,10 @@ module _ (table : Table) where
       if not (is_some (message_of_type table field)) && not named.colon then Some kind.NoColon
       else if is_repeated field then None
       else Some kind.NotRepeated
+
+abbrev pub with_field : Named → Option FieldDescriptorProto → Result (Named × FieldDescriptorProto) AggregateFaultKind
+with_field named None = Err kind.Misplaced
+with_field named (Some field) = Ok (named, field)
 
 module _ (files : List FileDescriptorProto) (table : Table) where
   -- ---- the field that was named last
@@ -86,58 +98,61 @@ module _ (files : List FileDescriptorProto) (table : Table) where
   abbrev pub named_field : Level → Result (Named × FieldDescriptorProto) AggregateFaultKind
   named_field level = named_field_in level.field
 
-  -- ---- values
+  -- ---- steps
+
+  abbrev pub wrong_with_field : Level → ℕ → Option FieldDescriptorProto → Option AggregateFaultKind
+  wrong_with_field level n None = Some kind.Misplaced
+  wrong_with_field level n (Some field) = wrong_with_naming level.told n field
+
+  abbrev pub names : Reading → Bool → ℕ → Result Reading AggregateFaultKind
+  names reading colon n = unless_wrong (naming reading colon n) (wrong_with_field reading.level n (field_numbered files table n))
 
   -- What a value says that is no message. The enums of a message of proto3 are open.
-  abbrev pub value_of : ℕ → List Piece → Named → FieldDescriptorProto → Result (List Entry) AggregateFaultKind
+  abbrev pub value_of : ℕ → List Piece → Named → FieldDescriptorProto → Result SettingValue AggregateFaultKind
   value_of message pieces named field =
       if is_some (message_of_type table field) then Err kind.NotMessage
       else if not named.colon then Err kind.NoColon
-      else goes_on (value_said files table field (is_in_proto3 files table message) (shapes_of pieces)) (λ value. Ok (entries_for (is_in_proto3 files table named.number) field value))
-
-  abbrev pub scalar_entries : Level → List Piece → Result (List Entry) AggregateFaultKind
-  scalar_entries level pieces = goes_on (named_field level) (λ f. value_of level.message pieces f.0 f.1)
-
-  -- ---- messages and lists
-
-  abbrev pub opened : Level → Result (ℕ × Entry) AggregateFaultKind
-  opened level = goes_on (named_field level) (λ f. opened_as f.0 f.1 (message_of_type table f.1))
-
-  -- ---- what becomes of what was read
+      else value_said files table field (is_in_proto3 files table message) (shapes_of pieces)
 
   abbrev pub says_value : Reading → List Piece → Result Reading AggregateFaultKind
-  says_value reading pieces = goes_on (scalar_entries reading.level pieces) (λ said. Ok (says_too reading said))
+  says_value reading pieces = goes_on (named_field reading.level) (λ f. goes_on (value_of reading.level.message pieces f.0 f.1) (λ value. Ok (said_of reading f.0 (is_in_proto3 files table f.0.number) f.1 value)))
 
   abbrev pub opens : Reading → Result Reading AggregateFaultKind
-  opens reading = goes_on (opened reading.level) (λ o. Ok (into reading o.0 o.1))
+  opens reading = goes_on (named_field reading.level) (λ f. opened_as reading f.0 f.1 (message_of_type table f.1))
 
   abbrev pub lists : Reading → Result Reading AggregateFaultKind
-  lists reading = goes_on (named_field reading.level) (λ f. listed_as reading (wrong_with_list table f.0 f.1))
+  lists reading = goes_on (named_field reading.level) (λ f. unless_wrong reading (wrong_with_list table f.0 f.1))
 
--- ---- steps
+  abbrev pub closes : Reading → Result Reading AggregateFaultKind
+  closes reading = goes_on (completed files table reading.level) (λ more. out_of reading reading.outer more)
+
+  -- what is said of all, where the outermost message ends
+  abbrev pub ends : Reading → Result (List Entry) AggregateFaultKind
+  ends reading = goes_on (completed files table reading.level) (λ more. Ok (reading.entries ++ more))
+
+-- what is wrong, and at which step
+abbrev pub at_step : {A : Type 0} → ℕ → Result A AggregateFaultKind → Result A AggregateFault
+at_step index (Ok x) = Ok x
+at_step index (Err wrong) = Err (record { step = index; kind = wrong })
 
 module _ (files : List FileDescriptorProto) (table : Table) (sees packages : List Bool) where
   abbrev pub step : Reading → Step → Result Reading AggregateFaultKind
-  step reading (Name name colon) = goes_on (field_in_text files table sees packages reading.level.message (shapes_of name)) (λ n. Ok (naming reading colon n))
+  step reading (Name name colon) = goes_on (field_in_text files table sees packages reading.level.message (shapes_of name)) (λ n. names files table reading colon n)
   step reading (Scalar pieces) = says_value files table reading pieces
   step reading Open = opens files table reading
-  step reading Close = out_of reading reading.outer
+  step reading Close = closes files table reading
   step reading OpenList = lists files table reading
   step reading CloseList = Ok reading
 
-  -- what comes of a step, and then of those behind it; the step has the index
-  abbrev pub step_then : ℕ → Result Reading AggregateFaultKind → (Reading → Result Reading AggregateFault) → Result Reading AggregateFault
-  step_then index (Err wrong) behind = Err (record { step = index; kind = wrong })
-  step_then index (Ok reading) behind = behind reading
-
+  -- what comes of steps, of which the first has the index
   abbrev pub steps_from : ℕ → Reading → List Step → Result Reading AggregateFault
   steps_from index reading [] = Ok reading
-  steps_from index reading (one ∷ more) = step_then index (step reading one) (λ next. steps_from (index + 1) next more)
+  steps_from index reading (one ∷ more) = goes_on (at_step index (step reading one)) (λ next. steps_from (index + 1) next more)
 
-  -- Where nothing of a message of this type was read.
+  -- where nothing was read of a message of this type
   abbrev pub nothing_read : ℕ → Reading
-  nothing_read message = record { level = record { message = message; field = None }; outer = []; entries = [] }
+  nothing_read message = record { level = unread message; outer = []; entries = [] }
 
   -- What a message of this type says, as steps through the fields that are set.
   abbrev pub entries_of : ℕ → List Step → Result (List Entry) AggregateFault
-  entries_of message steps = goes_on (steps_from 0 (nothing_read message) steps) (λ reading. Ok reading.entries)
+  entries_of message steps = goes_on (steps_from 0 (nothing_read message) steps) (λ reading. at_step (length steps) (ends files table reading))

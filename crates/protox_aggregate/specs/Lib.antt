@@ -1,6 +1,8 @@
 pub mod Fields
 pub mod Names
 pub mod Values
+pub mod Levels
+pub mod Complete
 pub mod Failure
 pub mod Unsaid
 pub mod Reading

@@ -1,8 +1,7 @@
 -- What a reader holds, and what a step makes of it.
 use Rattle.std.specs.Prelude.{◌≡◌, ℕ, List, Result, Ok, Err, reverse}
-use Rattle.protox_aggregate.specs.Aggregates.{Reading, step, steps_from}
+use Rattle.protox_aggregate.specs.Aggregates.{Reading, step}
 use Rattle.protox_aggregate.specs.Unsaid.{IfUnsaid}
-use Rattle.protox_aggregate.specs.declared.fault.AggregateFailure.{AggregateFailure}
 use Rattle.protox_aggregate.specs.declared.reading.Reader.{Reader}
 use Rattle.protox_aggregate.specs.declared.unsaid.Unsaid.{Unsaid}
 use Rattle.protox_descriptor.specs.declared.descriptor.FileDescriptorProto.{FileDescriptorProto}

@@ -24,6 +24,13 @@ pub enum AggregateFaultKind {
     WrongValue(ScalarType, ValueFault),
     /// The type of the field is an enum, and the value is none of it.
     WrongEnum(TextEnumFault),
+    /// The field with this number isn't repeated, and has a value already.
+    Again(usize),
+    /// The field with the first number is of a oneof of which the one with the second has a value
+    /// already.
+    Along(usize, usize),
+    /// The message ends, and the field with this number has no value, which it needs.
+    Missing(usize),
     /// The field has no type. In linked files each field has one.
     Untyped,
     /// The step stands where no message can have it.
@@ -33,7 +40,7 @@ pub enum AggregateFaultKind {
 /// What is wrong with a message, and at which of the steps through it.
 #[derive(Clone, Copy, PartialEq, Debug)]
 pub struct AggregateFault {
-    /// The index of the step, from 0.
+    /// The index of the step, from 0. At the end of the whole message it is their number.
     pub step: usize,
     /// What is wrong with it.
     pub kind: AggregateFaultKind,

@@ -19,7 +19,7 @@ pub(crate) fn has_extendee(field: &FieldDescriptorProto) -> bool
     field.extendee().is_some()
 }
 
-fn has_type(field: &FieldDescriptorProto, field_type: FieldType) -> bool
+pub(crate) fn has_type(field: &FieldDescriptorProto, field_type: FieldType) -> bool
     ensures { result ≡ words.has_type field_type field.now }
 {
     match field.field_type {

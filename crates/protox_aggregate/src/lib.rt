@@ -2,6 +2,7 @@
 //! fields that are set.
 #![tactic(auto)]
 
+mod complete;
 mod fault;
 mod fields;
 mod level;

@@ -53,7 +53,29 @@ field_at file (tag ∷ n ∷ rest) =
     if int_eq tag file_tag.MESSAGE_TYPE then option_and_then (λ m. field_in m rest) (part_at file.message_type n)
     else file_extension file tag n rest
 
+-- ---- messages
+
+-- the message to which a path leads from a message: itself, where nothing is left of the path
+abbrev pub message_in : DescriptorProto → Path → Option DescriptorProto
+message_in m [] = Some m
+message_in m (tag ∷ []) = None
+message_in m (tag ∷ n ∷ rest) =
+    if int_eq tag message_tag.NESTED_TYPE then option_and_then (λ inner. message_in inner rest) (part_at (out-DescriptorProto m).nested_type n)
+    else None
+
+-- the message to which a path leads from a file
+abbrev pub message_at : FileDescriptorProto → Path → Option DescriptorProto
+message_at file [] = None
+message_at file (tag ∷ []) = None
+message_at file (tag ∷ n ∷ rest) =
+    if int_eq tag file_tag.MESSAGE_TYPE then option_and_then (λ m. message_in m rest) (part_at file.message_type n)
+    else None
+
 -- ---- numbers
+
+-- the message that has a number
+abbrev pub message_numbered : List FileDescriptorProto → Table → ℕ → Option DescriptorProto
+message_numbered files table n = option_and_then (λ thing. option_and_then (λ file. message_at file thing.path) (slice_get files thing.file)) (slice_get table.things n)
 
 -- the field, or the extension, that has a number
 abbrev pub field_numbered : List FileDescriptorProto → Table → ℕ → Option FieldDescriptorProto

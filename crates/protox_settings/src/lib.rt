@@ -5,6 +5,7 @@
 mod enums;
 mod fault;
 mod fields;
+mod messages;
 mod names;
 mod setting;
 mod text;
@@ -12,6 +13,7 @@ mod text;
 pub use crate::enums::{enum_numbered, values_named};
 pub use crate::fault::{NameFailure, NameFault, NameFaultKind, SettingFailure, SettingFault};
 pub use crate::fields::{field_numbered, is_of, is_repeated, message_of_type};
+pub use crate::messages::message_numbered;
 pub use crate::names::fields_of;
 pub use crate::setting::{Said, field_said, type_numbered};
 pub use crate::text::{NameFaultText, NotInBracesText};

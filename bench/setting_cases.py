@@ -21,6 +21,8 @@ FOLDER = 'crates/settingcases'
 PROGRAM = f'{FOLDER}/out/settingcases'
 KINDS = {0: 'varint', 1: 'eight', 5: 'four'}
 GROUP = 3
+# What protoc says of a text in braces. Why it says so isn't compared.
+IN_BRACES = re.compile(r'(Error while parsing option value for ".*?"): .*')
 # What protoc says where the first part of a name is found in a scope and the others aren't. The text of
 # `NameFaultText` has no such scope, so it is held beside what protoc says of other unknown names.
 IN_SCOPE = re.compile(r'Option "(.*?)" is resolved to "\(.*\)", which is not defined\. .*')
@@ -69,36 +71,16 @@ def encoded(n):
     return bytes([n]) if n < 128 else bytes([n % 128 + 128]) + encoded(n // 128)
 
 
-def types(files):
-    """For a message and a number of a field, the type of the field."""
-    found = {}
-
-    def take(scope, message):
-        name = f'{scope}.{message.name}'
-        for field in message.field:
-            found[name, field.number] = field.type_name
-        for field in message.extension:
-            found[field.extendee, field.number] = field.type_name
-        for nested in message.nested_type:
-            take(name, nested)
-    for file in files:
-        for message in file.message_type:
-            take('.' + file.package if file.package else '', message)
-        for field in file.extension:
-            found[field.extendee, field.number] = field.type_name
-    return found
-
-
 def all_options(file):
-    """The options of a file and of what it declares: the message of each, and its bytes."""
-    yield 'FileOptions', file.options
+    """All options of a file and of what it declares."""
+    yield file.options
     def of_enum(enum):
-        yield 'EnumOptions', enum.options
-        yield from (('EnumValueOptions', value.options) for value in enum.value)
+        yield enum.options
+        yield from (value.options for value in enum.value)
     def of_message(message):
-        yield 'MessageOptions', message.options
-        yield from (('FieldOptions', field.options) for field in list(message.field) + list(message.extension))
-        yield from (('OneofOptions', oneof.options) for oneof in message.oneof_decl)
+        yield message.options
+        yield from (field.options for field in list(message.field) + list(message.extension))
+        yield from (oneof.options for oneof in message.oneof_decl)
         for enum in message.enum_type:
             yield from of_enum(enum)
         for nested in message.nested_type:
@@ -108,33 +90,32 @@ def all_options(file):
     for enum in file.enum_type:
         yield from of_enum(enum)
     for service in file.service:
-        yield 'ServiceOptions', service.options
-        yield from (('MethodOptions', method.options) for method in service.method)
-    yield from (('FieldOptions', field.options) for field in file.extension)
+        yield service.options
+        yield from (method.options for method in service.method)
+    yield from (field.options for field in file.extension)
 
 
 def said(data, source):
     """What the statement of a source sets, in the set that protoc writes."""
     files = FileDescriptorSet.FromString(data).file
     name, in_braces = statement(source)
-    known = types(files)
-    (message, held), = [(f'.google.protobuf.{kind}', options.SerializeToString())
-                        for kind, options in all_options(files[-1]) if options.ByteSize()]
+    held, = [options.SerializeToString() for options in all_options(files[-1]) if options.ByteSize()]
     path = []
     for part in range(parts(name)):
         number, kind, held = inner(held)
         path.append(str(number))
-        message = known.get((message, number), '')
     if in_braces:
-        return f"{'.'.join(path)} aggregate {message}"
+        return f"{'.'.join(path)} aggregate {held.hex()}"
     value = 'bytes ' + held.hex() if kind == 2 else f'{KINDS[kind]} {held}'
     return f"{'.'.join(path)} {value}"
 
 
 def wrong(text):
     """What is wrong, in protoc's words."""
-    found = IN_SCOPE.fullmatch(text)
-    return UNKNOWN.format(found[1]) if found else text
+    in_scope, in_braces = IN_SCOPE.fullmatch(text), IN_BRACES.fullmatch(text)
+    if in_scope:
+        return UNKNOWN.format(in_scope[1])
+    return in_braces[1] if in_braces else text
 
 
 def answer(protoc, files):

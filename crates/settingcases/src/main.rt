@@ -7,10 +7,11 @@
 //! - `== end` ends the set
 //!
 //! For each statement it prints a line: the numbers of the fields that its name goes through, with
-//! dots, and what it says to the last of them on the wire, or of which message it has the text in
-//! braces; or what is wrong, in protoc's words.
+//! dots, and what it says to the last of them on the wire, or the bytes of the message that stands in
+//! braces; or what is wrong, in protoc's words. What is wrong in braces isn't told.
 #![tactic(auto)]
 
+mod aggregate;
 mod answers;
 mod source;
 mod statement;

@@ -1,5 +1,6 @@
 //! What is printed for a statement.
 
+use crate::aggregate::aggregate_text;
 use crate::answers::Known;
 use protox_descriptor::descriptor::uninterpreted_option::NamePart;
 use protox_descriptor::descriptor::{FieldDescriptorProto, UninterpretedOption};
@@ -33,12 +34,18 @@ fn shown(alloc: Global, value: &SettingValue) -> Result<String, AllocError> {
     }
 }
 
-fn said_text(alloc: Global, known: Known<'_>, said: &Said) -> Result<String, AllocError> {
+fn said_text(
+    alloc: Global,
+    known: Known<'_>,
+    said: &Said,
+    statement: &UninterpretedOption,
+) -> Result<Option<String>, AllocError> {
     match said {
-        Said::Value(value) => shown(alloc, value),
+        Said::Value(value) => Ok(Some(shown(alloc, value)?)),
         Said::Aggregate(message) => {
-            let name = known.view.symbols.dotted(alloc, *message)?;
-            format!(in alloc; "aggregate {name}")
+            let text = statement.aggregate_value.as_ref();
+            let text = text.map(|text| text.as_str()).unwrap_or("");
+            aggregate_text(alloc, known, *message, text)
         }
     }
 }
@@ -116,6 +123,18 @@ fn write_value_fault<W: Write>(
     writeln!(out, "{text}")
 }
 
+// That a text in braces says nothing. protoc tells why behind this.
+fn write_refused<W: Write>(
+    alloc: Global,
+    out: &mut W,
+    known: Known<'_>,
+    last: usize,
+) -> io::Result<()> {
+    let full_name = full_name(alloc, known, last)?;
+    let name = own_name(full_name.as_str());
+    writeln!(out, "Error while parsing option value for \"{name}\"")
+}
+
 fn write_said<W: Write>(
     alloc: Global,
     out: &mut W,
@@ -126,10 +145,13 @@ fn write_said<W: Write>(
     answer: &Result<Said, SettingFailure>,
 ) -> io::Result<()> {
     match answer {
-        Ok(said) => {
-            write_numbers(out, known, fields)?;
-            writeln!(out, " {}", said_text(alloc, known, said)?)
-        }
+        Ok(said) => match said_text(alloc, known, said, statement)? {
+            Some(text) => {
+                write_numbers(out, known, fields)?;
+                writeln!(out, " {text}")
+            }
+            None => write_refused(alloc, out, known, last),
+        },
         Err(SettingFailure::Fault(fault)) => {
             write_value_fault(alloc, out, known, last, *fault, statement)
         }

@@ -1,5 +1,5 @@
 -- What a message in text format says, step by step.
-use Rattle.std.specs.Prelude.{ℕ, ◌+◌, Bool, true, false, not, ◌&&◌, List, [], ◌∷◌, ◌++◌, length, Option, Some, None, Result, Ok, Err, is_some, if◌then◌else◌}
+use Rattle.std.specs.Prelude.{ℕ, ◌+◌, Bool, not, ◌&&◌, List, [], ◌∷◌, ◌++◌, length, Option, Some, None, Result, Ok, Err, is_some, if◌then◌else◌}
 use Rattle.protox_aggregate.specs.Complete.{completed}
 use Rattle.protox_aggregate.specs.Fields.{is_group, is_implicit, is_in_proto3, is_packed, is_zero, wire_number}
 use Rattle.protox_aggregate.specs.Levels.{Level, telling, unread, wrong_with_naming}

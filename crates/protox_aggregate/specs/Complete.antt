@@ -1,6 +1,6 @@
 -- Messages that end: which fields they need, and what the entry of a map has that isn't told.
-use Rattle.std.specs.Prelude.{ℕ, Bool, true, false, not, ◌||◌, List, [], ◌∷◌, ◌++◌, Option, Some, None, Result, Ok, Err, if◌then◌else◌}
-use Rattle.std.specs.Option.{option_and_then, option_eq, option_map_or, option_or, unwrap_or}
+use Rattle.std.specs.Prelude.{ℕ, Bool, false, not, ◌||◌, List, [], ◌∷◌, ◌++◌, Option, Some, None, Result, Ok, Err, if◌then◌else◌}
+use Rattle.std.specs.Option.{option_eq, option_map_or, option_or, unwrap_or}
 use Rattle.std.specs.Ordering.{int_eq}
 use Rattle.protox_aggregate.specs.Fields.{has_type, wire_number}
 use Rattle.protox_aggregate.specs.Levels.{Level, has_told}

@@ -1,9 +1,8 @@
 -- Messages that are read, and the fields that have a value in them.
-use Rattle.std.specs.Prelude.{ℕ, ◌==◌, ℤ, Bool, false, not, ◌&&◌, List, [], ◌∷◌, ◌++◌, find, Option, Some, None, Result, Ok, Err, if◌then◌else◌}
+use Rattle.std.specs.Prelude.{ℕ, ◌==◌, ℤ, Bool, List, [], ◌∷◌, ◌++◌, find, Option, Some, None, if◌then◌else◌}
 use Rattle.std.specs.List.{list_any}
-use Rattle.std.specs.Option.{option_eq, option_map_or, option_or}
+use Rattle.std.specs.Option.{option_eq}
 use Rattle.std.specs.Ordering.{int_eq}
-use Rattle.protox_aggregate.specs.Names.{if_fits, inside}
 use Rattle.protox_aggregate.specs.declared.fault.AggregateFaultKind.{AggregateFaultKind}
 use Rattle.protox_aggregate.specs.declared.fault.AggregateFaultKind.TheVariants as kind
 use Rattle.protox_aggregate.specs.declared.level.Named.{Named}

@@ -1,5 +1,5 @@
 -- What a reader holds, and what a step makes of it.
-use Rattle.std.specs.Prelude.{◌≡◌, ℕ, List, Result, Ok, Err, reverse}
+use Rattle.std.specs.Prelude.{◌≡◌, List, Ok, Err, reverse}
 use Rattle.protox_aggregate.specs.Aggregates.{Reading, step}
 use Rattle.protox_aggregate.specs.Unsaid.{IfUnsaid}
 use Rattle.protox_aggregate.specs.declared.reading.Reader.{Reader}

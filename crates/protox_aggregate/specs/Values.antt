@@ -1,5 +1,5 @@
 -- What a value in text format says to a field.
-use Rattle.std.specs.Prelude.{ℕ, ℤ, Bool, List, Option, Some, None, Result, Ok, Err}
+use Rattle.std.specs.Prelude.{ℤ, Bool, List, Option, Some, None, Result, Ok, Err}
 use Rattle.std.specs.Option.{option_and_then}
 use Rattle.protox_aggregate.specs.declared.fault.AggregateFaultKind.{AggregateFaultKind}
 use Rattle.protox_aggregate.specs.declared.fault.AggregateFaultKind.TheVariants as kind

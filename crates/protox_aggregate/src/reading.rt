@@ -345,7 +345,7 @@ impl Reader {
         alloc: Global,
         view: &View<'_>,
         files: &[FileDescriptorProto],
-        item: &Item<'_>,
+        item: &Item<'_, '_>,
     ) -> Result<(), Unsaid>
         ensures ok { OnOk result (Leads files.now view.now (seen item.now) (reading_of self.old)
             (reading_of self.new)) }
@@ -368,7 +368,7 @@ fn take_all(
     alloc: Global,
     view: &View<'_>,
     files: &[FileDescriptorProto],
-    items: &[Item<'_>],
+    items: &[Item<'_, '_>],
     reader: &mut Reader,
 ) -> Result<(), AggregateFailure>
     ensures ok { OnOk result (words.steps_from files.now view.now.symbols.now view.now.sees.now
@@ -426,7 +426,7 @@ pub fn entries_of(
     view: &View<'_>,
     files: &[FileDescriptorProto],
     message: usize,
-    items: &[Item<'_>],
+    items: &[Item<'_, '_>],
 ) -> Result<Vec<Entry>, AggregateFailure>
     ensures said { IfOk result (λ entries. words.entries_of files.now view.now.symbols.now
         view.now.sees.now view.now.packages message (map seen items.now) ≡ Ok entries.items) }

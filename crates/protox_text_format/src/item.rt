@@ -12,13 +12,13 @@ pub struct Piece<'a> {
 
 /// A step through a message in text format.
 #[derive(Clone, Copy)]
-pub enum Item<'t> {
+pub enum Item<'t, 'a> {
     /// The name of a field, and whether a colon follows. It is a word; or in brackets the name of an
     /// extension, or a domain, a slash and the name of a type.
-    Name(&'t [Piece<'t>], bool),
+    Name(&'t [Piece<'a>], bool),
     /// A value that is no message: a word or a number, with a minus sign in front or without; or
     /// strings, which are to be joined.
-    Scalar(&'t [Piece<'t>]),
+    Scalar(&'t [Piece<'a>]),
     /// A message begins.
     Open,
     /// A message ends.

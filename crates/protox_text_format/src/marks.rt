@@ -81,7 +81,7 @@ fn is_of(sort: Sort, token: &Token<'_>) -> bool
 }
 
 // What stands behind the first piece, if that is of this sort.
-pub(crate) fn behind<'t>(pieces: &'t [Piece<'t>], sort: Sort) -> Option<&'t [Piece<'t>]>
+pub(crate) fn behind<'t, 'a>(pieces: &'t [Piece<'a>], sort: Sort) -> Option<&'t [Piece<'a>]>
     ensures { MatchOption result (NotFirst (λ piece. IsOf sort piece.token) pieces.now)
         (λ more. Begins (λ piece. IsOf sort piece.token) pieces.now more.now) }
 {

@@ -10,10 +10,10 @@ use crate::item::Piece;
 use crate::marks::{Sort, behind};
 
 // The pieces from the one that is wrong, and what is wrong with it.
-pub(crate) type Wrong<'t> = (&'t [Piece<'t>], TextFaultKind);
+pub(crate) type Wrong<'t, 'a> = (&'t [Piece<'a>], TextFaultKind);
 
 // The pieces behind words with dots between them. If a word is missing, those from that place on.
-fn behind_words<'t>(pieces: &'t [Piece<'t>]) -> Result<&'t [Piece<'t>], &'t [Piece<'t>]>
+fn behind_words<'t, 'a>(pieces: &'t [Piece<'a>]) -> Result<&'t [Piece<'a>], &'t [Piece<'a>]>
     ensures { MatchResult result (λ more. Words pieces.now more.now) (λ wrong. NoWords pieces.now wrong.now) }
 {
     let mut at = 0;
@@ -27,7 +27,7 @@ fn behind_words<'t>(pieces: &'t [Piece<'t>]) -> Result<&'t [Piece<'t>], &'t [Pie
 }
 
 // The pieces behind a bracket that ends a name.
-fn behind_closing<'t>(pieces: &'t [Piece<'t>]) -> Result<&'t [Piece<'t>], Wrong<'t>>
+fn behind_closing<'t, 'a>(pieces: &'t [Piece<'a>]) -> Result<&'t [Piece<'a>], Wrong<'t, 'a>>
     ensures ok { IfOk result (λ more. Begins (Stands 93) pieces.now more.now) }
     ensures err { IfErr result (λ wrong. (wrong.0.now ≡ pieces.now) × (wrong.1 ≡ TextFaultKind.NoMark 93)
         × NotFirst (Stands 93) pieces.now) }
@@ -39,7 +39,7 @@ fn behind_closing<'t>(pieces: &'t [Piece<'t>]) -> Result<&'t [Piece<'t>], Wrong<
 }
 
 // The pieces behind a name in brackets, from what stands behind its first bracket.
-fn behind_bracket<'t>(pieces: &'t [Piece<'t>]) -> Result<&'t [Piece<'t>], Wrong<'t>>
+fn behind_bracket<'t, 'a>(pieces: &'t [Piece<'a>]) -> Result<&'t [Piece<'a>], Wrong<'t, 'a>>
     ensures ok { IfOk result (λ more. IsNamedInBrackets pieces.now more.now) }
     ensures err { IfErr result (λ wrong. IsUnnamedInBrackets pieces.now wrong.0.now wrong.1) }
 {
@@ -57,7 +57,7 @@ fn behind_bracket<'t>(pieces: &'t [Piece<'t>]) -> Result<&'t [Piece<'t>], Wrong<
 }
 
 // The pieces behind the name of a field.
-pub(crate) fn behind_name<'t>(pieces: &'t [Piece<'t>]) -> Result<&'t [Piece<'t>], Wrong<'t>>
+pub(crate) fn behind_name<'t, 'a>(pieces: &'t [Piece<'a>]) -> Result<&'t [Piece<'a>], Wrong<'t, 'a>>
     ensures ok { IfOk result (λ more. IsNamed pieces.now more.now) }
     ensures err { IfErr result (λ wrong. IsUnnamed pieces.now wrong.0.now wrong.1) }
 {

@@ -44,19 +44,19 @@ enum Turn {
 
 // Where a reader stands: what is to come next, and the pieces that are left.
 #[derive(Clone, Copy)]
-struct Place<'t> {
+struct Place<'t, 'a> {
     turn: Turn,
-    left: &'t [Piece<'t>],
+    left: &'t [Piece<'a>],
 }
 
 // Why a reader goes no further: what is wrong, and the pieces from the one on that is wrong.
 #[derive(Clone, Copy)]
-enum Stop<'t> {
-    Wrong(&'t [Piece<'t>], TextFaultKind),
+enum Stop<'t, 'a> {
+    Wrong(&'t [Piece<'a>], TextFaultKind),
     OutOfMemory,
 }
 
-fn add<'t>(items: &mut Vec<Item<'t>>, item: Item<'t>) -> Result<(), AllocError>
+fn add<'t, 'a>(items: &mut Vec<Item<'t, 'a>>, item: Item<'t, 'a>) -> Result<(), AllocError>
     ensures { OnOk result (items.new.items ≡ items.old.items ++ item.entry ∷ []) }
 {
     match items.push(item) {
@@ -82,7 +82,7 @@ fn leave(frames: &mut Vec<Frame>) -> Option<Frame>
 }
 
 // Whether there is a colon, and the pieces behind it.
-fn behind_colon<'t>(left: &'t [Piece<'t>]) -> (bool, &'t [Piece<'t>])
+fn behind_colon<'t, 'a>(left: &'t [Piece<'a>]) -> (bool, &'t [Piece<'a>])
     ensures { ColonThen left.now result.0 result.1.now }
 {
     match behind(left, Sort::Mark(b':')) {
@@ -92,7 +92,10 @@ fn behind_colon<'t>(left: &'t [Piece<'t>]) -> (bool, &'t [Piece<'t>])
 }
 
 // Reads the name of a field, and a colon.
-fn read_name<'t>(left: &'t [Piece<'t>], items: &mut Vec<Item<'t>>) -> Result<Place<'t>, Stop<'t>>
+fn read_name<'t, 'a>(
+    left: &'t [Piece<'a>],
+    items: &mut Vec<Item<'t, 'a>>,
+) -> Result<Place<'t, 'a>, Stop<'t, 'a>>
     requires no_brace { NotFirst (Stands 125) left.now }
     requires no_angle { NotFirst (Stands 62) left.now }
     ensures ok { (frames : List Frame) → LeadsOn
@@ -123,13 +126,13 @@ fn end_of(angle: bool) -> u8
 }
 
 // Reads on behind a mark that ends a message, if the innermost one ends with it.
-fn read_end<'t>(
-    left: &'t [Piece<'t>],
-    more: &'t [Piece<'t>],
+fn read_end<'t, 'a>(
+    left: &'t [Piece<'a>],
+    more: &'t [Piece<'a>],
     angle: bool,
-    items: &mut Vec<Item<'t>>,
+    items: &mut Vec<Item<'t, 'a>>,
     frames: &mut Vec<Frame>,
-) -> Result<Place<'t>, Stop<'t>>
+) -> Result<Place<'t, 'a>, Stop<'t, 'a>>
     requires { Begins (Stands (close_of angle)) left.now more.now }
     ensures ok { LeadsOn (spot Turn.Field frames.old.items left.now items.old.items)
         (reverse frames.new.items) items.new.items result }
@@ -152,11 +155,11 @@ fn read_end<'t>(
 }
 
 // Reads the name of a field, or the end of a message.
-fn read_field<'t>(
-    left: &'t [Piece<'t>],
-    items: &mut Vec<Item<'t>>,
+fn read_field<'t, 'a>(
+    left: &'t [Piece<'a>],
+    items: &mut Vec<Item<'t, 'a>>,
     frames: &mut Vec<Frame>,
-) -> Result<Place<'t>, Stop<'t>>
+) -> Result<Place<'t, 'a>, Stop<'t, 'a>>
     requires { GoesOn (reverse frames.old.items) left.now }
     ensures ok { LeadsOn (spot Turn.Field frames.old.items left.now items.old.items)
         (reverse frames.new.items) items.new.items result }
@@ -173,7 +176,10 @@ fn read_field<'t>(
 }
 
 // Reads the bracket at the front of a list, if a field holds one.
-fn read_held<'t>(left: &'t [Piece<'t>], items: &mut Vec<Item<'t>>) -> Result<Place<'t>, Stop<'t>>
+fn read_held<'t, 'a>(
+    left: &'t [Piece<'a>],
+    items: &mut Vec<Item<'t, 'a>>,
+) -> Result<Place<'t, 'a>, Stop<'t, 'a>>
     ensures ok { (frames : List Frame) → LeadsOn
         (place Turn.Held frames left.now items.old.items) frames items.new.items result }
     ensures err { IfErr result (λ stop. stop ≡ Stop.OutOfMemory) }
@@ -194,7 +200,10 @@ fn read_held<'t>(left: &'t [Piece<'t>], items: &mut Vec<Item<'t>>) -> Result<Pla
 }
 
 // Reads the bracket at the end of a list, if there is no value in it.
-fn read_first<'t>(left: &'t [Piece<'t>], items: &mut Vec<Item<'t>>) -> Result<Place<'t>, Stop<'t>>
+fn read_first<'t, 'a>(
+    left: &'t [Piece<'a>],
+    items: &mut Vec<Item<'t, 'a>>,
+) -> Result<Place<'t, 'a>, Stop<'t, 'a>>
     ensures ok { (frames : List Frame) → LeadsOn
         (place Turn.First frames left.now items.old.items) frames items.new.items result }
     ensures err { IfErr result (λ stop. stop ≡ Stop.OutOfMemory) }
@@ -215,11 +224,11 @@ fn read_first<'t>(left: &'t [Piece<'t>], items: &mut Vec<Item<'t>>) -> Result<Pl
 }
 
 // Reads a value that is no message.
-fn read_scalar<'t>(
-    left: &'t [Piece<'t>],
+fn read_scalar<'t, 'a>(
+    left: &'t [Piece<'a>],
     in_list: bool,
-    items: &mut Vec<Item<'t>>,
-) -> Result<Place<'t>, Stop<'t>>
+    items: &mut Vec<Item<'t, 'a>>,
+) -> Result<Place<'t, 'a>, Stop<'t, 'a>>
     requires no_brace { NotFirst (Stands 123) left.now }
     requires no_angle { NotFirst (Stands 60) left.now }
     ensures ok { (frames : List Frame) → LeadsOn
@@ -249,13 +258,13 @@ fn is_full(frames: &[Frame]) -> bool
 }
 
 // Reads on behind the mark that begins a message.
-fn read_open<'t>(
-    left: &'t [Piece<'t>],
-    more: &'t [Piece<'t>],
+fn read_open<'t, 'a>(
+    left: &'t [Piece<'a>],
+    more: &'t [Piece<'a>],
     frame: Frame,
-    items: &mut Vec<Item<'t>>,
+    items: &mut Vec<Item<'t, 'a>>,
     frames: &mut Vec<Frame>,
-) -> Result<Place<'t>, Stop<'t>>
+) -> Result<Place<'t, 'a>, Stop<'t, 'a>>
     requires { Begins (Stands (open_of frame.angle)) left.now more.now }
     ensures ok { LeadsOn (spot (Turn.Value frame.in_list) frames.old.items left.now items.old.items)
         (reverse frames.new.items) items.new.items result }
@@ -278,12 +287,12 @@ fn read_open<'t>(
 }
 
 // Reads a value, or the mark at the front of one that is a message.
-fn read_value<'t>(
-    left: &'t [Piece<'t>],
+fn read_value<'t, 'a>(
+    left: &'t [Piece<'a>],
     in_list: bool,
-    items: &mut Vec<Item<'t>>,
+    items: &mut Vec<Item<'t, 'a>>,
     frames: &mut Vec<Frame>,
-) -> Result<Place<'t>, Stop<'t>>
+) -> Result<Place<'t, 'a>, Stop<'t, 'a>>
     ensures ok { LeadsOn (spot (Turn.Value in_list) frames.old.items left.now items.old.items)
         (reverse frames.new.items) items.new.items result }
     ensures err { StopsFor (spot (Turn.Value in_list) frames.old.items left.now items.old.items)
@@ -307,7 +316,10 @@ fn read_value<'t>(
 }
 
 // Reads what stands behind a value of a list.
-fn read_next<'t>(left: &'t [Piece<'t>], items: &mut Vec<Item<'t>>) -> Result<Place<'t>, Stop<'t>>
+fn read_next<'t, 'a>(
+    left: &'t [Piece<'a>],
+    items: &mut Vec<Item<'t, 'a>>,
+) -> Result<Place<'t, 'a>, Stop<'t, 'a>>
     ensures ok { (frames : List Frame) → LeadsOn
         (place (Turn.After true) frames left.now items.old.items) frames items.new.items result }
     ensures err { (frames : List Frame) → StopsFor
@@ -330,7 +342,7 @@ fn read_next<'t>(left: &'t [Piece<'t>], items: &mut Vec<Item<'t>>) -> Result<Pla
 }
 
 // Reads what stands behind a field. There may be a semicolon or a comma.
-fn read_mark<'t>(left: &'t [Piece<'t>]) -> Place<'t>
+fn read_mark<'t, 'a>(left: &'t [Piece<'a>]) -> Place<'t, 'a>
     ensures { (frames : List Frame) (items : List Item) → Advances (place (Turn.After false) frames left.now items)
         (place result.turn frames result.left.now items) }
 {
@@ -345,11 +357,11 @@ fn read_mark<'t>(left: &'t [Piece<'t>]) -> Place<'t>
 }
 
 // Reads what stands behind a value, of a list or alone.
-fn read_behind<'t>(
-    left: &'t [Piece<'t>],
+fn read_behind<'t, 'a>(
+    left: &'t [Piece<'a>],
     in_list: bool,
-    items: &mut Vec<Item<'t>>,
-) -> Result<Place<'t>, Stop<'t>>
+    items: &mut Vec<Item<'t, 'a>>,
+) -> Result<Place<'t, 'a>, Stop<'t, 'a>>
     ensures ok { (frames : List Frame) → LeadsOn
         (place (Turn.After in_list) frames left.now items.old.items) frames items.new.items result }
     ensures err { (frames : List Frame) → StopsFor
@@ -362,11 +374,11 @@ fn read_behind<'t>(
 }
 
 // Reads on from a place.
-fn step<'t>(
-    here: Place<'t>,
-    items: &mut Vec<Item<'t>>,
+fn step<'t, 'a>(
+    here: Place<'t, 'a>,
+    items: &mut Vec<Item<'t, 'a>>,
     frames: &mut Vec<Frame>,
-) -> Result<Place<'t>, Stop<'t>>
+) -> Result<Place<'t, 'a>, Stop<'t, 'a>>
     requires { here.turn ≡ Turn.Field → GoesOn (reverse frames.old.items) here.left.now }
     ensures ok { LeadsOn (spot here.entry.turn frames.old.items here.entry.left.now items.old.items)
         (reverse frames.new.items) items.new.items result }
@@ -403,7 +415,10 @@ fn is_over(turn: Turn, left: &[Piece<'_>], frames: &[Frame]) -> bool
 /// # Errors
 /// `Fault` if they spell none, with the first piece with which no message goes on, or their number if
 /// more would have to come. `OutOfMemory` where memory runs out.
-pub fn read<'t>(alloc: Global, pieces: &'t [Piece<'t>]) -> Result<Vec<Item<'t>>, TextFailure>
+pub fn read<'t, 'a>(
+    alloc: Global,
+    pieces: &'t [Piece<'a>],
+) -> Result<Vec<Item<'t, 'a>>, TextFailure>
     ensures spelled { IfOk result (λ items. Spells AMessage 100 pieces.now (map seen items.items)) }
     ensures first { IfErr result (λ failure. IfFault failure (IsFirst pieces.now)) }
 {

@@ -7,7 +7,7 @@ use crate::item::Piece;
 use crate::marks::{Sort, behind};
 
 // The pieces behind all strings at the front.
-fn behind_strings<'t>(pieces: &'t [Piece<'t>]) -> &'t [Piece<'t>]
+fn behind_strings<'t, 'a>(pieces: &'t [Piece<'a>]) -> &'t [Piece<'a>]
     ensures { StringsThen pieces.now result.now }
 {
     let mut at = 0;
@@ -18,7 +18,9 @@ fn behind_strings<'t>(pieces: &'t [Piece<'t>]) -> &'t [Piece<'t>]
 }
 
 // The pieces behind a value that is no message; or those from the one on that is none.
-pub(crate) fn behind_scalar<'t>(pieces: &'t [Piece<'t>]) -> Result<&'t [Piece<'t>], &'t [Piece<'t>]>
+pub(crate) fn behind_scalar<'t, 'a>(
+    pieces: &'t [Piece<'a>],
+) -> Result<&'t [Piece<'a>], &'t [Piece<'a>]>
     ensures { MatchResult result (λ more. ScalarThen pieces.now more.now) (λ wrong. NoScalar pieces.now wrong.now) }
 {
     if let Some(more) = behind(pieces, Sort::Plain) {

@@ -16,7 +16,7 @@ fn items_text(
     alloc: Global,
     known: Known<'_>,
     message: usize,
-    items: &[Item<'_>],
+    items: &[Item<'_, '_>],
 ) -> Result<Option<String>, AllocError> {
     match entries_of(alloc, known.view, known.files, message, items) {
         Ok(entries) => entries_text(alloc, entries.as_slice()),

@@ -27,7 +27,11 @@ fn write_message<W: Write>(
 fn write_text<W: Write>(alloc: Global, out: &mut W, text: &str) -> io::Result<()> {
     match pieces(alloc, text) {
         Ok(found) => write_message(alloc, out, text, found.as_slice()),
-        Err(PieceFailure::Fault(span)) => writeln!(out, "{}: no token", span.start + 1),
+        Err(PieceFailure::Fault(span)) => writeln!(
+            out,
+            "{}: no token",
+            span.start.saturating_add(1)
+        ),
         Err(PieceFailure::OutOfMemory) => writeln!(out, "out of memory"),
     }
 }

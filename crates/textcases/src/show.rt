@@ -5,12 +5,12 @@ use protox_text_format::{Item, Piece};
 use std::alloc::Global;
 use std::io::{self, Write};
 
-// The name of the last field, and those of the messages that are open: each value of a list has the
-// name of its field in front.
+// The index of the item with the name of the last field, and those for the messages that are open:
+// each value of a list has the name of its field in front.
 #[derive(Drop)]
-struct Names<'t> {
-    last: &'t [Piece<'t>],
-    outer: Vec<&'t [Piece<'t>]>,
+struct Names {
+    last: usize,
+    outer: Vec<usize>,
 }
 
 // A byte of a string, where it can be printed.
@@ -43,8 +43,18 @@ fn write_pieces<W: Write>(out: &mut W, pieces: &[Piece<'_>]) -> io::Result<()> {
     Ok(())
 }
 
-fn write_scalar<W: Write>(out: &mut W, name: &[Piece<'_>], value: &[Piece<'_>]) -> io::Result<()> {
-    write_pieces(out, name)?;
+// The name that is the item with an index.
+fn write_name<W: Write>(out: &mut W, items: &[Item<'_, '_>], index: usize) -> io::Result<()> {
+    let Some(item) = items.get(index) else {
+        return Ok(());
+    };
+    match *item {
+        Item::Name(name, _) => write_pieces(out, name),
+        _ => Ok(()),
+    }
+}
+
+fn write_scalar<W: Write>(out: &mut W, value: &[Piece<'_>]) -> io::Result<()> {
     write!(out, ": ")?;
     match value {
         [
@@ -59,52 +69,59 @@ fn write_scalar<W: Write>(out: &mut W, name: &[Piece<'_>], value: &[Piece<'_>]) 
     write!(out, " ")
 }
 
-fn write_open<'t, W: Write>(out: &mut W, names: &mut Names<'t>) -> io::Result<()> {
-    write_pieces(out, names.last)?;
+fn write_open<W: Write>(out: &mut W, names: &mut Names, items: &[Item<'_, '_>]) -> io::Result<()> {
+    write_name(out, items, names.last)?;
     write!(out, " {{ ")?;
     names.outer.push(names.last)?;
     Ok(())
 }
 
-fn write_close<'t, W: Write>(out: &mut W, names: &mut Names<'t>) -> io::Result<()> {
+fn write_close<W: Write>(out: &mut W, names: &mut Names) -> io::Result<()> {
     if let Some(name) = names.outer.pop() {
         names.last = name;
     }
     write!(out, "}} ")
 }
 
-fn write_item<'t, W: Write>(out: &mut W, names: &mut Names<'t>, item: &Item<'t>) -> io::Result<()> {
-    match item {
-        Item::Name(name, _) => {
-            names.last = name;
+fn write_item<W: Write>(
+    out: &mut W,
+    names: &mut Names,
+    items: &[Item<'_, '_>],
+    index: usize,
+) -> io::Result<()> {
+    let Some(item) = items.get(index) else {
+        return Ok(());
+    };
+    match *item {
+        Item::Name(_, _) => {
+            names.last = index;
             Ok(())
         }
-        Item::Scalar(value) => write_scalar(out, names.last, value),
-        Item::Open => write_open(out, names),
+        Item::Scalar(value) => {
+            write_name(out, items, names.last)?;
+            write_scalar(out, value)
+        }
+        Item::Open => write_open(out, names, items),
         Item::Close => write_close(out, names),
         _ => Ok(()),
     }
 }
 
-fn write_all<'t, W: Write>(
-    out: &mut W,
-    names: &mut Names<'t>,
-    items: &[Item<'t>],
-) -> io::Result<()> {
-    for item in items {
-        write_item(out, names, item)?;
+fn write_all<W: Write>(out: &mut W, names: &mut Names, items: &[Item<'_, '_>]) -> io::Result<()> {
+    for index in 0..items.len() {
+        write_item(out, names, items, index)?;
     }
     writeln!(out, ".")
 }
 
 /// A message with one space between what it is made of. Lists are told value by value.
-pub(crate) fn write_items<'t, W: Write>(
+pub(crate) fn write_items<W: Write>(
     alloc: Global,
     out: &mut W,
-    items: &[Item<'t>],
+    items: &[Item<'_, '_>],
 ) -> io::Result<()> {
     let mut names = Names {
-        last: &[],
+        last: 0,
         outer: Vec::new(alloc),
     };
     write_all(out, &mut names, items)

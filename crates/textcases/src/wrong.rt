@@ -22,9 +22,10 @@ pub(crate) fn write_fault<W: Write>(
     fault: TextFault,
 ) -> io::Result<()> {
     let Some(piece) = pieces.get(fault.piece) else {
-        write!(out, "{}: ", text.len() + 1)?;
+        write!(out, "{}: ", text.len().saturating_add(1))?;
         return write_wanted(out, fault.kind, "");
     };
-    write!(out, "{}: ", piece.span.start + 1)?;
-    write_wanted(out, fault.kind, &text[piece.span.start..piece.span.end])
+    write!(out, "{}: ", piece.span.start.saturating_add(1))?;
+    let found = text.get(piece.span.start..piece.span.end).unwrap_or("");
+    write_wanted(out, fault.kind, found)
 }

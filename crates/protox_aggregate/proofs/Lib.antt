@@ -1,1 +1,2 @@
 pub mod Outer
+pub mod Whole

@@ -7,3 +7,4 @@ pub mod Failure
 pub mod Unsaid
 pub mod Reading
 pub mod Aggregates
+pub mod Whole

@@ -1,13 +1,15 @@
 //! Messages, step by step.
 
-ghost use Rattle.std.specs.Prelude.{◌≡◌, Err, IfErr, IfOk, Ok, OnOk, [], if◌then◌else◌, map};
+ghost use Rattle.std.specs.Prelude.{◌≡◌, ℕ, List, Err, IfErr, IfOk, Ok, OnOk, [], if◌then◌else◌, map};
 ghost use Rattle.protox_aggregate.specs.Aggregates as words;
 ghost use Rattle.protox_aggregate.specs.Failure.{IfFault};
 ghost use Rattle.protox_aggregate.specs.Levels as levels;
 ghost use Rattle.protox_aggregate.specs.Reading.{IsRefused, Leads, reading_of};
 ghost use Rattle.protox_aggregate.specs.Unsaid.{IfUnsaid};
 ghost use Rattle.protox_settings.specs.Fields.{field_numbered as numbered};
-ghost use Rattle.protox_text_format.specs.Spelling.{Name, seen};
+ghost use Rattle.protox_text_format.specs.Spelling.{AMessage, Name, Spells, seen};
+ghost use Rattle.protox_text_format.specs.declared.item.Piece.{Piece as APiece};
+ghost use Rattle.protox_aggregate.specs.Whole.{IsWhole};
 
 use crate::complete::{complete, is_told};
 use crate::fault::{AggregateFailure, AggregateFault, AggregateFaultKind};
@@ -411,17 +413,8 @@ fn finish(
     }
 }
 
-/// What a message in text format says in a set of linked files, as steps through the fields that are
-/// set. `message` is the number of its type in the table.
-///
-/// Each name is that of a field of the message in which it stands, or of an extension of it that the
-/// file sees. Each value is one of the field's type. A field that isn't repeated is set once, one field
-/// of a oneof is set, and no field is missing that its message needs. In proto3 a field that is set to
-/// 0, `false` or an empty text isn't set. The entry of a map has both its key and its value.
-///
-/// # Errors
-/// `Fault` with the first step that is wrong. `OutOfMemory` where memory runs out.
-pub fn entries_of(
+// What a message in text format says.
+fn read_entries(
     alloc: Global,
     view: &View<'_>,
     files: &[FileDescriptorProto],
@@ -443,4 +436,35 @@ pub fn entries_of(
         Ok(()) => finish(alloc, view.symbols, files, reader, items.len()),
         Err(failure) => Err(failure),
     }
+}
+
+/// What a message in text format says in a set of linked files, as steps through the fields that are
+/// set. `message` is the number of its type in the table.
+///
+/// Each name is that of a field of the message in which it stands, or of an extension of it that the
+/// file sees. Each value is one of the field's type. A field that isn't repeated is set once, one field
+/// of a oneof is set, and no field is missing that its message needs. In proto3 a field that is set to
+/// 0, `false` or an empty text isn't set. The entry of a map has both its key and its value.
+///
+/// If the steps are those through a message, as `read` gives them, what is answered are steps through a
+/// whole message, too, of which `message_bytes` gives the bytes.
+///
+/// # Errors
+/// `Fault` with the first step that is wrong. `OutOfMemory` where memory runs out.
+pub fn entries_of(
+    alloc: Global,
+    view: &View<'_>,
+    files: &[FileDescriptorProto],
+    message: usize,
+    items: &[Item<'_, '_>],
+) -> Result<Vec<Entry>, AggregateFailure>
+    ensures said { IfOk result (λ entries. words.entries_of files.now view.now.symbols.now
+        view.now.sees.now view.now.packages message (map seen items.now) ≡ Ok entries.items) }
+    ensures whole { IfOk result (λ entries. (levels : ℕ) (pieces : List APiece)
+        → Spells AMessage levels pieces (map seen items.now) → IsWhole entries.items) }
+    ensures fault { IfErr result (λ failure. IfFault failure (λ fault. words.entries_of files.now
+        view.now.symbols.now view.now.sees.now view.now.packages message (map seen items.now)
+        ≡ Err fault)) }
+{
+    read_entries(alloc, view, files, message, items)
 }

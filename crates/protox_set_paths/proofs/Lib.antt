@@ -1,3 +1,5 @@
 pub mod Order
 pub mod Searching
 pub mod Adding
+pub mod Places
+pub mod Stepping

@@ -1,0 +1,3 @@
+pub mod Levels
+pub mod Lookup
+pub mod Unset

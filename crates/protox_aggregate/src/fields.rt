@@ -28,14 +28,15 @@ pub(crate) fn has_type(field: &FieldDescriptorProto, field_type: FieldType) -> b
     }
 }
 
-pub(crate) fn is_group(field: &FieldDescriptorProto) -> bool
+/// Whether the field is a group.
+pub fn is_group(field: &FieldDescriptorProto) -> bool
     ensures { result ≡ words.is_group field.now }
 {
     has_type(field, FieldType::Group)
 }
 
-// The number of a field, as it stands in front of its values.
-pub(crate) fn wire_number(field: &FieldDescriptorProto) -> u32
+/// The number of a field, as it stands in front of its values.
+pub fn wire_number(field: &FieldDescriptorProto) -> u32
     ensures { result ≡ words.wire_number field.now }
 {
     field.number.unwrap_or(0).cast_unsigned()

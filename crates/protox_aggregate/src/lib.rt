@@ -12,4 +12,5 @@ mod unsaid;
 mod values;
 
 pub use fault::{AggregateFailure, AggregateFault, AggregateFaultKind};
+pub use fields::{is_group, wire_number};
 pub use reading::entries_of;

@@ -13,12 +13,15 @@ use protox_values::SettingValue;
 use std::alloc::{AllocError, Global};
 use std::marker::Model;
 
-// A field on the wire. Of one that is packed the bytes are those of its value, without a header.
+/// A field on the wire.
 #[derive(Drop)]
-pub(crate) struct Field {
-    number: u32,
-    packed: bool,
-    bytes: Vec<u8>,
+pub struct Field {
+    /// The number of the field.
+    pub number: u32,
+    /// Whether the values of the field stand behind one header.
+    pub packed: bool,
+    /// The bytes of the field. Of one that is packed they are those of its value, without a header.
+    pub bytes: Vec<u8>,
 }
 
 impl Model for Field {
@@ -134,8 +137,14 @@ fn sort_fields(fields: &mut Vec<Field>) -> Result<(), AllocError>
     fields.sort_by(|a, b| a.number.cmp(&b.number))
 }
 
-// The bytes of a message that holds these fields.
-pub(crate) fn in_order(alloc: Global, fields: &mut Vec<Field>) -> Result<Vec<u8>, AllocError>
+/// The bytes of a message that holds these fields. They stand in the order of their numbers, and
+/// those of one number in the order in which they are given. Packed ones of one number stand behind
+/// one header.
+///
+/// # Errors
+/// `AllocError` where memory runs out. The fields may be in another order then. No field takes no
+/// memory.
+pub fn in_order(alloc: Global, fields: &mut Vec<Field>) -> Result<Vec<u8>, AllocError>
     ensures bytes { IfOk result (λ bytes. bytes.items ≡ words.in_order fields.old.items) }
     ensures free { fields.old.items ≡ [] → IsOk result }
 {

@@ -6,4 +6,5 @@ mod field;
 mod message;
 
 pub use entry::Entry;
+pub use field::{Field, in_order};
 pub use message::message_bytes;

@@ -4,5 +4,5 @@
 mod setting;
 mod step;
 
-pub use crate::setting::prepend_setting;
+pub use crate::setting::{prepend_setting, prepend_within};
 pub use crate::step::Step;

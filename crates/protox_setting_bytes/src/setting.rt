@@ -148,3 +148,21 @@ pub fn prepend_setting(
     prepend_value(alloc, out, number, value)?;
     prepend_starts(alloc, out, steps, behind)
 }
+
+/// Puts bytes in front as what lies in fields within one another, the outermost first.
+///
+/// # Errors
+/// `AllocError` where memory runs out. The buffer may hold a part of the bytes then.
+pub fn prepend_within(
+    alloc: Global,
+    out: &mut Backward,
+    steps: &[Step],
+    inside: &[u8],
+) -> Result<(), AllocError>
+    ensures { OnOk result (out.new ≡ words.around_all steps.now inside.now ++ out.old) }
+{
+    prepend_ends(alloc, out, steps)?;
+    let behind = out.len();
+    out.prepend(alloc, inside)?;
+    prepend_starts(alloc, out, steps, behind)
+}

@@ -1,0 +1,5 @@
+pub mod Each
+pub mod Adding
+pub mod One
+pub mod Paths
+pub mod Bytes

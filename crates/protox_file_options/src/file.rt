@@ -1,0 +1,66 @@
+//! All options messages of a file.
+
+ghost use Rattle.std.specs.Prelude.{IfOk, OnOk};
+ghost use Rattle.protox_file_options.specs.Interpreted.{IsInterpreted};
+ghost use Rattle.protox_file_options.specs.Places.{places_of};
+ghost use Rattle.protox_file_options.specs.inner.Added.{Adds};
+
+use crate::answer::InterpretedFile;
+use crate::interpreter::Interpreter;
+use crate::places::{package_of, statements_of_file};
+use protox_descriptor::descriptor::FileDescriptorProto;
+use protox_descriptor::tag::file::OPTIONS;
+use protox_encode_linked::OptionBytes;
+use protox_views::View;
+use protox_walk::walk;
+use std::alloc::{AllocError, Global};
+
+// Takes the statements of all places of a file.
+fn take_all(interpreter: &mut Interpreter<'_>, file: &FileDescriptorProto) -> Result<(), AllocError>
+    ensures { OnOk result (Adds interpreter.old (places_of file.now) interpreter.new) }
+{
+    walk(interpreter.alloc, file, interpreter)?;
+    let statements = statements_of_file(file);
+    let options = "google.protobuf.FileOptions";
+    interpreter.take(&[OPTIONS], package_of(file), options, statements)
+}
+
+/// What the statements of a file set: bytes for each of its options messages, or what is wrong.
+///
+/// `view` is what the file sees of a table. `files` are the linked files of the table, and `file`
+/// is one of them. Statements stand in the options of declarations, of extension ranges and of the
+/// file as a whole. Those of one options message are read together, by `interpret`. If one of them
+/// is wrong, the options message gets a fault and no bytes. The others get their bytes.
+///
+/// It walks the file once. What has no statements costs no look-up and no memory.
+///
+/// # Errors
+/// `AllocError` where memory runs out, or where a list has more than 2,147,483,648 parts: no path
+/// can count them.
+///
+/// ```
+/// let interpreted = interpret_file(alloc, &view, files, file)?;
+/// let bytes = encode_linked(alloc, file, &interpreted.options)?;
+/// ```
+pub fn interpret_file(
+    alloc: Global,
+    view: &View<'_>,
+    files: &[FileDescriptorProto],
+    file: &FileDescriptorProto,
+) -> Result<InterpretedFile, AllocError>
+    ensures interpreted { IfOk result (IsInterpreted view.now files.now file.now) }
+{
+    let mut interpreter = Interpreter {
+        alloc,
+        view,
+        files,
+        answer: InterpretedFile {
+            options: OptionBytes::new(alloc),
+            faults: Vec::new(alloc),
+        },
+    };
+    match take_all(&mut interpreter, file) {
+        Ok(()) => Ok(interpreter.answer),
+        Err(error) => Err(error),
+    }
+}

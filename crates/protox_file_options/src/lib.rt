@@ -1,0 +1,15 @@
+//! All options messages of a file.
+//!
+//! In a file as `parse` answers it an options message holds statements: names and values that
+//! nobody has looked at. `interpret_file` reads those of a linked file. It gives the bytes of each
+//! options message, by its path.
+#![tactic(auto)]
+
+mod answer;
+mod file;
+mod interpreter;
+pub mod laws;
+mod places;
+
+pub use crate::answer::{InterpretedFile, OptionsFault, PlaceFault};
+pub use crate::file::interpret_file;

@@ -1,0 +1,4 @@
+pub mod Entering
+pub mod Kept
+pub mod Named
+pub mod Giving

@@ -1,6 +1,5 @@
 -- The texts of what is wrong with statements, as protoc has them.
 use Rattle.std.specs.Prelude.{ℕ, ◌+◌, ◌-◌, ◌==◌, List, [], ◌∷◌, ◌++◌, Option, Some, None, Result, Ok, Err, codes, length, slice_get, take, if◌then◌else◌}
-use Rattle.std.specs.Option.{option_and_then, option_map_or}
 use Rattle.protox_descriptor.specs.FieldDescriptorProto.{FieldDescriptorProto}
 use Rattle.protox_descriptor.specs.Printed.{name_text as written}
 use Rattle.protox_descriptor.specs.declared.descriptor.DescriptorProto.{DescriptorProto, out-DescriptorProto}

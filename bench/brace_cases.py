@@ -15,7 +15,7 @@ import random
 import subprocess
 import sys
 
-from setting_cases import FOLDER, PROGRAM, answer, sets
+from setting_cases import FOLDER, PROGRAM, answers, sets
 
 # Values by what a field holds; those in front are of the type.
 VALUES = {
@@ -103,12 +103,12 @@ def main():
     given = base + ''.join(made(words.count, words.seed))
     ours = subprocess.run([PROGRAM], input=given, capture_output=True, text=True, check=True).stdout.splitlines()
     with concurrent.futures.ThreadPoolExecutor(4) as pool:
-        theirs = list(pool.map(lambda one: answer(words.protoc, one[1]), sets(given)))
-    failed = [(head, one, other) for head, one, other in zip(sets(given), theirs, ours[1::2]) if one != other]
+        theirs = list(pool.map(lambda one: answers(words.protoc, one[1], False), sets(given)))
+    failed = [(head, one, other) for head, one, other in zip(sets(given), theirs, zip(ours[1::3], ours[2::3])) if one != list(other)]
     for (_, files), one, other in failed:
         print(f'{files[-1][1]}  protoc: {one}\n  ours:   {other}')
     print(f'{len(theirs) - len(failed)} passed, {len(failed)} failed')
-    sys.exit(bool(failed) or len(ours) != 2 * len(theirs))
+    sys.exit(bool(failed) or len(ours) != 3 * len(theirs))
 
 
 if __name__ == '__main__':

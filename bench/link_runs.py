@@ -26,19 +26,20 @@ BY_HAND = {
     '-Ilinks/a -oset --dependency_out=full links/a/base.proto': (['full: No space left on device'], 1, {}),
     '-Ilinks/a -ofull links/a/base.proto': (['full: No space left on device'], 1, {}),
     '-Ilinks/a -oset links/a/latin.proto': (['latin.proto:3:7: not UTF-8', '    3 | // caf', '      |       ^'], 1, {}),
-    '-Ilinks/a -oset links/a/options.proto': ([OPTIONS], 0, {'set': SET_WITH_OPTION}),
+    '-Ilinks/bare -oset links/bare/options.proto': ([OPTIONS], 0, {'set': SET_WITH_OPTION}),
 }
 PLACE = re.compile(r'(.*?):(\d+):(\d+): .*')
 AS_NOBODY = {'user': 65534, 'group': 65534, 'extra_groups': []} if os.geteuid() == 0 else {}
 
 
 def excerpt(folder, line):
-    """The lines behind a line with a place: that line of the source, and marks under an import or a word."""
+    """The lines behind a line with a place: that line of the source, and marks under an import or a word.
+    `folder` holds the source."""
     found = PLACE.fullmatch(line)
     if not found:
         return []
     name, row, column = found[1], int(found[2]), int(found[3])
-    with open(os.path.join(folder, 'links/a', os.path.basename(name)), encoding='utf-8') as source:
+    with open(os.path.join(folder, os.path.basename(name)), encoding='utf-8') as source:
         text = source.read().split('\n')[row - 1]
     width = len(re.match(r'import.*?;|[\w.]+', text[column - 1:])[0])
     return [f'{row:>5} | {text}', '      | ' + ' ' * (column - 1) + '^' * width]
@@ -47,10 +48,13 @@ def excerpt(folder, line):
 def answer(protoc, folder, line):
     """What protoc says, its status, and what it writes."""
     before = set(os.listdir(folder))
-    done = subprocess.run([protoc, *line.split()], cwd=folder, capture_output=True, check=False, **AS_NOBODY)
+    words = line.split()
+    # protoc wants to be asked for something
+    asked = words if '-o' in line else [*words, '-o', os.devnull]
+    done = subprocess.run([protoc, *asked], cwd=folder, capture_output=True, check=False, **AS_NOBODY)
     said = [told for told in done.stderr.decode().split('\n')[:-1] if not told.startswith('[libprotobuf WARNING ')]
     if '--error_format' not in line:
-        said = [one for told in said for one in [told, *excerpt(folder, told)]]
+        said = [one for told in said for one in [told, *excerpt(os.path.join(folder, os.path.dirname(words[-1]) or 'links/a'), told)]]
     written = {}
     for name in sorted(set(os.listdir(folder)) - before):
         with open(os.path.join(folder, name), 'rb') as data:

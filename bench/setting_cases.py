@@ -33,7 +33,7 @@ def sets(text):
     """The head of each set, and its files behind those that all sets have."""
     base, found, files = [], [], None
     for line in text.splitlines():
-        if line.startswith('== set'):
+        if line.startswith(('== set', '== whole')):
             found.append((line, []))
         elif line.startswith(('== file ', '== base ')):
             files = base if line.startswith('== base ') else found[-1][1]
@@ -118,8 +118,22 @@ def wrong(text):
     return in_braces[1] if in_braces else text
 
 
-def answer(protoc, files):
-    """protoc's answer for a set of files."""
+def last_entry(data):
+    """The bytes of the last file of a set."""
+    at = 0
+    while at < len(data):
+        length, shift, at = 0, 0, at + 1
+        while True:
+            byte, at = data[at], at + 1
+            length, shift = length | (byte & 127) << shift, shift + 7
+            if byte < 128:
+                break
+        found, at = data[at:at + length], at + length
+    return found
+
+
+def answers(protoc, files, whole):
+    """protoc's answers for a set of files: what its statement sets, and what the whole has."""
     with tempfile.TemporaryDirectory() as folder:
         for name, text in files:
             path = os.path.join(folder, name)
@@ -131,12 +145,11 @@ def answer(protoc, files):
                              capture_output=True, text=True)
         if run.returncode == 0:
             with open(out, 'rb') as file:
-                return said(file.read(), files[-1][1])
-        for line in run.stderr.splitlines():
-            found = re.fullmatch(r'\S+?:\d+:\d+: (.*)', line)
-            if found and not found[1].startswith('warning: '):
-                return wrong(found[1])
-        return 'nothing told: ' + run.stderr
+                data = file.read()
+            return [*([] if whole else [said(data, files[-1][1])]), '= ' + last_entry(data).hex()]
+        told = [re.fullmatch(r'\S+?:\d+:\d+: (.*)', line) for line in run.stderr.splitlines()]
+        told = [wrong(found[1]) for found in told if found and not found[1].startswith('warning: ')]
+        return [*([] if whole else told[:1]), f'wrong: {len(told)}']
 
 
 def main():
@@ -144,7 +157,7 @@ def main():
         given = file.read()
     lines = []
     for head, files in sets(given):
-        lines += [head, answer(sys.argv[1], files)]
+        lines += [head, *answers(sys.argv[1], files, head.startswith('== whole'))]
     if '--write' in sys.argv:
         with open(f'{FOLDER}/stdout', 'w') as file:
             file.write('\n'.join(lines) + '\n')

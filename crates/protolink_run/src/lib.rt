@@ -11,24 +11,28 @@ mod alike;
 mod faults;
 mod host;
 mod load;
+mod options;
 mod output;
 mod paths;
 mod places;
 mod search;
+mod statements;
 mod told;
 mod warnings;
 
 use crate::faults::tell_faults;
 pub use crate::host::Host;
 use crate::host::is_want;
-use crate::load::{Loaded, Reading, load_all, paths_of};
+use crate::load::{Loaded, Reading, SourceFile, load_all, paths_of};
+use crate::options::add_options;
 use crate::output::{Set, chosen, rule, set_bytes};
 use crate::paths::{Place, places};
 use crate::search::{Input, beside_program, input_of};
 use crate::told::{cause, say, say_line};
 use crate::warnings::{warn_of_alike, warn_of_options, warn_of_unused};
 use protolink_words::{Asked, Work, asked_by};
-use protox_link::{check, link};
+use protox_encode_linked::OptionBytes;
+use protox_link::{LinkedSet, check, link};
 use protox_link_fault::LinkFailure;
 use std::alloc::{AllocError, Global};
 use std::io::{self, Write};
@@ -255,7 +259,9 @@ fn write_all<H: Host, W: Write, E: Write>(
     };
     let numbers = chosen(alloc, &set, work.imports)?;
     let numbers = numbers.as_slice();
-    warn_of_options(alloc, err, name, set.linked.files.as_slice(), numbers)?;
+    if set.options.is_empty() {
+        warn_of_options(alloc, err, name, set.linked.files.as_slice(), numbers)?;
+    }
     let Some(bytes) = set_bytes(alloc, err, work, numbers, &mut set)? else {
         return Ok(false);
     };
@@ -267,6 +273,38 @@ fn write_all<H: Host, W: Write, E: Write>(
         return Ok(true);
     }
     write(alloc, host, name, bytes.as_slice(), err)
+}
+
+// Reads the options of linked files, and writes what is asked for. Answers whether all is well.
+fn read_and_write<H: Host, W: Write, E: Write>(
+    alloc: Global,
+    host: &H,
+    work: &Work<'_>,
+    linked: LinkedSet,
+    sources: Vec<SourceFile>,
+    inputs: usize,
+    out: &mut W,
+    err: &mut E,
+) -> io::Result<bool> {
+    let mut options = Vec::new(alloc);
+    let (files, texts) = (linked.files.as_slice(), sources.as_slice());
+    match add_options(alloc, err, work.format, files, texts, &mut options) {
+        Ok(true) => {}
+        Ok(false) => return Ok(false),
+        Err(error) => return Err(error),
+    }
+    match paths_of(alloc, sources) {
+        Ok(paths) => {
+            let set = Set {
+                linked,
+                paths,
+                inputs,
+                options,
+            };
+            write_all(alloc, host, work, set, out, err)
+        }
+        Err(error) => Err(error.into()),
+    }
 }
 
 // Links files in which nothing is wrong, and writes what is asked for. Answers whether all is well.
@@ -282,17 +320,13 @@ fn link_and_write<H: Host, W: Write, E: Write>(
         files,
         sources,
         inputs,
+        schema,
         ..
     } = loaded;
-    let paths = paths_of(alloc, sources)?;
     match link(alloc, files) {
-        Ok(linked) => {
-            let set = Set {
-                linked,
-                paths,
-                inputs,
-            };
-            write_all(alloc, host, work, set, out, err)
+        Ok(mut linked) => {
+            linked.order.retain(|number| Some(*number) != schema);
+            read_and_write(alloc, host, work, linked, sources, inputs, out, err)
         }
         // it can't be, as nothing is wrong with the files
         Err(LinkFailure::Refused(_)) => Ok(false),

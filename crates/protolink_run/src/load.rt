@@ -6,15 +6,20 @@ ghost use Rattle.protolink_run.specs.Outcomes.{IsReadFile};
 
 use crate::faults::tell_refusal;
 use crate::host::{Host, is_want};
+use crate::options::some_has_options;
 use crate::paths::{Place, canonical, leads_up};
 use crate::search::path_of;
 use crate::told::{Grade, Told, cause, say};
 use protolink_words::Format;
 use protox_descriptor::descriptor::FileDescriptorProto;
+use protox_descriptor::values::Text;
 use protox_parse::{ParseFailure, parse};
 use std::alloc::{AllocError, Global};
 use std::collections::BTreeSet;
 use std::io::{self, ErrorKind, Write};
+
+// The file that declares what options there are.
+const SCHEMA: &str = "google/protobuf/descriptor.proto";
 
 /// The source of a file that was read.
 #[derive(Drop)]
@@ -72,6 +77,8 @@ pub(crate) struct Loaded {
     pub(crate) inputs: usize,
     /// Whether a file is missing, can't be read, or is refused.
     pub(crate) failed: bool,
+    /// The number of the file that was read only since it declares what options there are.
+    pub(crate) schema: Option<usize>,
 }
 
 /// How files are read.
@@ -267,11 +274,59 @@ fn load_next<H: Host, E: Write>(
     Ok(())
 }
 
-/// Reads the files of these names, and all that they import. What can't be read is told.
-///
-/// # Errors
-/// An error where memory runs out, or where nothing can be told.
-pub(crate) fn load_all<H: Host, E: Write>(
+// Whether a name is set, and is this one.
+fn is_named(name: Option<&Text>, word: &str) -> bool {
+    match name {
+        Some(name) => name.as_str() == word,
+        None => false,
+    }
+}
+
+// Whether the file declares what options there are.
+fn is_schema(file: &FileDescriptorProto) -> bool {
+    is_named(file.package.as_ref(), "google.protobuf")
+        && file
+            .message_type
+            .iter()
+            .any(|message| is_named(message.name.as_ref(), "FileOptions"))
+}
+
+// Whether some file sets options, and none declares what options there are.
+fn lacks_schema(alloc: Global, files: &[FileDescriptorProto]) -> Result<bool, AllocError> {
+    Ok(!files.iter().any(is_schema) && some_has_options(alloc, files)?)
+}
+
+// Whether the file that declares what options there are is needed, and lies somewhere.
+fn wants_schema<H: Host>(
+    alloc: Global,
+    reading: &Reading<'_, H>,
+    files: &[FileDescriptorProto],
+) -> io::Result<bool> {
+    if !lacks_schema(alloc, files)? {
+        return Ok(false);
+    }
+    Ok(path_of(alloc, reading.host, reading.places, SCHEMA)?.is_some())
+}
+
+// Reads that file, and notes its number.
+fn load_schema<H: Host, E: Write>(
+    alloc: Global,
+    err: &mut E,
+    reading: &Reading<'_, H>,
+    loaded: &mut Loaded,
+) -> io::Result<()>
+    ensures read { All (IsReadFile H.holds reading.now.host.now) loaded.old.files.items
+        → OnOk result (All (IsReadFile H.holds reading.now.host.now) loaded.new.files.items) }
+    ensures some { OnOk result (loaded.new.failed ≡ false → loaded.new.files.items ≢ []) }
+{
+    loaded.schema = Some(loaded.files.len());
+    let read = load(alloc, err, reading, SCHEMA, loaded)?;
+    loaded.failed = !read;
+    Ok(())
+}
+
+// Reads the files of these names, and all that they import. What can't be read is told.
+fn load_named<H: Host, E: Write>(
     alloc: Global,
     err: &mut E,
     reading: &Reading<'_, H>,
@@ -291,6 +346,7 @@ pub(crate) fn load_all<H: Host, E: Write>(
         sources: Vec::new(alloc),
         inputs: wanted.names.len(),
         failed: false,
+        schema: None,
     };
     for next in 0..usize::MAX {
         let Some(name) = wanted.names.get(next) else {
@@ -299,5 +355,30 @@ pub(crate) fn load_all<H: Host, E: Write>(
         let name = String::from_str(alloc, name.as_str())?;
         load_next(alloc, err, reading, name.as_str(), &mut wanted, &mut loaded)?;
     }
+    Ok(loaded)
+}
+
+/// Reads the files of these names, and all that they import. What can't be read is told.
+///
+/// If one of them sets options, and none declares what options there are, the file that does is read
+/// behind them, if it lies somewhere.
+///
+/// # Errors
+/// An error where memory runs out, or where nothing can be told.
+pub(crate) fn load_all<H: Host, E: Write>(
+    alloc: Global,
+    err: &mut E,
+    reading: &Reading<'_, H>,
+    inputs: &[String],
+) -> io::Result<Loaded>
+    ensures read { IfOk result (λ loaded. All (IsReadFile H.holds reading.now.host.now) loaded.files.items) }
+    // Where there are inputs and none of the files failed, some were read.
+    ensures some { inputs.now ≢ [] → IfOk result (λ loaded. loaded.failed ≡ false → loaded.files.items ≢ []) }
+{
+    let mut loaded = load_named(alloc, err, reading, inputs)?;
+    if loaded.failed || !wants_schema(alloc, reading, loaded.files.as_slice())? {
+        return Ok(loaded);
+    }
+    load_schema(alloc, err, reading, &mut loaded)?;
     Ok(loaded)
 }

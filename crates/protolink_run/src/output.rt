@@ -5,6 +5,7 @@ use crate::told::say;
 use protolink_words::Work;
 use protox_descriptor::descriptor::FileDescriptorProto;
 use protox_encode::{EncodeError, encode_entry};
+use protox_encode_linked::{OptionBytes, encode_linked_entry};
 use protox_imports::{Imports, Order, in_order};
 use protox_link::LinkedSet;
 use std::alloc::{AllocError, Global};
@@ -18,6 +19,8 @@ pub(crate) struct Set {
     pub(crate) paths: Vec<String>,
     /// How many of the files, at the start, are inputs.
     pub(crate) inputs: usize,
+    /// What the options of each file say. None is there if options stay as they are written.
+    pub(crate) options: Vec<OptionBytes>,
 }
 
 // The inputs, each behind those of the others that it imports. What they import of other files has no
@@ -61,14 +64,27 @@ fn tell_no_bytes<E: Write>(
     }
 }
 
+// The bytes of a file in a set, with what its options say, if that is known.
+fn entry_of(
+    alloc: Global,
+    file: &FileDescriptorProto,
+    options: Option<&OptionBytes>,
+) -> Result<Vec<u8>, EncodeError> {
+    match options {
+        Some(options) => encode_linked_entry(alloc, file, options),
+        None => encode_entry(alloc, file),
+    }
+}
+
 // Adds a file to the bytes of a set. Answers whether it has bytes.
 fn add<E: Write>(
     alloc: Global,
     err: &mut E,
     bytes: &mut Vec<u8>,
     file: &FileDescriptorProto,
+    options: Option<&OptionBytes>,
 ) -> io::Result<bool> {
-    match encode_entry(alloc, file) {
+    match entry_of(alloc, file, options) {
         Ok(entry) => {
             bytes.extend_from_slice(entry.as_slice())?;
             Ok(true)
@@ -102,7 +118,7 @@ pub(crate) fn set_bytes<E: Write>(
     let mut bytes = Vec::new(alloc);
     for number in numbers {
         if let Some(file) = set.linked.files.get(*number) {
-            if !add(alloc, err, &mut bytes, file)? {
+            if !add(alloc, err, &mut bytes, file, set.options.get(*number))? {
                 return Ok(None);
             }
         }

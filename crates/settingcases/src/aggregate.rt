@@ -1,7 +1,7 @@
 //! What a text in braces says.
 
-use crate::answers::Known;
 use protox_aggregate::{AggregateFailure, entries_of};
+use protox_interpret::Site;
 use protox_message_bytes::{Entry, message_bytes};
 use protox_text_format::{Item, Piece, PieceFailure, TextFailure, pieces, read};
 use std::alloc::{AllocError, Global};
@@ -14,11 +14,11 @@ fn entries_text(alloc: Global, entries: &[Entry]) -> Result<Option<String>, Allo
 
 fn items_text(
     alloc: Global,
-    known: Known<'_>,
+    here: Site<'_>,
     message: usize,
     items: &[Item<'_, '_>],
 ) -> Result<Option<String>, AllocError> {
-    match entries_of(alloc, known.view, known.files, message, items) {
+    match entries_of(alloc, here.view, here.files, message, items) {
         Ok(entries) => entries_text(alloc, entries.as_slice()),
         Err(AggregateFailure::Fault(_)) => Ok(None),
         Err(AggregateFailure::OutOfMemory) => Err(AllocError),
@@ -27,12 +27,12 @@ fn items_text(
 
 fn pieces_text(
     alloc: Global,
-    known: Known<'_>,
+    here: Site<'_>,
     message: usize,
     found: &[Piece<'_>],
 ) -> Result<Option<String>, AllocError> {
     match read(alloc, found) {
-        Ok(items) => items_text(alloc, known, message, items.as_slice()),
+        Ok(items) => items_text(alloc, here, message, items.as_slice()),
         Err(TextFailure::Fault(_)) => Ok(None),
         Err(TextFailure::OutOfMemory) => Err(AllocError),
     }
@@ -41,12 +41,12 @@ fn pieces_text(
 /// The bytes of the message of the type with this number that a text says. None if it says none.
 pub(crate) fn aggregate_text(
     alloc: Global,
-    known: Known<'_>,
+    here: Site<'_>,
     message: usize,
     text: &str,
 ) -> Result<Option<String>, AllocError> {
     match pieces(alloc, text) {
-        Ok(found) => pieces_text(alloc, known, message, found.as_slice()),
+        Ok(found) => pieces_text(alloc, here, message, found.as_slice()),
         Err(PieceFailure::Fault(_)) => Ok(None),
         Err(PieceFailure::OutOfMemory) => Err(AllocError),
     }

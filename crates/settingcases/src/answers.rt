@@ -2,6 +2,7 @@
 
 use crate::source::{Source, Sources};
 use crate::statement::write_statement;
+use crate::whole::write_whole;
 use protox_descriptor::descriptor::FileDescriptorProto;
 use protox_link::{FileNames, LinkedSet, Resolver, link};
 use protox_link_fault::LinkFailure;
@@ -28,7 +29,11 @@ fn parse_into<W: Write>(
 ) -> io::Result<bool> {
     for source in sources {
         match parse(alloc, source.name.as_str(), source.text.as_str()) {
-            Ok(file) => files.push(file)?,
+            Ok(mut file) => {
+                // Its bytes are printed without places.
+                file.source_code_info = None;
+                files.push(file)?;
+            }
             Err(ParseFailure::Refused(error)) => {
                 writeln!(out, "{error:?}")?;
                 return Ok(false);
@@ -110,18 +115,32 @@ fn write_file_options<W: Write>(
     Ok(())
 }
 
+// What each statement of a file sets.
+fn write_statements<W: Write>(
+    alloc: Global,
+    out: &mut W,
+    known: Known<'_>,
+    file: &FileDescriptorProto,
+) -> io::Result<()> {
+    write_file_options(alloc, out, known, file)?;
+    let found = declarations(alloc, file)?;
+    write_declarations(alloc, out, known, found.as_slice())
+}
+
 fn write_file<W: Write>(
     alloc: Global,
     out: &mut W,
     names: &FileNames<'_>,
     files: &[FileDescriptorProto],
     file: &FileDescriptorProto,
+    whole: bool,
 ) -> io::Result<()> {
     let view = names.view();
     let known = Known { view: &view, files };
-    write_file_options(alloc, out, known, file)?;
-    let found = declarations(alloc, file)?;
-    write_declarations(alloc, out, known, found.as_slice())
+    if !whole {
+        write_statements(alloc, out, known, file)?;
+    }
+    write_whole(alloc, out, known, file)
 }
 
 // Writes what the statements of the last file set: this holds the `?`, while its caller holds the
@@ -131,6 +150,7 @@ fn write_last<W: Write>(
     out: &mut W,
     resolver: &Resolver,
     files: &[FileDescriptorProto],
+    whole: bool,
 ) -> io::Result<()> {
     let Some(file) = files.last() else {
         return Ok(());
@@ -138,12 +158,17 @@ fn write_last<W: Write>(
     let Some(names) = resolver.file(alloc, files.len() - 1)? else {
         return Ok(());
     };
-    write_file(alloc, out, &names, files, file)
+    write_file(alloc, out, &names, files, file, whole)
 }
 
-fn write_linked<W: Write>(alloc: Global, out: &mut W, set: &LinkedSet) -> io::Result<()> {
+fn write_linked<W: Write>(
+    alloc: Global,
+    out: &mut W,
+    set: &LinkedSet,
+    whole: bool,
+) -> io::Result<()> {
     match Resolver::new(alloc, set.files.as_slice()) {
-        Ok(resolver) => write_last(alloc, out, &resolver, set.files.as_slice()),
+        Ok(resolver) => write_last(alloc, out, &resolver, set.files.as_slice(), whole),
         Err(error) => Err(error.into()),
     }
 }
@@ -152,9 +177,10 @@ fn write_linking<W: Write>(
     alloc: Global,
     out: &mut W,
     files: Vec<FileDescriptorProto>,
+    whole: bool,
 ) -> io::Result<()> {
     match link(alloc, files) {
-        Ok(set) => write_linked(alloc, out, &set),
+        Ok(set) => write_linked(alloc, out, &set, whole),
         Err(LinkFailure::Refused(faults)) => writeln!(out, "faults: {}", faults.len()),
         Err(LinkFailure::OutOfMemory) => writeln!(out, "out of memory"),
     }
@@ -176,7 +202,7 @@ fn parsed<W: Write>(
 pub(crate) fn write_set<W: Write>(alloc: Global, out: &mut W, sources: &Sources) -> io::Result<()> {
     let mut files = Vec::new(alloc);
     match parsed(alloc, out, sources, &mut files) {
-        Ok(true) => write_linking(alloc, out, files),
+        Ok(true) => write_linking(alloc, out, files, sources.whole),
         Ok(false) => Ok(()),
         Err(error) => Err(error),
     }

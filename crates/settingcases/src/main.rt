@@ -2,19 +2,22 @@
 //! file of each set to.
 //!
 //! - `== set WORDS` begins a set, and is printed as it is
+//! - `== whole WORDS` does so, too; of its statements only the bytes of their file are printed
 //! - `== file NAME` begins a file of the set; the lines behind it are its source
 //! - `== base NAME` begins a file that this set and all later ones have
 //! - `== end` ends the set
 //!
 //! For each statement it prints a line: the numbers of the fields that its name goes through, with
 //! dots, and what it says to the last of them on the wire, or the bytes of the message that stands in
-//! braces; or what is wrong, in protoc's words. What is wrong in braces isn't told.
+//! braces; or what is wrong, in protoc's words. What is wrong in braces isn't told. Behind them stand
+//! the bytes of the file with all that its statements set, or how many options messages are wrong.
 #![tactic(auto)]
 
 mod aggregate;
 mod answers;
 mod source;
 mod statement;
+mod whole;
 
 use crate::answers::write_set;
 use crate::source::{Sources, note};
@@ -28,7 +31,9 @@ fn take<W: Write>(alloc: Global, out: &mut W, sources: &mut Sources, line: &str)
         sources.files.clear();
         return Ok(());
     }
-    if line.starts_with("== set") {
+    let whole = line.starts_with("== whole");
+    if whole || line.starts_with("== set") {
+        sources.whole = whole;
         return writeln!(out, "{line}");
     }
     note(alloc, sources, line)?;

@@ -14,6 +14,8 @@ pub(crate) struct Source {
 pub(crate) struct Sources {
     pub(crate) base: Vec<Source>,
     pub(crate) files: Vec<Source>,
+    /// Whether only the bytes of the last file are printed.
+    pub(crate) whole: bool,
     /// Whether the file that was begun last is one of all sets.
     is_base: bool,
 }
@@ -23,6 +25,7 @@ impl Sources {
         Sources {
             base: Vec::new(alloc),
             files: Vec::new(alloc),
+            whole: false,
             is_base: false,
         }
     }

@@ -1,7 +1,7 @@
 use Rattle.std.proofs.Common.{◌≡◌, ◌<◌, []}
 use Rattle.std.specs.Prelude.{◌≢◌, All, false}
 use Rattle.protolink_run.specs.Outcomes.{IsReadFile}
-use Rattle.protolink_run.proofs.load.load_all.Given as goal
+use Rattle.protolink_run.proofs.load.load_named.Given as goal
 
 -- the first name is new, and names stay
 abbrev pub invariant-loop-name : goal.invariant-loop-name

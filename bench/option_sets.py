@@ -1,0 +1,348 @@
+#!/usr/bin/env python3
+"""Compares the sets that `protolink` writes of files with options with those of protoc, byte for byte.
+
+usage: option_sets.py PROTOC PROTOLINK [--count N] [--seed S] [--into FOLDER] [-I FOLDER FILE..]
+
+PROTOLINK is crates/protolink/out/protolink. It makes a tree of files: the shapes of well-known options
+(http rules, names of resources, behaviour of fields, rules of validation), and files that use them.
+Then it makes N files (100) by chance, by SEED: options of each kind of declaration, standard ones and
+custom ones of each type, values right and wrong, messages in braces, names of several parts. Each file
+is given to both. What protoc refuses must be refused, too, with the same first line for each place where
+protoc tells one; else the sets must have the same bytes, with imports and without. With -I the files
+that follow are compared, too.
+
+With --into nothing is run: the files, and what protoc answers, are put into FOLDER.
+The last line is 'N passed, M failed'.
+"""
+import argparse
+import os
+import random
+import re
+import subprocess
+import sys
+import tempfile
+
+SCALARS = ('int32', 'int64', 'uint32', 'uint64', 'sint32', 'sint64', 'fixed32', 'fixed64', 'sfixed32',
+           'sfixed64', 'bool', 'string', 'bytes', 'float', 'double')
+KINDS = ('File', 'Message', 'Field', 'Oneof', 'Enum', 'EnumValue', 'Service', 'Method', 'ExtensionRange')
+# Options that descriptor.proto declares, by kind, each with values of which some are wrong.
+STANDARD = {
+    'File': (('java_package', '"a.b"'), ('optimize_for', 'SPEED', 'CODE_SIZE', 'FAST'), ('go_package', '"x/y"'),
+             ('java_multiple_files', 'true', 'false', '1'), ('cc_enable_arenas', 'true'), ('deprecated', 'false')),
+    'Message': (('deprecated', 'true', 'false', 'yes'), ('no_standard_descriptor_accessor', 'true')),
+    'Field': (('deprecated', 'true', '"true"'), ('lazy', 'false'), ('weak', 'false')),
+    'Oneof': (), 'ExtensionRange': (),
+    'Enum': (('deprecated', 'true'),), 'EnumValue': (('deprecated', 'true', 'false'),),
+    'Service': (('deprecated', 'true', '3'),),
+    'Method': (('deprecated', 'true'), ('idempotency_level', 'IDEMPOTENT', 'NO_SIDE_EFFECTS', 'NEVER')),
+}
+
+TREE = {
+    'shapes/http.proto': '''syntax = "proto3";
+package shapes.api;
+message Http { repeated HttpRule rules = 1; bool fully_decode = 2; }
+message HttpRule {
+  string selector = 1;
+  oneof pattern { string get = 2; string put = 3; string post = 4; string delete = 5; Custom custom = 8; }
+  string body = 7;
+  string response_body = 12;
+  repeated HttpRule additional_bindings = 11;
+}
+message Custom { string kind = 1; string path = 2; }
+''',
+    'shapes/annotations.proto': '''syntax = "proto3";
+package shapes.api;
+import "shapes/http.proto";
+import "google/protobuf/descriptor.proto";
+extend google.protobuf.MethodOptions { HttpRule http = 72295728; }
+extend google.protobuf.MethodOptions { repeated string method_signature = 1051; }
+extend google.protobuf.ServiceOptions { string default_host = 1049; string scopes = 1050; }
+''',
+    'shapes/behavior.proto': '''syntax = "proto3";
+package shapes.api;
+import "google/protobuf/descriptor.proto";
+extend google.protobuf.FieldOptions { repeated Behavior behavior = 1052; }
+enum Behavior { UNSPECIFIED = 0; OPTIONAL = 1; REQUIRED = 2; OUTPUT_ONLY = 3; IMMUTABLE = 5; }
+extend google.protobuf.FieldOptions { Reference reference = 1055; }
+extend google.protobuf.FileOptions { repeated Resource definition = 1053; }
+extend google.protobuf.MessageOptions { Resource resource = 1053; }
+message Resource {
+  enum History { NONE = 0; ONE = 1; }
+  string type = 1; repeated string pattern = 2; string name_field = 3; History history = 4; string plural = 5;
+}
+message Reference { string type = 1; string child_type = 2; }
+''',
+    'shapes/rules.proto': '''syntax = "proto2";
+package shapes.rules;
+import "google/protobuf/descriptor.proto";
+import "google/protobuf/duration.proto";
+extend google.protobuf.MessageOptions { optional bool disabled = 1071; }
+extend google.protobuf.OneofOptions { optional bool required = 1071; }
+extend google.protobuf.FieldOptions { optional FieldRules rules = 1071; }
+message FieldRules {
+  optional MessageRules message = 17;
+  oneof type { FloatRules float = 1; UInt64Rules uint64 = 6; StringRules string = 14; RepeatedRules repeated = 18; MapRules map = 19; DurationRules duration = 21; }
+}
+message FloatRules { optional float const = 1; optional float lt = 2; repeated float in = 6; }
+message UInt64Rules { optional uint64 lte = 3; repeated uint64 in = 6 [packed = true]; }
+message StringRules { optional uint64 min_len = 2; optional string pattern = 6; repeated string in = 10; oneof well_known { bool email = 12; bool uuid = 22; } optional bool strict = 25 [default = true]; }
+message MessageRules { optional bool skip = 1; optional bool required = 2; }
+message RepeatedRules { optional uint64 min_items = 1; optional bool unique = 3; optional FieldRules items = 4; }
+message MapRules { optional FieldRules keys = 4; optional FieldRules values = 5; }
+message DurationRules { optional google.protobuf.Duration lt = 3; }
+''',
+    'use/library.proto': '''syntax = "proto3";
+package use.library;
+import "shapes/annotations.proto";
+import "shapes/behavior.proto";
+import "shapes/rules.proto";
+option go_package = "use/library;library";
+option java_multiple_files = true;
+option (shapes.api.definition) = { type: "use/Project" pattern: "projects/{project}" };
+option (shapes.api.definition) = { type: "use/Folder", pattern: ["folders/{folder}", "*"], history: ONE };
+service Library {
+  option (shapes.api.default_host) = "library.example";
+  option (shapes.api.scopes) = "a,"
+                               "b";
+  rpc GetBook(GetBookRequest) returns (Book) {
+    option (shapes.api.http) = { get: "/v1/{name=shelves/*/books/*}" additional_bindings { get: "/v1/{name=books/*}" } };
+    option (shapes.api.method_signature) = "name";
+    option (shapes.api.method_signature) = "";
+    option deprecated = true;
+  }
+  rpc MoveBook(GetBookRequest) returns (Book) {
+    option (shapes.api.http).post = "/v1/{name}:move";
+    option (shapes.api.http).body = "*";
+    option idempotency_level = IDEMPOTENT;
+  }
+}
+message Book {
+  option (shapes.api.resource) = {
+    type: "use/Book"
+    pattern: "shelves/{shelf}/books/{book}"
+    plural: 'books'
+  };
+  option (shapes.rules.disabled) = false;
+  string name = 1 [(shapes.api.behavior) = IMMUTABLE, (shapes.api.behavior) = REQUIRED];
+  string author = 2 [(shapes.rules.rules).string = { min_len: 1 in: ["a", "b"] email: true }];
+  float price = 3 [(shapes.rules.rules).float.lt = 1e3, (shapes.rules.rules).message.required = true];
+  repeated uint64 pages = 4 [(shapes.rules.rules).repeated = { min_items: 2 items { uint64 { lte: 9 in: [1, 2, 300] } } }];
+  map<string, string> notes = 5 [(shapes.rules.rules) = { map: { keys <string: {uuid: true}>, values: {} } }];
+  oneof cover { option (shapes.rules.required) = true; string paper = 6; string board = 7; }
+}
+message GetBookRequest { string name = 1 [(shapes.api.reference) = { type: "use/Book" }, (shapes.api.behavior) = REQUIRED]; }
+''',
+    'use/plain.proto': '''syntax = "proto3";
+package use.plain;
+option java_package = "use";
+option optimize_for = LITE_RUNTIME;
+option deprecated = true;
+message M { repeated int32 a = 1 [packed = false]; int32 b = 2 [deprecated = true, json_name = "bee"]; }
+enum E { option allow_alias = true; A = 0; B = 0 [deprecated = true]; }
+''',
+}
+
+
+def made_schema():
+    """Declares custom options of each kind of declaration, of each type."""
+    text = ['syntax = "proto2";', 'package made.opt;', 'import "google/protobuf/descriptor.proto";',
+            'enum Way { NO = 0; YES = 1; FAR = -7; }',
+            'message Inner {', *(f'  optional {scalar} f_{scalar} = {n};' for n, scalar in enumerate(SCALARS, 1)),
+            '  repeated int32 many = 20; repeated sint64 packed = 21 [packed = true]; optional Inner next = 22;',
+            '  repeated Inner inners = 23; optional Way way = 24; repeated Way ways = 25; map<string, Inner> map = 26;',
+            '  optional group Part = 27 { optional int32 a = 1; } oneof one { int32 x = 28; string y = 29; }',
+            '  extensions 100 to 200;', '}', 'extend Inner { optional int32 extra = 100; repeated Inner extras = 101; }']
+    for at, kind in enumerate(KINDS):
+        base = 50000 + 100 * at
+        text.append(f'extend google.protobuf.{kind}Options {{')
+        text += [f'  optional {scalar} {kind.lower()}_{scalar} = {base + n};' for n, scalar in enumerate(SCALARS)]
+        text.append(f'  repeated {SCALARS[at]} {kind.lower()}_list = {base + 20}; optional Way {kind.lower()}_way = {base + 21};')
+        text.append(f'  optional Inner {kind.lower()}_inner = {base + 22}; repeated Inner {kind.lower()}_inners = {base + 23};')
+        text.append(f'  optional group {kind}Group = {base + 24} {{ optional int32 g = 1; optional Inner i = 2; }}')
+        text.append('}')
+    return '\n'.join([*text, ''])
+
+
+class Maker:
+    def __init__(self, rng):
+        self.rng = rng
+
+    def pick(self, *words):
+        return self.rng.choice(words)
+
+    def scalar(self, scalar, braces=False):
+        """The text of a value, of which few are wrong."""
+        rng = self.rng
+        if rng.random() < 0.01:
+            return self.pick('x', '"s"', '1.5', '-3', '99999999999', 'true', 'NO')
+        if scalar == 'bool':
+            return self.pick('true', 'false')
+        if scalar in ('string', 'bytes'):
+            return self.pick('""', '"a"', '"\\000\\377"' if scalar == 'bytes' else '"\\303\\251"', "'q'", '"a" "b"')
+        if scalar in ('float', 'double'):
+            return self.pick('0', '1', '-1', '1.5', '1e10', '-2.25', '3.4028235e38', '1e-50', '123456789')
+        low = 0 if scalar[0] == 'u' or scalar.startswith('fixed') else -2 ** 31
+        high = 2 ** 32 - 1 if low == 0 else 2 ** 31 - 1
+        if '64' in scalar:
+            low, high = low * 2 ** 32, high * 2 ** 32
+        return str(self.pick(0, 1, 127, 128, low, high, rng.randint(low, high)))
+
+    def inner(self, depth):
+        """Fields of the message Inner in braces."""
+        parts = []
+        used = set()
+        for _ in range(self.rng.randrange(5)):
+            part = self.field(depth)
+            name = re.match(r'[^ :]*', part)[0]
+            if name in ('many:', 'inners:', 'packed:') or name not in used or self.rng.random() < 0.02:
+                parts.append(part + self.pick('', ' ', ';', ','))
+            used.add({'y': 'x'}.get(name, name))
+        return ' '.join(parts)
+
+    def field(self, depth):
+        kind = self.rng.randrange(12)
+        if kind < 4 or depth == 0:
+            scalar = self.pick(*SCALARS)
+            return f'f_{scalar}: {self.scalar(scalar, True)}'
+        value = self.pick('{', '<')
+        message = f'{value} {self.inner(depth - 1)} ' + ('}' if value == '{' else '>')
+        return {4: f'many: [{", ".join(self.scalar("int32") for _ in range(self.rng.randrange(1, 4)))}]',
+                5: f'packed: {self.scalar("sint64")} packed: 3', 6: f'next {message}', 7: f'inners: [{message}, {{}}]',
+                8: f'way: {self.pick("NO", "YES", "FAR", "1")}', 9: f'map {{ key: "{self.pick("k", "l")}" value: {message} }}',
+                10: self.pick('x: 1', 'y: "w"', 'Part { a: 2 }'), 11: self.pick('[made.opt.extra]: 5', f'[made.opt.extras]: {message}')}[kind]
+
+    def statement(self, kind):
+        """The name and the value of an option."""
+        if STANDARD[kind] and self.rng.random() < 0.4:
+            name, *values = self.pick(*STANDARD[kind])
+            return name, self.pick(*values) if self.rng.random() < 0.1 else values[0]
+        low = kind.lower()
+        front = self.pick('made.opt.', '.made.opt.', 'opt.')
+        what = self.rng.randrange(10)
+        if what < 4:
+            scalar = self.pick(*SCALARS)
+            return f'({front}{low}_{scalar})', self.scalar(scalar)
+        if what == 4:
+            return f'({front}{low}_list)', self.scalar(SCALARS[KINDS.index(kind)])
+        if what == 5:
+            return f'({front}{low}_way)', self.pick(*['NO', 'YES', 'FAR'] * 8, 'GONE')
+        if what == 6:
+            return f'({front}{low}_{self.pick("inner", "inners")})', '{ ' + self.inner(2) + ' }'
+        if what == 7:
+            scalar = self.pick(*SCALARS)
+            return f'({front}{low}_inner).f_{scalar}', self.scalar(scalar)
+        if what == 8:
+            return f'({front}{low}_inner).next.{self.pick("next.", "")}f_int32', self.scalar('int32')
+        return self.pick((f'({front}{low}group).g', '3'), (f'({front}{low}group)', '{ g: 4 i { many: 1 } }'),
+                         (f'({front}{low}_inner).(made.opt.extra)', '8'), (f'({front}{low}_inner).part.a', '9'))
+
+    def statements(self, kind, most):
+        """Names and values; few names come twice."""
+        found, used = [], set()
+        for _ in range(self.rng.randrange(most + 1)):
+            name, value = self.statement(kind)
+            if 'list' in name or name not in used or self.rng.random() < 0.02:
+                found.append((name, value))
+            used.add(name)
+        return found
+
+    def lines(self, kind, indent=''):
+        return [f'{indent}option {name} = {value};' for name, value in self.statements(kind, 3)]
+
+    def brackets(self, kind):
+        found = [f'{name} = {value}' for name, value in self.statements(kind, 2)]
+        return f' [{", ".join(found)}]' if found else ''
+
+    def file(self, number):
+        return '\n'.join([
+            'syntax = "proto2";', f'package made.user{number % 7};', 'import "made/opt.proto";', *self.lines('File'),
+            'message M {', *self.lines('Message', '  '), f'  optional int32 a = 1{self.brackets("Field")};',
+            f'  repeated int64 b = 2{self.brackets("Field")};', '  oneof o {', *self.lines('Oneof', '    '),
+            f'    string c = 3{self.brackets("Field")};', '  }', f'  extensions 100 to 150{self.brackets("ExtensionRange")};',
+            '  message N {', *self.lines('Message', '    '), '  }', f'  extend M {{ optional int32 e = 120{self.brackets("Field")}; }}', '}',
+            'enum E {', *self.lines('Enum', '  '), f'  Z = 0{self.brackets("EnumValue")};', '}',
+            'service S {', *self.lines('Service', '  '), '  rpc R(M) returns (M) {', *(self.lines('Method', '    ') or ['    option deprecated = false;']), '  }', '}', ''])
+
+
+def tree_of(count, seed):
+    """The files by name, and those of them that are to be compared."""
+    files = dict(TREE)
+    files['made/opt.proto'] = made_schema()
+    maker = Maker(random.Random(seed))
+    for number in range(count):
+        files[f'made/user{number}.proto'] = maker.file(number)
+    return files, [name for name in files if name != 'made/opt.proto'] + ['made/opt.proto']
+
+
+def asked(program, folder, name, words, imports):
+    """The set, or the lines of what is wrong."""
+    with tempfile.TemporaryDirectory() as out:
+        path = os.path.join(out, 'set')
+        flags = ['--include_imports'] if imports else []
+        done = subprocess.run([program, *words, *flags, f'-o{path}', name], cwd=folder, capture_output=True, check=False)
+        if done.returncode:
+            return None, done.stderr.decode().splitlines()
+        with open(path, 'rb') as data:
+            return data.read(), done.stderr.decode().splitlines()
+
+
+PLACE = re.compile(r'([^:]*):(\d+):(\d+): (.*)')
+
+
+def told(lines):
+    """The faults, by file and text alone. Of a message in braces the text doesn't tell what is wrong."""
+    found = [PLACE.fullmatch(line) for line in lines]
+    texts = [(at[1], re.sub(r'^(Error while parsing option value for "[^"]*").*', r'\1', at[4])) for at in found if at and 'warning: ' not in line_of(at)]
+    return sorted(texts)
+
+
+def line_of(at):
+    return at[0]
+
+
+def compare(protoc, program, folder, words, names):
+    failed = refused = 0
+    for name in names:
+        for imports in (False, True):
+            want, wrong = asked(protoc, folder, name, words, imports)
+            got, said = asked(program, folder, name, [*words, '--error_format=gcc'], imports)
+            refused += want is None
+            if want != got or (want is None and told(wrong) != told(said)):
+                failed += 1
+                print(f'{name}: differs', *(wrong or ['accepted']), '--', *(said or ['accepted']), sep='\n  ')
+                break
+    print(f'{len(names)} files; protoc refuses {refused} of {2 * len(names)} command lines')
+    return failed
+
+
+def main():
+    words = argparse.ArgumentParser(usage=__doc__)
+    words.add_argument('protoc')
+    words.add_argument('protolink')
+    words.add_argument('--count', type=int, default=100)
+    words.add_argument('--seed', type=int, default=1)
+    words.add_argument('--into')
+    words.add_argument('-I', dest='folder')
+    words.add_argument('files', nargs='*')
+    words = words.parse_args()
+    files, names = tree_of(words.count, words.seed)
+    with tempfile.TemporaryDirectory() as made:
+        folder = words.into or made
+        for name, text in files.items():
+            path = os.path.join(folder, name)
+            os.makedirs(os.path.dirname(path), exist_ok=True)
+            with open(path, 'w', encoding='utf-8') as out:
+                out.write(text)
+        if words.into:
+            return
+        program, more = os.path.abspath(words.protolink), ['-I.', '-I/usr/include']
+        failed = compare(words.protoc, program, folder, more, names)
+        if words.folder:
+            failed += compare(words.protoc, program, words.folder, ['-I.'], words.files)
+            names = names + words.files
+    print(f'{len(names) - failed} passed, {failed} failed')
+    sys.exit(1 if failed else 0)
+
+
+if __name__ == '__main__':
+    main()

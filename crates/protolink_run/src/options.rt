@@ -1,0 +1,242 @@
+//! What the options of linked files say.
+
+use crate::load::SourceFile;
+use crate::places::span_of;
+use crate::statements::statements_at;
+use crate::told::{Grade, Told};
+use protolink_words::Format;
+use protox_descriptor::descriptor::{FileDescriptorProto, UninterpretedOption};
+use protox_descriptor::tag::UNINTERPRETED_OPTION;
+use protox_encode_linked::OptionBytes;
+use protox_file_options::{InterpretedFile, OptionsFault, PlaceFault, interpret_file};
+use protox_interpret::{Site, StatementFault, StatementFaultKind};
+use protox_link::Resolver;
+use protox_option_text::statement_text;
+use protox_usage::has_options;
+use protox_views::View;
+use std::alloc::{AllocError, Global};
+use std::io::{self, Write};
+
+// The number of `name` in a statement.
+const NAME: i32 = 2;
+
+// The field of a statement that holds its value, by its number.
+fn value_tag(statement: &UninterpretedOption) -> i32 {
+    if statement.aggregate_value.is_some() {
+        return 8;
+    }
+    if statement.string_value.is_some() {
+        return 7;
+    }
+    if statement.double_value.is_some() {
+        return 6;
+    }
+    if statement.negative_int_value.is_some() {
+        return 5;
+    }
+    if statement.positive_int_value.is_some() {
+        return 4;
+    }
+    3
+}
+
+// The field of a statement in which something is wrong.
+fn wrong_tag(statement: &UninterpretedOption, kind: &StatementFaultKind) -> i32 {
+    match kind {
+        StatementFaultKind::Name(_) => NAME,
+        StatementFaultKind::AlreadySet => NAME,
+        _ => value_tag(statement),
+    }
+}
+
+// The path of the part of a statement in which something is wrong.
+fn wrong_path(
+    alloc: Global,
+    options: &[i32],
+    statement: &UninterpretedOption,
+    fault: &StatementFault,
+) -> Result<Vec<i32>, AllocError> {
+    let mut path = Vec::new(alloc);
+    path.extend_from_slice(options)?;
+    path.push(UNINTERPRETED_OPTION)?;
+    path.push(i32::try_from(fault.index).unwrap_or(i32::MAX))?;
+    path.push(wrong_tag(statement, &fault.kind))?;
+    Ok(path)
+}
+
+// Tells what is wrong with a statement.
+fn tell_statement<E: Write>(
+    alloc: Global,
+    err: &mut E,
+    told: &Told<'_>,
+    site: Site<'_>,
+    file: &FileDescriptorProto,
+    path: &[i32],
+    fault: &StatementFault,
+) -> io::Result<()> {
+    let Some(statement) = statements_at(file, path).get(fault.index) else {
+        return Ok(());
+    };
+    let path = wrong_path(alloc, path, statement, fault)?;
+    let span = span_of(told, file, path.as_slice());
+    let text = statement_text(alloc, site, statement, &fault.kind)?;
+    told.tell(alloc, err, Grade::Error, span.as_ref(), text.as_str())
+}
+
+// Tells what is wrong with the statements of an options message.
+fn tell_fault<E: Write>(
+    alloc: Global,
+    err: &mut E,
+    told: &Told<'_>,
+    view: &View<'_>,
+    files: &[FileDescriptorProto],
+    file: &FileDescriptorProto,
+    found: &OptionsFault,
+) -> io::Result<()> {
+    let path = found.path.as_slice();
+    match &found.fault {
+        PlaceFault::NoType => {
+            let span = span_of(told, file, path);
+            let text = "no file declares what options there are here";
+            told.tell(alloc, err, Grade::Error, span.as_ref(), text)
+        }
+        PlaceFault::Statement(fault) => {
+            let site = Site {
+                view,
+                files,
+                scope: found.scope,
+                message: found.message.unwrap_or(0),
+            };
+            tell_statement(alloc, err, told, site, file, path, fault)
+        }
+    }
+}
+
+// Tells each fault of a file.
+fn tell_faults<E: Write>(
+    alloc: Global,
+    err: &mut E,
+    told: &Told<'_>,
+    view: &View<'_>,
+    files: &[FileDescriptorProto],
+    file: &FileDescriptorProto,
+    faults: &[OptionsFault],
+) -> io::Result<()> {
+    for fault in faults {
+        tell_fault(alloc, err, told, view, files, file, fault)?;
+    }
+    Ok(())
+}
+
+// Tells what is wrong with the options of a file. Answers whether nothing is.
+fn tell_file<E: Write>(
+    alloc: Global,
+    err: &mut E,
+    format: Format,
+    view: &View<'_>,
+    files: &[FileDescriptorProto],
+    file: &FileDescriptorProto,
+    source: &SourceFile,
+    faults: &[OptionsFault],
+) -> io::Result<bool> {
+    if faults.is_empty() {
+        return Ok(true);
+    }
+    let told = source.told(alloc, format, file)?;
+    tell_faults(alloc, err, &told, view, files, file, faults)?;
+    Ok(false)
+}
+
+// Adds what the options of a file say. Answers whether nothing is wrong with them, and tells it if
+// something is.
+fn add_file<E: Write>(
+    alloc: Global,
+    err: &mut E,
+    format: Format,
+    view: &View<'_>,
+    files: &[FileDescriptorProto],
+    file: &FileDescriptorProto,
+    source: &SourceFile,
+    all: &mut Vec<OptionBytes>,
+) -> io::Result<bool> {
+    let InterpretedFile { options, faults } = interpret_file(alloc, view, files, file)?;
+    all.push(options)?;
+    tell_file(
+        alloc,
+        err,
+        format,
+        view,
+        files,
+        file,
+        source,
+        faults.as_slice(),
+    )
+}
+
+/// Whether one of the files sets options.
+///
+/// # Errors
+/// `AllocError` where memory runs out.
+pub(crate) fn some_has_options(
+    alloc: Global,
+    files: &[FileDescriptorProto],
+) -> Result<bool, AllocError> {
+    for file in files {
+        if has_options(alloc, file)? {
+            return Ok(true);
+        }
+    }
+    Ok(false)
+}
+
+// Adds what the options of each file say. Answers whether nothing is wrong with them.
+fn add_files<E: Write>(
+    alloc: Global,
+    err: &mut E,
+    format: Format,
+    resolver: &Resolver,
+    files: &[FileDescriptorProto],
+    sources: &[SourceFile],
+    all: &mut Vec<OptionBytes>,
+) -> io::Result<bool> {
+    let mut well = true;
+    for (number, (file, source)) in files.iter().zip(sources.iter()).enumerate() {
+        let Some(names) = resolver.file(alloc, number)? else {
+            return Ok(false);
+        };
+        let view = names.view();
+        if !add_file(alloc, err, format, &view, files, file, source, all)? {
+            well = false;
+        }
+    }
+    Ok(well)
+}
+
+// Whether a file declares what options there are.
+fn declares_options(resolver: &Resolver) -> bool {
+    resolver
+        .symbols()
+        .find(None, "google.protobuf.FileOptions")
+        .is_some()
+}
+
+/// Adds what the options of each of the linked files say, in bytes. Nothing is added if no file sets
+/// any, or if no file declares what options there are: then they stay as they are written. Answers
+/// whether nothing is wrong with them. What is wrong is told.
+pub(crate) fn add_options<E: Write>(
+    alloc: Global,
+    err: &mut E,
+    format: Format,
+    files: &[FileDescriptorProto],
+    sources: &[SourceFile],
+    all: &mut Vec<OptionBytes>,
+) -> io::Result<bool> {
+    if !some_has_options(alloc, files)? {
+        return Ok(true);
+    }
+    let resolver = Resolver::new(alloc, files)?;
+    if !declares_options(&resolver) {
+        return Ok(true);
+    }
+    add_files(alloc, err, format, &resolver, files, sources, all)
+}

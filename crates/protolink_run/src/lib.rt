@@ -31,7 +31,6 @@ use crate::search::{Input, beside_program, input_of};
 use crate::told::{cause, say, say_line};
 use crate::warnings::{warn_of_alike, warn_of_options, warn_of_unused};
 use protolink_words::{Asked, Work, asked_by};
-use protox_encode_linked::OptionBytes;
 use protox_link::{LinkedSet, check, link};
 use protox_link_fault::LinkFailure;
 use std::alloc::{AllocError, Global};

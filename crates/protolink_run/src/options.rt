@@ -7,7 +7,6 @@ use crate::told::{Grade, Told};
 use protolink_words::Format;
 use protox_descriptor::descriptor::{FileDescriptorProto, UninterpretedOption};
 use protox_descriptor::tag::UNINTERPRETED_OPTION;
-use protox_encode_linked::OptionBytes;
 use protox_file_options::{InterpretedFile, OptionsFault, PlaceFault, interpret_file};
 use protox_interpret::{Site, StatementFault, StatementFaultKind};
 use protox_link::Resolver;
@@ -157,20 +156,13 @@ fn add_file<E: Write>(
     files: &[FileDescriptorProto],
     file: &FileDescriptorProto,
     source: &SourceFile,
-    all: &mut Vec<OptionBytes>,
+    all: &mut Vec<InterpretedFile>,
 ) -> io::Result<bool> {
-    let InterpretedFile { options, faults } = interpret_file(alloc, view, files, file)?;
-    all.push(options)?;
-    tell_file(
-        alloc,
-        err,
-        format,
-        view,
-        files,
-        file,
-        source,
-        faults.as_slice(),
-    )
+    let read = interpret_file(alloc, view, files, file)?;
+    let faults = read.faults.as_slice();
+    let well = tell_file(alloc, err, format, view, files, file, source, faults)?;
+    all.push(read)?;
+    Ok(well)
 }
 
 /// Whether one of the files sets options.
@@ -197,7 +189,7 @@ fn add_files<E: Write>(
     resolver: &Resolver,
     files: &[FileDescriptorProto],
     sources: &[SourceFile],
-    all: &mut Vec<OptionBytes>,
+    all: &mut Vec<InterpretedFile>,
 ) -> io::Result<bool> {
     let mut well = true;
     for (number, (file, source)) in files.iter().zip(sources.iter()).enumerate() {
@@ -220,7 +212,7 @@ fn declares_options(resolver: &Resolver) -> bool {
         .is_some()
 }
 
-/// Adds what the options of each of the linked files say, in bytes. Nothing is added if no file sets
+/// Adds what the options of each of the linked files say. Nothing is added if no file sets
 /// any, or if no file declares what options there are: then they stay as they are written. Answers
 /// whether nothing is wrong with them. What is wrong is told.
 pub(crate) fn add_options<E: Write>(
@@ -229,7 +221,7 @@ pub(crate) fn add_options<E: Write>(
     format: Format,
     files: &[FileDescriptorProto],
     sources: &[SourceFile],
-    all: &mut Vec<OptionBytes>,
+    all: &mut Vec<InterpretedFile>,
 ) -> io::Result<bool> {
     if !some_has_options(alloc, files)? {
         return Ok(true);

@@ -5,11 +5,14 @@ use crate::told::say;
 use protolink_words::Work;
 use protox_descriptor::descriptor::FileDescriptorProto;
 use protox_encode::{EncodeError, encode_entry};
-use protox_encode_linked::{OptionBytes, encode_linked_entry};
+use protox_encode_linked::encode_linked_entry;
+use protox_file_options::InterpretedFile;
 use protox_imports::{Imports, Order, in_order};
 use protox_link::LinkedSet;
+use protox_moved::{Move, move_locations};
 use std::alloc::{AllocError, Global};
 use std::io::{self, Write};
+use std::mem;
 
 /// Linked files, of which a set is made.
 #[derive(Drop)]
@@ -20,7 +23,7 @@ pub(crate) struct Set {
     /// How many of the files, at the start, are inputs.
     pub(crate) inputs: usize,
     /// What the options of each file say. None is there if options stay as they are written.
-    pub(crate) options: Vec<OptionBytes>,
+    pub(crate) options: Vec<InterpretedFile>,
 }
 
 // The inputs, each behind those of the others that it imports. What they import of other files has no
@@ -68,10 +71,10 @@ fn tell_no_bytes<E: Write>(
 fn entry_of(
     alloc: Global,
     file: &FileDescriptorProto,
-    options: Option<&OptionBytes>,
+    read: Option<&InterpretedFile>,
 ) -> Result<Vec<u8>, EncodeError> {
-    match options {
-        Some(options) => encode_linked_entry(alloc, file, options),
+    match read {
+        Some(read) => encode_linked_entry(alloc, file, &read.options),
         None => encode_entry(alloc, file),
     }
 }
@@ -82,9 +85,9 @@ fn add<E: Write>(
     err: &mut E,
     bytes: &mut Vec<u8>,
     file: &FileDescriptorProto,
-    options: Option<&OptionBytes>,
+    read: Option<&InterpretedFile>,
 ) -> io::Result<bool> {
-    match entry_of(alloc, file, options) {
+    match entry_of(alloc, file, read) {
         Ok(entry) => {
             bytes.extend_from_slice(entry.as_slice())?;
             Ok(true)
@@ -103,6 +106,31 @@ fn strip(files: &mut [FileDescriptorProto]) {
     }
 }
 
+// Gives the locations of the statements of options in a file the paths of what they set.
+fn move_in(
+    alloc: Global,
+    file: &mut FileDescriptorProto,
+    moves: Vec<Move>,
+) -> Result<(), AllocError> {
+    match &mut file.source_code_info {
+        Some(info) => move_locations(alloc, info, moves),
+        None => Ok(()),
+    }
+}
+
+// The same in all files.
+fn move_all(
+    alloc: Global,
+    files: &mut [FileDescriptorProto],
+    options: &mut [InterpretedFile],
+) -> Result<(), AllocError> {
+    for (file, read) in files.iter_mut().zip(options.iter_mut()) {
+        let moves = mem::replace(&mut read.moves, Vec::new(alloc));
+        move_in(alloc, file, moves)?;
+    }
+    Ok(())
+}
+
 /// The bytes of the set that has the files with these numbers. None if a file has no bytes, and that
 /// is told.
 pub(crate) fn set_bytes<E: Write>(
@@ -112,8 +140,11 @@ pub(crate) fn set_bytes<E: Write>(
     numbers: &[usize],
     set: &mut Set,
 ) -> io::Result<Option<Vec<u8>>> {
-    if !work.source_info {
-        strip(set.linked.files.as_mut_slice());
+    let files = set.linked.files.as_mut_slice();
+    if work.source_info {
+        move_all(alloc, files, set.options.as_mut_slice())?;
+    } else {
+        strip(files);
     }
     let mut bytes = Vec::new(alloc);
     for number in numbers {

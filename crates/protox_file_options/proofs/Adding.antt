@@ -8,13 +8,14 @@ use Rattle.std.specs.List.{FoldsTo, flat_map}
 use Rattle.protox_descriptor.specs.declared.descriptor.FileDescriptorProto.{FileDescriptorProto}
 use Rattle.protox_descriptor.specs.declared.descriptor.descriptor_proto.ExtensionRange.{ExtensionRange}
 use Rattle.protox_encode_linked.specs.Setting.{set_at}
-use Rattle.protox_file_options.specs.Interpreted.{Taken, faults_at, faults_of}
+use Rattle.protox_file_options.specs.Interpreted.{Taken, faults_at, faults_of, moves_at, moves_of_all}
 use Rattle.protox_file_options.specs.Outcomes.{IsOutcome, names_of}
 use Rattle.protox_file_options.specs.Places.{Place, place_of_range, ranges_from}
 use Rattle.protox_file_options.specs.declared.answer.InterpretedFile.{InterpretedFile}
 use Rattle.protox_file_options.specs.declared.answer.OptionsFault.{OptionsFault}
 use Rattle.protox_file_options.specs.declared.interpreter.Interpreter.{Interpreter}
 use Rattle.protox_file_options.specs.inner.Added.{Adds, AreAdded, bytes_behind, bytes_from}
+use Rattle.protox_moved.specs.declared.Move.{Move}
 use Rattle.protox_views.specs.declared.view.View.{View}
 use Rattle.protox_walk.specs.Declarations.{Path}
 
@@ -27,6 +28,7 @@ nothing_added view files a = record {
   in_order = refl;
   outcomes = All-nil (λ t. IsOutcome view files t.place t.outcome);
   faults = sym (append-nil a.faults.items);
+  moves = sym (append-nil a.moves.items);
   options = λ q. refl;
 }
 
@@ -35,6 +37,7 @@ pub added_behind : (view : View) (files : List FileDescriptorProto) (a b c : Int
     → AreAdded view files a xs b → AreAdded view files b ys c → AreAdded view files a (xs ++ ys) c
 added_behind view files a b c xs ys p q =
     let at : Taken → List OptionsFault = λ t. faults_at (names_of view) t.place t.outcome in
+    let to : Taken → List Move = λ t. moves_at t.place t.outcome in
     record {
       taken = p.taken ++ q.taken;
       in_order = map-append (λ (t : Taken). t.place) p.taken q.taken ∙ ap (λ (l : List Place). l ++ map (λ (t : Taken). t.place) q.taken) p.in_order ∙ ap (λ (l : List Place). xs ++ l) q.in_order;
@@ -43,6 +46,10 @@ added_behind view files a b c xs ys p q =
           q.faults ∙ ap (λ (l : List OptionsFault). l ++ faults_of (names_of view) q.taken) p.faults
           ∙ append_assoc a.faults.items (faults_of (names_of view) p.taken) (faults_of (names_of view) q.taken)
           ∙ ap (λ (l : List OptionsFault). a.faults.items ++ l) (sym (flat_map-append at p.taken q.taken));
+      moves =
+          q.moves ∙ ap (λ (l : List Move). l ++ moves_of_all q.taken) p.moves
+          ∙ append_assoc a.moves.items (moves_of_all p.taken) (moves_of_all q.taken)
+          ∙ ap (λ (l : List Move). a.moves.items ++ l) (sym (flat_map-append to p.taken q.taken));
       options = λ path.
           q.options path ∙ ap (λ (l : List ℕ). bytes_from path l q.taken) (p.options path)
           ∙ sym (fold-append (λ before (t : Taken). bytes_behind path before t.place t.outcome) (set_at a.options path) p.taken q.taken);

@@ -5,7 +5,7 @@ use Rattle.protox_descriptor.specs.declared.descriptor.FileDescriptorProto.{File
 use Rattle.protox_encode_linked.specs.Setting.{same_path, set_at}
 use Rattle.protox_file_options.proofs.Each.{Each, all_each, each_all, each_weaker}
 use Rattle.protox_file_options.proofs.Paths.{Apart, places_apart}
-use Rattle.protox_file_options.specs.Interpreted.{IsInterpreted, Taken, bytes_of, faults_of}
+use Rattle.protox_file_options.specs.Interpreted.{IsInterpreted, Taken, bytes_of, faults_of, moves_of_all}
 use Rattle.protox_file_options.specs.Outcomes.{Outcome, Sets, Wrong, names_of}
 use Rattle.protox_file_options.specs.Places.{Place, key_of, places_of}
 use Rattle.protox_file_options.specs.declared.answer.InterpretedFile.{InterpretedFile}
@@ -23,12 +23,12 @@ not_same q path other = not_true (same_path q path) (λ same. other (sym ((bytes
 
 -- A place of another path leaves the bytes alone.
 others : (q bytes : List ℕ) (place : Place) (outcome : Outcome) → key_of place ≢ q → bytes_behind q bytes place outcome ≡ bytes
-others q bytes place (Sets set) other = ap (λ same. cond same set bytes) (not_same q (key_of place) other)
+others q bytes place (Sets set) other = ap (λ same. cond same set.bytes.items bytes) (not_same q (key_of place) other)
 others q bytes place (Wrong fault) other = refl
 
 -- At its own path stands what it sets.
 set_itself : (place : Place) (outcome : Outcome) → bytes_behind (key_of place) [] place outcome ≡ bytes_of outcome
-set_itself place (Sets set) = ap (λ same. cond same set []) ((bytes_eq-Decides (key_of place) (key_of place)).1 refl)
+set_itself place (Sets set) = ap (λ same. cond same set.bytes.items []) ((bytes_eq-Decides (key_of place) (key_of place)).1 refl)
 set_itself place (Wrong fault) = refl
 
 -- ---- places
@@ -71,8 +71,8 @@ each_stands (t ∷ ts) apart =
 
 -- what is added to an empty answer
 pub all_interpreted : (view : View) (files : List FileDescriptorProto) (file : FileDescriptorProto) (empty answer : InterpretedFile)
-    → empty.faults.items ≡ [] → empty.options ≡ [] → AreAdded view files empty (places_of file) answer → IsInterpreted view files file answer
-all_interpreted view files file empty answer no_fault no_bytes added =
+    → empty.faults.items ≡ [] → empty.moves.items ≡ [] → empty.options ≡ [] → AreAdded view files empty (places_of file) answer → IsInterpreted view files file answer
+all_interpreted view files file empty answer no_fault no_move no_bytes added =
     let at : (q : List ℕ) → set_at answer.options q ≡ bytes_from q [] added.taken =
     λ q. added.options q ∙ ap (λ set. bytes_from q (set_at set q) added.taken) no_bytes in
     let apart : Apart (map place_of added.taken) = subst Apart (sym added.in_order) (places_apart file) in
@@ -81,6 +81,7 @@ all_interpreted view files file empty answer no_fault no_bytes added =
       places = added.in_order;
       outcomes = added.outcomes;
       faults = added.faults ∙ ap (λ faults. faults ++ faults_of (names_of view) added.taken) no_fault;
+      moves = added.moves ∙ ap (λ moves. moves ++ moves_of_all added.taken) no_move;
       bytes = each_all (λ t. set_at answer.options (key_of t.place) ≡ bytes_of t.outcome) added.taken
           (each_weaker (Stands added.taken) (λ t. set_at answer.options (key_of t.place) ≡ bytes_of t.outcome)
           (λ t stands. at (key_of t.place) ∙ stands) added.taken (each_stands added.taken apart));

@@ -3,3 +3,4 @@ pub mod Adding
 pub mod One
 pub mod Paths
 pub mod Bytes
+pub mod Counting

@@ -1,4 +1,5 @@
 pub mod Places
+pub mod Moves
 pub mod Outcomes
 pub mod Interpreted
 pub mod Laws

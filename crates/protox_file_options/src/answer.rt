@@ -3,6 +3,7 @@
 use protox_descriptor::values::Numbers;
 use protox_encode_linked::OptionBytes;
 use protox_interpret::StatementFault;
+use protox_moved::Move;
 
 /// What is wrong with the statements of an options message.
 #[derive(Clone, PartialEq, Debug, Drop)]
@@ -33,6 +34,9 @@ pub struct OptionsFault {
 pub struct InterpretedFile {
     /// The bytes of each options message of which no statement is wrong, by its path.
     pub options: OptionBytes,
+    /// Where the locations of their statements go: from the path of each statement to that of what
+    /// it sets. Of a repeated field that path ends with the index among the values of the field.
+    pub moves: Vec<Move>,
     /// What is wrong with the others, in the order in which `walk` visits what has them. What is
     /// wrong with the options of the file as a whole stands behind the rest.
     pub faults: Vec<OptionsFault>,

@@ -30,7 +30,8 @@ fn take_all(interpreter: &mut Interpreter<'_>, file: &FileDescriptorProto) -> Re
 /// `view` is what the file sees of a table. `files` are the linked files of the table, and `file`
 /// is one of them. Statements stand in the options of declarations, of extension ranges and of the
 /// file as a whole. Those of one options message are read together, by `interpret`. If one of them
-/// is wrong, the options message gets a fault and no bytes. The others get their bytes.
+/// is wrong, the options message gets a fault and no bytes. The others get their bytes, and each of
+/// their statements a move, which `move_locations` makes in the locations of the file.
 ///
 /// It walks the file once. What has no statements costs no look-up and no memory.
 ///
@@ -56,6 +57,7 @@ pub fn interpret_file(
         files,
         answer: InterpretedFile {
             options: OptionBytes::new(alloc),
+            moves: Vec::new(alloc),
             faults: Vec::new(alloc),
         },
     };

@@ -3,20 +3,22 @@
 ghost use Rattle.std.specs.Prelude.{◌≡◌, ◌++◌, ◌∷◌, [], ℕ, List, map, unsigned_abs};
 ghost use Rattle.std.specs.Prelude.{IfOk, OnOk, if◌then◌else◌};
 ghost use Rattle.protox_encode_linked.specs.Setting.{same_path, set_at};
+ghost use Rattle.protox_file_options.specs.Moves.{moves_of};
 ghost use Rattle.protox_file_options.specs.Places.{place_if_any, place_of_part, place_of_range};
 ghost use Rattle.protox_file_options.specs.Places.{places_at, ranges_from};
 ghost use Rattle.protox_file_options.specs.inner.Added.{Adds};
+ghost use Rattle.protox_interpret.specs.Answers.{path_seen};
 ghost use Rattle.protox_walk.specs.Parts.{part_of};
 
 use crate::answer::{InterpretedFile, OptionsFault, PlaceFault};
+use crate::moves::add_moves;
 use crate::places::{
     options_tag, options_type, path_of_range, ranges_of, scope_around, statements_of_range,
 };
 use protox_descriptor::descriptor::descriptor_proto::ExtensionRange;
 use protox_descriptor::descriptor::{FileDescriptorProto, UninterpretedOption};
 use protox_descriptor::values::Numbers;
-use protox_encode_linked::OptionBytes;
-use protox_interpret::{InterpretFailure, Site, interpret};
+use protox_interpret::{InterpretFailure, Interpreted, Site, interpret};
 use protox_views::View;
 use protox_walk::{Part, Visit};
 use std::alloc::{AllocError, Global};
@@ -44,18 +46,23 @@ fn indices(alloc: Global, path: &[i32]) -> Result<Vec<usize>, AllocError>
     Ok(made)
 }
 
-// Keeps the bytes of the options message at a path.
+// Keeps what the statements of the options message at a path set.
 fn keep(
     alloc: Global,
-    options: &mut OptionBytes,
+    kept: &mut InterpretedFile,
     path: &[i32],
-    bytes: Vec<u8>,
+    set: Interpreted,
 ) -> Result<(), AllocError>
-    ensures { OnOk result ((q : List ℕ) → set_at options.new q
-        ≡ (if same_path q (map unsigned_abs path.now) then bytes.items else set_at options.old q)) }
+    ensures options { OnOk result ((q : List ℕ) → set_at kept.new.options q
+        ≡ (if same_path q (map unsigned_abs path.now) then set.bytes.items
+        else set_at kept.old.options q)) }
+    ensures moves { OnOk result (kept.new.moves.items
+        ≡ kept.old.moves.items ++ moves_of path.now (map path_seen set.paths.items)) }
+    ensures faults { OnOk result (kept.new.faults ≡ kept.old.faults) }
 {
+    add_moves(alloc, path, set.paths.as_slice(), &mut kept.moves)?;
     let indices = indices(alloc, path)?;
-    options.insert(indices, bytes)
+    kept.options.insert(indices, set.bytes)
 }
 
 // Notes what is wrong with the options message at a path.
@@ -107,7 +114,7 @@ impl Interpreter<'_> {
             message,
         };
         match interpret(self.alloc, here, statements) {
-            Ok(answer) => keep(self.alloc, &mut self.answer.options, path, answer.bytes),
+            Ok(set) => keep(self.alloc, &mut self.answer, path, set),
             Err(InterpretFailure::Fault(fault)) => {
                 let faults = &mut self.answer.faults;
                 let fault = PlaceFault::Statement(fault);

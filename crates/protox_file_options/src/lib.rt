@@ -2,13 +2,14 @@
 //!
 //! In a file as `parse` answers it an options message holds statements: names and values that
 //! nobody has looked at. `interpret_file` reads those of a linked file. It gives the bytes of each
-//! options message, by its path.
+//! options message, by its path, and says where the locations of the statements go.
 #![tactic(auto)]
 
 mod answer;
 mod file;
 mod interpreter;
 pub mod laws;
+mod moves;
 mod places;
 
 pub use crate::answer::{InterpretedFile, OptionsFault, PlaceFault};

@@ -2,7 +2,7 @@
 use Rattle.std.specs.Prelude.{◌≡◌, ℕ, List, ◌++◌, All, fold, map, if◌then◌else◌}
 use Rattle.protox_descriptor.specs.declared.descriptor.FileDescriptorProto.{FileDescriptorProto}
 use Rattle.protox_encode_linked.specs.Setting.{Path, same_path, set_at}
-use Rattle.protox_file_options.specs.Interpreted.{Taken, faults_of}
+use Rattle.protox_file_options.specs.Interpreted.{Taken, faults_of, moves_of_all}
 use Rattle.protox_file_options.specs.Outcomes.{IsOutcome, Outcome, Sets, Wrong, names_of}
 use Rattle.protox_file_options.specs.Places.{Place, key_of}
 use Rattle.protox_file_options.specs.declared.answer.InterpretedFile.{InterpretedFile}
@@ -13,7 +13,7 @@ use Rattle.protox_views.specs.declared.view.View.{View}
 
 -- the bytes at a path, behind a place; these are the bytes before it
 abbrev pub bytes_behind : Path → List ℕ → Place → Outcome → List ℕ
-bytes_behind q bytes place (Sets set) = if same_path q (key_of place) then set else bytes
+bytes_behind q bytes place (Sets set) = if same_path q (key_of place) then set.bytes.items else bytes
 bytes_behind q bytes place (Wrong fault) = bytes
 
 -- the bytes at a path, behind places
@@ -28,6 +28,7 @@ pub record AreAdded (view : View) (files : List FileDescriptorProto) (old : Inte
   pub in_order : map (λ t. t.place) taken ≡ places
   pub outcomes : All (λ t. IsOutcome view files t.place t.outcome) taken
   pub faults : new.faults.items ≡ old.faults.items ++ faults_of (names_of view) taken
+  pub moves : new.moves.items ≡ old.moves.items ++ moves_of_all taken
   pub options : (q : Path) → set_at new.options q ≡ bytes_from q (set_at old.options q) taken
 
 -- The same of an interpreter.

@@ -7,9 +7,11 @@ PROTOLINK is crates/protolink/out/protolink. It makes a tree of files: the shape
 (http rules, names of resources, behaviour of fields, rules of validation), and files that use them.
 Then it makes N files (100) by chance, by SEED: options of each kind of declaration, standard ones and
 custom ones of each type, values right and wrong, messages in braces, names of several parts. Each file
-is given to both. What protoc refuses must be refused, too, with the same first line for each place where
-protoc tells one; else the sets must have the same bytes, with imports and without. With -I the files
-that follow are compared, too.
+is given to both, and so is each .proto file that Debian's protoc comes with, in /usr/include. What
+protoc refuses must be refused, too, with the same first line for each place where protoc tells one;
+else the sets must have the same bytes, with imports and without. With source info they must be the
+same in all else, and each file must have the same locations, in any order: paths, spans and comments.
+With -I the files that follow are compared, too. It needs Python's google.protobuf.
 
 With --into nothing is run: the files, and what protoc answers, are put into FOLDER.
 The last line is 'N passed, M failed'.
@@ -22,6 +24,10 @@ import subprocess
 import sys
 import tempfile
 
+from google.protobuf import descriptor_pb2
+
+INCLUDE = '/usr/include'
+VARIANTS = ([], ['--include_imports'], ['--include_source_info'])
 SCALARS = ('int32', 'int64', 'uint32', 'uint64', 'sint32', 'sint64', 'fixed32', 'fixed64', 'sfixed32',
            'sfixed64', 'bool', 'string', 'bytes', 'float', 'double')
 KINDS = ('File', 'Message', 'Field', 'Oneof', 'Enum', 'EnumValue', 'Service', 'Method', 'ExtensionRange')
@@ -274,16 +280,26 @@ def tree_of(count, seed):
     return files, [name for name in files if name != 'made/opt.proto'] + ['made/opt.proto']
 
 
-def asked(program, folder, name, words, imports):
+def comparable(data):
+    """A set with locations: the files without them, and the locations in an order of their own."""
+    made = descriptor_pb2.FileDescriptorSet.FromString(data)
+    found = [sorted((list(at.path), list(at.span), at.leading_comments, at.trailing_comments, list(at.leading_detached_comments))
+                    for at in file.source_code_info.location) for file in made.file]
+    for file in made.file:
+        file.ClearField('source_code_info')
+    return made.SerializeToString(), found
+
+
+def asked(program, folder, name, words, flags):
     """The set, or the lines of what is wrong."""
     with tempfile.TemporaryDirectory() as out:
         path = os.path.join(out, 'set')
-        flags = ['--include_imports'] if imports else []
         done = subprocess.run([program, *words, *flags, f'-o{path}', name], cwd=folder, capture_output=True, check=False)
         if done.returncode:
             return None, done.stderr.decode().splitlines()
         with open(path, 'rb') as data:
-            return data.read(), done.stderr.decode().splitlines()
+            made = data.read()
+        return comparable(made) if '--include_source_info' in flags else made, done.stderr.decode().splitlines()
 
 
 PLACE = re.compile(r'([^:]*):(\d+):(\d+): (.*)')
@@ -303,16 +319,23 @@ def line_of(at):
 def compare(protoc, program, folder, words, names):
     failed = refused = 0
     for name in names:
-        for imports in (False, True):
-            want, wrong = asked(protoc, folder, name, words, imports)
-            got, said = asked(program, folder, name, [*words, '--error_format=gcc'], imports)
+        for flags in VARIANTS:
+            want, wrong = asked(protoc, folder, name, words, flags)
+            got, said = asked(program, folder, name, [*words, '--error_format=gcc'], flags)
             refused += want is None
             if want != got or (want is None and told(wrong) != told(said)):
                 failed += 1
-                print(f'{name}: differs', *(wrong or ['accepted']), '--', *(said or ['accepted']), sep='\n  ')
+                print(f'{name} {" ".join(flags)}: differs', *(wrong or ['accepted']), '--', *(said or ['accepted']), sep='\n  ')
                 break
-    print(f'{len(names)} files; protoc refuses {refused} of {2 * len(names)} command lines')
+    print(f'{len(names)} files; protoc refuses {refused} of {len(VARIANTS) * len(names)} command lines')
     return failed
+
+
+def included():
+    """The .proto files that Debian's protoc comes with."""
+    top = os.path.join(INCLUDE, 'google/protobuf')
+    found = [os.path.join(at, name) for at, _, names in os.walk(top) for name in names if name.endswith('.proto')]
+    return sorted(os.path.relpath(path, INCLUDE) for path in found)
 
 
 def main():
@@ -335,8 +358,11 @@ def main():
                 out.write(text)
         if words.into:
             return
-        program, more = os.path.abspath(words.protolink), ['-I.', '-I/usr/include']
+        program, more = os.path.abspath(words.protolink), ['-I.', f'-I{INCLUDE}']
         failed = compare(words.protoc, program, folder, more, names)
+        theirs = included()
+        failed += compare(words.protoc, program, INCLUDE, ['-I.'], theirs)
+        names = names + theirs
         if words.folder:
             failed += compare(words.protoc, program, words.folder, ['-I.'], words.files)
             names = names + words.files

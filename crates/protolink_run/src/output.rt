@@ -7,6 +7,7 @@ use protox_descriptor::descriptor::FileDescriptorProto;
 use protox_encode::{EncodeError, encode_entry};
 use protox_encode_linked::encode_linked_entry;
 use protox_file_options::InterpretedFile;
+use protox_float_defaults::print_defaults;
 use protox_imports::{Imports, Order, in_order};
 use protox_link::LinkedSet;
 use protox_moved::{Move, move_locations};
@@ -99,6 +100,14 @@ fn add<E: Write>(
     }
 }
 
+// Prints the defaults of floats anew in all files, as protoc does.
+fn print_all(alloc: Global, files: &mut [FileDescriptorProto]) -> Result<(), AllocError> {
+    for file in files.iter_mut() {
+        print_defaults(alloc, file)?;
+    }
+    Ok(())
+}
+
 // Takes the places and comments out of all files.
 fn strip(files: &mut [FileDescriptorProto]) {
     for file in files {
@@ -146,6 +155,7 @@ pub(crate) fn set_bytes<E: Write>(
     } else {
         strip(files);
     }
+    print_all(alloc, files)?;
     let mut bytes = Vec::new(alloc);
     for number in numbers {
         if let Some(file) = set.linked.files.get(*number) {

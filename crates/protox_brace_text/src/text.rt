@@ -1,0 +1,210 @@
+//! The text of what is wrong with a text in braces.
+
+ghost use Rattle.std.specs.Prelude.{◌≡◌, ℕ, List, IfOk, map, string_bytes};
+ghost use Rattle.protox_brace_text.specs.Texts as words;
+ghost use Rattle.protox_interpret.specs.Braces.{IsCut};
+ghost use Rattle.protox_text_format.specs.Spelling.{seen};
+
+use crate::names::{field_name, full_name, in_brackets, oneof_name, own_name};
+use crate::pieces::{all_printed, printed};
+use crate::steps::{from_step, name_before, pieces_of};
+use crate::values::{enum_text, expected, value_text};
+use protox_aggregate::{AggregateFault, AggregateFaultKind};
+use protox_interpret::{Site, StatementFaultKind};
+use protox_text_format::{
+    Item, Piece, PieceFailure, TextFailure, TextFault, TextFaultKind, pieces, read,
+};
+use std::alloc::{AllocError, Global};
+
+// What is told where a mark was wanted.
+fn found_text(alloc: Global, wanted: &str, found: &str) -> Result<String, AllocError>
+    ensures { IfOk result (λ text. string_bytes text ≡ words.found_text wanted.now found.now) }
+{
+    format!(in alloc; "Expected \"{wanted}\", found \"{found}\".")
+}
+
+fn is_not_text(alloc: Global, field: &str, what: &str, found: &str) -> Result<String, AllocError>
+    ensures { IfOk result (λ text. string_bytes text ≡ words.is_not_text field.now what.now found.now) }
+{
+    format!(in alloc; "Field \"{field}\" is {what}, found \"{found}\".")
+}
+
+fn no_field_text(
+    alloc: Global,
+    here: Site<'_>,
+    message: usize,
+    step: &[Piece<'_>],
+) -> Result<String, AllocError>
+    ensures { IfOk result (λ text. string_bytes text ≡ words.no_field_text here.entry message step.now) }
+{
+    let message = full_name(alloc, here, message)?;
+    let name = all_printed(alloc, step)?;
+    format!(in alloc; "Message type \"{message}\" has no field named \"{name}\".")
+}
+
+fn no_extension_text(
+    alloc: Global,
+    here: Site<'_>,
+    message: usize,
+    step: &[Piece<'_>],
+) -> Result<String, AllocError>
+    ensures { IfOk result (λ text. string_bytes text
+        ≡ words.no_extension_text here.entry message step.now) }
+{
+    let message = full_name(alloc, here, message)?;
+    let name = all_printed(alloc, in_brackets(step))?;
+    format!(in alloc;
+        "Extension \"{name}\" is not defined or is not an extension of \"{message}\"."
+    )
+}
+
+fn again_text(alloc: Global, here: Site<'_>, number: usize) -> Result<String, AllocError>
+    ensures { IfOk result (λ text. string_bytes text ≡ words.again_text here.entry number) }
+{
+    let name = field_name(here, number);
+    format!(in alloc; "Non-repeated field \"{name}\" is specified multiple times.")
+}
+
+fn along_text(
+    alloc: Global,
+    here: Site<'_>,
+    number: usize,
+    other: usize,
+) -> Result<String, AllocError>
+    ensures { IfOk result (λ text. string_bytes text ≡ words.along_text here.entry number other) }
+{
+    let oneof = oneof_name(alloc, here, number)?;
+    let (name, other) = (field_name(here, number), field_name(here, other));
+    format!(in alloc;
+        "Field \"{name}\" is specified along with field \"{other}\", another member of oneof \"{oneof}\"."
+    )
+}
+
+// What is told of a step: its pieces, what is found where it begins, and the name of the field before
+// it.
+fn step_text(
+    alloc: Global,
+    here: Site<'_>,
+    kind: AggregateFaultKind,
+    step: &[Piece<'_>],
+    found: &str,
+    field: &str,
+) -> Result<String, AllocError>
+    ensures { IfOk result (λ text. string_bytes text
+        ≡ words.step_text here.entry kind step.now found.now field.now) }
+{
+    match kind {
+        AggregateFaultKind::NoField(message) => no_field_text(alloc, here, message, step),
+        AggregateFaultKind::NoExtension(message) => no_extension_text(alloc, here, message, step),
+        AggregateFaultKind::NoType => found_text(alloc, "]", "/"),
+        AggregateFaultKind::NoColon => found_text(alloc, ":", found),
+        AggregateFaultKind::NotRepeated => is_not_text(alloc, field, "not repeated", found),
+        AggregateFaultKind::NotMessage => found_text(alloc, "{", found),
+        AggregateFaultKind::NotScalar => is_not_text(alloc, field, "no message", found),
+        AggregateFaultKind::WrongValue(scalar, fault) => {
+            value_text(alloc, scalar.held(), fault, field, step)
+        }
+        AggregateFaultKind::WrongEnum(fault) => enum_text(alloc, fault, field, step),
+        AggregateFaultKind::Again(number) => again_text(alloc, here, number),
+        AggregateFaultKind::Along(number, other) => along_text(alloc, here, number, other),
+        AggregateFaultKind::Missing(number) => {
+            let name = field_name(here, number);
+            format!(in alloc; "Message missing required fields: {name}")
+        }
+        AggregateFaultKind::Untyped => format!(in alloc; "Field \"{field}\" has no type."),
+        AggregateFaultKind::Misplaced => format!(in alloc; "Unexpected \"{found}\"."),
+    }
+}
+
+// What is wrong with the message that pieces spell by these steps.
+fn fault_text(
+    alloc: Global,
+    here: Site<'_>,
+    pieces: &[Piece<'_>],
+    items: &[Item<'_, '_>],
+    fault: AggregateFault,
+) -> Result<String, AllocError>
+    ensures { IfOk result (λ text. string_bytes text
+        ≡ words.fault_text here.entry pieces.now (map seen items.now) fault) }
+{
+    let found = printed(alloc, from_step(pieces, items, fault.step).first())?;
+    let field = own_name(alloc, name_before(items, fault.step))?;
+    let step = pieces_of(items, fault.step);
+    step_text(
+        alloc,
+        here,
+        fault.kind,
+        step,
+        found.as_str(),
+        field.as_str(),
+    )
+}
+
+// What is wrong with pieces that spell no message.
+fn form_text(alloc: Global, pieces: &[Piece<'_>], fault: TextFault) -> Result<String, AllocError>
+    ensures { IfOk result (λ text. string_bytes text
+        ≡ words.form_text fault.kind (words.found_at pieces.now fault.piece)) }
+{
+    let found = printed(alloc, pieces.get(fault.piece))?;
+    match fault.kind {
+        TextFaultKind::NoWord => expected(alloc, "identifier", found.as_str()),
+        TextFaultKind::NoMark(mark) => {
+            let mark = char::from(mark);
+            format!(in alloc; "Expected \"{mark}\", found \"{found}\".")
+        }
+        TextFaultKind::NoValue => expected(alloc, "a value", found.as_str()),
+        TextFaultKind::TooDeep => {
+            String::from_str(alloc, "Messages stand in one another more than 100 deep.")
+        }
+    }
+}
+
+// What is wrong with pieces.
+fn pieces_text(
+    alloc: Global,
+    here: Site<'_>,
+    found: &[Piece<'_>],
+    kind: &StatementFaultKind,
+) -> Result<String, AllocError>
+    ensures { (text : List ℕ) → IsCut text found.now → IfOk result (λ told.
+        words.IsTold here.entry text kind.now (string_bytes told)) }
+{
+    match read(alloc, found) {
+        Ok(items) => match kind {
+            StatementFaultKind::Aggregate(fault) => {
+                fault_text(alloc, here, found, items.as_slice(), *fault)
+            }
+            _ => Ok(String::new(alloc)),
+        },
+        Err(TextFailure::Fault(fault)) => form_text(alloc, found, fault),
+        Err(TextFailure::OutOfMemory) => Err(AllocError),
+    }
+}
+
+/// What is wrong with the text in braces of a statement, as protoc tells it. `here` is where the
+/// statement stands, `text` what is in the braces, and `kind` the fault that `interpret` found there.
+///
+/// Where the text has something that is no token, or its tokens spell no message, the fault isn't
+/// looked at. Of a fault that isn't one of a message the answer is the empty text.
+///
+/// # Errors
+/// `AllocError` where memory runs out.
+///
+/// ```
+/// let text = brace_text(alloc, here, "nope: 1", &fault.kind)?;
+/// // Message type "shop.Item" has no field named "nope".
+/// ```
+pub fn brace_text(
+    alloc: Global,
+    here: Site<'_>,
+    text: &str,
+    kind: &StatementFaultKind,
+) -> Result<String, AllocError>
+    ensures { IfOk result (λ told. words.IsTold here.entry text.now kind.now (string_bytes told)) }
+{
+    match pieces(alloc, text) {
+        Ok(found) => pieces_text(alloc, here, found.as_slice(), kind),
+        Err(PieceFailure::Fault(_)) => String::from_str(alloc, "Invalid token."),
+        Err(PieceFailure::OutOfMemory) => Err(AllocError),
+    }
+}

@@ -5,8 +5,10 @@ use crate::places::span_of;
 use crate::statements::statements_at;
 use crate::told::{Grade, Told};
 use protolink_words::Format;
+use protox_brace_text::brace_text;
 use protox_descriptor::descriptor::{FileDescriptorProto, UninterpretedOption};
 use protox_descriptor::tag::UNINTERPRETED_OPTION;
+use protox_fault::error::Span;
 use protox_file_options::{InterpretedFile, OptionsFault, PlaceFault, interpret_file};
 use protox_interpret::{Site, StatementFault, StatementFaultKind};
 use protox_link::Resolver;
@@ -19,48 +21,60 @@ use std::io::{self, Write};
 // The number of `name` in a statement.
 const NAME: i32 = 2;
 
-// The field of a statement that holds its value, by its number.
-fn value_tag(statement: &UninterpretedOption) -> i32 {
-    if statement.aggregate_value.is_some() {
-        return 8;
-    }
-    if statement.string_value.is_some() {
-        return 7;
-    }
-    if statement.double_value.is_some() {
-        return 6;
-    }
-    if statement.negative_int_value.is_some() {
-        return 5;
-    }
-    if statement.positive_int_value.is_some() {
-        return 4;
-    }
-    3
-}
-
-// The field of a statement in which something is wrong.
-fn wrong_tag(statement: &UninterpretedOption, kind: &StatementFaultKind) -> i32 {
-    match kind {
-        StatementFaultKind::Name(_) => NAME,
-        StatementFaultKind::AlreadySet => NAME,
-        _ => value_tag(statement),
-    }
-}
-
-// The path of the part of a statement in which something is wrong.
-fn wrong_path(
-    alloc: Global,
-    options: &[i32],
-    statement: &UninterpretedOption,
-    fault: &StatementFault,
-) -> Result<Vec<i32>, AllocError> {
+// The path of a statement.
+fn statement_path(alloc: Global, options: &[i32], index: usize) -> Result<Vec<i32>, AllocError> {
     let mut path = Vec::new(alloc);
     path.extend_from_slice(options)?;
     path.push(UNINTERPRETED_OPTION)?;
-    path.push(i32::try_from(fault.index).unwrap_or(i32::MAX))?;
-    path.push(wrong_tag(statement, &fault.kind))?;
+    path.push(i32::try_from(index).unwrap_or(i32::MAX))?;
     Ok(path)
+}
+
+// Where a fault of a statement stands, which has this path: at its name or at its value.
+fn fault_span(
+    alloc: Global,
+    told: &Told<'_>,
+    file: &FileDescriptorProto,
+    mut path: Vec<i32>,
+    kind: &StatementFaultKind,
+) -> Result<Option<Span>, AllocError> {
+    match kind {
+        StatementFaultKind::Name(_) | StatementFaultKind::AlreadySet => {
+            path.push(NAME)?;
+            Ok(span_of(told, file, path.as_slice()))
+        }
+        _ => match span_of(told, file, path.as_slice()) {
+            Some(statement) => Ok(Some(told.value_span(alloc, statement)?)),
+            None => Ok(None),
+        },
+    }
+}
+
+// What stands in the braces of a statement.
+fn in_braces(statement: &UninterpretedOption) -> &str {
+    match &statement.aggregate_value {
+        Some(text) => text.as_str(),
+        None => "",
+    }
+}
+
+// What is wrong with a statement. Of a text in braces it tells what is wrong there, too.
+fn fault_text(
+    alloc: Global,
+    site: Site<'_>,
+    statement: &UninterpretedOption,
+    kind: &StatementFaultKind,
+) -> Result<String, AllocError> {
+    let text = statement_text(alloc, site, statement, kind)?;
+    match kind {
+        StatementFaultKind::Token(_)
+        | StatementFaultKind::Text(_)
+        | StatementFaultKind::Aggregate(_) => {
+            let told = brace_text(alloc, site, in_braces(statement), kind)?;
+            format!(in alloc; "{text}: {told}")
+        }
+        _ => Ok(text),
+    }
 }
 
 // Tells what is wrong with a statement.
@@ -76,9 +90,9 @@ fn tell_statement<E: Write>(
     let Some(statement) = statements_at(file, path).get(fault.index) else {
         return Ok(());
     };
-    let path = wrong_path(alloc, path, statement, fault)?;
-    let span = span_of(told, file, path.as_slice());
-    let text = statement_text(alloc, site, statement, &fault.kind)?;
+    let path = statement_path(alloc, path, fault.index)?;
+    let span = fault_span(alloc, told, file, path, &fault.kind)?;
+    let text = fault_text(alloc, site, statement, &fault.kind)?;
     told.tell(alloc, err, Grade::Error, span.as_ref(), text.as_str())
 }
 

@@ -5,6 +5,8 @@ use protox_descriptor::descriptor::FileDescriptorProto;
 use protox_descriptor::descriptor::source_code_info::Location;
 use protox_descriptor::tag::file::DEPENDENCY;
 use protox_fault::error::Span;
+use protox_lexeme::token::Token;
+use std::alloc::{AllocError, Global};
 
 // How many of these locations, which are in the order of their paths, come before this path.
 fn count_before(locations: &[Location], path: &[i32]) -> usize {
@@ -34,6 +36,39 @@ pub(crate) fn span_of(told: &Told<'_>, file: &FileDescriptorProto, path: &[i32])
         }
     }
     None
+}
+
+// Whether it is a comment or the end of a line.
+fn is_gap(token: &Token<'_>) -> bool {
+    match token {
+        Token::LineComment(_) | Token::BlockComment(_) | Token::Newline => true,
+        _ => false,
+    }
+}
+
+/// The first token of the value in the text of an option's statement, by its place in that text. It is
+/// behind the first `=`, as a name has none.
+///
+/// # Errors
+/// `AllocError` where memory runs out.
+pub(crate) fn value_in(alloc: Global, statement: &str) -> Result<Option<Span>, AllocError> {
+    let mut lexer = Token::lexer(alloc, statement);
+    let mut behind = false;
+    // there is no more than a token for each byte
+    for _ in 0..statement.len() {
+        let Some(Ok(token)) = lexer.next()? else {
+            return Ok(None);
+        };
+        match token {
+            Token::Equals => behind = true,
+            token => {
+                if behind && !is_gap(&token) {
+                    return Ok(Some(lexer.span()));
+                }
+            }
+        }
+    }
+    Ok(None)
 }
 
 // The index of the import of this name.

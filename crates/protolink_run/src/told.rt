@@ -2,6 +2,7 @@
 
 ghost use Rattle.std.specs.Prelude.{◌≤◌, length};
 
+use crate::places::value_in;
 use protolink_words::Format;
 use protox_fault::error::{ParseErrorKind, Span};
 use protox_report::paint::Paint;
@@ -44,6 +45,7 @@ pub(crate) struct Told<'a> {
     name: &'a str,
     // where it lies
     path: &'a str,
+    text: &'a str,
     source: Source<'a>,
 }
 
@@ -75,6 +77,7 @@ impl<'a> Told<'a> {
             format,
             name,
             path,
+            text,
             source,
         })
     }
@@ -84,6 +87,20 @@ impl<'a> Told<'a> {
         let from = self.source.offset_at(start.0, start.1)?;
         let to = self.source.offset_at(end.0, end.1)?;
         Some(from..to)
+    }
+
+    /// The place of the value in the statement of an option that has this place; else the place of
+    /// the whole.
+    ///
+    /// # Errors
+    /// `AllocError` where memory runs out.
+    pub(crate) fn value_span(&self, alloc: Global, statement: Span) -> Result<Span, AllocError> {
+        let text = self.text.get(statement.start..statement.end).unwrap_or("");
+        let Some(value) = value_in(alloc, text)? else {
+            return Ok(statement);
+        };
+        let start = statement.start.saturating_add(value.start);
+        Ok(start..statement.start.saturating_add(value.end))
     }
 
     // Adds what stands in front of the text, in one of the formats of a line.

@@ -1,5 +1,5 @@
 -- Steps through a message, and the pieces of a text that they are of.
-use Rattle.std.specs.Prelude.{ℕ, ◌+◌, ◌==◌, Bool, true, false, ◌||◌, List, [], ◌∷◌, ◌++◌, Option, Some, None, drop, fold, length, slice_get, take, if◌then◌else◌}
+use Rattle.std.specs.Prelude.{ℕ, ◌+◌, ◌-◌, ◌==◌, Bool, true, false, ◌||◌, List, [], ◌∷◌, ◌++◌, Option, Some, None, drop, fold, length, slice_get, if◌then◌else◌}
 use Rattle.std.specs.List.{flat_map}
 use Rattle.protox_lexeme.specs.Printed.{printed}
 use Rattle.protox_lexeme.specs.Shapes.{Shape, Mark}
@@ -16,6 +16,10 @@ printed_piece piece = printed (shape_of piece.token)
 abbrev pub printed_if_any : Option Piece → List ℕ
 printed_if_any None = []
 printed_if_any (Some piece) = printed_piece piece
+
+-- the piece with an index, as it is printed; nothing behind the last one
+abbrev pub found_at : List Piece → ℕ → List ℕ
+found_at pieces n = printed_if_any (slice_get pieces n)
 
 abbrev pub all_printed : List Piece → List ℕ
 all_printed pieces = flat_map printed_piece pieces
@@ -47,18 +51,26 @@ behind Close pieces = drop 1 pieces
 behind OpenList pieces = drop 1 pieces
 behind CloseList pieces = drop 1 pieces
 
--- the pieces from those of a step on
-abbrev pub from_step : List Piece → List Step → ℕ → List Piece
-from_step pieces steps n = without_separator (fold (λ left step. behind step (without_separator left)) pieces (take n steps))
+-- what is left of pieces behind those of steps
+abbrev pub behind_all : List Piece → List Step → List Piece
+behind_all pieces steps = fold (λ left step. behind step (without_separator left)) pieces steps
+
+-- the pieces from those of the step behind these on
+abbrev pub next_pieces : List Piece → List Step → List Piece
+next_pieces pieces steps = without_separator (behind_all pieces steps)
+
+-- the name of a field without what stands in front of it, or the extension's in brackets
+abbrev pub own_name : List Piece → List ℕ
+own_name name = printed_if_any (slice_get name (length name - 2))
 
 -- the name that a step names, or else the one before
-abbrev pub naming : List Piece → Step → List Piece
-naming before (Name name colon) = name
+abbrev pub naming : List ℕ → Step → List ℕ
+naming before (Name name colon) = own_name name
 naming before _ = before
 
--- the last name before a step
-abbrev pub name_before : List Step → ℕ → List Piece
-name_before steps n = fold naming [] (take n steps)
+-- the name that steps name last
+abbrev pub last_name : List Step → List ℕ
+last_name steps = fold naming [] steps
 
 abbrev pub own_pieces : Option Step → List Piece
 own_pieces (Some (Name name colon)) = name

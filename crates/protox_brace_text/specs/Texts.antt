@@ -5,7 +5,7 @@ use Rattle.protox_aggregate.specs.Names.{innermost}
 use Rattle.protox_aggregate.specs.declared.fault.AggregateFault.{AggregateFault}
 use Rattle.protox_aggregate.specs.declared.fault.AggregateFaultKind.{AggregateFaultKind}
 use Rattle.protox_aggregate.specs.declared.fault.AggregateFaultKind.TheVariants as wrong
-use Rattle.protox_brace_text.specs.Steps.{all_printed, from_step, is_minus, name_before, pieces_of, printed_if_any}
+use Rattle.protox_brace_text.specs.Steps.{all_printed, found_at, is_minus, last_name, next_pieces, pieces_of, printed_if_any}
 use Rattle.protox_descriptor.specs.FieldDescriptorProto.{FieldDescriptorProto}
 use Rattle.protox_descriptor.specs.declared.descriptor.DescriptorProto.{DescriptorProto, out-DescriptorProto}
 use Rattle.protox_descriptor.specs.declared.descriptor.OneofDescriptorProto.{OneofDescriptorProto}
@@ -53,6 +53,12 @@ expected what got = codes "Expected " ++ what ++ codes ", got: " ++ got
 abbrev pub out_of_range : List ℕ → List ℕ
 out_of_range got = codes "Integer out of range (" ++ got ++ codes ")"
 
+abbrev pub not_truth : List ℕ → List ℕ → List ℕ
+not_truth field got = codes "Invalid value for boolean field \"" ++ field ++ codes "\". Value: \"" ++ got ++ codes "\"."
+
+abbrev pub no_such_value : List ℕ → List ℕ → List ℕ
+no_such_value got field = codes "Unknown enumeration value of \"" ++ got ++ codes "\" for field \"" ++ field ++ codes "\"."
+
 abbrev pub signed_text : ValueFault → List Piece → List ℕ
 signed_text OutOfRange value = out_of_range (size_text value)
 signed_text _ value = expected (codes "integer") (size_text value)
@@ -62,7 +68,7 @@ unsigned_text OutOfRange value = out_of_range (first_text value)
 unsigned_text _ value = expected (codes "integer") (first_text value)
 
 abbrev pub truth_text : ValueFault → List ℕ → List Piece → List ℕ
-truth_text NotTruth field value = codes "Invalid value for boolean field \"" ++ field ++ codes "\". Value: \"" ++ first_text value ++ codes "\"."
+truth_text NotTruth field value = not_truth field (first_text value)
 truth_text OutOfRange field value = out_of_range (first_text value)
 truth_text _ field value = expected (codes "identifier") (first_text value)
 
@@ -86,13 +92,9 @@ no_enum_text value =
 abbrev pub enum_text : TextEnumFault → List ℕ → List Piece → List ℕ
 enum_text enum.NotValue field value = no_enum_text value
 enum_text enum.OutOfRange field value = out_of_range (size_text value)
-enum_text enum.NoSuchValue field value = codes "Unknown enumeration value of \"" ++ all_printed value ++ codes "\" for field \"" ++ field ++ codes "\"."
+enum_text enum.NoSuchValue field value = no_such_value (all_printed value) field
 
 -- ---- names
-
--- the name of a field without what stands in front of it, or the extension's in brackets
-abbrev pub own_name : List Piece → List ℕ
-own_name name = printed_if_any (slice_get name (length name - 2))
 
 -- what stands in the brackets of a name
 abbrev pub in_brackets : List Piece → List Piece
@@ -109,11 +111,16 @@ name_of_oneof (Some oneof) = text_of oneof.name
 abbrev pub oneof_in : Option DescriptorProto → Option FieldDescriptorProto → Option OneofDescriptorProto
 oneof_in message field = option_and_then (λ m. option_and_then (λ f. option_and_then (part_at (out-DescriptorProto m).oneof_decl) f.oneof_index) field) message
 
--- ---- what is found
+-- ---- what is told
 
--- the piece with an index, as it is printed; nothing behind the last one
-abbrev pub found_at : List Piece → ℕ → List ℕ
-found_at pieces n = printed_if_any (slice_get pieces n)
+abbrev pub no_field : List ℕ → List ℕ → List ℕ
+no_field message name = codes "Message type \"" ++ message ++ codes "\" has no field named \"" ++ name ++ codes "\"."
+
+abbrev pub no_extension : List ℕ → List ℕ → List ℕ
+no_extension message name = codes "Extension \"" ++ name ++ codes "\" is not defined or is not an extension of \"" ++ message ++ codes "\"."
+
+abbrev pub along : List ℕ → List ℕ → List ℕ → List ℕ
+along name other oneof = codes "Field \"" ++ name ++ codes "\" is specified along with field \"" ++ other ++ codes "\", another member of oneof \"" ++ oneof ++ codes "\"."
 
 -- where this was wanted, and that is found
 abbrev pub found_text : List ℕ → List ℕ → List ℕ
@@ -146,22 +153,16 @@ module _ (here : Site) where
 
   -- ---- faults
 
-  abbrev pub no_field_text : ℕ → List Piece → List ℕ
-  no_field_text message name = codes "Message type \"" ++ full_name message ++ codes "\" has no field named \"" ++ all_printed name ++ codes "\"."
-
-  abbrev pub no_extension_text : ℕ → List Piece → List ℕ
-  no_extension_text message name = codes "Extension \"" ++ all_printed (in_brackets name) ++ codes "\" is not defined or is not an extension of \"" ++ full_name message ++ codes "\"."
-
   abbrev pub again_text : ℕ → List ℕ
   again_text n = codes "Non-repeated field \"" ++ field_name n ++ codes "\" is specified multiple times."
 
   abbrev pub along_text : ℕ → ℕ → List ℕ
-  along_text n other = codes "Field \"" ++ field_name n ++ codes "\" is specified along with field \"" ++ field_name other ++ codes "\", another member of oneof \"" ++ oneof_name n ++ codes "\"."
+  along_text n other = along (field_name n) (field_name other) (oneof_name n)
 
   -- The pieces of the step, what is found where it begins, and the name of the field before it.
   abbrev pub step_text : AggregateFaultKind → List Piece → List ℕ → List ℕ → List ℕ
-  step_text (wrong.NoField m) step found field = no_field_text m step
-  step_text (wrong.NoExtension m) step found field = no_extension_text m step
+  step_text (wrong.NoField m) step found field = no_field (full_name m) (all_printed step)
+  step_text (wrong.NoExtension m) step found field = no_extension (full_name m) (all_printed (in_brackets step))
   step_text wrong.NoType step found field = found_text (codes "]") (codes "/")
   step_text wrong.NoColon step found field = found_text (codes ":") found
   step_text wrong.NotRepeated step found field = is_not_text field (codes "not repeated") found
@@ -179,7 +180,7 @@ module _ (here : Site) where
   abbrev pub fault_text : List Piece → List Step → AggregateFault → List ℕ
   fault_text pieces steps fault =
       step_text fault.kind (pieces_of steps fault.step)
-      (found_at (from_step pieces steps fault.step) 0) (own_name (name_before steps fault.step))
+      (found_at (next_pieces pieces (take fault.step steps)) 0) (last_name (take fault.step steps))
 
   abbrev pub kind_text : List Piece → List Step → StatementFaultKind → List ℕ
   kind_text pieces steps (kind.Aggregate fault) = fault_text pieces steps fault

@@ -5,7 +5,7 @@ ghost use Rattle.std.specs.Option.{option_copied};
 ghost use Rattle.protox_brace_text.specs.Texts as words;
 ghost use Rattle.protox_walk.specs.Declarations.{text_of};
 
-use crate::pieces::{printed, without};
+use crate::pieces::without;
 use protox_descriptor::descriptor::{DescriptorProto, FieldDescriptorProto, OneofDescriptorProto};
 use protox_descriptor::values::Text;
 use protox_interpret::Site;
@@ -21,13 +21,6 @@ fn text_of(name: Option<&Text>) -> &str
         Some(name) => name.as_str(),
         None => "",
     }
-}
-
-/// The name of a field, or of an extension in brackets, without what stands in front of it.
-pub(crate) fn own_name(alloc: Global, name: &[Piece<'_>]) -> Result<String, AllocError>
-    ensures { IfOk result (λ text. string_bytes text ≡ words.own_name name.now) }
-{
-    printed(alloc, name.get(name.len().saturating_sub(2)))
 }
 
 /// What stands in the brackets of a name.
@@ -87,6 +80,15 @@ fn oneof_in<'a>(
     message.oneof_decl.as_slice().get(index as usize)
 }
 
+fn name_of_oneof(oneof: Option<&OneofDescriptorProto>) -> &str
+    ensures { result.now ≡ words.name_of_oneof (option_copied oneof.entry) }
+{
+    match oneof {
+        Some(oneof) => text_of(oneof.name.as_ref()),
+        None => "",
+    }
+}
+
 /// The name of the oneof that the field with a number is of; the empty text where it is of none.
 pub(crate) fn oneof_name<'a>(
     alloc: Global,
@@ -98,8 +100,5 @@ pub(crate) fn oneof_name<'a>(
     let full_name = full_name(alloc, here, number)?;
     let holder = holder_of(here, full_name.as_str());
     let field = field_numbered(here.view.symbols, here.files, number);
-    match oneof_in(holder, field) {
-        Some(oneof) => Ok(text_of(oneof.name.as_ref())),
-        None => Ok(""),
-    }
+    Ok(name_of_oneof(oneof_in(holder, field)))
 }

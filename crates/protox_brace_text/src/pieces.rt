@@ -21,6 +21,17 @@ pub(crate) fn printed(alloc: Global, piece: Option<&Piece<'_>>) -> Result<String
     }
 }
 
+/// The piece with an index, as it is printed; the empty text behind the last one.
+pub(crate) fn found_at(
+    alloc: Global,
+    pieces: &[Piece<'_>],
+    index: usize,
+) -> Result<String, AllocError>
+    ensures { IfOk result (λ text. string_bytes text ≡ words.found_at pieces.now index) }
+{
+    printed(alloc, pieces.get(index))
+}
+
 /// Adds a piece, as it is printed.
 pub(crate) fn push_printed(
     alloc: Global,
@@ -82,4 +93,11 @@ pub(crate) fn without<'t, 'a>(pieces: &'t [Piece<'a>], count: usize) -> &'t [Pie
     ensures { result.now ≡ drop count pieces.entry.now }
 {
     &pieces[count.min(pieces.len())..]
+}
+
+/// The name of a field, or of an extension in brackets, without what stands in front of it.
+pub(crate) fn own_name(alloc: Global, name: &[Piece<'_>]) -> Result<String, AllocError>
+    ensures { IfOk result (λ text. string_bytes text ≡ words.own_name name.now) }
+{
+    printed(alloc, name.get(name.len().saturating_sub(2)))
 }

@@ -1,11 +1,19 @@
 //! Where steps through a message begin, and what they are of.
 
-ghost use Rattle.std.specs.Prelude.{◌≡◌, map, take};
+ghost use Rattle.std.specs.Prelude.{◌≡◌, Some, IfOk, map, string_bytes, take};
 ghost use Rattle.protox_brace_text.specs.Steps as words;
 ghost use Rattle.protox_text_format.specs.Spelling.{seen};
 
-use crate::pieces::{without, without_separator};
+use crate::pieces::{own_name, without, without_separator};
 use protox_text_format::{Item, Piece};
+use std::alloc::{AllocError, Global};
+
+/// The steps before one.
+pub(crate) fn before<'i, 't, 'a>(items: &'i [Item<'t, 'a>], step: usize) -> &'i [Item<'t, 'a>]
+    ensures { map seen result.now ≡ take step (map seen items.entry.now) }
+{
+    &items[..step.min(items.len())]
+}
 
 // The pieces behind those of a step.
 fn behind<'t, 'a>(item: &Item<'_, '_>, pieces: &'t [Piece<'a>]) -> &'t [Piece<'a>]
@@ -19,41 +27,56 @@ fn behind<'t, 'a>(item: &Item<'_, '_>, pieces: &'t [Piece<'a>]) -> &'t [Piece<'a
     }
 }
 
-/// The pieces from those of a step on.
-pub(crate) fn from_step<'t, 'a>(
-    pieces: &'t [Piece<'a>],
-    items: &[Item<'_, '_>],
-    step: usize,
-) -> &'t [Piece<'a>]
-    ensures { result.now ≡ words.from_step pieces.entry.now (map seen items.now) step }
+// The pieces behind those of steps.
+fn behind_all<'t, 'a>(pieces: &'t [Piece<'a>], items: &[Item<'_, '_>]) -> &'t [Piece<'a>]
+    ensures { result.now ≡ words.behind_all pieces.entry.now (map seen items.now) }
 {
     let mut left = pieces;
-    for item in &items[..step.min(items.len())] {
+    for item in items {
         left = behind(item, without_separator(left));
     }
-    without_separator(left)
+    left
 }
 
-/// The name that the last step before one names, or an empty one.
-pub(crate) fn name_before<'t, 'a>(items: &[Item<'t, 'a>], step: usize) -> &'t [Piece<'a>]
-    ensures { result.now ≡ words.name_before (map seen items.now) step }
+/// The pieces from those of the next step on.
+pub(crate) fn next_pieces<'t, 'a>(
+    pieces: &'t [Piece<'a>],
+    items: &[Item<'_, '_>],
+) -> &'t [Piece<'a>]
+    ensures { result.now ≡ words.next_pieces pieces.entry.now (map seen items.now) }
 {
-    let mut found: &'t [Piece<'a>] = &[];
-    for item in &items[..step.min(items.len())] {
-        if let Item::Name(name, _) = item {
-            found = *name;
-        }
+    without_separator(behind_all(pieces, items))
+}
+
+// The name that a step names, or else the one before.
+fn naming(alloc: Global, before: String, item: Item<'_, '_>) -> Result<String, AllocError>
+    ensures { IfOk result (λ name. string_bytes name
+        ≡ words.naming (string_bytes before) (seen item.entry)) }
+{
+    match item {
+        Item::Name(name, _) => own_name(alloc, name),
+        _ => Ok(before),
     }
-    found
 }
 
-/// The pieces of a step that is a name or a value.
-pub(crate) fn pieces_of<'t, 'a>(items: &[Item<'t, 'a>], step: usize) -> &'t [Piece<'a>]
-    ensures { result.now ≡ words.pieces_of (map seen items.now) step }
+/// The name of the field that steps name last, or an empty one.
+pub(crate) fn last_name(alloc: Global, items: &[Item<'_, '_>]) -> Result<String, AllocError>
+    ensures { IfOk result (λ name. string_bytes name ≡ words.last_name (map seen items.now)) }
 {
-    match items.get(step) {
-        Some(Item::Name(name, _)) => *name,
-        Some(Item::Scalar(value)) => *value,
+    let mut name = String::new(alloc);
+    for item in items {
+        name = naming(alloc, name, *item)?;
+    }
+    Ok(name)
+}
+
+/// The pieces of a name or a value.
+pub(crate) fn own_pieces<'t, 'a>(item: Item<'t, 'a>) -> &'t [Piece<'a>]
+    ensures { result.now ≡ words.own_pieces (Some (seen item.entry)) }
+{
+    match item {
+        Item::Name(name, _) => name,
+        Item::Scalar(value) => value,
         _ => &[],
     }
 }

@@ -1,13 +1,15 @@
 //! The text of what is wrong with a text in braces.
 
-ghost use Rattle.std.specs.Prelude.{◌≡◌, ℕ, List, IfOk, map, string_bytes};
+ghost use Rattle.std.specs.Prelude.{◌≡◌, ℕ, List, IfOk, encode_utf8, map, option_map, string_bytes};
+ghost use Rattle.std.specs.Option.{option_copied};
+ghost use Rattle.protox_brace_text.specs.Steps as steps;
 ghost use Rattle.protox_brace_text.specs.Texts as words;
 ghost use Rattle.protox_interpret.specs.Braces.{IsCut};
 ghost use Rattle.protox_text_format.specs.Spelling.{seen};
 
-use crate::names::{field_name, full_name, in_brackets, oneof_name, own_name};
-use crate::pieces::{all_printed, printed};
-use crate::steps::{from_step, name_before, pieces_of};
+use crate::names::{field_name, full_name, in_brackets, oneof_name};
+use crate::pieces::{all_printed, found_at};
+use crate::steps::{before, last_name, next_pieces, own_pieces};
 use crate::values::{enum_text, expected, value_text};
 use protox_aggregate::{AggregateFault, AggregateFaultKind};
 use protox_interpret::{Site, StatementFaultKind};
@@ -29,17 +31,32 @@ fn is_not_text(alloc: Global, field: &str, what: &str, found: &str) -> Result<St
     format!(in alloc; "Field \"{field}\" is {what}, found \"{found}\".")
 }
 
+fn no_field(alloc: Global, message: &str, name: &str) -> Result<String, AllocError>
+    ensures { IfOk result (λ text. string_bytes text ≡ words.no_field message.now name.now) }
+{
+    format!(in alloc; "Message type \"{message}\" has no field named \"{name}\".")
+}
+
 fn no_field_text(
     alloc: Global,
     here: Site<'_>,
     message: usize,
     step: &[Piece<'_>],
 ) -> Result<String, AllocError>
-    ensures { IfOk result (λ text. string_bytes text ≡ words.no_field_text here.entry message step.now) }
+    ensures { IfOk result (λ text. string_bytes text
+        ≡ words.no_field (words.full_name here.entry message) (steps.all_printed step.now)) }
 {
     let message = full_name(alloc, here, message)?;
     let name = all_printed(alloc, step)?;
-    format!(in alloc; "Message type \"{message}\" has no field named \"{name}\".")
+    no_field(alloc, message.as_str(), name.as_str())
+}
+
+fn no_extension(alloc: Global, message: &str, name: &str) -> Result<String, AllocError>
+    ensures { IfOk result (λ text. string_bytes text ≡ words.no_extension message.now name.now) }
+{
+    format!(in alloc;
+        "Extension \"{name}\" is not defined or is not an extension of \"{message}\"."
+    )
 }
 
 fn no_extension_text(
@@ -48,14 +65,12 @@ fn no_extension_text(
     message: usize,
     step: &[Piece<'_>],
 ) -> Result<String, AllocError>
-    ensures { IfOk result (λ text. string_bytes text
-        ≡ words.no_extension_text here.entry message step.now) }
+    ensures { IfOk result (λ text. string_bytes text ≡ words.no_extension
+        (words.full_name here.entry message) (steps.all_printed (words.in_brackets step.now))) }
 {
     let message = full_name(alloc, here, message)?;
     let name = all_printed(alloc, in_brackets(step))?;
-    format!(in alloc;
-        "Extension \"{name}\" is not defined or is not an extension of \"{message}\"."
-    )
+    no_extension(alloc, message.as_str(), name.as_str())
 }
 
 fn again_text(alloc: Global, here: Site<'_>, number: usize) -> Result<String, AllocError>
@@ -63,6 +78,14 @@ fn again_text(alloc: Global, here: Site<'_>, number: usize) -> Result<String, Al
 {
     let name = field_name(here, number);
     format!(in alloc; "Non-repeated field \"{name}\" is specified multiple times.")
+}
+
+fn along(alloc: Global, name: &str, other: &str, oneof: &str) -> Result<String, AllocError>
+    ensures { IfOk result (λ text. string_bytes text ≡ words.along name.now other.now oneof.now) }
+{
+    format!(in alloc;
+        "Field \"{name}\" is specified along with field \"{other}\", another member of oneof \"{oneof}\"."
+    )
 }
 
 fn along_text(
@@ -74,9 +97,11 @@ fn along_text(
     ensures { IfOk result (λ text. string_bytes text ≡ words.along_text here.entry number other) }
 {
     let oneof = oneof_name(alloc, here, number)?;
-    let (name, other) = (field_name(here, number), field_name(here, other));
-    format!(in alloc;
-        "Field \"{name}\" is specified along with field \"{other}\", another member of oneof \"{oneof}\"."
+    along(
+        alloc,
+        field_name(here, number),
+        field_name(here, other),
+        oneof,
     )
 }
 
@@ -116,6 +141,24 @@ fn step_text(
     }
 }
 
+// The same of a step, if there is one.
+fn item_text(
+    alloc: Global,
+    here: Site<'_>,
+    kind: AggregateFaultKind,
+    item: Option<&Item<'_, '_>>,
+    found: &str,
+    field: &str,
+) -> Result<String, AllocError>
+    ensures { IfOk result (λ text. string_bytes text ≡ words.step_text here.entry kind
+        (steps.own_pieces (option_map seen (option_copied item.entry))) found.now field.now) }
+{
+    match item {
+        Some(item) => step_text(alloc, here, kind, own_pieces(*item), found, field),
+        None => step_text(alloc, here, kind, &[], found, field),
+    }
+}
+
 // What is wrong with the message that pieces spell by these steps.
 fn fault_text(
     alloc: Global,
@@ -127,36 +170,60 @@ fn fault_text(
     ensures { IfOk result (λ text. string_bytes text
         ≡ words.fault_text here.entry pieces.now (map seen items.now) fault) }
 {
-    let found = printed(alloc, from_step(pieces, items, fault.step).first())?;
-    let field = own_name(alloc, name_before(items, fault.step))?;
-    let step = pieces_of(items, fault.step);
-    step_text(
+    let front = before(items, fault.step);
+    let found = found_at(alloc, next_pieces(pieces, front), 0)?;
+    let field = last_name(alloc, front)?;
+    let item = items.get(fault.step);
+    item_text(
         alloc,
         here,
         fault.kind,
-        step,
+        item,
         found.as_str(),
         field.as_str(),
     )
 }
 
-// What is wrong with pieces that spell no message.
-fn form_text(alloc: Global, pieces: &[Piece<'_>], fault: TextFault) -> Result<String, AllocError>
-    ensures { IfOk result (λ text. string_bytes text
-        ≡ words.form_text fault.kind (words.found_at pieces.now fault.piece)) }
+// The mark as a text.
+fn mark_text(alloc: Global, mark: u8) -> Result<String, AllocError>
+    ensures { IfOk result (λ text. string_bytes text ≡ encode_utf8 mark) }
 {
-    let found = printed(alloc, pieces.get(fault.piece))?;
-    match fault.kind {
-        TextFaultKind::NoWord => expected(alloc, "identifier", found.as_str()),
-        TextFaultKind::NoMark(mark) => {
-            let mark = char::from(mark);
-            format!(in alloc; "Expected \"{mark}\", found \"{found}\".")
-        }
-        TextFaultKind::NoValue => expected(alloc, "a value", found.as_str()),
+    let mark = char::from(mark);
+    format!(in alloc; "{mark}")
+}
+
+fn no_mark_text(alloc: Global, mark: u8, found: &str) -> Result<String, AllocError>
+    ensures { IfOk result (λ text. string_bytes text
+        ≡ words.found_text (encode_utf8 mark) found.now) }
+{
+    let mark = mark_text(alloc, mark)?;
+    found_text(alloc, mark.as_str(), found)
+}
+
+// What is wrong with pieces that spell no message, where this is found.
+fn form_text(alloc: Global, kind: TextFaultKind, found: &str) -> Result<String, AllocError>
+    ensures { IfOk result (λ text. string_bytes text ≡ words.form_text kind found.now) }
+{
+    match kind {
+        TextFaultKind::NoWord => expected(alloc, "identifier", found),
+        TextFaultKind::NoMark(mark) => no_mark_text(alloc, mark, found),
+        TextFaultKind::NoValue => expected(alloc, "a value", found),
         TextFaultKind::TooDeep => {
             String::from_str(alloc, "Messages stand in one another more than 100 deep.")
         }
     }
+}
+
+fn form_fault_text(
+    alloc: Global,
+    pieces: &[Piece<'_>],
+    fault: TextFault,
+) -> Result<String, AllocError>
+    ensures { IfOk result (λ text. string_bytes text
+        ≡ words.form_text fault.kind (steps.found_at pieces.now fault.piece)) }
+{
+    let found = found_at(alloc, pieces, fault.piece)?;
+    form_text(alloc, fault.kind, found.as_str())
 }
 
 // What is wrong with pieces.
@@ -176,7 +243,7 @@ fn pieces_text(
             }
             _ => Ok(String::new(alloc)),
         },
-        Err(TextFailure::Fault(fault)) => form_text(alloc, found, fault),
+        Err(TextFailure::Fault(fault)) => form_fault_text(alloc, found, fault),
         Err(TextFailure::OutOfMemory) => Err(AllocError),
     }
 }

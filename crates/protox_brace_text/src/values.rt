@@ -47,6 +47,18 @@ pub(crate) fn expected(alloc: Global, what: &str, got: &str) -> Result<String, A
     format!(in alloc; "Expected {what}, got: {got}")
 }
 
+fn not_truth(alloc: Global, field: &str, got: &str) -> Result<String, AllocError>
+    ensures { IfOk result (λ text. string_bytes text ≡ words.not_truth field.now got.now) }
+{
+    format!(in alloc; "Invalid value for boolean field \"{field}\". Value: \"{got}\".")
+}
+
+fn no_such_value(alloc: Global, got: &str, field: &str) -> Result<String, AllocError>
+    ensures { IfOk result (λ text. string_bytes text ≡ words.no_such_value got.now field.now) }
+{
+    format!(in alloc; "Unknown enumeration value of \"{got}\" for field \"{field}\".")
+}
+
 fn signed_text(alloc: Global, fault: ValueFault, value: &[Piece<'_>]) -> Result<String, AllocError>
     ensures { IfOk result (λ text. string_bytes text ≡ words.signed_text fault value.now) }
 {
@@ -81,9 +93,7 @@ fn truth_text(
 {
     let got = first_text(alloc, value)?;
     match fault {
-        ValueFault::NotTruth => format!(in alloc;
-            "Invalid value for boolean field \"{field}\". Value: \"{got}\"."
-        ),
+        ValueFault::NotTruth => not_truth(alloc, field, got.as_str()),
         ValueFault::OutOfRange => out_of_range(alloc, got.as_str()),
         _ => expected(alloc, "identifier", got.as_str()),
     }
@@ -154,7 +164,7 @@ pub(crate) fn enum_text(
         }
         TextEnumFault::NoSuchValue => {
             let got = all_printed(alloc, value)?;
-            format!(in alloc; "Unknown enumeration value of \"{got}\" for field \"{field}\".")
+            no_such_value(alloc, got.as_str(), field)
         }
     }
 }

@@ -1,13 +1,9 @@
 //! The statements at one place of a file, and at all places of a declaration.
 
-ghost use Rattle.std.specs.Prelude.{◌≡◌, ◌++◌, ◌∷◌, [], ℕ, List, map, unsigned_abs};
-ghost use Rattle.std.specs.Prelude.{IfOk, OnOk, if◌then◌else◌};
-ghost use Rattle.protox_encode_linked.specs.Setting.{same_path, set_at};
-ghost use Rattle.protox_file_options.specs.Moves.{moves_of};
+ghost use Rattle.std.specs.Prelude.{◌≡◌, ◌++◌, ◌∷◌, [], IfOk, OnOk, map, unsigned_abs};
 ghost use Rattle.protox_file_options.specs.Places.{place_if_any, place_of_part, place_of_range};
 ghost use Rattle.protox_file_options.specs.Places.{places_at, ranges_from};
-ghost use Rattle.protox_file_options.specs.inner.Added.{Adds};
-ghost use Rattle.protox_interpret.specs.Answers.{path_seen};
+ghost use Rattle.protox_file_options.specs.inner.Added.{Adds, Keeps};
 ghost use Rattle.protox_walk.specs.Parts.{part_of};
 
 use crate::answer::{InterpretedFile, OptionsFault, PlaceFault};
@@ -53,12 +49,7 @@ fn keep(
     path: &[i32],
     set: Interpreted,
 ) -> Result<(), AllocError>
-    ensures options { OnOk result ((q : List ℕ) → set_at kept.new.options q
-        ≡ (if same_path q (map unsigned_abs path.now) then set.bytes.items
-        else set_at kept.old.options q)) }
-    ensures moves { OnOk result (kept.new.moves.items
-        ≡ kept.old.moves.items ++ moves_of path.now (map path_seen set.paths.items)) }
-    ensures faults { OnOk result (kept.new.faults ≡ kept.old.faults) }
+    ensures { OnOk result (Keeps kept.old path.now set kept.new) }
 {
     add_moves(alloc, path, set.paths.as_slice(), &mut kept.moves)?;
     let indices = indices(alloc, path)?;

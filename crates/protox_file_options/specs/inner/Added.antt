@@ -1,12 +1,15 @@
 -- What is added to an answer.
-use Rattle.std.specs.Prelude.{◌≡◌, ℕ, List, ◌++◌, All, fold, map, if◌then◌else◌}
+use Rattle.std.specs.Prelude.{◌≡◌, ℕ, ℤ, List, ◌++◌, All, fold, map, unsigned_abs, if◌then◌else◌}
 use Rattle.protox_descriptor.specs.declared.descriptor.FileDescriptorProto.{FileDescriptorProto}
 use Rattle.protox_encode_linked.specs.Setting.{Path, same_path, set_at}
 use Rattle.protox_file_options.specs.Interpreted.{Taken, faults_of, moves_of_all}
+use Rattle.protox_file_options.specs.Moves.{moves_of}
 use Rattle.protox_file_options.specs.Outcomes.{IsOutcome, Outcome, Sets, Wrong, names_of}
 use Rattle.protox_file_options.specs.Places.{Place, key_of}
 use Rattle.protox_file_options.specs.declared.answer.InterpretedFile.{InterpretedFile}
 use Rattle.protox_file_options.specs.declared.interpreter.Interpreter.{Interpreter}
+use Rattle.protox_interpret.specs.Answers.{path_seen}
+use Rattle.protox_interpret.specs.declared.site.Interpreted.{Interpreted}
 use Rattle.protox_views.specs.declared.view.View.{View}
 
 -- ---- bytes
@@ -21,6 +24,12 @@ abbrev pub bytes_from : Path → List ℕ → List Taken → List ℕ
 bytes_from q bytes taken = fold (λ before t. bytes_behind q before t.place t.outcome) bytes taken
 
 -- ---- answers
+
+-- What the statements of the options message at a path set is kept beside what there was.
+pub record Keeps (old : InterpretedFile) (path : List ℤ) (set : Interpreted) (new : InterpretedFile) : Type 0 where
+  pub options : (q : Path) → set_at new.options q ≡ (if same_path q (map unsigned_abs path) then set.bytes.items else set_at old.options q)
+  pub moves : new.moves.items ≡ old.moves.items ++ moves_of path (map path_seen set.paths.items)
+  pub faults : new.faults ≡ old.faults
 
 -- The statements at these places were interpreted, and what came of them was added.
 pub record AreAdded (view : View) (files : List FileDescriptorProto) (old : InterpretedFile) (places : List Place) (new : InterpretedFile) : Type 0 where

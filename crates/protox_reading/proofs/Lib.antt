@@ -1,0 +1,5 @@
+pub mod Written
+pub mod Apart
+pub mod Joins
+pub mod Order
+pub mod Messages

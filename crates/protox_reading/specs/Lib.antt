@@ -1,0 +1,4 @@
+pub mod Fields
+pub mod Finding
+pub mod Said
+pub mod Laws

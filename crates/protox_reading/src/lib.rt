@@ -1,0 +1,4 @@
+//! What a reader finds in the bytes of options.
+#![tactic(auto)]
+
+pub mod laws;

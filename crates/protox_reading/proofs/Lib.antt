@@ -3,3 +3,5 @@ pub mod Apart
 pub mod Joins
 pub mod Order
 pub mod Messages
+pub mod Chains
+pub mod Options

@@ -125,7 +125,7 @@ message_is : (number : ℕ) (group : Bool) (inside : List ℕ) → message_field
 message_is number true inside = refl
 message_is number false inside = refl
 
-fields_are : (parts : Parts) → fields_of parts ≡ map field_of (all_told parts)
+pub fields_are : (parts : Parts) → fields_of parts ≡ map field_of (all_told parts)
 fields_are NoMore = refl
 fields_are (Value number packed value more) =
     ap (λ f. f ∷ fields_of more) (value_is number packed value) ∙ ap (λ fs. field_of (number, told_value packed value) ∷ fs) (fields_are more)

@@ -1,4 +1,5 @@
 pub mod Fields
 pub mod Finding
 pub mod Said
+pub mod Statements
 pub mod Laws

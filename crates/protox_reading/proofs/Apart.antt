@@ -1,6 +1,5 @@
 -- Bytes are read as one list of fields at most.
-use Rattle.std.proofs.Common.{◌≡◌, ℕ, ◌+◌, ◌*◌, ◌<◌, List, [], ◌∷◌, ◌++◌, length, refl, sym, ap, subst, ◌∙◌, arith, append_assoc, append-nil}
-use Rattle.std.specs.List.{flat_map}
+use Rattle.std.proofs.Common.{◌≡◌, ℕ, List, [], ◌∷◌, ◌++◌, length, refl, sym, ap, subst, ◌∙◌, arith, append_assoc}
 use Rattle.protox_encode.proofs.Apart.{numbers_are_apart_law}
 use Rattle.protox_encode.proofs.Readings.{number_some}
 use Rattle.protox_encode.specs.Wire.{header, varint}
@@ -14,7 +13,7 @@ data IsEnd : List ℕ → Type 0 where
   Over : IsEnd []
   Mark : (number : ℕ) (rest : List ℕ) → IsEnd (header number 4 ++ rest)
 
-cut_at : (a b x y : List ℕ) → length a ≡ length b → a ++ x ≡ b ++ y → (a ≡ b) × (x ≡ y)
+pub cut_at : (a b x y : List ℕ) → length a ≡ length b → a ++ x ≡ b ++ y → (a ≡ b) × (x ≡ y)
 cut_at [] [] x y l e = (refl, e)
 cut_at [] (b ∷ bs) x y l e = absurd (omega arith)
 cut_at (a ∷ more) [] x y l e = absurd (omega arith)

@@ -1,28 +1,26 @@
 -- What one statement says, and its bytes.
-use Rattle.std.proofs.Common.{◌≡◌, ℕ, Bool, true, false, List, [], ◌∷◌, ◌++◌, length, refl, sym, ap, subst, ◌∙◌, append-nil, map, Some, Ok}
+use Rattle.std.proofs.Common.{◌≡◌, ℕ, Bool, false, List, [], ◌∷◌, ◌++◌, refl, sym, ap, ◌∙◌, append-nil, map, Some}
 use Rattle.std.specs.Prelude.{if◌then◌else◌}
 use Rattle.protox_aggregate.specs.Fields.{is_group, wire_number}
 use Rattle.protox_descriptor.specs.FieldDescriptorProto.{FieldDescriptorProto}
 use Rattle.protox_descriptor.specs.declared.descriptor.options.UninterpretedOption.{UninterpretedOption}
-use Rattle.protox_encode.specs.Wire.{header, varint}
 use Rattle.protox_interpret.specs.Settings.{Setting, first_of}
 use Rattle.protox_interpret.specs.Sites.{table}
 use Rattle.protox_interpret.specs.Statements.{Gives, Sets, numbers_of, step_of, steps_of}
 use Rattle.protox_interpret.specs.declared.site.Site.{Site}
-use Rattle.protox_message_bytes.specs.Bytes.{field_bytes, in_order, message_bytes}
+use Rattle.protox_message_bytes.specs.Bytes.{in_order, message_bytes}
 use Rattle.protox_message_bytes.specs.Parts.{Parts, NoMore, Value, Message}
 use Rattle.protox_message_bytes.specs.declared.entry.Entry.{Entry}
 use Rattle.protox_reading.proofs.Messages.{fields_are}
 use Rattle.protox_reading.proofs.Order.{field_of}
 use Rattle.protox_reading.proofs.Written.{written}
 use Rattle.protox_reading.specs.Fields.{Payload, Bytes, Group}
-use Rattle.protox_reading.specs.Said.{Told, Alone, all_told, payload_of}
+use Rattle.protox_reading.specs.Said.{Alone, all_told, payload_of}
 use Rattle.protox_reading.specs.Statements.{IsGiven, Saying, Says, first_number, within}
 use Rattle.protox_setting_bytes.specs.Bytes.{around, around_all, value_bytes}
 use Rattle.protox_setting_bytes.specs.declared.step.Step.{Step}
 use Rattle.protox_settings.specs.Fields.{field_numbered}
 use Rattle.protox_values.specs.declared.setting.SettingValue.{SettingValue}
-use Rattle.protox_values.specs.declared.setting.SettingValue.TheVariants as on_wire
 
 -- ---- bytes
 

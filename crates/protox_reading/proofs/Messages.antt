@@ -1,20 +1,19 @@
 -- The bytes of a message are read back.
 use Rattle.std.proofs.Common.{◌≡◌, ℕ, Bool, true, false, List, [], ◌∷◌, ◌++◌, length, refl, sym, ap, subst, ◌∙◌, append_assoc, map}
 use Rattle.std.specs.Prelude.{nat_lt, ◌==◌, if◌then◌else◌}
-use Rattle.std.specs.Int.{w32, w64, to_le_bytes}
 use Rattle.std.specs.List.{flat_map}
 use Rattle.std.proofs.lemmas.Bool.{eqb-true}
 use Rattle.protox_encode.specs.Wire.{header, varint}
-use Rattle.protox_message_bytes.specs.Bytes.{Field, field_bytes, fields_of, in_order, message_bytes, message_field, value_field}
+use Rattle.protox_message_bytes.specs.Bytes.{field_bytes, fields_of, in_order, message_bytes, message_field, value_field}
 use Rattle.protox_message_bytes.specs.Bytes.{joined as joined_fields}
 use Rattle.protox_message_bytes.specs.Parts.{Parts, NoMore, Value, Message}
-use Rattle.protox_reading.proofs.Joins.{finds-append, finds_nothing, one_message-append, read_append}
+use Rattle.protox_reading.proofs.Joins.{finds-append, finds_nothing}
 use Rattle.protox_reading.proofs.Order.{all_joined, field_of, join_in, joined_is, put_in, rising, sorted, sorted_is, those_joined, those_sorted}
-use Rattle.protox_reading.proofs.Written.{held, kind, written}
+use Rattle.protox_reading.proofs.Written.{written}
 use Rattle.protox_reading.specs.Fields.{AreRead, NoField, ANumber, EightBytes, LongBytes, AGroup, FourBytes, Payload, Number, Eight, Bytes, Group, Four}
 use Rattle.protox_reading.specs.Finding.{Finds, one_message, payloads}
 use Rattle.protox_reading.specs.Laws.{MessagesReadBack}
-use Rattle.protox_reading.specs.Said.{GoesThrough, Told, Packed, Alone, all_told, joined, joined_to, payload_of, said_at, shown, those, told_message, told_value}
+use Rattle.protox_reading.specs.Said.{GoesThrough, Told, Packed, Alone, all_told, joined, said_at, shown, those, told_message, told_value}
 use Rattle.protox_values.specs.declared.setting.SettingValue.{SettingValue}
 use Rattle.protox_values.specs.declared.setting.SettingValue.TheVariants as on_wire
 

@@ -1,5 +1,5 @@
 -- What statements say is read back from the bytes of options.
-use Rattle.std.proofs.Common.{◌≡◌, ℕ, Bool, true, false, not, cond, List, [], ◌∷◌, ◌++◌, length, refl, sym, ap, subst, ◌∙◌, append_assoc, append-nil, map}
+use Rattle.std.proofs.Common.{◌≡◌, ℕ, Bool, true, false, not, cond, List, [], ◌∷◌, ◌++◌, refl, sym, ap, subst, ◌∙◌, append-nil, map}
 use Rattle.std.specs.Prelude.{◌==◌, if◌then◌else◌}
 use Rattle.std.specs.List.{AllByRecursion, filter, flat_map}
 use Rattle.std.proofs.lemmas.Bool.{eqb-true, false≢true}
@@ -8,20 +8,22 @@ use Rattle.std.proofs.lemmas.List.{map-append}
 use Rattle.protox_descriptor.specs.declared.descriptor.options.UninterpretedOption.{UninterpretedOption}
 use Rattle.protox_interpret.specs.Settings.{Setting, options_bytes}
 use Rattle.protox_interpret.specs.Settings.{field_of as setting_field}
-use Rattle.protox_interpret.specs.Statements.{AreSet, Sets}
+use Rattle.protox_interpret.specs.Statements.{AreSet}
 use Rattle.protox_interpret.specs.declared.site.Site.{Site}
-use Rattle.protox_message_bytes.specs.Bytes.{Field, field_bytes, in_order, message_bytes}
+use Rattle.protox_message_bytes.specs.Bytes.{field_bytes, in_order}
 use Rattle.protox_message_bytes.specs.Parts.{Parts}
-use Rattle.protox_reading.proofs.Chains.{IsOne, IsSaidBy, Stands, one_bytes, said_by}
+use Rattle.protox_reading.proofs.Chains.{IsOne, Stands, one_bytes, said_by}
 use Rattle.protox_reading.proofs.Joins.{finds-append, finds_nothing, one_message-append, payloads-append, read_append}
 use Rattle.protox_reading.proofs.Messages.{AllSound, AreAlone, joined_alone, messages_at, messages_there, order_read, order_told, payloads_told, plain, read_all, read_in_order, sound_parts}
 use Rattle.protox_reading.proofs.Order.{field_of}
+use Rattle.protox_reading.proofs.Taken.{goes_through, said_taken, taken_append}
 use Rattle.protox_reading.proofs.Written.{written}
 use Rattle.protox_reading.specs.Fields.{AreRead, Payload}
 use Rattle.protox_reading.specs.Finding.{Finds, one_message, payloads}
 use Rattle.protox_reading.specs.Laws.{OptionsReadBack}
-use Rattle.protox_reading.specs.Said.{GoesThrough, Told, Packed, Alone, all_told, joined, said_at, shown, those}
-use Rattle.protox_reading.specs.Statements.{AllGoThrough, AreSaid, IsOfOneKind, IsReadBack, Saying, Says, all_said_at, extensions_last, first_number}
+use Rattle.protox_reading.specs.Said.{GoesThrough, Told, Packed, Alone, all_told, said_at, shown, those}
+use Rattle.protox_reading.specs.Statements.{AllGoThrough, AllLeadTo, AreSaid, IsUnmixed, Saying, Says, all_said_at, all_values_at, extensions_last, first_number}
+use Rattle.protox_reading.specs.Values.{AreTaken, FindsValues, Kind, values_at}
 
 -- ---- what all statements tell
 
@@ -316,11 +318,24 @@ module _ (bytes : List ℕ) (settings : List Setting) (sayings : List Saying) (s
       found_of bytes (options_fields settings sayings stand) read_there (extensions_last sayings) (each_last (λ s. IsOne s.parts) sayings ones) n path
       (held_there settings sayings stand n) (each_last (λ s. GoesThrough (n ∷ path) s.parts) sayings g)
 
-  found_in_order : (path : List ℕ) → AllGoThrough path sayings → IsOfOneKind path sayings → Finds bytes path (all_said_at path sayings)
+  found_in_order : (path : List ℕ) → AllGoThrough path sayings → IsUnmixed path sayings → Finds bytes path (all_said_at path sayings)
   found_in_order [] g k = none_said sayings
   found_in_order (n ∷ path) g k =
       found_of bytes (options_fields settings sayings stand) read_there sayings ones n path
       (held_there settings sayings stand n ∙ one_order n k.0 sayings ones k.1) g
+
+  all_through : (kind : Kind) (path : List ℕ) (ss : List Saying) → AllLeadTo kind path ss → AllGoThrough path ss
+  all_through kind path [] g = tt
+  all_through kind path (s ∷ ss) g = (goes_through kind path s.parts g.0, all_through kind path ss g.1)
+
+  all_taken : (kind : Kind) (path : List ℕ) (ss : List Saying) → AllLeadTo kind path ss → AreTaken kind (all_said_at path ss) (all_values_at path ss)
+  all_taken kind path [] g = refl
+  all_taken kind path (s ∷ ss) g =
+      taken_append kind (said_at path s.parts) (all_said_at path ss) (values_at path s.parts) (all_values_at path ss)
+      (said_taken kind path s.parts g.0) (all_taken kind path ss g.1)
+
+  values_in_order : (kind : Kind) (path : List ℕ) → AllLeadTo kind path sayings → IsUnmixed path sayings → FindsValues kind bytes path (all_values_at path sayings)
+  values_in_order kind path g k = (all_said_at path sayings, found_in_order path (all_through kind path sayings g) k, all_taken kind path sayings g)
 
 pub options_read_back : OptionsReadBack
 options_read_back here statements answer is =
@@ -328,6 +343,7 @@ options_read_back here statements answer is =
     record {
       sayings = said.sayings;
       said = said.said;
-      found = found_in_order answer.bytes.items is.settings said.sayings said.stand is.bytes;
-      anyway = found_anyway answer.bytes.items is.settings said.sayings said.stand is.bytes;
+      values = values_in_order answer.bytes.items is.settings said.sayings said.stand is.bytes;
+      payloads = found_in_order answer.bytes.items is.settings said.sayings said.stand is.bytes;
+      mixed = found_anyway answer.bytes.items is.settings said.sayings said.stand is.bytes;
     }

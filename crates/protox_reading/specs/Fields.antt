@@ -1,6 +1,13 @@
 -- What stands in a message, as a reader takes it from the bytes.
-use Rattle.std.specs.Prelude.{◌≡◌, ℕ, List, [], ◌∷◌, ◌++◌, length}
+use Rattle.std.specs.Prelude.{◌≡◌, ℕ, ◌+◌, ◌*◌, ◌<◌, ◌≤◌, List, [], ◌∷◌, ◌++◌, length}
 use Rattle.protox_encode.specs.Wire.{header, varint}
+
+-- The bytes stand for the number. Each byte has seven of its bits, the first byte the lowest. All bytes
+-- but the last have 128 added.
+abbrev pub IsNumber : List ℕ → ℕ → Type 0
+IsNumber [] n = ⊥
+IsNumber (b ∷ []) n = (b < 128) × (n ≡ b)
+IsNumber (b ∷ c ∷ more) n = (128 ≤ b) × (b < 256) × (high : ℕ) × (n + 128 ≡ b + 128 * high) × IsNumber (c ∷ more) high
 
 -- What is on the wire for a field: a number; eight bytes; bytes behind their length; bytes between
 -- the marks of a group; or four bytes.
@@ -11,8 +18,9 @@ pub data Payload : Type 0 where
   Group : List ℕ → Payload
   Four : List ℕ → Payload
 
--- These fields stand in the bytes, one behind the other, and nothing else. A field is a header, which
--- tells a number and a kind, and what the kind calls for. Between the marks of a group stand fields.
+-- These fields stand in the bytes, one behind the other, and nothing else. A field begins with a
+-- header, which tells its number and a kind. The kind tells what stands behind the header. Between the
+-- marks of a group stand fields.
 pub data AreRead : List ℕ → List (ℕ × Payload) → Type 0 where
   NoField : AreRead [] []
   ANumber : (number n : ℕ) (rest : List ℕ) (more : List (ℕ × Payload)) → AreRead rest more

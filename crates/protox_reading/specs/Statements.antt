@@ -1,5 +1,5 @@
 -- What statements of options say, as parts of the options message.
-use Rattle.std.specs.Prelude.{◌≡◌, ℕ, Bool, true, false, not, List, [], ◌∷◌, ◌++◌, Some, Ok}
+use Rattle.std.specs.Prelude.{◌≡◌, ℕ, ◌==◌, Bool, false, not, List, [], ◌∷◌, ◌++◌, Option, Some, None, Ok, if◌then◌else◌}
 use Rattle.std.specs.List.{AllByRecursion, filter, flat_map}
 use Rattle.protox_aggregate.specs.Fields.{is_group, wire_number}
 use Rattle.protox_descriptor.specs.FieldDescriptorProto.{FieldDescriptorProto}
@@ -12,6 +12,7 @@ use Rattle.protox_message_bytes.specs.Parts.{Parts, NoMore, Value, Message}
 use Rattle.protox_reading.specs.Fields.{Payload}
 use Rattle.protox_reading.specs.Finding.{Finds}
 use Rattle.protox_reading.specs.Said.{GoesThrough, said_at}
+use Rattle.protox_reading.specs.Values.{FindsValues, Kind, LeadsTo, values_at}
 use Rattle.protox_setting_bytes.specs.declared.step.Step.{Step}
 use Rattle.protox_settings.specs.Fields.{field_numbered}
 use Rattle.protox_settings.specs.Settings.{field_said}
@@ -34,14 +35,20 @@ abbrev pub within : List Step → Parts → Parts
 within [] parts = parts
 within (step ∷ more) parts = Message step.number step.is_group (within more parts) NoMore
 
--- What a statement says: parts of the options message; and whether the first field of the statement's
--- name is no extension.
+-- what is left of a path behind its front; nothing, if it doesn't begin so
+abbrev pub behind : List ℕ → List ℕ → Option (List ℕ)
+behind [] path = Some path
+behind (m ∷ front) [] = None
+behind (m ∷ front) (n ∷ path) = if m == n then behind front path else None
+
+-- What a statement says: the parts that it adds to the options message; and whether the first field of
+-- its name is no extension.
 pub record Saying : Type 0 where
   pub parts : Parts
   pub standard : Bool
 
--- The statement says this: it gives something to the last field of its name, in the messages of the
--- other fields.
+-- The statement says this: what it gives to the last field of its name, in messages of the other
+-- fields.
 pub record Says (here : Site) (statement : UninterpretedOption) (saying : Saying) : Type 0 where
   pub outer : List ℕ
   pub last : ℕ
@@ -62,36 +69,46 @@ AreSaid here [] (saying ∷ more) = ⊥
 AreSaid here (statement ∷ statements) [] = ⊥
 AreSaid here (statement ∷ statements) (saying ∷ more) = Says here statement saying × AreSaid here statements more
 
--- what they say at a path, one behind the other
+-- what they say at a path, and which values, in the order of the statements
 abbrev pub all_said_at : List ℕ → List Saying → List Payload
 all_said_at path sayings = flat_map (λ s. said_at path s.parts) sayings
 
--- the same statements, but those of extensions behind the others
+abbrev pub all_values_at : List ℕ → List Saying → List Payload
+all_values_at path sayings = flat_map (λ s. values_at path s.parts) sayings
+
+-- statements that set extensions behind the others
 abbrev pub extensions_last : List Saying → List Saying
 extensions_last sayings = filter (λ s. s.standard) sayings ++ filter (λ s. not s.standard) sayings
 
--- The path goes through messages alone, whatever statement one asks.
+-- For each statement the path goes through messages alone.
 abbrev pub AllGoThrough : List ℕ → List Saying → Type 0
 AllGoThrough path sayings = AllByRecursion (λ s. GoesThrough path s.parts) sayings
 
--- the number of the first field of a statement's name
+-- For each statement the path goes through messages alone, and ends at values of the kind.
+abbrev pub AllLeadTo : Kind → List ℕ → List Saying → Type 0
+AllLeadTo kind path sayings = AllByRecursion (λ s. LeadsTo kind path s.parts) sayings
+
+-- the number of the first of the parts
 abbrev pub first_number : Parts → ℕ
 first_number NoMore = 0
 first_number (Value number packed value more) = number
 first_number (Message number group inside more) = number
 
--- The statements whose names begin with the first number of a path: either the first fields of all
--- of them are extensions, or of none.
-abbrev pub IsOfOneKind : List ℕ → List Saying → Type 0
-IsOfOneKind [] sayings = Unit {0}
-IsOfOneKind (number ∷ path) sayings =
+-- The first number of the path is that of an extension or of another field, but not of both: it is one
+-- or the other for all statements that say something of it.
+abbrev pub IsUnmixed : List ℕ → List Saying → Type 0
+IsUnmixed [] sayings = Unit {0}
+IsUnmixed (number ∷ path) sayings =
     (standard : Bool) × AllByRecursion (λ s. first_number s.parts ≡ number → s.standard ≡ standard) sayings
 
--- What the statements say is found in these bytes, at each path that goes through messages alone, and
--- nothing else. It is found in the order of the statements; if one number is that of an extension and
--- of another field, what is said of extensions comes last.
+-- What the statements say is found in these bytes, and nothing else, in the order of the statements:
+-- the values at each path that leads to values of one kind, and the payloads at each path that goes
+-- through messages alone. Where a number is that of an extension and of another field, the payloads of
+-- the extension stand behind those of the other field.
 pub record IsReadBack (here : Site) (statements : List UninterpretedOption) (bytes : List ℕ) : Type 0 where
   pub sayings : List Saying
   pub said : AreSaid here statements sayings
-  pub found : (path : List ℕ) → AllGoThrough path sayings → IsOfOneKind path sayings → Finds bytes path (all_said_at path sayings)
-  pub anyway : (path : List ℕ) → AllGoThrough path sayings → Finds bytes path (all_said_at path (extensions_last sayings))
+  pub values : (kind : Kind) (path : List ℕ) → AllLeadTo kind path sayings → IsUnmixed path sayings
+      → FindsValues kind bytes path (all_values_at path sayings)
+  pub payloads : (path : List ℕ) → AllGoThrough path sayings → IsUnmixed path sayings → Finds bytes path (all_said_at path sayings)
+  pub mixed : (path : List ℕ) → AllGoThrough path sayings → Finds bytes path (all_said_at path (extensions_last sayings))

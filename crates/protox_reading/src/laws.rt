@@ -2,10 +2,20 @@
 
 ghost use Rattle.protox_reading.specs.Laws.{
   MessagesReadBack,
+  NamedValues,
+  NumbersAreRead,
   OneFound,
   OneReading,
+  OneTaken,
   OptionsReadBack,
+  ValuesReadBack,
 };
+
+/// A number below 2 ^ 64 is read by the rule of the wire format.
+#[tactic(auto, using(crate::proofs::Numbers::numbers_are_read))]
+pub fn numbers_are_read()
+    ensures { NumbersAreRead }
+{}
 
 /// Bytes are read as one list of fields at most.
 #[tactic(auto, using(crate::proofs::Apart::one_reading))]
@@ -23,6 +33,23 @@ pub fn one_found()
 #[tactic(auto, using(crate::proofs::Messages::messages_read_back))]
 pub fn messages_read_back()
     ensures { MessagesReadBack }
+{}
+
+/// One list of values of a kind at most is found at a path.
+pub fn one_taken()
+    ensures { OneTaken }
+{}
+
+/// The values that the parts of a message say at a path are found there in its bytes.
+#[tactic(auto, using(crate::proofs::Taken::values_read_back))]
+pub fn values_read_back()
+    ensures { ValuesReadBack }
+{}
+
+/// What a statement gives to a field stands at the path of the field's name.
+#[tactic(auto, using(crate::proofs::Named::named_values))]
+pub fn named_values()
+    ensures { NamedValues }
 {}
 
 /// What statements of options say at a path is found there in the bytes that are answered.

@@ -2,8 +2,8 @@
 use Rattle.std.specs.Prelude.{◌≡◌, ℕ, ◌+◌, ◌*◌, ◌<◌, ◌≤◌, List, [], ◌∷◌, ◌++◌, length}
 use Rattle.protox_encode.specs.Wire.{header, varint}
 
--- The bytes stand for the number. Each byte has seven of its bits, the first byte the lowest. All bytes
--- but the last have 128 added.
+-- The bytes stand for the number. Each byte has seven of its bits, the first byte the lowest. All
+-- bytes but the last have 128 added.
 abbrev pub IsNumber : List ℕ → ℕ → Type 0
 IsNumber [] n = ⊥
 IsNumber (b ∷ []) n = (b < 128) × (n ≡ b)
@@ -19,8 +19,8 @@ pub data Payload : Type 0 where
   Four : List ℕ → Payload
 
 -- These fields stand in the bytes, one behind the other, and nothing else. A field begins with a
--- header, which tells its number and a kind. The kind tells what stands behind the header. Between the
--- marks of a group stand fields.
+-- header, which tells its number and a kind. The kind tells what stands behind the header. Between
+-- the marks of a group stand fields.
 pub data AreRead : List ℕ → List (ℕ × Payload) → Type 0 where
   NoField : AreRead [] []
   ANumber : (number n : ℕ) (rest : List ℕ) (more : List (ℕ × Payload)) → AreRead rest more

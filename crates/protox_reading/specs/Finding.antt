@@ -16,8 +16,8 @@ one_message (Group inside ∷ more) = inside ++ one_message more
 one_message (_ ∷ more) = one_message more
 
 -- Who reads the bytes of a message finds this at a path. A path is the numbers of fields within one
--- another, the outermost first. Where it goes on behind a number, the fields with the number are read
--- as messages.
+-- another, the outermost first. Where it goes on behind a number, the fields with the number are
+-- read as messages.
 abbrev pub Finds : List ℕ → List ℕ → List Payload → Type 0
 Finds bytes [] found = found ≡ []
 Finds bytes (number ∷ []) found = (fields : List (ℕ × Payload)) × AreRead bytes fields × (found ≡ payloads number fields)

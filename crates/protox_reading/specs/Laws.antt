@@ -37,8 +37,8 @@ MessagesReadBack = (parts : Parts) (path : List ℕ) → GoesThrough path parts 
 abbrev pub OneTaken : Type 0
 OneTaken = (kind : Kind) (bytes path : List ℕ) (these those : List Payload) → FindsValues kind bytes path these → FindsValues kind bytes path those → these ≡ those
 
--- In the bytes of a message the values that its parts say are found again, and no others, whether they
--- are packed or not: at each path that leads to values of one kind.
+-- In the bytes of a message the values that its parts say are found again, and no others, whether
+-- they are packed or not: at each path that leads to values of one kind.
 abbrev pub ValuesReadBack : Type 0
 ValuesReadBack = (kind : Kind) (parts : Parts) (path : List ℕ) → LeadsTo kind path parts → FindsValues kind (message_bytes parts) path (values_at path parts)
 

@@ -9,8 +9,8 @@ use Rattle.protox_values.specs.declared.setting.SettingValue.TheVariants as on_w
 
 -- ---- fields
 
--- What is told of a field: the bytes of one of the values of a packed field; or the payload of a field
--- that stands alone.
+-- What is told of a field: the bytes of one of the values of a packed field; or the payload of a
+-- field that stands alone.
 pub data Told : Type 0 where
   Packed : List ℕ → Told
   Alone : Payload → Told

@@ -22,7 +22,8 @@ use Rattle.protox_walk.specs.Declarations.{text_of}
 
 -- ---- one statement
 
--- The statement gives this to the field: a value, or a message with the parts of the text in braces.
+-- The statement gives this to the field: a value, or a message with the parts of the text in
+-- braces.
 pub data IsGiven (here : Site) (field : FieldDescriptorProto) (statement : UninterpretedOption) : Parts → Type 0 where
   AValue : (value : SettingValue) → field_said here.files.now (table here) field statement ≡ Ok (said.Value value)
       → IsGiven here field statement (Value (wire_number field) false value NoMore)
@@ -41,8 +42,8 @@ behind [] path = Some path
 behind (m ∷ front) [] = None
 behind (m ∷ front) (n ∷ path) = if m == n then behind front path else None
 
--- What a statement says: the parts that it adds to the options message; and whether the first field of
--- its name is no extension.
+-- What a statement says: the parts that it adds to the options message; and whether the first field
+-- of its name is no extension.
 pub record Saying : Type 0 where
   pub parts : Parts
   pub standard : Bool
@@ -94,17 +95,17 @@ first_number NoMore = 0
 first_number (Value number packed value more) = number
 first_number (Message number group inside more) = number
 
--- The first number of the path is that of an extension or of another field, but not of both: it is one
--- or the other for all statements that say something of it.
+-- The first number of the path is that of an extension or of another field, but not of both: it is
+-- one or the other for all statements that say something of it.
 abbrev pub IsUnmixed : List ℕ → List Saying → Type 0
 IsUnmixed [] sayings = Unit {0}
 IsUnmixed (number ∷ path) sayings =
     (standard : Bool) × AllByRecursion (λ s. first_number s.parts ≡ number → s.standard ≡ standard) sayings
 
--- What the statements say is found in these bytes, and nothing else, in the order of the statements:
--- the values at each path that leads to values of one kind, and the payloads at each path that goes
--- through messages alone. Where a number is that of an extension and of another field, the payloads of
--- the extension stand behind those of the other field.
+-- What the statements say is found in these bytes, and nothing else, in the order of the
+-- statements: the values at each path that leads to values of one kind, and the payloads at each
+-- path that goes through messages alone. Where a number is that of an extension and of another
+-- field, the payloads of the extension stand behind those of the other field.
 pub record IsReadBack (here : Site) (statements : List UninterpretedOption) (bytes : List ℕ) : Type 0 where
   pub sayings : List Saying
   pub said : AreSaid here statements sayings

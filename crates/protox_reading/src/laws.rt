@@ -23,36 +23,37 @@ pub fn one_reading()
     ensures { OneReading }
 {}
 
-/// So one list of values at most is found at a path.
+/// So at most one list of payloads is found at a path.
 #[tactic(auto, using(crate::proofs::Apart::one_found))]
 pub fn one_found()
     ensures { OneFound }
 {}
 
-/// What the parts of a message say at a path is found there in its bytes.
+/// In the bytes of a message the payloads are found, at each path, that its parts say there.
 #[tactic(auto, using(crate::proofs::Messages::messages_read_back))]
 pub fn messages_read_back()
     ensures { MessagesReadBack }
 {}
 
-/// One list of values of a kind at most is found at a path.
+/// At most one list of values of a kind is found at a path.
 pub fn one_taken()
     ensures { OneTaken }
 {}
 
-/// The values that the parts of a message say at a path are found there in its bytes.
+/// So are the values, whether they are packed or not.
 #[tactic(auto, using(crate::proofs::Taken::values_read_back))]
 pub fn values_read_back()
     ensures { ValuesReadBack }
 {}
 
-/// What a statement gives to a field stands at the path of the field's name.
+/// What a statement gives to the last field of its name is said at the path of the name.
 #[tactic(auto, using(crate::proofs::Named::named_values))]
 pub fn named_values()
     ensures { NamedValues }
 {}
 
-/// What statements of options say at a path is found there in the bytes that are answered.
+/// In the bytes that `interpret` answers the values and payloads are found, at each path, that the
+/// statements say there, in their order.
 #[tactic(auto, using(crate::proofs::Options::options_read_back))]
 pub fn options_read_back()
     ensures { OptionsReadBack }

@@ -1,0 +1,10 @@
+pub mod Written
+pub mod Numbers
+pub mod Apart
+pub mod Joins
+pub mod Order
+pub mod Messages
+pub mod Taken
+pub mod Chains
+pub mod Named
+pub mod Options

@@ -1,0 +1,6 @@
+pub mod Fields
+pub mod Finding
+pub mod Said
+pub mod Values
+pub mod Statements
+pub mod Laws

@@ -8,7 +8,7 @@ PROTOLINK is crates/protolink/out/protolink. It makes a tree of files: the shape
 Then it makes N files (100) by chance, by SEED: options of each kind of declaration, standard ones and
 custom ones of each type, values right and wrong, messages in braces, names of several parts. Each file
 is given to both, and so is each .proto file that Debian's protoc comes with, in /usr/include. What
-protoc refuses must be refused, too, with the same first line for each place where protoc tells one;
+protoc refuses must be refused, too, with the same faults at the same places;
 else the sets must have the same bytes, with imports and without. With source info they must be the
 same in all else, and each file must have the same locations, in any order: paths, spans and comments.
 With -I the files that follow are compared, too. It needs Python's google.protobuf.
@@ -306,14 +306,10 @@ PLACE = re.compile(r'([^:]*):(\d+):(\d+): (.*)')
 
 
 def told(lines):
-    """The faults, by file and text alone. Of a message in braces the text doesn't tell what is wrong."""
+    """The faults: file, place and text of each. Of fields that are missing in braces the names are left out."""
     found = [PLACE.fullmatch(line) for line in lines]
-    texts = [(at[1], re.sub(r'^(Error while parsing option value for "[^"]*").*', r'\1', at[4])) for at in found if at and 'warning: ' not in line_of(at)]
-    return sorted(texts)
-
-
-def line_of(at):
-    return at[0]
+    return sorted((*at.groups()[:3], re.sub(r'(Message missing required fields: ).*', r'\1', at[4]))
+                  for at in found if at and not at[4].startswith('warning: '))
 
 
 def compare(protoc, program, folder, words, names):

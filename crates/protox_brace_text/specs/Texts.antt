@@ -1,5 +1,5 @@
 -- What is wrong with a text in braces, as protoc tells it.
-use Rattle.std.specs.Prelude.{◌≡◌, ℕ, ◌-◌, Bool, false, List, [], ◌∷◌, ◌++◌, Option, Some, None, codes, drop, encode_utf8, length, slice_get, take, if◌then◌else◌}
+use Rattle.std.specs.Prelude.{ℕ, ◌-◌, Bool, false, List, [], ◌++◌, Option, Some, None, codes, drop, encode_utf8, length, slice_get, take, if◌then◌else◌}
 use Rattle.std.specs.Option.{option_and_then, option_map_or}
 use Rattle.protox_aggregate.specs.Names.{innermost}
 use Rattle.protox_aggregate.specs.declared.fault.AggregateFault.{AggregateFault}
@@ -30,7 +30,7 @@ use Rattle.protox_text_values.specs.declared.fault.TextEnumFault.{TextEnumFault}
 use Rattle.protox_text_values.specs.declared.fault.TextEnumFault.TheVariants as enum
 use Rattle.protox_values.specs.Types.{held_by}
 use Rattle.protox_values.specs.declared.fault.ValueFault.{ValueFault}
-use Rattle.protox_values.specs.declared.fault.ValueFault.TheVariants.{OutOfRange, NotInteger, NotNonNegative, NotNumber, NotIdentifier, NotTruth, NotString}
+use Rattle.protox_values.specs.declared.fault.ValueFault.TheVariants.{OutOfRange, NotTruth}
 use Rattle.protox_values.specs.declared.types.Held.{Held}
 use Rattle.protox_values.specs.declared.types.Held.TheVariants as held
 use Rattle.protox_walk.specs.Declarations.{text_of}

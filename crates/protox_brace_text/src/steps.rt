@@ -1,6 +1,7 @@
 //! Where steps through a message begin, and what they are of.
 
-ghost use Rattle.std.specs.Prelude.{◌≡◌, Some, IfOk, map, string_bytes, take};
+ghost use Rattle.std.specs.Prelude.{◌≡◌, Some, IfOk, map, slice_get, string_bytes, take};
+ghost use Rattle.std.specs.Option.{option_copied};
 ghost use Rattle.protox_brace_text.specs.Steps as words;
 ghost use Rattle.protox_text_format.specs.Spelling.{seen};
 
@@ -13,6 +14,16 @@ pub(crate) fn before<'i, 't, 'a>(items: &'i [Item<'t, 'a>], step: usize) -> &'i 
     ensures { map seen result.now ≡ take step (map seen items.entry.now) }
 {
     &items[..step.min(items.len())]
+}
+
+/// The step with an index, if there is one.
+pub(crate) fn item_at<'i, 't, 'a>(
+    items: &'i [Item<'t, 'a>],
+    step: usize,
+) -> Option<&'i Item<'t, 'a>>
+    ensures { option_copied result ≡ slice_get items.entry.now step }
+{
+    items.get(step)
 }
 
 // The pieces behind those of a step.

@@ -9,7 +9,7 @@ ghost use Rattle.protox_text_format.specs.Spelling.{seen};
 
 use crate::names::{field_name, full_name, in_brackets, oneof_name};
 use crate::pieces::{all_printed, found_at};
-use crate::steps::{before, last_name, next_pieces, own_pieces};
+use crate::steps::{before, item_at, last_name, next_pieces, own_pieces};
 use crate::values::{enum_text, expected, value_text};
 use protox_aggregate::{AggregateFault, AggregateFaultKind};
 use protox_interpret::{Site, StatementFaultKind};
@@ -173,7 +173,7 @@ fn fault_text(
     let front = before(items, fault.step);
     let found = found_at(alloc, next_pieces(pieces, front), 0)?;
     let field = last_name(alloc, front)?;
-    let item = items.get(fault.step);
+    let item = item_at(items, fault.step);
     item_text(
         alloc,
         here,

@@ -1,4 +1,4 @@
-use Rattle.std.proofs.Common.{string_bytes, subst, sym}
+use Rattle.std.proofs.Common.{subst, sym}
 use Rattle.std.proofs.lemmas.Result.{IfOk-weaker}
 use Rattle.protox_brace_text.specs.Texts.{IsTold, OfToken}
 use Rattle.protox_brace_text.proofs.text.brace_text.Goals as goal

@@ -1,4 +1,4 @@
-use Rattle.std.proofs.Common.{ap, map, string_bytes, subst, ◌∙◌}
+use Rattle.std.proofs.Common.{ap, map, string_bytes, ◌∙◌}
 use Rattle.std.proofs.lemmas.Result.{IfOk-weaker}
 use Rattle.protox_brace_text.specs.Texts.{fault_text}
 use Rattle.protox_brace_text.proofs.Telling.{told_fault, told_form, told_nothing}

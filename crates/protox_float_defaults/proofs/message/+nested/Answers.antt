@@ -1,7 +1,7 @@
-use Rattle.std.proofs.Common.{◌≡◌, ◌<◌, arith, length}
+use Rattle.std.proofs.Common.{◌<◌, arith, length}
 use Rattle.std.proofs.lemmas.Grind.{common_steps}
 use Rattle.std.proofs.lemmas.List.Edits.{map_over_more}
-use Rattle.protox_descriptor.specs.declared.descriptor.DescriptorProto.{out-roll-DescriptorProto, size_is-DescriptorProto}
+use Rattle.protox_descriptor.specs.declared.descriptor.DescriptorProto.{out-roll-DescriptorProto}
 use Rattle.protox_float_defaults.specs.Printed.{printed_message}
 use Rattle.protox_float_defaults.proofs.Nesting.{parts-printed}
 use Rattle.protox_float_defaults.proofs.message.+nested.Goals as goal

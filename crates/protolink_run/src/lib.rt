@@ -8,6 +8,7 @@ ghost use Rattle.protolink_words.specs.Asking.{IsNameWord};
 ghost use Rattle.protox_link.specs.Link.{AreWrong};
 
 mod alike;
+mod checks;
 mod faults;
 mod host;
 mod load;

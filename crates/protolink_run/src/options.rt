@@ -1,5 +1,6 @@
 //! What the options of linked files say.
 
+use crate::checks::tell_checks;
 use crate::load::SourceFile;
 use crate::places::span_of;
 use crate::statements::statements_at;
@@ -226,9 +227,26 @@ fn declares_options(resolver: &Resolver) -> bool {
         .is_some()
 }
 
-/// Adds what the options of each of the linked files say. Nothing is added if no file sets
-/// any, or if no file declares what options there are: then they stay as they are written. Answers
-/// whether nothing is wrong with them. What is wrong is told.
+// Adds what the options of each file say, if some file declares what options there are. Answers whether
+// nothing is wrong with them.
+fn add_known<E: Write>(
+    alloc: Global,
+    err: &mut E,
+    format: Format,
+    resolver: &Resolver,
+    files: &[FileDescriptorProto],
+    sources: &[SourceFile],
+    all: &mut Vec<InterpretedFile>,
+) -> io::Result<bool> {
+    if !declares_options(resolver) || !some_has_options(alloc, files)? {
+        return Ok(true);
+    }
+    add_files(alloc, err, format, resolver, files, sources, all)
+}
+
+/// Adds what the options of each of the linked files say. Nothing is added if no file sets any, or if
+/// no file declares what options there are: then they stay as they are written. Answers whether nothing
+/// is wrong with the options, and with what has them. What is wrong is told.
 pub(crate) fn add_options<E: Write>(
     alloc: Global,
     err: &mut E,
@@ -237,12 +255,9 @@ pub(crate) fn add_options<E: Write>(
     sources: &[SourceFile],
     all: &mut Vec<InterpretedFile>,
 ) -> io::Result<bool> {
-    if !some_has_options(alloc, files)? {
-        return Ok(true);
-    }
     let resolver = Resolver::new(alloc, files)?;
-    if !declares_options(&resolver) {
-        return Ok(true);
+    if !add_known(alloc, err, format, &resolver, files, sources, all)? {
+        return Ok(false);
     }
-    add_files(alloc, err, format, &resolver, files, sources, all)
+    tell_checks(alloc, err, format, resolver.symbols(), files, sources)
 }

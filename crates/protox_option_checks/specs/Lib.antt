@@ -1,0 +1,9 @@
+pub mod Statements
+pub mod Marks
+pub mod Faults
+pub mod Names
+pub mod Fields
+pub mod Parts
+pub mod Checks
+pub mod Texts
+pub mod inner

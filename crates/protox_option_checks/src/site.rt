@@ -1,0 +1,16 @@
+//! What is known where a part of a file is looked at.
+
+use crate::marks::Marks;
+use protox_symbols::Symbols;
+use std::alloc::Global;
+
+/// A file of a set.
+#[derive(Drop)]
+pub(crate) struct Site<'a> {
+    pub(crate) alloc: Global,
+    /// The table of the set.
+    pub(crate) symbols: &'a Symbols,
+    pub(crate) marks: &'a Marks,
+    /// The number of the file.
+    pub(crate) number: usize,
+}

@@ -1,5 +1,5 @@
 -- Faults one behind another.
-use Rattle.std.proofs.Common.{◌≡◌, List, OnOk, Result, [], ◌∷◌, ◌++◌, ap, append-nil, append_assoc, refl, subst, sym, ◌∙◌}
+use Rattle.std.proofs.Common.{List, [], ◌∷◌, ◌++◌, ap, append-nil, append_assoc, refl, subst, sym, ◌∙◌}
 use Rattle.std.specs.List.{FoldsTo, flat_map}
 use Rattle.protox_option_checks.specs.Parts.{declared_faults}
 use Rattle.protox_option_checks.specs.declared.checker.Checker.{Checker}
@@ -10,7 +10,7 @@ use Rattle.protox_walk.specs.Parts.{Declared}
 
 -- what is wrong with a declaration of a file
 abbrev pub wrong_at : Site → Declared → List CheckFault
-wrong_at site = declared_faults site.symbols.now site.marks.now site.number
+wrong_at site = declared_faults site.files.now site.symbols.now site.marks.now site.number
 
 pub adds_nothing : (a : Checker) → Adds a [] a
 adds_nothing a = record { site = refl; added = sym (append-nil a.faults.items) }

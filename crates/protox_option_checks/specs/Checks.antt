@@ -42,11 +42,11 @@ import_faults lite file imports =
 
 -- ---- files
 
-module _ (table : Table) (marks : Marks) where
+module _ (set : List FileDescriptorProto) (table : Table) (marks : Marks) where
   -- First what is wrong with its declarations, in their order, and then with its imports.
   abbrev pub file_faults : ℕ → List (Option ℕ) → FileDescriptorProto → List CheckFault
   file_faults number imports file =
-      flat_map (declared_faults table marks number) (file_declarations file) ++ import_faults marks.lite number imports
+      flat_map (declared_faults set table marks number) (file_declarations file) ++ import_faults marks.lite number imports
 
   -- these files, of which the first has the number n; each row has the imports of a file
   abbrev pub faults_from : List FileImports → ℕ → List FileDescriptorProto → List CheckFault
@@ -55,4 +55,4 @@ module _ (table : Table) (marks : Marks) where
 
 -- all files of the set, in their order
 abbrev pub check_faults : Table → List FileDescriptorProto → List CheckFault
-check_faults table files = faults_from table (marks_of table files) (rows_of files) 0 files
+check_faults table files = faults_from files table (marks_of table files) (rows_of files) 0 files

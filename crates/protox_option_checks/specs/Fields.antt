@@ -1,22 +1,21 @@
 -- What is wrong with a field or an extension.
-use Rattle.std.specs.Prelude.{ℕ, ℤ, Bool, false, not, ◌&&◌, ◌||◌, List, [], ◌∷◌, ◌++◌, Option, Some, None, codes, option_map, slice_get, if◌then◌else◌}
-use Rattle.std.specs.Option.{option_and_then, option_eq, option_map_or}
-use Rattle.std.specs.Ordering.{int_eq}
+use Rattle.std.specs.Prelude.{ℕ, ℤ, Bool, false, not, ◌&&◌, ◌||◌, List, [], ◌++◌, Option, Some, None, codes, option_map, slice_get, if◌then◌else◌}
+use Rattle.std.specs.Option.{option_and_then, option_map_or}
 use Rattle.protox_descriptor.specs.FieldDescriptorProto.{FieldDescriptorProto}
-use Rattle.protox_descriptor.specs.FieldWords.{label_number, type_number}
-use Rattle.protox_descriptor.specs.declared.descriptor.field_descriptor_proto.FieldType.{FieldType}
+use Rattle.protox_descriptor.specs.declared.descriptor.FileDescriptorProto.{FileDescriptorProto}
 use Rattle.protox_descriptor.specs.declared.descriptor.field_descriptor_proto.FieldType.TheVariants as type
-use Rattle.protox_descriptor.specs.declared.descriptor.field_descriptor_proto.Label.{Label}
 use Rattle.protox_descriptor.specs.declared.descriptor.field_descriptor_proto.Label.TheVariants as label
 use Rattle.protox_descriptor.specs.declared.descriptor.options.FieldOptions.{FieldOptions}
 use Rattle.protox_descriptor.specs.declared.descriptor.options.UninterpretedOption.{UninterpretedOption}
 use Rattle.protox_descriptor.specs.declared.tag.field.TheConstants as field_tag
 use Rattle.protox_option_checks.specs.Faults.{fault_at, fault_if}
+use Rattle.protox_option_checks.specs.Maps.{has_late_values}
 use Rattle.protox_option_checks.specs.Marks.{Marks, is_marked}
 use Rattle.protox_option_checks.specs.Names.{message_of}
 use Rattle.protox_option_checks.specs.Statements.{is_true, says}
+use Rattle.protox_option_checks.specs.Types.{has_label, has_type}
 use Rattle.protox_option_checks.specs.declared.fault.CheckFault.{CheckFault}
-use Rattle.protox_option_checks.specs.declared.fault.CheckFaultKind.TheVariants.{ClosedEnum, JsType, Lazy, LiteExtension, MessageSetExtension, Packed}
+use Rattle.protox_option_checks.specs.declared.fault.CheckFaultKind.TheVariants.{ClosedEnum, JsType, Lazy, LiteExtension, MapValueEnum, MessageSetExtension, Packed}
 use Rattle.protox_settings.specs.Fields.{named}
 use Rattle.protox_symbols.specs.Symbols.{Table}
 use Rattle.protox_walk.specs.Declarations.{Path}
@@ -24,12 +23,6 @@ use Rattle.protox_walk.specs.Words.{options_in}
 
 abbrev pub statements_of_field : FieldDescriptorProto → List UninterpretedOption
 statements_of_field field = options_in (λ (o : FieldOptions). o.uninterpreted_option) field.options
-
-abbrev pub has_type : FieldType → FieldDescriptorProto → Bool
-has_type t field = option_eq int_eq field.field_type (Some (type_number t))
-
-abbrev pub has_label : Label → FieldDescriptorProto → Bool
-has_label l field = option_eq int_eq field.label (Some (label_number l))
 
 -- where a type with this name stands: at the name, if it has one
 abbrev pub name_tag : Option (List ℕ) → ℤ
@@ -117,11 +110,12 @@ module _ (table : Table) (marks : Marks) where
         then closed_enum_faults field (option_and_then (named table) field.type_name)
         else []
 
-    abbrev pub field_faults : FieldDescriptorProto → List CheckFault
-    field_faults field =
+    abbrev pub field_faults : List FileDescriptorProto → FieldDescriptorProto → List CheckFault
+    field_faults files field =
         fault_if (is_wrongly_lazy field) (fault_at file path (type_tag field) Lazy)
         ++ (fault_if (is_wrongly_packed field) (fault_at file path (type_tag field) Packed)
         ++ (fault_if (is_wrong_in_set field) (fault_at file path (type_tag field) MessageSetExtension)
         ++ (fault_if (is_wrong_in_lite file field) (fault_at file path field_tag.EXTENDEE LiteExtension)
+        ++ (fault_if (has_late_values files table field) (fault_at file path (type_tag field) MapValueEnum)
         ++ (fault_if (has_wrong_js_type field) (fault_at file path (type_tag field) JsType)
-        ++ enum_faults field))))
+        ++ enum_faults field)))))

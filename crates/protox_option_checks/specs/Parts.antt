@@ -5,6 +5,7 @@ use Rattle.protox_descriptor.specs.FieldDescriptorProto.{FieldDescriptorProto}
 use Rattle.protox_descriptor.specs.declared.descriptor.DescriptorProto.{DescriptorProto, out-DescriptorProto}
 use Rattle.protox_descriptor.specs.declared.descriptor.EnumDescriptorProto.{EnumDescriptorProto}
 use Rattle.protox_descriptor.specs.declared.descriptor.EnumValueDescriptorProto.{EnumValueDescriptorProto}
+use Rattle.protox_descriptor.specs.declared.descriptor.FileDescriptorProto.{FileDescriptorProto}
 use Rattle.protox_descriptor.specs.declared.descriptor.options.EnumOptions.{EnumOptions}
 use Rattle.protox_descriptor.specs.declared.descriptor.options.UninterpretedOption.{UninterpretedOption}
 use Rattle.protox_descriptor.specs.declared.tag.enum_.TheConstants as enum_tag
@@ -79,10 +80,10 @@ module _ (file : ℕ) (path : Path) where
 
 -- ---- any declaration
 
-module _ (table : Table) (marks : Marks) (file : ℕ) where
+module _ (files : List FileDescriptorProto) (table : Table) (marks : Marks) (file : ℕ) where
   abbrev pub part_faults : Path → List ℕ → Described → List CheckFault
   part_faults path full_name (Message message) = message_faults file path marks message
-  part_faults path full_name (Field field) = field_faults table marks file path full_name field
+  part_faults path full_name (Field field) = field_faults table marks file path full_name files field
   part_faults path full_name (Oneof oneof) = []
   part_faults path full_name (Enum enum) = alias_faults table file path full_name enum
   part_faults path full_name (Value value) = []

@@ -20,8 +20,8 @@ impl Site<'_> {
         faults: &mut Vec<CheckFault>,
     ) -> Result<(), AllocError>
         ensures { OnOk result (faults.new.items ≡ faults.old.items
-            ++ part_faults self.now.symbols.now self.now.marks.now self.now.number path.now
-            full_name.now (part_of part.now)) }
+            ++ part_faults self.now.files.now self.now.symbols.now self.now.marks.now
+            self.now.number path.now full_name.now (part_of part.now)) }
     {
         match part {
             Part::Message(message) => self.check_message(path, message, faults),
@@ -41,8 +41,8 @@ pub(crate) struct Checker<'a> {
 }
 
 impl<'a> Visit<'a> for Checker<'_> {
-    ghost visits = { λ old one new. Adds old (declared_faults old.site.now.symbols.now
-        old.site.now.marks.now old.site.now.number one) new };
+    ghost visits = { λ old one new. Adds old (declared_faults old.site.now.files.now
+        old.site.now.symbols.now old.site.now.marks.now old.site.now.number one) new };
 
     type Error = AllocError;
 

@@ -1,7 +1,8 @@
 //! What is wrong with an enum.
 
-ghost use Rattle.std.specs.Prelude.{◌≡◌, ◌++◌, ◌∷◌, [], map, IfOk, OnOk};
+ghost use Rattle.std.specs.Prelude.{◌≡◌, ◌++◌, ◌∷◌, [], map, IfOk, IsTrue, OnOk};
 ghost use Rattle.protox_option_checks.specs.Parts as words;
+ghost use Rattle.protox_option_checks.specs.inner.Rising.{AreRising};
 
 use crate::adding::{add, path_to};
 use crate::names::{outer_scope, value_number};
@@ -38,6 +39,20 @@ fn spans_of(alloc: Global, values: &[EnumValueDescriptorProto]) -> Result<Vec<Sp
     Ok(made)
 }
 
+// Whether each of these spans begins where the one before it ends, or behind.
+fn are_rising(spans: &[Span]) -> bool
+    ensures { IsTrue result → AreRising spans.now }
+{
+    let mut least = 0;
+    for span in spans {
+        if span.start < least || span.end < span.start {
+            return false;
+        }
+        least = span.end;
+    }
+    true
+}
+
 // Each value whose number an earlier one has, with the first that has it.
 fn shared_numbers(
     alloc: Global,
@@ -46,6 +61,10 @@ fn shared_numbers(
     ensures { IfOk result (λ made. made.items ≡ words.shared_numbers values.now) }
 {
     let spans = spans_of(alloc, values)?;
+    // in most enums the numbers rise
+    if are_rising(spans.as_slice()) {
+        return Ok(Vec::new(alloc));
+    }
     let met = first_met(alloc, spans.as_slice(), spans.as_slice())?;
     with_earlier(alloc, met.as_slice())
 }

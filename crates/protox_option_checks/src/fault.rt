@@ -26,9 +26,11 @@ pub enum CheckFaultKind {
     MessageSetField,
     /// At its type: an extension of a message set isn't optional, or its type is no message.
     MessageSetExtension,
-    /// At its extendee: an extension in a file for the lite runtime extends a message of a file that
-    /// isn't for it.
+    /// At its extendee: an extension in a file for the lite runtime extends a message of a file
+    /// that isn't for it.
     LiteExtension,
+    /// At its type: the values of a map are of an enum that doesn't begin with 0.
+    MapValueEnum,
     /// At its type: a field has a `jstype` other than `JS_NORMAL`, and its type is none of the
     /// integers of 64 bits.
     JsType,

@@ -9,6 +9,7 @@ use crate::adding::{add, add_if};
 use crate::names::{found, message_of};
 use crate::site::Site;
 use crate::statements::{is_true, says};
+use crate::types::{has_label, has_type};
 use crate::{CheckFault, CheckFaultKind};
 use protox_descriptor::descriptor::field_descriptor_proto::{FieldType, Label};
 use protox_descriptor::descriptor::{FieldDescriptorProto, UninterpretedOption};
@@ -25,18 +26,6 @@ fn statements_of_field(field: &FieldDescriptorProto) -> &[UninterpretedOption]
         Some(options) => options.uninterpreted(),
         None => &[],
     }
-}
-
-fn has_type(of: FieldType, field: &FieldDescriptorProto) -> bool
-    ensures { result ≡ words.has_type of field.now }
-{
-    field.field_type == Some(of as i32)
-}
-
-fn has_label(of: Label, field: &FieldDescriptorProto) -> bool
-    ensures { result ≡ words.has_label of field.now }
-{
-    field.label == Some(of as i32)
 }
 
 // The number of the part where a type with this name stands.
@@ -209,7 +198,7 @@ impl Site<'_> {
     ) -> Result<(), AllocError>
         ensures { OnOk result (faults.new.items ≡ faults.old.items
             ++ words.field_faults self.now.symbols.now self.now.marks.now self.now.number path.now
-            full_name.now field.now) }
+            full_name.now self.now.files.now field.now) }
     {
         self.add_at_type(
             is_wrongly_lazy(field),
@@ -244,6 +233,8 @@ impl Site<'_> {
             kind,
             faults,
         )?;
+        let late = self.has_late_values(field);
+        self.add_at_type(late, path, field, CheckFaultKind::MapValueEnum, faults)?;
         self.add_at_type(
             has_wrong_js_type(field),
             path,

@@ -32,7 +32,8 @@ fn check_file(
     faults: Vec<CheckFault>,
 ) -> Result<Vec<CheckFault>, AllocError>
     ensures { IfOk result (λ made. made.items ≡ faults.items ++ file_faults
-        site.now.symbols.now site.now.marks.now site.now.number imports.now file.now) }
+        site.now.files.now site.now.symbols.now site.now.marks.now site.now.number imports.now
+        file.now) }
 {
     let mut checker = Checker { site, faults };
     walk(site.alloc, file, &mut checker)?;
@@ -49,12 +50,13 @@ fn check_all(
     files: &[FileDescriptorProto],
 ) -> Result<Vec<CheckFault>, AllocError>
     ensures { IfOk result (λ made. made.items
-        ≡ faults_from symbols.now marks.now rows.now 0 files.now) }
+        ≡ faults_from files.now symbols.now marks.now rows.now 0 files.now) }
 {
     let mut faults = Vec::new(alloc);
     for (number, file) in files.iter().enumerate() {
         let site = Site {
             alloc,
+            files,
             symbols,
             marks,
             number,
@@ -65,20 +67,21 @@ fn check_all(
 }
 
 /// What is wrong with linked files once their options are read, as protoc checks it. The faults are
-/// in the order of the files. Those of a file are in the order in which `walk` visits what has them;
-/// that of its imports comes last.
+/// in the order of the files. Those of a file are in the order in which `walk` visits what has
+/// them. That of its imports comes last.
 ///
 /// `symbols` is the table of the files. In linked files the names of types and of extended messages
 /// are full names behind a dot, and each field has a type. The value of an option is what its
-/// statement says; that the statements are right is for `interpret` to say.
+/// statement says. Whether the statements are right is for `interpret` to say.
 ///
-/// Of most fields it looks at the label, the type and the statements alone. A name is looked up where
-/// a field extends a message, or where the type of a field of proto3 is an enum. The time grows with
-/// n log² n for the n values of an enum, and in line with all else.
+/// Of most fields it looks at the label, the type and the statements alone. A name is looked up
+/// where a field extends a message, where the type of a field of proto3 is an enum, and where a
+/// field may be that of a map. The time grows with n log² n for the n values of an enum, and in
+/// line with all else.
 ///
 /// # Errors
-/// `AllocError` where memory runs out, or where a list has more than 2,147,483,648 parts: no path can
-/// count them.
+/// `AllocError` where memory runs out, or where a list has more than 2,147,483,648 parts: no path
+/// can count them.
 ///
 /// ```
 /// for fault in &check_options(alloc, resolver.symbols(), files)? { .. }

@@ -1,5 +1,5 @@
-//! What is wrong with linked files once their options are read: what standard options ask of what has
-//! them, as protoc checks it.
+//! What is wrong with linked files once their options are read: what standard options ask of what
+//! has them, as protoc checks it.
 #![tactic(auto)]
 
 mod adding;
@@ -9,12 +9,14 @@ mod fault;
 mod fields;
 mod files;
 mod imports;
+mod maps;
 mod marks;
 mod messages;
 mod names;
 mod site;
 mod statements;
 mod text;
+mod types;
 
 pub use crate::fault::{CheckFault, CheckFaultKind};
 pub use crate::files::check_options;

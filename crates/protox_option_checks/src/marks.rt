@@ -12,7 +12,8 @@ use protox_written::HasUninterpreted;
 use std::alloc::{AllocError, Global};
 use std::marker::Model;
 
-/// Marks of the files, by their numbers in the list, and of messages, by their numbers in the table.
+/// Marks of the files, by their numbers in the list, and of messages, by their numbers in the
+/// table.
 #[derive(Drop)]
 pub(crate) struct Marks {
     // Files for the lite runtime.
@@ -30,7 +31,12 @@ impl Model for Marks {
 
     ghost Value = { seen.Marks };
 
-    ghost view = { λ m. record { lite = m.lite.items; proto3 = m.proto3.items; without_services = m.without_services.items; message_sets = m.message_sets.items } };
+    ghost view = { λ m. record {
+      lite = m.lite.items;
+      proto3 = m.proto3.items;
+      without_services = m.without_services.items;
+      message_sets = m.message_sets.items;
+    } };
 }
 
 fn statements_of_file(file: &FileDescriptorProto) -> &[UninterpretedOption]

@@ -51,8 +51,8 @@ fn scope_number(symbols: &Symbols, scope: Option<&str>) -> Option<usize>
     symbols.find(None, scope?)
 }
 
-/// The number of the message of a field with this full name: the one that it extends, or the one that
-/// it stands in.
+/// The number of the message of a field with this full name: the one that it extends, or the one
+/// that it stands in.
 pub(crate) fn message_of(
     symbols: &Symbols,
     full_name: &str,

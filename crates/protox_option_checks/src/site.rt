@@ -1,6 +1,7 @@
 //! What is known where a part of a file is looked at.
 
 use crate::marks::Marks;
+use protox_descriptor::descriptor::FileDescriptorProto;
 use protox_symbols::Symbols;
 use std::alloc::Global;
 
@@ -8,6 +9,8 @@ use std::alloc::Global;
 #[derive(Drop)]
 pub(crate) struct Site<'a> {
     pub(crate) alloc: Global,
+    /// All files of the set.
+    pub(crate) files: &'a [FileDescriptorProto],
     /// The table of the set.
     pub(crate) symbols: &'a Symbols,
     pub(crate) marks: &'a Marks,

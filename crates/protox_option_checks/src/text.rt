@@ -58,6 +58,7 @@ fn fixed_text(kind: CheckFaultKind) -> &'static str
         CheckFaultKind::LiteExtension => {
             "Extensions to non-lite types can only be declared in non-lite files.  Note that you cannot extend a non-lite type to contain a lite type, but the reverse is allowed."
         }
+        CheckFaultKind::MapValueEnum => "Enum value in map must define 0 as the first value.",
         CheckFaultKind::JsType => {
             "jstype is only allowed on int64, uint64, sint64, fixed64 or sfixed64 fields."
         }
@@ -120,8 +121,8 @@ fn shared_number_text(
     shared_number_words(alloc, value.as_str(), earlier.as_str())
 }
 
-/// What is wrong, in protoc's words: a text of one line. `symbols` is the table of the files, and the
-/// fault is one of `check_options`.
+/// What is wrong, in protoc's words: a text of one line. `symbols` is the table of the files, and
+/// the fault is one of `check_options`.
 ///
 /// # Errors
 /// `AllocError` where memory runs out.

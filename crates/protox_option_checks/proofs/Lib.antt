@@ -1,0 +1,4 @@
+pub mod Gathered
+pub mod Naming
+pub mod Steps
+pub mod Rising

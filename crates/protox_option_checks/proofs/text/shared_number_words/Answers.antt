@@ -1,0 +1,5 @@
+use Rattle.std.proofs.Common.{append_assoc}
+use Rattle.protox_option_checks.proofs.text.shared_number_words.Goals as goal
+
+pub returns : goal.returns
+returns c = simp append_assoc c.format.ensures.ok

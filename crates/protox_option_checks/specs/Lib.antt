@@ -1,0 +1,11 @@
+pub mod Statements
+pub mod Marks
+pub mod Faults
+pub mod Names
+pub mod Types
+pub mod Maps
+pub mod Fields
+pub mod Parts
+pub mod Checks
+pub mod Texts
+pub mod inner

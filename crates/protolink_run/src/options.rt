@@ -19,9 +19,6 @@ use protox_views::View;
 use std::alloc::{AllocError, Global};
 use std::io::{self, Write};
 
-// The number of `name` in a statement.
-const NAME: i32 = 2;
-
 // The path of a statement.
 fn statement_path(alloc: Global, options: &[i32], index: usize) -> Result<Vec<i32>, AllocError> {
     let mut path = Vec::new(alloc);
@@ -36,18 +33,17 @@ fn fault_span(
     alloc: Global,
     told: &Told<'_>,
     file: &FileDescriptorProto,
-    mut path: Vec<i32>,
+    path: &[i32],
     kind: &StatementFaultKind,
 ) -> Result<Option<Span>, AllocError> {
+    let Some(statement) = span_of(told, file, path) else {
+        return Ok(None);
+    };
     match kind {
         StatementFaultKind::Name(_) | StatementFaultKind::AlreadySet => {
-            path.push(NAME)?;
-            Ok(span_of(told, file, path.as_slice()))
+            Ok(Some(told.name_span(alloc, statement)?))
         }
-        _ => match span_of(told, file, path.as_slice()) {
-            Some(statement) => Ok(Some(told.value_span(alloc, statement)?)),
-            None => Ok(None),
-        },
+        _ => Ok(Some(told.value_span(alloc, statement)?)),
     }
 }
 
@@ -92,7 +88,7 @@ fn tell_statement<E: Write>(
         return Ok(());
     };
     let path = statement_path(alloc, path, fault.index)?;
-    let span = fault_span(alloc, told, file, path, &fault.kind)?;
+    let span = fault_span(alloc, told, file, path.as_slice(), &fault.kind)?;
     let text = fault_text(alloc, site, statement, &fault.kind)?;
     told.tell(alloc, err, Grade::Error, span.as_ref(), text.as_str())
 }

@@ -46,29 +46,63 @@ fn is_gap(token: &Token<'_>) -> bool {
     }
 }
 
-/// The first token of the value in the text of an option's statement, by its place in that text. It is
-/// behind the first `=`, as a name has none.
-///
-/// # Errors
-/// `AllocError` where memory runs out.
-pub(crate) fn value_in(alloc: Global, statement: &str) -> Result<Option<Span>, AllocError> {
+// The places of the tokens of a statement in its text: those in front of the first `=`, and the first
+// behind it. Comments are passed by.
+fn tokens_of(alloc: Global, statement: &str) -> Result<(Vec<Span>, Option<Span>), AllocError> {
     let mut lexer = Token::lexer(alloc, statement);
+    let mut front = Vec::new(alloc);
     let mut behind = false;
     // there is no more than a token for each byte
     for _ in 0..statement.len() {
         let Some(Ok(token)) = lexer.next()? else {
-            return Ok(None);
+            return Ok((front, None));
         };
+        if is_gap(&token) {
+            continue;
+        }
+        if behind {
+            return Ok((front, Some(lexer.span())));
+        }
         match token {
             Token::Equals => behind = true,
-            token => {
-                if behind && !is_gap(&token) {
-                    return Ok(Some(lexer.span()));
-                }
-            }
+            _ => front.push(lexer.span())?,
         }
     }
-    Ok(None)
+    Ok((front, None))
+}
+
+fn is_text(statement: &str, span: &Span, text: &str) -> bool {
+    statement.get(span.start..span.end) == Some(text)
+}
+
+// The place of the name among the tokens in front of the `=`: all of them but the word `option`, unless
+// that is the name.
+fn name_of(statement: &str, front: &[Span]) -> Option<Span> {
+    let (first, last) = (front.first()?, front.last()?);
+    match front.get(1) {
+        Some(second) if is_text(statement, first, "option") && !is_text(statement, second, ".") => {
+            Some(second.start..last.end)
+        }
+        _ => Some(first.start..last.end),
+    }
+}
+
+/// The place of the name of an option's statement, in the text of the statement.
+///
+/// # Errors
+/// `AllocError` where memory runs out.
+pub(crate) fn name_in(alloc: Global, statement: &str) -> Result<Option<Span>, AllocError> {
+    let (front, _) = tokens_of(alloc, statement)?;
+    Ok(name_of(statement, front.as_slice()))
+}
+
+/// The place of the first token of the value of an option's statement, in the text of the statement.
+///
+/// # Errors
+/// `AllocError` where memory runs out.
+pub(crate) fn value_in(alloc: Global, statement: &str) -> Result<Option<Span>, AllocError> {
+    let (_, value) = tokens_of(alloc, statement)?;
+    Ok(value)
 }
 
 // The index of the import of this name.

@@ -2,7 +2,7 @@
 
 ghost use Rattle.std.specs.Prelude.{◌≤◌, length};
 
-use crate::places::value_in;
+use crate::places::{name_in, value_in};
 use protolink_words::Format;
 use protox_fault::error::{ParseErrorKind, Span};
 use protox_report::paint::Paint;
@@ -60,6 +60,17 @@ fn countable(source: &str) -> &str
     }
 }
 
+// The place of a part of what has a place, if it has that part; else that of the whole.
+fn within(whole: Span, part: Option<Span>) -> Span {
+    match part {
+        Some(part) => {
+            let start = whole.start.saturating_add(part.start);
+            start..whole.start.saturating_add(part.end)
+        }
+        None => whole,
+    }
+}
+
 impl<'a> Told<'a> {
     /// A file, by its name, its path and its source.
     ///
@@ -89,18 +100,27 @@ impl<'a> Told<'a> {
         Some(from..to)
     }
 
-    /// The place of the value in the statement of an option that has this place; else the place of
-    /// the whole.
+    // What stands at a place.
+    fn text_at(&self, span: &Span) -> &'a str {
+        self.text.get(span.start..span.end).unwrap_or("")
+    }
+
+    /// The place of the name in the statement of an option that has this place.
+    ///
+    /// # Errors
+    /// `AllocError` where memory runs out.
+    pub(crate) fn name_span(&self, alloc: Global, statement: Span) -> Result<Span, AllocError> {
+        let name = name_in(alloc, self.text_at(&statement))?;
+        Ok(within(statement, name))
+    }
+
+    /// The place of the value in the statement of an option that has this place, by its first token.
     ///
     /// # Errors
     /// `AllocError` where memory runs out.
     pub(crate) fn value_span(&self, alloc: Global, statement: Span) -> Result<Span, AllocError> {
-        let text = self.text.get(statement.start..statement.end).unwrap_or("");
-        let Some(value) = value_in(alloc, text)? else {
-            return Ok(statement);
-        };
-        let start = statement.start.saturating_add(value.start);
-        Ok(start..statement.start.saturating_add(value.end))
+        let value = value_in(alloc, self.text_at(&statement))?;
+        Ok(within(statement, value))
     }
 
     // Adds what stands in front of the text, in one of the formats of a line.

@@ -2,8 +2,9 @@
 # protolink as the front end of protoc: code that protoc's generators, nanopb and prost-build make of the
 # set that protolink writes, and of the set that protoc writes, compared file by file.
 # usage: front_end.sh PROTOLINK [ROOT [FILE..]]
-# Without files it takes those of google/protobuf below ROOT, which is /usr/include if not given, and
-# those of two sets that come with this repository, in which no option is set.
+# Without files it takes those of google/protobuf below ROOT, which is /usr/include if not given, those of
+# two sets that come with this repository, in which no option is set, and those of a tree with custom
+# options, which bench/option_sets.py makes (with Debian's Python and python3-protobuf).
 # It needs protoc (Debian: protobuf-compiler, libprotobuf-dev), and takes nanopb and prost-build (Debian:
 # nanopb; cargo and librust-prost-build-dev) where they are installed.
 # Files of code that differ are listed. The last line is 'N files of code are the same, M differ'.
@@ -84,6 +85,11 @@ else
     compare protobuf "$root" "${files[@]}"
     compare shop "$here/crates/protolink/data" shop.proto item.proto parts/money.proto
     compare two_files "$here/examples/linked" shop/item.proto shop/cart.proto
+    /usr/bin/python3 "$here/bench/option_sets.py" protoc "$program" --count 0 --into "$work/.tree"
+    cp -r "$root/google" "$work/.tree/"
+    (cd "$work/.tree" && ls shapes/*.proto use/*.proto) >"$work/names"
+    mapfile -t files <"$work/names"
+    compare options "$work/.tree" "${files[@]}"
 fi
 cd "$work"
 made=$(find ./*/theirs -type f ! -name '*.said' | wc -l)

@@ -188,6 +188,20 @@ impl Site<'_> {
         add_if(wrong, self.alloc, self.number, path, tag, kind, faults)
     }
 
+    // Adds a fault at what a field extends, if it extends the wrong thing in a lite file.
+    fn add_at_extendee(
+        &self,
+        wrong: bool,
+        path: &[i32],
+        faults: &mut Vec<CheckFault>,
+    ) -> Result<(), AllocError>
+        ensures { OnOk result (faults.new.items ≡ faults.old.items ++ fault_if wrong
+            (fault_at self.now.number path.now EXTENDEE CheckFaultKind.LiteExtension)) }
+    {
+        let kind = CheckFaultKind::LiteExtension;
+        add_if(wrong, self.alloc, self.number, path, EXTENDEE, kind, faults)
+    }
+
     /// Adds what is wrong with a field or an extension.
     pub(crate) fn check_field(
         &self,
@@ -200,48 +214,19 @@ impl Site<'_> {
             ++ words.field_faults self.now.symbols.now self.now.marks.now self.now.number path.now
             full_name.now self.now.files.now field.now) }
     {
-        self.add_at_type(
-            is_wrongly_lazy(field),
-            path,
-            field,
-            CheckFaultKind::Lazy,
-            faults,
-        )?;
-        self.add_at_type(
-            is_wrongly_packed(field),
-            path,
-            field,
-            CheckFaultKind::Packed,
-            faults,
-        )?;
+        let lazy = is_wrongly_lazy(field);
+        self.add_at_type(lazy, path, field, CheckFaultKind::Lazy, faults)?;
+        let packed = is_wrongly_packed(field);
+        self.add_at_type(packed, path, field, CheckFaultKind::Packed, faults)?;
         let in_set = self.is_wrong_in_set(field);
-        self.add_at_type(
-            in_set,
-            path,
-            field,
-            CheckFaultKind::MessageSetExtension,
-            faults,
-        )?;
+        let kind = CheckFaultKind::MessageSetExtension;
+        self.add_at_type(in_set, path, field, kind, faults)?;
         let in_lite = self.is_wrong_in_lite(field);
-        let kind = CheckFaultKind::LiteExtension;
-        add_if(
-            in_lite,
-            self.alloc,
-            self.number,
-            path,
-            EXTENDEE,
-            kind,
-            faults,
-        )?;
+        self.add_at_extendee(in_lite, path, faults)?;
         let late = self.has_late_values(field);
         self.add_at_type(late, path, field, CheckFaultKind::MapValueEnum, faults)?;
-        self.add_at_type(
-            has_wrong_js_type(field),
-            path,
-            field,
-            CheckFaultKind::JsType,
-            faults,
-        )?;
+        let in_script = has_wrong_js_type(field);
+        self.add_at_type(in_script, path, field, CheckFaultKind::JsType, faults)?;
         self.check_enum(path, full_name, field, faults)
     }
 }

@@ -83,7 +83,11 @@ fn write_file<W: Write>(
     file: &FileDescriptorProto,
 ) -> io::Result<()> {
     let view = names.view();
-    let InterpretedFile { options, faults, .. } = interpret_file(alloc, &view, files, file)?;
+    let InterpretedFile {
+        options,
+        faults,
+        ..
+    } = interpret_file(alloc, &view, files, file)?;
     match faults.first() {
         Some(fault) => write_fault(alloc, out, &view, files, file, fault),
         None => write_bytes(alloc, out, file, &options),

@@ -1,11 +1,11 @@
 -- What is wrong with a text in braces, as protoc tells it.
-use Rattle.std.specs.Prelude.{ℕ, ◌-◌, Bool, false, List, [], ◌++◌, Option, Some, None, codes, drop, encode_utf8, length, slice_get, take, if◌then◌else◌}
+use Rattle.std.specs.Prelude.{ℕ, ◌-◌, Bool, false, List, [], ◌∷◌, ◌++◌, Option, Some, None, codes, drop, encode_utf8, length, slice_get, take, if◌then◌else◌}
 use Rattle.std.specs.Option.{option_and_then, option_map_or}
 use Rattle.protox_aggregate.specs.Names.{innermost}
 use Rattle.protox_aggregate.specs.declared.fault.AggregateFault.{AggregateFault}
 use Rattle.protox_aggregate.specs.declared.fault.AggregateFaultKind.{AggregateFaultKind}
 use Rattle.protox_aggregate.specs.declared.fault.AggregateFaultKind.TheVariants as wrong
-use Rattle.protox_brace_text.specs.Steps.{all_printed, found_at, is_minus, last_name, next_pieces, pieces_of, printed_if_any}
+use Rattle.protox_brace_text.specs.Steps.{all_printed, found_at, is_minus, last_name, next_pieces, pieces_of, printed_if_any, printed_piece}
 use Rattle.protox_descriptor.specs.FieldDescriptorProto.{FieldDescriptorProto}
 use Rattle.protox_descriptor.specs.declared.descriptor.DescriptorProto.{DescriptorProto, out-DescriptorProto}
 use Rattle.protox_descriptor.specs.declared.descriptor.OneofDescriptorProto.{OneofDescriptorProto}
@@ -100,6 +100,11 @@ enum_text enum.NoSuchValue field value = no_such_value (all_printed value) field
 abbrev pub in_brackets : List Piece → List Piece
 in_brackets name = take (length (drop 1 name) - 1) (drop 1 name)
 
+-- the name as it is written: a word, or what stands in the brackets
+abbrev pub written_name : List Piece → List ℕ
+written_name (word ∷ []) = printed_piece word
+written_name name = all_printed (in_brackets name)
+
 abbrev pub name_of_field : Option FieldDescriptorProto → List ℕ
 name_of_field None = []
 name_of_field (Some field) = text_of field.name
@@ -118,6 +123,9 @@ no_field message name = codes "Message type \"" ++ message ++ codes "\" has no f
 
 abbrev pub no_extension : List ℕ → List ℕ → List ℕ
 no_extension message name = codes "Extension \"" ++ name ++ codes "\" is not defined or is not an extension of \"" ++ message ++ codes "\"."
+
+abbrev pub again_text : List ℕ → List ℕ
+again_text name = codes "Non-repeated field \"" ++ name ++ codes "\" is specified multiple times."
 
 abbrev pub along : List ℕ → List ℕ → List ℕ → List ℕ
 along name other oneof = codes "Field \"" ++ name ++ codes "\" is specified along with field \"" ++ other ++ codes "\", another member of oneof \"" ++ oneof ++ codes "\"."
@@ -153,25 +161,23 @@ module _ (here : Site) where
 
   -- ---- faults
 
-  abbrev pub again_text : ℕ → List ℕ
-  again_text n = codes "Non-repeated field \"" ++ field_name n ++ codes "\" is specified multiple times."
-
-  abbrev pub along_text : ℕ → ℕ → List ℕ
-  along_text n other = along (field_name n) (field_name other) (oneof_name n)
+  -- of a field with this name, which has the first number
+  abbrev pub along_text : List ℕ → ℕ → ℕ → List ℕ
+  along_text name n other = along name (field_name other) (oneof_name n)
 
   -- The pieces of the step, what is found where it begins, and the name of the field before it.
   abbrev pub step_text : AggregateFaultKind → List Piece → List ℕ → List ℕ → List ℕ
   step_text (wrong.NoField m) step found field = no_field (full_name m) (all_printed step)
   step_text (wrong.NoExtension m) step found field = no_extension (full_name m) (all_printed (in_brackets step))
-  step_text wrong.NoType step found field = found_text (codes "]") (codes "/")
+  step_text wrong.NoType step found field = codes "The name of a type in brackets, as in a message Any, is not read."
   step_text wrong.NoColon step found field = found_text (codes ":") found
   step_text wrong.NotRepeated step found field = is_not_text field (codes "not repeated") found
   step_text wrong.NotMessage step found field = found_text (codes "{") found
   step_text wrong.NotScalar step found field = is_not_text field (codes "no message") found
   step_text (wrong.WrongValue scalar fault) step found field = value_text (held_by scalar) fault field step
   step_text (wrong.WrongEnum fault) step found field = enum_text fault field step
-  step_text (wrong.Again n) step found field = again_text n
-  step_text (wrong.Along n other) step found field = along_text n other
+  step_text (wrong.Again n) step found field = again_text (written_name step)
+  step_text (wrong.Along n other) step found field = along_text (written_name step) n other
   step_text (wrong.Missing n) step found field = codes "Message missing required fields: " ++ field_name n
   step_text wrong.Untyped step found field = codes "Field \"" ++ field ++ codes "\" has no type."
   step_text wrong.Misplaced step found field = codes "Unexpected \"" ++ found ++ codes "\"."

@@ -5,7 +5,7 @@ ghost use Rattle.std.specs.Option.{option_copied};
 ghost use Rattle.protox_brace_text.specs.Texts as words;
 ghost use Rattle.protox_walk.specs.Declarations.{text_of};
 
-use crate::pieces::without;
+use crate::pieces::{all_printed, printed, without};
 use protox_descriptor::descriptor::{DescriptorProto, FieldDescriptorProto, OneofDescriptorProto};
 use protox_descriptor::values::Text;
 use protox_interpret::Site;
@@ -29,6 +29,16 @@ pub(crate) fn in_brackets<'t, 'a>(name: &'t [Piece<'a>]) -> &'t [Piece<'a>]
 {
     let inside = without(name, 1);
     &inside[..inside.len().saturating_sub(1)]
+}
+
+/// The name as it is written: a word, or what stands in the brackets.
+pub(crate) fn written_name(alloc: Global, name: &[Piece<'_>]) -> Result<String, AllocError>
+    ensures { IfOk result (λ text. string_bytes text ≡ words.written_name name.now) }
+{
+    match name {
+        [word] => printed(alloc, Some(word)),
+        _ => all_printed(alloc, in_brackets(name)),
+    }
 }
 
 /// The full name with a number.

@@ -7,7 +7,7 @@ ghost use Rattle.protox_brace_text.specs.Texts as words;
 ghost use Rattle.protox_interpret.specs.Braces.{IsCut};
 ghost use Rattle.protox_text_format.specs.Spelling.{seen};
 
-use crate::names::{field_name, full_name, in_brackets, oneof_name};
+use crate::names::{field_name, full_name, in_brackets, oneof_name, written_name};
 use crate::pieces::{all_printed, found_at};
 use crate::steps::{before, item_at, last_name, next_pieces, own_pieces};
 use crate::values::{enum_text, expected, value_text};
@@ -73,11 +73,18 @@ fn no_extension_text(
     no_extension(alloc, message.as_str(), name.as_str())
 }
 
-fn again_text(alloc: Global, here: Site<'_>, number: usize) -> Result<String, AllocError>
-    ensures { IfOk result (λ text. string_bytes text ≡ words.again_text here.entry number) }
+fn again(alloc: Global, name: &str) -> Result<String, AllocError>
+    ensures { IfOk result (λ text. string_bytes text ≡ words.again_text name.now) }
 {
-    let name = field_name(here, number);
     format!(in alloc; "Non-repeated field \"{name}\" is specified multiple times.")
+}
+
+fn again_text(alloc: Global, step: &[Piece<'_>]) -> Result<String, AllocError>
+    ensures { IfOk result (λ text. string_bytes text
+        ≡ words.again_text (words.written_name step.now)) }
+{
+    let name = written_name(alloc, step)?;
+    again(alloc, name.as_str())
 }
 
 fn along(alloc: Global, name: &str, other: &str, oneof: &str) -> Result<String, AllocError>
@@ -91,18 +98,16 @@ fn along(alloc: Global, name: &str, other: &str, oneof: &str) -> Result<String, 
 fn along_text(
     alloc: Global,
     here: Site<'_>,
+    step: &[Piece<'_>],
     number: usize,
     other: usize,
 ) -> Result<String, AllocError>
-    ensures { IfOk result (λ text. string_bytes text ≡ words.along_text here.entry number other) }
+    ensures { IfOk result (λ text. string_bytes text
+        ≡ words.along_text here.entry (words.written_name step.now) number other) }
 {
+    let name = written_name(alloc, step)?;
     let oneof = oneof_name(alloc, here, number)?;
-    along(
-        alloc,
-        field_name(here, number),
-        field_name(here, other),
-        oneof,
-    )
+    along(alloc, name.as_str(), field_name(here, other), oneof)
 }
 
 // What is told of a step: its pieces, what is found where it begins, and the name of the field before
@@ -121,7 +126,10 @@ fn step_text(
     match kind {
         AggregateFaultKind::NoField(message) => no_field_text(alloc, here, message, step),
         AggregateFaultKind::NoExtension(message) => no_extension_text(alloc, here, message, step),
-        AggregateFaultKind::NoType => found_text(alloc, "]", "/"),
+        AggregateFaultKind::NoType => {
+            let text = "The name of a type in brackets, as in a message Any, is not read.";
+            String::from_str(alloc, text)
+        }
         AggregateFaultKind::NoColon => found_text(alloc, ":", found),
         AggregateFaultKind::NotRepeated => is_not_text(alloc, field, "not repeated", found),
         AggregateFaultKind::NotMessage => found_text(alloc, "{", found),
@@ -130,8 +138,8 @@ fn step_text(
             value_text(alloc, scalar.held(), fault, field, step)
         }
         AggregateFaultKind::WrongEnum(fault) => enum_text(alloc, fault, field, step),
-        AggregateFaultKind::Again(number) => again_text(alloc, here, number),
-        AggregateFaultKind::Along(number, other) => along_text(alloc, here, number, other),
+        AggregateFaultKind::Again(_) => again_text(alloc, step),
+        AggregateFaultKind::Along(number, other) => along_text(alloc, here, step, number, other),
         AggregateFaultKind::Missing(number) => {
             let name = field_name(here, number);
             format!(in alloc; "Message missing required fields: {name}")

@@ -3,6 +3,7 @@
 ghost use Rattle.std.specs.Prelude.{IfOk};
 ghost use Rattle.protox_link.specs.Known.{IsKnownOf};
 ghost use Rattle.protox_set_options.specs.Read.{AreInterpreted, IsInterpretedIn};
+ghost use Rattle.protox_set_options.specs.ReadBack.{AreReadBack};
 
 use protox_descriptor::descriptor::FileDescriptorProto;
 use protox_file_options::{InterpretedFile, interpret_file};
@@ -49,7 +50,10 @@ pub fn interpret_set(
     alloc: Global,
     files: &[FileDescriptorProto],
 ) -> Result<Vec<InterpretedFile>, AllocError>
-    ensures { IfOk result (λ read. AreInterpreted files.now read.items) }
+    ensures interpreted { IfOk result (λ read. AreInterpreted files.now read.items) }
+    // Where nothing is wrong with a file's options, what its statements say is found in the bytes,
+    // and nothing else.
+    ensures reads_back { IfOk result (λ read. AreReadBack files.now read.items) }
 {
     let resolver = Resolver::new(alloc, files)?;
     let mut all = Vec::with_capacity(alloc, files.len())?;

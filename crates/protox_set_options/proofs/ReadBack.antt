@@ -54,7 +54,7 @@ file_read_back files number file answer it none =
       view,
       it.1,
       subst (All IsRead) is.places
-      (All-map IsRead (λ (t : Taken). t.place) is.taken (λ k d below.
+          (All-map IsRead (λ (t : Taken). t.place) is.taken (λ k d below.
           let t = slice_index_or is.taken k d in
           place_read_back view files t.place (set_at answer.options (key_of t.place)) t.outcome (is.outcomes k d below) (is.bytes k d below) (each k d below))),
     )

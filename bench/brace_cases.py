@@ -4,10 +4,10 @@
 usage: brace_cases.py PROTOC [--count N] [--seed S]     at the top of the repository
 
 It makes N statements of options (500, from seed 1) whose value stands in braces, for the messages of
-`braces.proto` in crates/settingcases/stdin: right ones, and such with a value of another type, a field that is told
-twice or a name that no field has. It compares the answers of crates/settingcases/out/settingcases with those of
-protoc, as setting_cases.py does: the bytes, or that the text is refused. It was written for protoc 3.21.12. The last
-line is 'N passed, M failed'.
+`braces.proto` and `anys.proto` in crates/settingcases/stdin: right ones, and such with a value of another type, a
+field that is told twice or a name that no field has. It compares the answers of
+crates/settingcases/out/settingcases with those of protoc, as setting_cases.py does: the bytes, or that the text is
+refused. It was written for protoc 3.21.12. The last line is 'N passed, M failed'.
 """
 import argparse
 import concurrent.futures
@@ -44,6 +44,13 @@ FIELDS = {
            ('b', 'truth', False), ('re', 'enum', True)],
     'R': [('a', 'integer', False), ('m', 'R', False), ('b', 'string', False)],
     'Og': [('q', 'integer', False)],
+    'A': [('any', 'Any', False), ('anys', 'Any', True), ('n', 'integer', False), ('many', 'many', True),
+          ('ca', 'Any', False), ('cn', 'integer', False), ('[y.xany]', 'Any', False), ('[y.xn]', 'integer', False)],
+    'Any': [('[type.googleapis.com/b.T]', 'T', False), ('[type.googleapis.com/y.A]', 'A', False),
+            ('[type.googleapis.com/b.R]', 'R', False), ('[type.googleprod.com/t.T3]', 'T3', False),
+            ('[type.googleapis.com/google.protobuf.Any]', 'Any', False), ('type_url', 'string', False),
+            ('value', 'string', False), ('[y.xn]', 'integer', False), ('[example.com/b.T]', 'T', False)],
+    'many': [('key', 'string', False), ('value', 'Any', False)],
     'Gr': [('g', 'integer', False)],
     'Rg': [('h', 'string', False)],
     'mp': [('key', 'string', False), ('value', 'integer', False)],
@@ -53,7 +60,7 @@ FIELDS = {
     'mb': [('key', 'integer', False), ('value', 'string', False)],
 }
 OPTIONS = {'(b.t)': 'T', '(b.rt)': 'T', '(b.t).m': 'T', '(b.t).t3': 'T3', '(b.top3)': 'T3', '(b.r)': 'R',
-           '(b.og)': 'Og'}
+           '(b.og)': 'Og', '(y.a)': 'A', '(y.direct)': 'Any'}
 
 
 def value(chance, holds, depth, right):
@@ -70,6 +77,8 @@ def field(chance, name, holds, repeated, depth, right):
     if repeated and chance.random() < 0.4:
         values = ', '.join(value(chance, holds, depth, right) for _ in range(chance.randrange(4)))
         return f'{name}{colon} [{values}]'
+    if '/' in name:
+        return f'{name}{colon} {value(chance, holds, depth, right)}'
     times = chance.choice((1, 1, 2)) if repeated or chance.random() < 0.05 else 1
     return ' '.join(f'{name}{colon} {value(chance, holds, depth, right)}{chance.choice(("", " ,", " ;"))}'
                     for _ in range(times))
@@ -77,7 +86,9 @@ def field(chance, name, holds, repeated, depth, right):
 
 def message(chance, name, depth, right):
     fields = FIELDS[name]
-    if len(fields) > 5:
+    if name == 'Any':
+        fields = chance.sample(fields[:5] if right else fields, 1 if right else chance.choice((1, 2)))
+    elif len(fields) > 5:
         fields = chance.sample(fields, chance.choice((0, 1, 2, 3, 5)))
     return ' '.join(field(chance, *one, depth, right) for one in fields if chance.random() < 0.8)
 
@@ -89,6 +100,7 @@ def made(count, seed):
         option = chance.choice(tuple(OPTIONS))
         text = message(chance, OPTIONS[option], 3, chance.random() < 0.8)
         yield (f'== set {i}\n== file main.proto\nsyntax = "proto2";\nimport "braces.proto";\n'
+               'import "three.proto";\nimport "google/protobuf/any.proto";\nimport "anys.proto";\n'
                f'option {option} = {{ {text} }};\n== end\n')
 
 

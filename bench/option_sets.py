@@ -138,6 +138,92 @@ message Book {
 }
 message GetBookRequest { string name = 1 [(shapes.api.reference) = { type: "use/Book" }, (shapes.api.behavior) = REQUIRED]; }
 ''',
+    'shapes/any.proto': '''syntax = "proto3";
+package shapes.any;
+import "google/protobuf/any.proto";
+import "google/protobuf/descriptor.proto";
+message Holder { google.protobuf.Any any = 1; repeated google.protobuf.Any anys = 2; map<string, google.protobuf.Any> map = 3; Holder next = 4; int32 n = 5; }
+message Held { int32 n = 1; string s = 2; repeated int32 r = 3; Held held = 4; google.protobuf.Any any = 5; message Inner { bool b = 1; } }
+extend google.protobuf.FileOptions { Holder file_holder = 52001; google.protobuf.Any file_any = 52002; }
+extend google.protobuf.MessageOptions { Holder holder = 52001; google.protobuf.Any any = 52002; repeated google.protobuf.Any anys = 52003; }
+''',
+    'use/any.proto': '''syntax = "proto2";
+package use.any;
+import "shapes/any.proto";
+import "google/protobuf/any.proto";
+option (shapes.any.file_holder) = { any { [type.googleapis.com/shapes.any.Held] { s: "x" n: 1 r: [1, 2] held {} } }, anys: [{}, { [type.googleapis.com/use.any.Needs]: < a: 1 > }] };
+option (shapes.any.file_any) = { [type.googleapis.com/google.protobuf.Any] { [type.googleprod.com/use.any.Needs.In] {} } };
+message Needs { required int32 a = 1; optional Needs more = 2; message In { optional int32 n = 1; } }
+message Empty { option (shapes.any.any) = { [type.googleapis.com/shapes.any.Held] {} }; }
+message Zero { option (shapes.any.any) = { [type.googleapis.com/shapes.any.Held] { n: 0 } }; }
+message Zero2 { option (shapes.any.any) = { [type.googleapis.com/use.any.Needs.In] { n: 0 } }; }
+message Bytes { option (shapes.any.any) = { [type.googleapis.com/shapes.any.Held.Inner] {} value: "x" }; }
+message Map { option (shapes.any.holder) = { map { key: "a" value { [type.googleapis.com/shapes.any.Held.Inner] { b: true } } } map [{}, { key: "b" }] next { any {} } }; }
+message Parts { option (shapes.any.holder).any.type_url = "u"; option (shapes.any.holder).next = { any { [type.googleapis.com/shapes.any.Held] { any { [type.googleapis.com/shapes.any.Held] { n: 3 } } } } }; }
+message More { option (shapes.any.anys) = { [type.googleapis.com/shapes.any.Held] { n: 1 } }; option (shapes.any.anys) = { [type.googleapis.com/shapes.any.Held] { n: 2 } }; }
+''',
+    'use/wrong_any.proto': '''syntax = "proto2";
+package use.wrong_any;
+import "shapes/any.proto";
+message Needs { required int32 a = 1; optional Needs more = 2; }
+message A { option (shapes.any.any) = { [type.googleapis.com/shapes.any.Nope] { n: 1 } }; }
+message B { option (shapes.any.any) = { [example.com / shapes.any.Held] { n: 1 } }; }
+message C { option (shapes.any.any) = { [shapes.any.Held] { n: 1 } }; }
+message D { option (shapes.any.any) = { [type.googleapis.com/shapes.any.Held]: 1 }; }
+message E { option (shapes.any.any) = { [type.googleapis.com/shapes.any.Held]: [{ n: 1 }] }; }
+message F { option (shapes.any.any) = { [type.googleapis.com/shapes.any.Held] "x" }; }
+message G { option (shapes.any.any) = { [type.googleapis.com/shapes.any.Held] { n: 1 } [type.googleapis.com/shapes.any.Held] {} }; }
+message H { option (shapes.any.any) = { value: "x" [type.googleapis.com/shapes.any.Held] {} }; }
+message I { option (shapes.any.any) = { [type.googleapis.com/shapes.any.Held] { n: 1 } value: "x" }; }
+message J { option (shapes.any.any) = { [type.googleapis.com/shapes.any.Held] {} type_url: "x" }; }
+message K { option (shapes.any.any) = { value: "x" [type.googleapis.com/shapes.any.Held] { bad: 1 } }; }
+message L { option (shapes.any.any) = { [type.googleapis.com/use.wrong_any.Needs] {} }; }
+message M { option (shapes.any.holder) = { anys { [type.googleapis.com/use.wrong_any.Needs] { a: 1 more {} } } }; }
+message N { option (shapes.any.holder) = { [type.googleapis.com/use.wrong_any.Needs] { a: 1 } }; }
+message O { option (shapes.any.any) = { [type.googleapis.com/google.protobuf.Any] {} }; }
+message P { option (shapes.any.holder) = { any { [type.googleapis.com/shapes.any.Held] {} } }; option (shapes.any.holder).any.value = "x"; }
+message Q { option (shapes.any.holder) = { any { [type.googleapis.com/shapes.any.Held] {} } }; option (shapes.any.holder).any.type_url = "x"; }
+message R { option (shapes.any.any) = { [type.googleapis.com/shapes.any.Held] { any { [type.googleapis.com/use.wrong_any.Needs] {} } } }; }
+message S { option (shapes.any.any) = { [type.googleapis.com/shapes.any] {} }; }
+message T { option (shapes.any.any) = { [type.googleapis.com/shapes.any.any] {} }; }
+''',
+    'use/own_any.proto': '''syntax = "proto2";
+package google.protobuf;
+import "google/protobuf/descriptor.proto";
+message Any { optional string u = 1; optional bytes v = 2; required int32 more = 3; }
+message Held { optional int32 n = 1; }
+extend MessageOptions { optional Any any = 52001; }
+message A { option (any) = { [type.googleapis.com/google.protobuf.Held] {} more: 1 }; }
+message B { option (any) = { more: 1 [type.googleapis.com/google.protobuf.Held] { n: 0 } }; }
+message C { option (any) = { more: 1 [type.googleapis.com/google.protobuf.Any] { more: 2 [type.googleapis.com/google.protobuf.Any] { more: 3 u: "x" } } }; }
+''',
+    'use/wrong_own_any.proto': '''syntax = "proto2";
+package google.protobuf;
+import "google/protobuf/descriptor.proto";
+message Any { optional string u = 1; optional bytes v = 2; required int32 more = 3; }
+message Held { optional int32 n = 1; }
+extend MessageOptions { optional Any any = 52001; }
+message A { option (any) = { [type.googleapis.com/google.protobuf.Held] {} }; }
+message B { option (any) = { u: "" [type.googleapis.com/google.protobuf.Held] {} more: 1 }; }
+message C { option (any) = { [type.googleapis.com/google.protobuf.Held] {} v: "" more: 1 }; }
+message D { option (any) = { more: 1 [type.googleapis.com/google.protobuf.Any] { u: "x" } }; }
+''',
+    'use/no_any.proto': '''syntax = "proto2";
+package google.protobuf;
+import "google/protobuf/descriptor.proto";
+message Any { optional string u = 1; optional string v = 2; extensions 100 to 200; }
+extend Any { optional Any any = 100; }
+extend MessageOptions { optional Any option = 52001; }
+message A { option (option) = { [google.protobuf.any] { u: "x" } }; }
+message B { option (option) = { u: "x" [any] { [any] {} } }; }
+''',
+    'use/wrong_no_any.proto': '''syntax = "proto2";
+package google.protobuf;
+import "google/protobuf/descriptor.proto";
+message Any { optional string u = 1; optional bytes v = 4; }
+extend MessageOptions { optional Any option = 52001; }
+message A { option (option) = { [type.googleapis.com/google.protobuf.Any] {} }; }
+''',
     'use/plain.proto': '''syntax = "proto3";
 package use.plain;
 option java_package = "use";

@@ -1,23 +1,27 @@
 -- What a message in text format says is told by steps through a whole message.
-use Rattle.std.proofs.Common.{IfOk, ◌≡◌, ℕ, ◌+◌, Bool, true, false, cond, List, [], ◌∷◌, ◌++◌, length, Option, Some, None, Result, Ok, Err, refl, sym, ap, ◌∙◌, append_assoc, append-nil}
-use Rattle.protox_aggregate.specs.Aggregates.{Reading, at_step, closes, ends, entries_of, into, lists, named_field, names, naming, nothing_read, opened_as, opens, out_of, said_of, saying, says_value, step, steps_from, unless_wrong, value_entry, value_of, wrong_with_list}
+use Rattle.std.proofs.Common.{IfOk, ◌≡◌, ℕ, ◌+◌, ◌&&◌, Bool, true, false, cond, List, [], ◌∷◌, ◌++◌, length, Option, Some, None, Result, Ok, Err, refl, sym, ap, subst, ◌∙◌, append_assoc, append-nil, take}
+use Rattle.protox_aggregate.specs.Aggregates.{Reading, any_ends, at_step, closes, cut_back, ends, entries_of, goes_out, into, into_typed, is_any_told, is_bare, kept, lists, named_field, named_field_in, named_in, names, naming, naming_type, nothing_read, opened_as, opened_typed, opens, out_of, said_of, saying, saying_more, says_value, started, step, steps_from, told, unless_wrong, value_entry, value_of, with_field, wrong_with_list}
+use Rattle.protox_aggregate.specs.Anys.{fields_for, type_in_text}
 use Rattle.protox_aggregate.specs.Complete.{completed, ended, ends_with, if_none_missing, zero_if_untold, zeros, untold}
 use Rattle.protox_aggregate.specs.Fields.{is_in_proto3}
-use Rattle.protox_aggregate.specs.Levels.{Level}
+use Rattle.protox_aggregate.specs.Levels.{Level, typed_in}
 use Rattle.protox_aggregate.specs.Names.{field_in_text}
 use Rattle.protox_aggregate.specs.Whole.{IsWhole}
 use Rattle.protox_aggregate.specs.declared.fault.AggregateFault.{AggregateFault}
 use Rattle.protox_aggregate.specs.declared.fault.AggregateFaultKind.{AggregateFaultKind}
 use Rattle.protox_aggregate.specs.declared.fault.AggregateFaultKind.TheVariants as kind
+use Rattle.protox_aggregate.specs.declared.level.AnyFields.{AnyFields}
 use Rattle.protox_aggregate.specs.declared.level.Named.{Named}
 use Rattle.protox_aggregate.specs.declared.level.Told.{Told}
+use Rattle.protox_aggregate.specs.declared.level.Typed.{Typed}
 use Rattle.protox_descriptor.specs.FieldDescriptorProto.{FieldDescriptorProto}
 use Rattle.protox_descriptor.specs.declared.descriptor.DescriptorProto.{DescriptorProto}
 use Rattle.protox_descriptor.specs.declared.descriptor.FileDescriptorProto.{FileDescriptorProto}
+use Rattle.protox_lexeme.specs.Shapes.{Shape}
 use Rattle.protox_message_bytes.specs.Parts.{Parts, NoMore, Value, Message, steps}
 use Rattle.protox_message_bytes.specs.declared.entry.Entry.{Entry}
 use Rattle.protox_message_bytes.specs.declared.entry.Entry.TheVariants as entry
-use Rattle.protox_settings.specs.Fields.{message_numbered, message_of_type}
+use Rattle.protox_settings.specs.Fields.{field_numbered, message_numbered, message_of_type}
 use Rattle.protox_settings.specs.Names.{goes_on}
 use Rattle.protox_symbols.specs.Symbols.{Table}
 use Rattle.protox_text_format.specs.Spelling.{AHeld, AMessage, AValue, Close, CloseList, Form, Name, Open, OpenList, Scalar, Spells, Step, Values}
@@ -25,6 +29,9 @@ use Rattle.protox_text_format.specs.Spelling.Spells.{AField, AList, AScalar, InA
 use Rattle.protox_text_format.specs.declared.item.Piece.{Piece}
 use Rattle.protox_text_values.specs.Scalars.{shapes_of}
 use Rattle.protox_values.specs.declared.setting.SettingValue.{SettingValue}
+use Rattle.protox_values.specs.declared.setting.SettingValue.TheVariants as on_wire
+use Rattle.std.specs.Option.{option_and_then}
+use Rattle.std.proofs.Math.Seq.{take-append_seam}
 
 -- ---- parts
 
@@ -85,14 +92,14 @@ zeros_whole table message told [] = (NoMore, refl)
 zeros_whole table message told (field ∷ more) =
     both_whole _ _ (zero_whole table message told field (untold table message told field)) (zeros_whole table message told more)
 
-missing_is : (es more : List Entry) (n : Option ℕ) → if_none_missing es n ≡ Ok more → es ≡ more
-missing_is es more None h = cc
-missing_is es more (Some n) h = absurd cc
+missing_is : (held_as : Option ℕ) (es more : List Entry) (n : Option ℕ) → if_none_missing held_as es n ≡ Ok more → es ≡ more
+missing_is held_as es more None h = cc
+missing_is held_as es more (Some n) h = absurd cc
 
 ended_whole : (table : Table) (level : Level) (m : Option DescriptorProto) (more : List Entry) → ended table level m ≡ Ok more → IsWhole more
 ended_whole table level None more h = (NoMore, cc)
 ended_whole table level (Some m) more h =
-    let is : ends_with table level m ≡ more = missing_is _ more _ h in
+    let is : ends_with table level m ≡ more = missing_is level.held_as _ more _ h in
     let (p, whole) = by_test _ _ [] (zeros_whole table level.message level.told _) (NoMore, refl) in
     (p, sym is ∙ whole)
 
@@ -114,11 +121,12 @@ onwards r next last a b = record {
   entries = b.entries ∙ ap (λ es. es ++ steps b.parts) a.entries ∙ append_assoc r.entries (steps a.parts) (steps b.parts) ∙ ap (λ es. r.entries ++ es) (sym (steps_joined a.parts b.parts));
 }
 
--- A message begins.
+-- A message begins. If it is the value of an `Any`, it is known where.
 record Enters (r next : Reading) : Type 0 where
   level : Level
   number : ℕ
   group : Bool
+  typed : (t : Typed) → typed_in level ≡ Some t → t.start ≡ length r.entries
   outer : next.outer ≡ level ∷ r.outer
   entries : next.entries ≡ r.entries ++ entry.Open number group ∷ []
 
@@ -131,13 +139,82 @@ refused_both : {A : Type 0} (b : Bool) (w v : AggregateFaultKind) (next : A) →
 refused_both true w v next h = absurd cc
 refused_both false w v next h = absurd cc
 
-opened_enters : (r : Reading) (named : Named) (field : FieldDescriptorProto) (m : Option ℕ) (next : Reading) → opened_as r named field m ≡ Ok next → Enters r next
-opened_enters r named field (Some message) next h =
+no_type : (field : Option Named) (named : Named) (t : Typed) → field ≡ Some named → named.typed ≡ None → option_and_then (λ (n : Named). n.typed) field ≡ Some t → ⊥
+no_type None named t is none h = absurd cc
+no_type (Some other) named t is none h =
+    let same : other ≡ named = cc in
+    let also : other.typed ≡ None = ap (λ (n : Named). n.typed) same ∙ none in
+    absurd cc
+
+opened_enters : (r : Reading) (named : Named) (field : FieldDescriptorProto) (m : Option ℕ) → r.level.field ≡ Some named → named.typed ≡ None → (next : Reading) → opened_as r named field m ≡ Ok next → Enters r next
+opened_enters r named field (Some message) names none next h =
     let is : into r named field message ≡ next = cc in
-    record { level = _; number = _; group = _; outer = ap (λ (x : Reading). x.outer) (sym is); entries = ap (λ (x : Reading). x.entries) (sym is) }
-opened_enters r named field None next h = absurd (refused_both named.colon kind.NotScalar kind.NoColon next h)
+    record {
+      level = told r.level named field;
+      number = _;
+      group = _;
+      typed = λ t e. absurd (no_type r.level.field named t names none e);
+      outer = ap (λ (x : Reading). x.outer) (sym is);
+      entries = ap (λ (x : Reading). x.entries) (sym is);
+    }
+opened_enters r named field None names none next h = absurd (refused_both named.colon kind.NotScalar kind.NoColon next h)
+
+start_is : (named : Named) (typed t : Typed) (n : ℕ) → Some (record typed { start = n }) ≡ Some t → t.start ≡ n
+start_is named typed t n h =
+    let same : record typed { start = n } ≡ t = cc in
+    ap (λ (x : Typed). x.start) (sym same)
+
+typed_enters : (r : Reading) (named : Named) (field : FieldDescriptorProto) (m : Option ℕ) (o : Option Typed) → r.level.field ≡ Some named → named.typed ≡ o → (next : Reading) → opened_typed r named field m o ≡ Ok next → Enters r next
+typed_enters r named field m None names is next h = opened_enters r named field m names is next h
+typed_enters r named field m (Some typed) names is next h =
+    let made : into_typed r named typed ≡ next = cc in
+    record {
+      level = started r.level named typed (length r.entries);
+      number = 2;
+      group = false;
+      typed = λ t e. start_is named typed t (length r.entries) e;
+      outer = ap (λ (x : Reading). x.outer) (sym made);
+      entries = ap (λ (x : Reading). x.entries) (sym made);
+    }
+
+not_refused : {A : Type 0} (b : Bool) (w : AggregateFaultKind) (a next : A) → cond b (Err w) (Ok a) ≡ Ok next → a ≡ next
+not_refused true w a next h = absurd cc
+not_refused false w a next h = cc
+
+-- ---- messages that end, one around another
+
+module _ (r : Reading) (number : ℕ) (group : Bool) (inside : Parts) where
+  abbrev begun : List Entry
+  begun = r.entries ++ entry.Open number group ∷ []
+
+  closed_is : (entries : List Entry) → entries ≡ begun ++ steps inside → entries ++ entry.Close ∷ [] ≡ r.entries ++ steps (Message number group inside NoMore)
+  closed_is entries is =
+      ap (λ es. es ++ entry.Close ∷ []) is
+      ∙ append_assoc begun (steps inside) (entry.Close ∷ [])
+      ∙ append_assoc r.entries (entry.Open number group ∷ []) (steps inside ++ entry.Close ∷ [])
+
+  cut_is : (entries : List Entry) (n : ℕ) → entries ≡ begun ++ steps inside → n ≡ length r.entries → take n entries ≡ r.entries ++ []
+  cut_is entries n is at =
+      ap (λ k. take k entries) at
+      ∙ ap (λ es. take (length r.entries) es) (is ∙ append_assoc r.entries (entry.Open number group ∷ []) (steps inside))
+      ∙ take-append_seam r.entries (entry.Open number group ∷ steps inside) ∙ sym (append-nil r.entries)
+
+  any_goes : (level : Level) (typed : Typed) (entries : List Entry) → entries ≡ begun ++ steps inside → typed.start ≡ length r.entries → (b : Bool)
+      → Goes r (cond b (cut_back level typed r.outer entries) (kept level typed r.outer entries))
+  any_goes level typed entries is at true = record { outer = refl; parts = NoMore; entries = cut_is entries typed.start is at }
+  any_goes level typed entries is at false = record { outer = refl; parts = Message number group inside NoMore; entries = closed_is entries is }
 
 module _ (files : List FileDescriptorProto) (table : Table) where
+  with_is : (named : Named) (field : Option FieldDescriptorProto) (f : Named × FieldDescriptorProto) → with_field named field ≡ Ok f → Some named ≡ Some f.0
+  with_is named None f h = absurd cc
+  with_is named (Some field) f h =
+      let same : (named, field) ≡ f = cc in
+      ap (λ (x : Named × FieldDescriptorProto). Some x.0) same
+
+  field_is : (o : Option Named) (f : Named × FieldDescriptorProto) → named_field_in files table o ≡ Ok f → o ≡ Some f.0
+  field_is None f h = absurd cc
+  field_is (Some named) f h = with_is named (field_numbered files table named.number) f h
+
   names_goes : (r : Reading) (colon : Bool) (n : ℕ) (next : Reading) → names files table r colon n ≡ Ok next → Goes r next
   names_goes r colon n next h =
       let is : naming r colon n ≡ next = unless_is (naming r colon n) _ next h in
@@ -153,7 +230,9 @@ module _ (files : List FileDescriptorProto) (table : Table) where
       record { outer = ap (λ (x : Reading). x.outer) (sym said) ∙ goes.outer; parts = goes.parts; entries = ap (λ (x : Reading). x.entries) (sym said) ∙ goes.entries }
 
   opens_enters : (r next : Reading) → opens files table r ≡ Ok next → Enters r next
-  opens_enters r next h = let (f, is, h1) = then (named_field files table r.level) (λ f. opened_as r f.0 f.1 (message_of_type table f.1)) next h in opened_enters r f.0 f.1 (message_of_type table f.1) next h1
+  opens_enters r next h =
+      let (f, is, h1) = then (named_field files table r.level) (λ f. opened_typed r f.0 f.1 (message_of_type table f.1) f.0.typed) next h in
+      typed_enters r f.0 f.1 (message_of_type table f.1) f.0.typed (field_is r.level.field f is) refl next h1
 
   lists_stays : (r next : Reading) → lists files table r ≡ Ok next → r ≡ next
   lists_stays r next h = let (f, is, h1) = then (named_field files table r.level) (λ f. unless_wrong r (wrong_with_list table f.0 f.1)) next h in unless_is r (wrong_with_list table f.0 f.1) next h1
@@ -161,27 +240,34 @@ module _ (files : List FileDescriptorProto) (table : Table) where
   completed_whole : (level : Level) (more : List Entry) → completed files table level ≡ Ok more → IsWhole more
   completed_whole level more h = ended_whole table level (message_numbered files table level.message) more h
 
+  out_goes : (r : Reading) (number : ℕ) (group : Bool) (inside : Parts) (level : Level) (x : Reading) → x.entries ≡ begun r number group inside ++ steps inside → (o : Option Typed) → ((t : Typed) → o ≡ Some t → t.start ≡ length r.entries) → (next : Reading) → goes_out files table x level r.outer o ≡ Ok next → Goes r next
+  out_goes r number group inside level x is None starts next h =
+      let made : Reading = record { level = level; outer = r.outer; entries = x.entries ++ entry.Close ∷ [] } in
+      let same : made ≡ next = cc in
+      record {
+        outer = ap (λ (x : Reading). x.outer) (sym same);
+        parts = Message number group inside NoMore;
+        entries = ap (λ (x : Reading). x.entries) (sym same) ∙ closed_is r number group inside x.entries is;
+      }
+  out_goes r number group inside level x is (Some typed) starts next h =
+      let in_proto3 : Bool = is_in_proto3 files table level.message in
+      let same : any_ends in_proto3 level typed r.outer x.entries ≡ next = not_refused (is_any_told level typed) kind.AnyAgain _ next h in
+      let goes : Goes r (any_ends in_proto3 level typed r.outer x.entries) = any_goes r number group inside level typed x.entries is (starts typed refl) (in_proto3 && is_bare typed x.entries) in
+      subst (λ n. Goes r n) same goes
+
   -- A message ends: what it said is the value of a field of the one around.
   closed_goes : (r inner after next : Reading) (enters : Enters r inner) → Goes inner after → closes files table after ≡ Ok next → Goes r next
   closed_goes r inner after next enters goes h =
-      let (more, is, h1) = then (completed files table after.level) (λ more. out_of after after.outer more) next h in
+      let (more, is, h1) = then (completed files table after.level) (λ more. out_of files table (saying_more after more) after.outer) next h in
       let (q, whole) = completed_whole after.level more is in
       let around : after.outer ≡ enters.level ∷ r.outer = goes.outer ∙ enters.outer in
-      let left : out_of after (enters.level ∷ r.outer) more ≡ Ok next = ap (λ o. out_of after o more) (sym around) ∙ h1 in
-      let made : Reading = record { level = enters.level; outer = r.outer; entries = (after.entries ++ more) ++ entry.Close ∷ [] } in
-      let same : made ≡ next = cc in
+      let left : out_of files table (saying_more after more) (enters.level ∷ r.outer) ≡ Ok next = ap (λ o. out_of files table (saying_more after more) o) (sym around) ∙ h1 in
       let inside : Parts = joined goes.parts q in
-      let begun : List Entry = r.entries ++ entry.Open enters.number enters.group ∷ [] in
-      let told : after.entries ++ more ≡ begun ++ steps inside =
-      ap (λ es. es ++ more) (goes.entries ∙ ap (λ es. es ++ steps goes.parts) enters.entries) ∙ ap (λ es. (begun ++ steps goes.parts) ++ es) whole
-      ∙ append_assoc begun (steps goes.parts) (steps q) ∙ ap (λ es. begun ++ es) (sym (steps_joined goes.parts q)) in
-      record {
-        outer = ap (λ (x : Reading). x.outer) (sym same);
-        parts = Message enters.number enters.group inside NoMore;
-        entries = ap (λ (x : Reading). x.entries) (sym same) ∙ ap (λ es. es ++ entry.Close ∷ []) told
-            ∙ append_assoc begun (steps inside) (entry.Close ∷ [])
-            ∙ append_assoc r.entries (entry.Open enters.number enters.group ∷ []) (steps inside ++ entry.Close ∷ []);
-      }
+      let front : List Entry = begun r enters.number enters.group inside in
+      let told : after.entries ++ more ≡ front ++ steps inside =
+      ap (λ es. es ++ more) (goes.entries ∙ ap (λ es. es ++ steps goes.parts) enters.entries) ∙ ap (λ es. (front ++ steps goes.parts) ++ es) whole
+      ∙ append_assoc front (steps goes.parts) (steps q) ∙ ap (λ es. front ++ es) (sym (steps_joined goes.parts q)) in
+      out_goes r enters.number enters.group inside enters.level (saying_more after more) told (typed_in enters.level) enters.typed next left
 
 -- ---- all steps
 
@@ -196,8 +282,21 @@ module _ (files : List FileDescriptorProto) (table : Table) (sees packages : Lis
     goes : Goes r after
     then_on : from index after rest ≡ Ok final
 
+  named_goes : (r : Reading) (name : List Shape) (colon : Bool) (o : Option AnyFields) (next : Reading) → named_in files table sees packages r name colon o ≡ Ok next → Goes r next
+  named_goes r name colon None next h =
+      let (n, is, h1) = then (field_in_text files table sees packages r.level.message name) (λ n. names files table r colon n) next h in
+      names_goes files table r colon n next h1
+  named_goes r name colon (Some fields) next h =
+      let (t, is, h1) = then (type_in_text files table sees packages name) (λ t. Ok (naming_type r colon fields t.0 t.1)) next h in
+      let same : naming_type r colon fields t.0 t.1 ≡ next = cc in
+      record {
+        outer = ap (λ (x : Reading). x.outer) (sym same);
+        parts = Value 1 false (on_wire.Bytes t.1) NoMore;
+        entries = ap (λ (x : Reading). x.entries) (sym same);
+      }
+
   name_goes : (r : Reading) (name : List Piece) (colon : Bool) (next : Reading) → step files table sees packages r (Name name colon) ≡ Ok next → Goes r next
-  name_goes r name colon next h = let (n, is, h1) = then (field_in_text files table sees packages r.level.message (shapes_of name)) (λ n. names files table r colon n) next h in names_goes files table r colon n next h1
+  name_goes r name colon next h = named_goes r (shapes_of name) colon (fields_for files table r.level.message (shapes_of name)) next h
 
   -- a message in braces, or in angle brackets, by what comes of the steps within
   in_message : (some : List Step) → ((index : ℕ) (r : Reading) (rest : List Step) (final : Reading) → from index r (some ++ rest) ≡ Ok final → Onward r rest final) → (index : ℕ) (r : Reading) (rest : List Step) (final : Reading) → from index r ((Open ∷ some ++ Close ∷ []) ++ rest) ≡ Ok final → Onward r rest final

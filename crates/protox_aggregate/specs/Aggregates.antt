@@ -1,16 +1,20 @@
 -- What a message in text format says, step by step.
-use Rattle.std.specs.Prelude.{ℕ, ◌+◌, Bool, not, ◌&&◌, List, [], ◌∷◌, ◌++◌, length, Option, Some, None, Result, Ok, Err, is_some, if◌then◌else◌}
+use Rattle.std.specs.Prelude.{ℕ, ◌+◌, ◌-◌, ◌==◌, Bool, false, not, ◌&&◌, ◌||◌, List, [], ◌∷◌, ◌++◌, length, Option, Some, None, Result, Ok, Err, is_some, take, if◌then◌else◌}
+use Rattle.protox_aggregate.specs.Anys.{fields_for, type_in_text}
 use Rattle.protox_aggregate.specs.Complete.{completed}
 use Rattle.protox_aggregate.specs.Fields.{is_group, is_implicit, is_in_proto3, is_packed, is_zero, wire_number}
-use Rattle.protox_aggregate.specs.Levels.{Level, telling, unread, wrong_with_naming}
+use Rattle.protox_aggregate.specs.Levels.{Level, has_told, telling, told_alone, typed_in, unread, wrong_with_naming}
 use Rattle.protox_aggregate.specs.Names.{field_in_text}
 use Rattle.protox_aggregate.specs.Values.{value_said}
 use Rattle.protox_aggregate.specs.declared.fault.AggregateFault.{AggregateFault}
 use Rattle.protox_aggregate.specs.declared.fault.AggregateFaultKind.{AggregateFaultKind}
 use Rattle.protox_aggregate.specs.declared.fault.AggregateFaultKind.TheVariants as kind
+use Rattle.protox_aggregate.specs.declared.level.AnyFields.{AnyFields}
 use Rattle.protox_aggregate.specs.declared.level.Named.{Named}
+use Rattle.protox_aggregate.specs.declared.level.Typed.{Typed}
 use Rattle.protox_descriptor.specs.FieldDescriptorProto.{FieldDescriptorProto}
 use Rattle.protox_descriptor.specs.declared.descriptor.FileDescriptorProto.{FileDescriptorProto}
+use Rattle.protox_lexeme.specs.Shapes.{Shape}
 use Rattle.protox_message_bytes.specs.declared.entry.Entry.{Entry}
 use Rattle.protox_message_bytes.specs.declared.entry.Entry.TheVariants as entry
 use Rattle.protox_settings.specs.Fields.{field_numbered, is_repeated, message_of_type}
@@ -20,6 +24,7 @@ use Rattle.protox_text_format.specs.Spelling.{Step, Name, Scalar, Open, Close, O
 use Rattle.protox_text_format.specs.declared.item.Piece.{Piece}
 use Rattle.protox_text_values.specs.Scalars.{shapes_of}
 use Rattle.protox_values.specs.declared.setting.SettingValue.{SettingValue}
+use Rattle.protox_values.specs.declared.setting.SettingValue.TheVariants as on_wire
 
 -- What was read: the innermost message; the messages around it, the innermost first; and what was
 -- said.
@@ -32,7 +37,21 @@ pub record Reading : Type 0 where
 
 -- a field is named in the innermost message
 abbrev pub naming : Reading → Bool → ℕ → Reading
-naming reading colon n = record reading { level = record reading.level { field = Some (record { number = n; colon = colon }) } }
+naming reading colon n = record reading { level = record reading.level { field = Some (record { number = n; colon = colon; typed = None }) } }
+
+-- In an `Any` with these fields a type is named, by its address. The address is the value of the one
+-- field, and the other one is to have a message of this type.
+abbrev pub naming_type : Reading → Bool → AnyFields → ℕ → List ℕ → Reading
+naming_type reading colon fields message place = record reading {
+  level = record reading.level {
+    field = Some (record {
+      number = fields.value;
+      colon = colon;
+      typed = Some (record { message = message; fields = fields; start = 0 });
+    });
+  };
+  entries = reading.entries ++ entry.Value 1 false (on_wire.Bytes place) ∷ [];
+}
 
 -- the field that was named has a value
 abbrev pub told : Level → Named → FieldDescriptorProto → Level
@@ -45,15 +64,55 @@ saying reading named field said = record reading { level = told reading.level na
 -- Its value is a message of this type, which begins.
 abbrev pub into : Reading → Named → FieldDescriptorProto → ℕ → Reading
 into reading named field message = record {
-  level = unread message;
+  level = unread message reading.level.held_as;
   outer = told reading.level named field ∷ reading.outer;
   entries = reading.entries ++ entry.Open (wire_number field) (is_group field) ∷ [];
 }
 
--- A message ends, and this is said besides.
-abbrev pub out_of : Reading → List Level → List Entry → Result Reading AggregateFaultKind
-out_of reading [] more = Err kind.Misplaced
-out_of reading (level ∷ outer) more = Ok (record { level = level; outer = outer; entries = (reading.entries ++ more) ++ entry.Close ∷ [] })
+-- the message, where so many entries stand in front of its value
+abbrev pub started : Level → Named → Typed → ℕ → Level
+started level named typed n = record level { field = Some (record named { typed = Some (record typed { start = n }) }) }
+
+-- The message of a type that was named in an `Any` begins.
+abbrev pub into_typed : Reading → Named → Typed → Reading
+into_typed reading named typed = record {
+  level = unread typed.message (Some typed.message);
+  outer = started reading.level named typed (length reading.entries) ∷ reading.outer;
+  entries = reading.entries ++ entry.Open 2 false ∷ [];
+}
+
+-- Nothing was said since a message began.
+abbrev pub is_bare : Typed → List Entry → Bool
+is_bare typed entries = length entries - typed.start == 1
+
+-- The value of an `Any` ends, and isn't said.
+abbrev pub cut_back : Level → Typed → List Level → List Entry → Reading
+cut_back level typed outer entries = record {
+  level = record level { told = level.told ++ told_alone typed.fields.url ∷ [] };
+  outer = outer;
+  entries = take typed.start entries;
+}
+
+-- The value of an `Any` ends, and is said.
+abbrev pub kept : Level → Typed → List Level → List Entry → Reading
+kept level typed outer entries = record {
+  level = record level { told = (level.told ++ told_alone typed.fields.url ∷ []) ++ told_alone typed.fields.value ∷ [] };
+  outer = outer;
+  entries = entries ++ entry.Close ∷ [];
+}
+
+-- The value of an `Any` ends. In proto3 it isn't said if it has no bytes.
+abbrev pub any_ends : Bool → Level → Typed → List Level → List Entry → Reading
+any_ends in_proto3 level typed outer entries =
+    if in_proto3 && is_bare typed entries then cut_back level typed outer entries else kept level typed outer entries
+
+-- One of the two fields of an `Any` has a value.
+abbrev pub is_any_told : Level → Typed → Bool
+is_any_told level typed = has_told level.told typed.fields.url || has_told level.told typed.fields.value
+
+-- This is said besides.
+abbrev pub saying_more : Reading → List Entry → Reading
+saying_more reading more = record reading { entries = reading.entries ++ more }
 
 abbrev pub unless_wrong : Reading → Option AggregateFaultKind → Result Reading AggregateFaultKind
 unless_wrong reading None = Ok reading
@@ -70,17 +129,23 @@ said_of reading named in_proto3 field value =
     if is_implicit in_proto3 field && is_zero value then reading
     else saying reading named field (value_entry in_proto3 field value)
 
--- The message that begins as the value of a field, if its type is one.
+-- the message that begins as the value of a field, if its type is one
 abbrev pub opened_as : Reading → Named → FieldDescriptorProto → Option ℕ → Result Reading AggregateFaultKind
 opened_as reading named field (Some message) = Ok (into reading named field message)
 opened_as reading named field None = if named.colon then Err kind.NotScalar else Err kind.NoColon
+
+-- The same; or it begins as the value of an `Any`.
+abbrev pub opened_typed : Reading → Named → FieldDescriptorProto → Option ℕ → Option Typed → Result Reading AggregateFaultKind
+opened_typed reading named field message (Some typed) = Ok (into_typed reading named typed)
+opened_typed reading named field message None = opened_as reading named field message
 
 module _ (table : Table) where
   -- What is wrong with a list of values of a field, if anything. The field is to be repeated, and a
   -- colon stands before values that are no messages.
   abbrev pub wrong_with_list : Named → FieldDescriptorProto → Option AggregateFaultKind
   wrong_with_list named field =
-      if not (is_some (message_of_type table field)) && not named.colon then Some kind.NoColon
+      if is_some named.typed then Some kind.NotMessage
+      else if not (is_some (message_of_type table field)) && not named.colon then Some kind.NoColon
       else if is_repeated field then None
       else Some kind.NotRepeated
 
@@ -110,7 +175,7 @@ module _ (files : List FileDescriptorProto) (table : Table) where
   -- What a value says that is no message. The enums of a message of proto3 are open.
   abbrev pub value_of : ℕ → List Piece → Named → FieldDescriptorProto → Result SettingValue AggregateFaultKind
   value_of message pieces named field =
-      if is_some (message_of_type table field) then Err kind.NotMessage
+      if is_some named.typed || is_some (message_of_type table field) then Err kind.NotMessage
       else if not named.colon then Err kind.NoColon
       else value_said files table field (is_in_proto3 files table message) (shapes_of pieces)
 
@@ -118,13 +183,25 @@ module _ (files : List FileDescriptorProto) (table : Table) where
   says_value reading pieces = goes_on (named_field reading.level) (λ f. goes_on (value_of reading.level.message pieces f.0 f.1) (λ value. Ok (said_of reading f.0 (is_in_proto3 files table f.0.number) f.1 value)))
 
   abbrev pub opens : Reading → Result Reading AggregateFaultKind
-  opens reading = goes_on (named_field reading.level) (λ f. opened_as reading f.0 f.1 (message_of_type table f.1))
+  opens reading = goes_on (named_field reading.level) (λ f. opened_typed reading f.0 f.1 (message_of_type table f.1) f.0.typed)
 
   abbrev pub lists : Reading → Result Reading AggregateFaultKind
   lists reading = goes_on (named_field reading.level) (λ f. unless_wrong reading (wrong_with_list table f.0 f.1))
 
+  -- The innermost message ends, and the one around it goes on. That is an `Any` if a type was named in
+  -- it.
+  abbrev pub goes_out : Reading → Level → List Level → Option Typed → Result Reading AggregateFaultKind
+  goes_out reading level outer None = Ok (record { level = level; outer = outer; entries = reading.entries ++ entry.Close ∷ [] })
+  goes_out reading level outer (Some typed) =
+      if is_any_told level typed then Err kind.AnyAgain
+      else Ok (any_ends (is_in_proto3 files table level.message) level typed outer reading.entries)
+
+  abbrev pub out_of : Reading → List Level → Result Reading AggregateFaultKind
+  out_of reading [] = Err kind.Misplaced
+  out_of reading (level ∷ outer) = goes_out reading level outer (typed_in level)
+
   abbrev pub closes : Reading → Result Reading AggregateFaultKind
-  closes reading = goes_on (completed files table reading.level) (λ more. out_of reading reading.outer more)
+  closes reading = goes_on (completed files table reading.level) (λ more. out_of (saying_more reading more) reading.outer)
 
   -- what is said of all, where the outermost message ends
   abbrev pub ends : Reading → Result (List Entry) AggregateFaultKind
@@ -136,8 +213,15 @@ at_step index (Ok x) = Ok x
 at_step index (Err wrong) = Err (record { step = index; kind = wrong })
 
 module _ (files : List FileDescriptorProto) (table : Table) (sees packages : List Bool) where
+  -- What a name makes of what was read, where it stands in an `Any` with these fields, or elsewhere.
+  abbrev pub named_in : Reading → List Shape → Bool → Option AnyFields → Result Reading AggregateFaultKind
+  named_in reading name colon (Some fields) =
+      goes_on (type_in_text files table sees packages name) (λ t. Ok (naming_type reading colon fields t.0 t.1))
+  named_in reading name colon None =
+      goes_on (field_in_text files table sees packages reading.level.message name) (λ n. names files table reading colon n)
+
   abbrev pub step : Reading → Step → Result Reading AggregateFaultKind
-  step reading (Name name colon) = goes_on (field_in_text files table sees packages reading.level.message (shapes_of name)) (λ n. names files table reading colon n)
+  step reading (Name name colon) = named_in reading (shapes_of name) colon (fields_for files table reading.level.message (shapes_of name))
   step reading (Scalar pieces) = says_value files table reading pieces
   step reading Open = opens files table reading
   step reading Close = closes files table reading
@@ -151,7 +235,7 @@ module _ (files : List FileDescriptorProto) (table : Table) (sees packages : Lis
 
   -- where nothing was read of a message of this type
   abbrev pub nothing_read : ℕ → Reading
-  nothing_read message = record { level = unread message; outer = []; entries = [] }
+  nothing_read message = record { level = unread message None; outer = []; entries = [] }
 
   -- What a message of this type says, as steps through the fields that are set.
   abbrev pub entries_of : ℕ → List Step → Result (List Entry) AggregateFault

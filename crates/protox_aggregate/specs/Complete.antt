@@ -76,13 +76,18 @@ is_map_entry m = option_map_or (λ options. unwrap_or options.map_entry false) (
 abbrev pub ends_with : Table → Level → DescriptorProto → List Entry
 ends_with table level m = if is_map_entry m then zeros table level.message level.told (out-DescriptorProto m).field else []
 
-abbrev pub if_none_missing : List Entry → Option ℕ → Result (List Entry) AggregateFaultKind
-if_none_missing entries None = Ok entries
-if_none_missing entries (Some n) = Err (kind.Missing n)
+-- what is told of a field that is missing, in the value of an `Any` or elsewhere
+abbrev pub missing_kind : Option ℕ → ℕ → AggregateFaultKind
+missing_kind None n = kind.Missing n
+missing_kind (Some held_as) n = kind.MissingInAny held_as
+
+abbrev pub if_none_missing : Option ℕ → List Entry → Option ℕ → Result (List Entry) AggregateFaultKind
+if_none_missing held_as entries None = Ok entries
+if_none_missing held_as entries (Some n) = Err (missing_kind held_as n)
 
 abbrev pub ended : Table → Level → Option DescriptorProto → Result (List Entry) AggregateFaultKind
 ended table level None = Ok []
-ended table level (Some m) = if_none_missing (ends_with table level m) (missing table level.message level.told (out-DescriptorProto m).field)
+ended table level (Some m) = if_none_missing level.held_as (ends_with table level m) (missing table level.message level.told (out-DescriptorProto m).field)
 
 -- What is said besides where a message ends, or which of the fields that it needs has no value.
 abbrev pub completed : List FileDescriptorProto → Table → Level → Result (List Entry) AggregateFaultKind

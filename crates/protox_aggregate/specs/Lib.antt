@@ -2,6 +2,7 @@ pub mod Fields
 pub mod Names
 pub mod Values
 pub mod Levels
+pub mod Anys
 pub mod Complete
 pub mod Failure
 pub mod Unsaid

@@ -2,7 +2,7 @@
 use Rattle.std.specs.Prelude.{◌≡◌, List, Ok, Err, reverse}
 use Rattle.protox_aggregate.specs.Aggregates.{Reading, step}
 use Rattle.protox_aggregate.specs.Unsaid.{IfUnsaid}
-use Rattle.protox_aggregate.specs.declared.reading.Reader.{Reader}
+use Rattle.protox_aggregate.specs.declared.reader.Reader.{Reader}
 use Rattle.protox_aggregate.specs.declared.unsaid.Unsaid.{Unsaid}
 use Rattle.protox_descriptor.specs.declared.descriptor.FileDescriptorProto.{FileDescriptorProto}
 use Rattle.protox_text_format.specs.Spelling.{Step}

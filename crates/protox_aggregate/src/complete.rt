@@ -89,7 +89,8 @@ pub(crate) fn is_told(told: &[Told], number: usize) -> bool
     told.iter().any(|told| told.number == number)
 }
 
-fn text_of(name: Option<&Text>) -> &str
+/// The text, or an empty one.
+pub(crate) fn text_of(name: Option<&Text>) -> &str
     ensures { result.now ≡ text_of (option_copied name.entry) }
 {
     match name {
@@ -127,6 +128,16 @@ fn missing_field(
         untold(symbols, message, told, field)
     } else {
         None
+    }
+}
+
+// What is told of a field that is missing, in the value of an `Any` or elsewhere.
+fn missing_kind(held_as: Option<usize>, number: usize) -> AggregateFaultKind
+    ensures { result ≡ words.missing_kind held_as number }
+{
+    match held_as {
+        Some(held_as) => AggregateFaultKind::MissingInAny(held_as),
+        None => AggregateFaultKind::Missing(number),
     }
 }
 
@@ -216,7 +227,7 @@ pub(crate) fn complete(
     };
     let fields = message.field.as_slice();
     if let Some(number) = missing(symbols, level.message, &level.told, fields) {
-        return Err(Unsaid::Fault(AggregateFaultKind::Missing(number)));
+        return Err(Unsaid::Fault(missing_kind(level.held_as, number)));
     }
     match end(alloc, symbols, level, message, entries) {
         Ok(()) => Ok(()),

@@ -35,6 +35,16 @@ pub enum AggregateFaultKind {
     Untyped,
     /// The step stands where no message can have it.
     Misplaced,
+    /// The name in brackets has no slash, and stands in a message `Any`.
+    NoSlash,
+    /// The name in brackets, in a message `Any`, is that of no message that the file sees, or its
+    /// domain is another one than protobuf's.
+    UnknownType,
+    /// The message `Any` has the name of a type or a value already.
+    AnyAgain,
+    /// A message ends that is the value of an `Any` or stands in one, and a field has no value, which
+    /// it needs. The value of the `Any` is of the type with this number.
+    MissingInAny(usize),
 }
 
 /// What is wrong with a message, and at which of the steps through it.

@@ -2,11 +2,13 @@
 //! fields that are set.
 #![tactic(auto)]
 
+mod anys;
 mod complete;
 mod fault;
 mod fields;
 mod level;
 mod names;
+mod reader;
 mod reading;
 mod unsaid;
 mod values;

@@ -97,7 +97,8 @@ fn field_called(
     }
 }
 
-fn push_word(name: &mut String, token: &Token<'_>) -> Result<(), AllocError>
+// A word or a dot is added to a name, and no other mark.
+pub(crate) fn push_word(name: &mut String, token: &Token<'_>) -> Result<(), AllocError>
     ensures { OnOk result (string_bytes name.new
         ≡ string_bytes name.old ++ words.word_or_dot (shape_of token.now)) }
 {
@@ -109,7 +110,7 @@ fn push_word(name: &mut String, token: &Token<'_>) -> Result<(), AllocError>
 }
 
 // The words of a name in brackets, and the dots between them.
-fn dotted_words(alloc: Global, pieces: &[Piece<'_>]) -> Result<String, AllocError>
+pub(crate) fn dotted_words(alloc: Global, pieces: &[Piece<'_>]) -> Result<String, AllocError>
     ensures { IfOk result (λ name. string_bytes name ≡ words.dotted_words (shapes_of pieces.now)) }
 {
     let mut name = String::new(alloc);
@@ -162,7 +163,7 @@ fn extension_called(
     }
 }
 
-fn is_slash(token: &Token<'_>) -> bool
+pub(crate) fn is_slash(token: &Token<'_>) -> bool
     ensures { result ≡ words.is_slash (shape_of token.now) }
 {
     match token {
@@ -211,7 +212,7 @@ fn bracketed_field(
 }
 
 // The word that a name is, if it isn't in brackets.
-fn word_of<'a>(pieces: &'a [Piece<'_>]) -> Option<&'a str>
+pub(crate) fn word_of<'a>(pieces: &'a [Piece<'_>]) -> Option<&'a str>
     ensures { option_copied result ≡ words.word_of (shapes_of pieces.now) }
 {
     match pieces {

@@ -1,21 +1,24 @@
 //! Messages, step by step.
 
-ghost use Rattle.std.specs.Prelude.{◌≡◌, ℕ, List, Err, IfErr, IfOk, Ok, OnOk, [], if◌then◌else◌, map};
+ghost use Rattle.std.specs.Prelude.{◌≡◌, ℕ, List, Err, IfErr, IfOk, Ok, OnOk, None, Some, if◌then◌else◌, map};
 ghost use Rattle.protox_aggregate.specs.Aggregates as words;
 ghost use Rattle.protox_aggregate.specs.Failure.{IfFault};
 ghost use Rattle.protox_aggregate.specs.Levels as levels;
 ghost use Rattle.protox_aggregate.specs.Reading.{IsRefused, Leads, reading_of};
 ghost use Rattle.protox_aggregate.specs.Unsaid.{IfUnsaid};
-ghost use Rattle.protox_settings.specs.Fields.{field_numbered as numbered};
+ghost use Rattle.protox_settings.specs.Fields.{field_numbered as numbered, message_of_type as message_of};
 ghost use Rattle.protox_text_format.specs.Spelling.{AMessage, Name, Spells, seen};
 ghost use Rattle.protox_text_format.specs.declared.item.Piece.{Piece as APiece};
+ghost use Rattle.protox_text_values.specs.Scalars.{shapes_of};
 ghost use Rattle.protox_aggregate.specs.Whole.{IsWhole};
 
+use crate::anys::{fields_for, type_in_text};
 use crate::complete::{complete, is_told};
 use crate::fault::{AggregateFailure, AggregateFault, AggregateFaultKind};
-use crate::fields::{is_group, is_implicit, is_in_proto3, is_packed, is_zero, wire_number};
-use crate::level::{Level, Named, Told};
+use crate::fields::is_in_proto3;
+use crate::level::{AnyFields, Level, Named, Typed, wrong_with_naming};
 use crate::names::field_in_text;
+use crate::reader::Reader;
 use crate::unsaid::Unsaid;
 use crate::values::value_said;
 use protox_descriptor::descriptor::{FieldDescriptorProto, FileDescriptorProto};
@@ -25,8 +28,7 @@ use protox_symbols::Symbols;
 use protox_text_format::{Item, Piece};
 use protox_values::SettingValue;
 use protox_views::View;
-use std::alloc::{AllocError, Global};
-use std::mem;
+use std::alloc::Global;
 
 // The field that was named last, by its number in the table and as it is declared.
 fn named_field<'a>(
@@ -43,40 +45,6 @@ fn named_field<'a>(
     match field_numbered(symbols, files, named.number) {
         Some(field) => Ok((named, field)),
         None => Err(AggregateFaultKind::Misplaced),
-    }
-}
-
-// The field that has a value and is of the same oneof.
-fn told_along(told: &[Told], oneof: Option<i32>) -> Option<Told>
-    ensures { result ≡ levels.told_along told.now oneof }
-{
-    let index = oneof?;
-    for other in told {
-        if other.oneof == Some(index) {
-            return Some(*other);
-        }
-    }
-    None
-}
-
-// What is wrong with naming a field, if anything: a field that isn't repeated has one value, and of a
-// oneof one field has one.
-fn wrong_with_naming(
-    told: &[Told],
-    number: usize,
-    field: &FieldDescriptorProto,
-) -> Option<AggregateFaultKind>
-    ensures { result ≡ levels.wrong_with_naming told.now number field.now }
-{
-    if is_repeated(field) {
-        return None;
-    }
-    if is_told(told, number) {
-        return Some(AggregateFaultKind::Again(number));
-    }
-    match told_along(told, field.oneof_index()) {
-        Some(other) => Some(AggregateFaultKind::Along(number, other.number)),
-        None => None,
     }
 }
 
@@ -110,7 +78,7 @@ fn value_of(
     ensures fault { IfErr result (λ unsaid. IfUnsaid unsaid (λ kind. words.value_of files.now
         symbols.now message pieces.now named field.now ≡ Err kind)) }
 {
-    if message_of_type(symbols, field).is_some() {
+    if named.typed.is_some() || message_of_type(symbols, field).is_some() {
         return Err(Unsaid::Fault(AggregateFaultKind::NotMessage));
     }
     if !named.colon {
@@ -128,6 +96,9 @@ fn wrong_with_list(
 ) -> Option<AggregateFaultKind>
     ensures { result ≡ words.wrong_with_list symbols.now named field.now }
 {
+    if named.typed.is_some() {
+        return Some(AggregateFaultKind::NotMessage);
+    }
     if message_of_type(symbols, field).is_none() && !named.colon {
         return Some(AggregateFaultKind::NoColon);
     }
@@ -149,41 +120,74 @@ fn no_message(named: Named) -> AggregateFaultKind
     }
 }
 
-impl Level {
-    // Nothing was read of the message.
-    fn unread(alloc: Global, message: usize) -> Level
-        ensures { result ≡ levels.unread message }
-    {
-        Level {
-            message,
-            field: None,
-            told: Vec::new(alloc),
-        }
-    }
-
-    // The field that was named has a value.
-    fn tell(&mut self, named: Named, field: &FieldDescriptorProto) -> Result<(), AllocError>
-        ensures { OnOk result (self.new ≡ words.told self.old named field.now) }
-    {
-        if !is_repeated(field) {
-            self.told.push(Told {
-                number: named.number,
-                oneof: field.oneof_index(),
-            })?;
-        }
-        Ok(())
-    }
-}
-
-// What is read: the innermost message, those around it, and what was said so far.
-#[derive(Drop)]
-struct Reader {
-    level: Level,
-    outer: Vec<Level>,
-    entries: Vec<Entry>,
+// Whether one of the two fields of a message `Any` has a value.
+fn is_any_told(level: &Level, typed: Typed) -> bool
+    ensures { result ≡ words.is_any_told level.now typed }
+{
+    is_told(&level.told, typed.fields.url) || is_told(&level.told, typed.fields.value)
 }
 
 impl Reader {
+    // The name of a field.
+    fn field_name(
+        &mut self,
+        alloc: Global,
+        view: &View<'_>,
+        files: &[FileDescriptorProto],
+        name: &[Piece<'_>],
+        colon: bool,
+    ) -> Result<(), Unsaid>
+        ensures ok { OnOk result (words.named_in files.now view.now.symbols.now view.now.sees.now
+            view.now.packages (reading_of self.old) (shapes_of name.now) colon None
+            ≡ Ok (reading_of self.new)) }
+        ensures err { IfErr result (λ unsaid. IfUnsaid unsaid (λ kind. words.named_in files.now
+            view.now.symbols.now view.now.sees.now view.now.packages (reading_of self.old)
+            (shapes_of name.now) colon None ≡ Err kind)) }
+    {
+        match field_in_text(alloc, view, files, self.level.message, name) {
+            Ok(Ok(number)) => match wrong_with_field(view.symbols, files, &self.level, number) {
+                Some(kind) => Err(Unsaid::Fault(kind)),
+                None => {
+                    self.level.field = Some(Named {
+                        number,
+                        colon,
+                        typed: None,
+                    });
+                    Ok(())
+                }
+            },
+            Ok(Err(kind)) => Err(Unsaid::Fault(kind)),
+            Err(_) => Err(Unsaid::OutOfMemory),
+        }
+    }
+
+    // The name of a type, in a message `Any` with these fields.
+    fn type_name(
+        &mut self,
+        alloc: Global,
+        view: &View<'_>,
+        files: &[FileDescriptorProto],
+        name: &[Piece<'_>],
+        colon: bool,
+        fields: AnyFields,
+    ) -> Result<(), Unsaid>
+        ensures ok { OnOk result (words.named_in files.now view.now.symbols.now view.now.sees.now
+            view.now.packages (reading_of self.old) (shapes_of name.now) colon (Some fields)
+            ≡ Ok (reading_of self.new)) }
+        ensures err { IfErr result (λ unsaid. IfUnsaid unsaid (λ kind. words.named_in files.now
+            view.now.symbols.now view.now.sees.now view.now.packages (reading_of self.old)
+            (shapes_of name.now) colon (Some fields) ≡ Err kind)) }
+    {
+        let (message, address) = match type_in_text(alloc, view, files, name) {
+            Ok(found) => found,
+            Err(unsaid) => return Err(unsaid),
+        };
+        match self.say_type(colon, fields, message, address) {
+            Ok(()) => Ok(()),
+            Err(_) => Err(Unsaid::OutOfMemory),
+        }
+    }
+
     fn name(
         &mut self,
         alloc: Global,
@@ -197,36 +201,10 @@ impl Reader {
         ensures err { IfErr result (IsRefused files.now view.now (Name name.now colon)
             (reading_of self.old)) }
     {
-        match field_in_text(alloc, view, files, self.level.message, name) {
-            Ok(Ok(number)) => match wrong_with_field(view.symbols, files, &self.level, number) {
-                Some(kind) => Err(Unsaid::Fault(kind)),
-                None => {
-                    self.level.field = Some(Named { number, colon });
-                    Ok(())
-                }
-            },
-            Ok(Err(kind)) => Err(Unsaid::Fault(kind)),
-            Err(_) => Err(Unsaid::OutOfMemory),
+        match fields_for(view.symbols, files, self.level.message, name) {
+            Some(fields) => self.type_name(alloc, view, files, name, colon, fields),
+            None => self.field_name(alloc, view, files, name, colon),
         }
-    }
-
-    // A field has a value that is no message. What sets nothing isn't said.
-    fn say(
-        &mut self,
-        named: Named,
-        in_proto3: bool,
-        field: &FieldDescriptorProto,
-        value: SettingValue,
-    ) -> Result<(), AllocError>
-        ensures { OnOk result (reading_of self.new
-            ≡ words.said_of (reading_of self.old) named in_proto3 field.now value) }
-    {
-        if is_implicit(field, in_proto3) && is_zero(&value) {
-            return Ok(());
-        }
-        let entry = Entry::Value(wire_number(field), is_packed(field, in_proto3), value);
-        self.entries.push(entry)?;
-        self.level.tell(named, field)
     }
 
     fn value(
@@ -254,23 +232,29 @@ impl Reader {
         }
     }
 
-    // The value of the field that was named is a message of this type, which begins.
-    fn enter(
+    // A message begins as the value of the field that was named.
+    fn enter_named(
         &mut self,
         alloc: Global,
+        symbols: &Symbols,
         named: Named,
         field: &FieldDescriptorProto,
-        message: usize,
-    ) -> Result<(), AllocError>
-        ensures { OnOk result (reading_of self.new
-            ≡ words.into (reading_of self.old) named field.now message) }
+    ) -> Result<(), Unsaid>
+        ensures ok { OnOk result (words.opened_typed (reading_of self.old) named field.now
+            (message_of symbols.now field.now) named.typed ≡ Ok (reading_of self.new)) }
+        ensures err { IfErr result (λ unsaid. IfUnsaid unsaid (λ kind. words.opened_typed
+            (reading_of self.old) named field.now (message_of symbols.now field.now) named.typed
+            ≡ Err kind)) }
     {
-        self.entries
-            .push(Entry::Open(wire_number(field), is_group(field)))?;
-        self.level.tell(named, field)?;
-        let level = mem::replace(&mut self.level, Level::unread(alloc, message));
-        self.outer.push(level)?;
-        Ok(())
+        let entered = match (named.typed, message_of_type(symbols, field)) {
+            (Some(typed), _) => self.enter_typed(alloc, named, typed),
+            (None, Some(message)) => self.enter(alloc, named, field, message),
+            (None, None) => return Err(Unsaid::Fault(no_message(named))),
+        };
+        match entered {
+            Ok(()) => Ok(()),
+            Err(_) => Err(Unsaid::OutOfMemory),
+        }
     }
 
     fn open(
@@ -288,28 +272,47 @@ impl Reader {
             Ok(found) => found,
             Err(kind) => return Err(Unsaid::Fault(kind)),
         };
-        let Some(message) = message_of_type(symbols, field) else {
-            return Err(Unsaid::Fault(no_message(named)));
+        self.enter_named(alloc, symbols, named, field)
+    }
+
+    // Goes back to the message around.
+    fn leave_to(
+        &mut self,
+        symbols: &Symbols,
+        files: &[FileDescriptorProto],
+        around: Level,
+    ) -> Result<(), Unsaid>
+        ensures ok { OnOk result (words.goes_out files.now symbols.now (reading_of self.old) around
+            (reading_of self.old).outer (levels.typed_in around) ≡ Ok (reading_of self.new)) }
+        ensures err { IfErr result (λ unsaid. IfUnsaid unsaid (λ kind. words.goes_out files.now
+            symbols.now (reading_of self.old) around (reading_of self.old).outer
+            (levels.typed_in around) ≡ Err kind)) }
+    {
+        let Some(typed) = around.typed() else {
+            self.level = around;
+            self.entries.push(Entry::Close)?;
+            return Ok(());
         };
-        match self.enter(alloc, named, field, message) {
+        if is_any_told(&around, typed) {
+            return Err(Unsaid::Fault(AggregateFaultKind::AnyAgain));
+        }
+        let in_proto3 = is_in_proto3(symbols, files, around.message);
+        match self.leave_value(in_proto3, around, typed) {
             Ok(()) => Ok(()),
             Err(_) => Err(Unsaid::OutOfMemory),
         }
     }
 
-    // Goes back to the message around.
-    fn leave(&mut self) -> Result<(), Unsaid>
-        ensures ok { OnOk result (words.out_of (reading_of self.old) (reading_of self.old).outer []
-            ≡ Ok (reading_of self.new)) }
-        ensures err { IfErr result (λ unsaid. IfUnsaid unsaid (λ kind.
-            words.out_of (reading_of self.old) (reading_of self.old).outer [] ≡ Err kind)) }
+    fn leave(&mut self, symbols: &Symbols, files: &[FileDescriptorProto]) -> Result<(), Unsaid>
+        ensures ok { OnOk result (words.out_of files.now symbols.now (reading_of self.old)
+            (reading_of self.old).outer ≡ Ok (reading_of self.new)) }
+        ensures err { IfErr result (λ unsaid. IfUnsaid unsaid (λ kind. words.out_of files.now
+            symbols.now (reading_of self.old) (reading_of self.old).outer ≡ Err kind)) }
     {
-        let Some(level) = self.outer.pop() else {
-            return Err(Unsaid::Fault(AggregateFaultKind::Misplaced));
-        };
-        self.level = level;
-        self.entries.push(Entry::Close)?;
-        Ok(())
+        match self.outer.pop() {
+            Some(around) => self.leave_to(symbols, files, around),
+            None => Err(Unsaid::Fault(AggregateFaultKind::Misplaced)),
+        }
     }
 
     fn close(
@@ -324,7 +327,7 @@ impl Reader {
             words.closes files.now symbols.now (reading_of self.old) ≡ Err kind)) }
     {
         complete(alloc, symbols, files, &self.level, &mut self.entries)?;
-        self.leave()
+        self.leave(symbols, files)
     }
 
     fn list(&self, symbols: &Symbols, files: &[FileDescriptorProto]) -> Result<(), Unsaid>
@@ -428,7 +431,7 @@ fn read_entries(
         ≡ Err fault)) }
 {
     let mut reader = Reader {
-        level: Level::unread(alloc, message),
+        level: Level::unread(alloc, message, None),
         outer: Vec::new(alloc),
         entries: Vec::new(alloc),
     };
@@ -445,6 +448,10 @@ fn read_entries(
 /// file sees. Each value is one of the field's type. A field that isn't repeated is set once, one field
 /// of a oneof is set, and no field is missing that its message needs. In proto3 a field that is set to
 /// 0, `false` or an empty text isn't set. The entry of a map has both its key and its value.
+///
+/// In a message `google.protobuf.Any` a name in brackets is that of a type that the file sees, behind
+/// one of protobuf's domains and a slash. What is in the brackets is the value of `type_url`, and the
+/// bytes of the message of this type are that of `value`.
 ///
 /// If the steps are those through a message, as `read` gives them, what is answered are steps through a
 /// whole message, too, of which `message_bytes` gives the bytes.

@@ -130,6 +130,14 @@ again_text name = codes "Non-repeated field \"" ++ name ++ codes "\" is specifie
 abbrev pub along : List ℕ → List ℕ → List ℕ → List ℕ
 along name other oneof = codes "Field \"" ++ name ++ codes "\" is specified along with field \"" ++ other ++ codes "\", another member of oneof \"" ++ oneof ++ codes "\"."
 
+-- of a type with this address
+abbrev pub unknown_type : List ℕ → List ℕ
+unknown_type place = codes "Could not find type \"" ++ place ++ codes "\" stored in google.protobuf.Any."
+
+-- of the value of an `Any` that has this type
+abbrev pub missing_in_any : List ℕ → List ℕ
+missing_in_any message = codes "Value of type \"" ++ message ++ codes "\" stored in google.protobuf.Any has missing required fields"
+
 -- where this was wanted, and that is found
 abbrev pub found_text : List ℕ → List ℕ → List ℕ
 found_text wanted found = codes "Expected \"" ++ wanted ++ codes "\", found \"" ++ found ++ codes "\"."
@@ -169,7 +177,7 @@ module _ (here : Site) where
   abbrev pub step_text : AggregateFaultKind → List Piece → List ℕ → List ℕ → List ℕ
   step_text (wrong.NoField m) step found field = no_field (full_name m) (all_printed step)
   step_text (wrong.NoExtension m) step found field = no_extension (full_name m) (all_printed (in_brackets step))
-  step_text wrong.NoType step found field = codes "The name of a type in brackets, as in a message Any, is not read."
+  step_text wrong.NoType step found field = found_text (codes "]") (codes "/")
   step_text wrong.NoColon step found field = found_text (codes ":") found
   step_text wrong.NotRepeated step found field = is_not_text field (codes "not repeated") found
   step_text wrong.NotMessage step found field = found_text (codes "{") found
@@ -181,6 +189,10 @@ module _ (here : Site) where
   step_text (wrong.Missing n) step found field = codes "Message missing required fields: " ++ field_name n
   step_text wrong.Untyped step found field = codes "Field \"" ++ field ++ codes "\" has no type."
   step_text wrong.Misplaced step found field = codes "Unexpected \"" ++ found ++ codes "\"."
+  step_text wrong.NoSlash step found field = found_text (codes "/") (codes "]")
+  step_text wrong.UnknownType step found field = unknown_type (all_printed (in_brackets step))
+  step_text wrong.AnyAgain step found field = codes "Non-repeated Any specified multiple times."
+  step_text (wrong.MissingInAny m) step found field = missing_in_any (full_name m)
 
   -- of pieces that spell these steps
   abbrev pub fault_text : List Piece → List Step → AggregateFault → List ℕ

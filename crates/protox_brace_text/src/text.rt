@@ -110,6 +110,36 @@ fn along_text(
     along(alloc, name.as_str(), field_name(here, other), oneof)
 }
 
+fn unknown_type(alloc: Global, place: &str) -> Result<String, AllocError>
+    ensures { IfOk result (λ text. string_bytes text ≡ words.unknown_type place.now) }
+{
+    format!(in alloc; "Could not find type \"{place}\" stored in google.protobuf.Any.")
+}
+
+fn unknown_type_text(alloc: Global, step: &[Piece<'_>]) -> Result<String, AllocError>
+    ensures { IfOk result (λ text. string_bytes text
+        ≡ words.unknown_type (steps.all_printed (words.in_brackets step.now))) }
+{
+    let place = all_printed(alloc, in_brackets(step))?;
+    unknown_type(alloc, place.as_str())
+}
+
+fn missing_in_any(alloc: Global, message: &str) -> Result<String, AllocError>
+    ensures { IfOk result (λ text. string_bytes text ≡ words.missing_in_any message.now) }
+{
+    format!(in alloc;
+        "Value of type \"{message}\" stored in google.protobuf.Any has missing required fields"
+    )
+}
+
+fn missing_in_any_text(alloc: Global, here: Site<'_>, message: usize) -> Result<String, AllocError>
+    ensures { IfOk result (λ text. string_bytes text
+        ≡ words.missing_in_any (words.full_name here.entry message)) }
+{
+    let message = full_name(alloc, here, message)?;
+    missing_in_any(alloc, message.as_str())
+}
+
 // What is told of a step: its pieces, what is found where it begins, and the name of the field before
 // it.
 fn step_text(
@@ -126,10 +156,7 @@ fn step_text(
     match kind {
         AggregateFaultKind::NoField(message) => no_field_text(alloc, here, message, step),
         AggregateFaultKind::NoExtension(message) => no_extension_text(alloc, here, message, step),
-        AggregateFaultKind::NoType => {
-            let text = "The name of a type in brackets, as in a message Any, is not read.";
-            String::from_str(alloc, text)
-        }
+        AggregateFaultKind::NoType => found_text(alloc, "]", "/"),
         AggregateFaultKind::NoColon => found_text(alloc, ":", found),
         AggregateFaultKind::NotRepeated => is_not_text(alloc, field, "not repeated", found),
         AggregateFaultKind::NotMessage => found_text(alloc, "{", found),
@@ -146,6 +173,12 @@ fn step_text(
         }
         AggregateFaultKind::Untyped => format!(in alloc; "Field \"{field}\" has no type."),
         AggregateFaultKind::Misplaced => format!(in alloc; "Unexpected \"{found}\"."),
+        AggregateFaultKind::NoSlash => found_text(alloc, "/", "]"),
+        AggregateFaultKind::UnknownType => unknown_type_text(alloc, step),
+        AggregateFaultKind::AnyAgain => {
+            String::from_str(alloc, "Non-repeated Any specified multiple times.")
+        }
+        AggregateFaultKind::MissingInAny(message) => missing_in_any_text(alloc, here, message),
     }
 }
 

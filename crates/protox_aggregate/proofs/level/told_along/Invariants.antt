@@ -1,6 +1,6 @@
 use Rattle.std.proofs.Common.{◌≡◌, drop, find}
 use Rattle.protox_aggregate.specs.Levels.{is_in_oneof}
-use Rattle.protox_aggregate.proofs.reading.told_along.Given as goal
+use Rattle.protox_aggregate.proofs.level.told_along.Given as goal
 
 -- no field so far is of the oneof
 abbrev pub invariant-loop-other : goal.invariant-loop-other

@@ -1,6 +1,6 @@
 -- What is interpreted is read back.
-use Rattle.std.proofs.Common.{◌≡◌, ℕ, ◌+◌, List, [], ◌∷◌, ◌++◌, Option, map, flat_map, refl, subst, sym}
-use Rattle.std.specs.Prelude.{All}
+use Rattle.std.proofs.Common.{◌≡◌, ℕ, ◌+◌, suc, zero, List, [], ◌∷◌, ◌++◌, map, arith, refl, subst, sym, ◌∙◌}
+use Rattle.std.specs.Prelude.{All, slice_index_or}
 use Rattle.std.proofs.lemmas.List.Elements.{All-map}
 use Rattle.protox_descriptor.specs.declared.descriptor.FileDescriptorProto.{FileDescriptorProto}
 use Rattle.protox_encode_linked.specs.Setting.{set_at}
@@ -24,8 +24,7 @@ none_of_both (x ∷ xs) ys e = absurd cc
 -- Where nothing is told of any, nothing is told of each.
 module _ (names : Names) where
   none_at : (taken : List Taken) → faults_of names taken ≡ [] → All (λ t. faults_at names t.place t.outcome ≡ []) taken
-  none_at [] none zero d below = absurd cc
-  none_at [] none (suc k) d below = absurd cc
+  none_at [] none k d below = absurd (omega (arith, below))
   none_at (t ∷ more) none zero d below = (none_of_both (faults_at names t.place t.outcome) (faults_of names more) none).0
   none_at (t ∷ more) none (suc k) d below = none_at more (none_of_both (faults_at names t.place t.outcome) (faults_of names more) none).1 k d (omega (arith, below))
 

@@ -1,5 +1,8 @@
 //! What is printed for a set of files.
 
+ghost use Rattle.std.specs.Prelude.{IfOk};
+ghost use Rattle.protox_link.specs.Known.{IsKnownOf};
+
 use crate::faults::{texts_of, write_faults};
 use crate::linked::write_linked;
 use crate::resolved::write_resolved;
@@ -94,7 +97,9 @@ struct Known {
     texts: Vec<String>,
 }
 
-fn learn(alloc: Global, files: &[FileDescriptorProto]) -> Result<Known, AllocError> {
+fn learn(alloc: Global, files: &[FileDescriptorProto]) -> Result<Known, AllocError>
+    ensures { IfOk result (λ known. IsKnownOf files.now known.resolver) }
+{
     let resolver = Resolver::new(alloc, files)?;
     let checked = check(alloc, files)?;
     let texts = texts_of(alloc, files, &resolver, checked.as_slice())?;
@@ -132,17 +137,34 @@ fn write_both<W: Write>(
     alloc: Global,
     out: &mut W,
     sources: &[Source],
-    known: &Result<Known, AllocError>,
+    known: &Known,
     linked: &Result<LinkedSet, LinkFailure>,
 ) -> io::Result<()> {
-    let Ok(known) = known else {
-        return Err(AllocError.into());
-    };
     let count = write_linking(alloc, out, sources, known, linked)?;
     if count != known.texts.len() {
         writeln!(out, "checked: {}", known.texts.len())?;
     }
     Ok(())
+}
+
+// Links files by what is known of them. Where nothing is wrong, they aren't checked again.
+fn linked_by(
+    alloc: Global,
+    resolver: &Resolver,
+    files: Vec<FileDescriptorProto>,
+) -> Result<LinkedSet, LinkFailure>
+    requires { IsKnownOf files.items resolver.now }
+{
+    let Ok(faults) = resolver.check(alloc, files.as_slice()) else {
+        return Err(LinkFailure::OutOfMemory);
+    };
+    if !faults.is_empty() {
+        return resolver.link(alloc, files);
+    }
+    match resolver.link_checked(alloc, files) {
+        Ok(set) => Ok(set),
+        Err(_) => Err(LinkFailure::OutOfMemory),
+    }
 }
 
 // What comes of linking the files.
@@ -152,8 +174,10 @@ fn write_answer<W: Write>(
     sources: &[Source],
     files: Vec<FileDescriptorProto>,
 ) -> io::Result<()> {
-    let known = learn(alloc, files.as_slice());
-    let linked = link(alloc, files);
+    let Ok(known) = learn(alloc, files.as_slice()) else {
+        return Err(AllocError.into());
+    };
+    let linked = linked_by(alloc, &known.resolver, files);
     write_both(alloc, out, sources, &known, &linked)
 }
 

@@ -91,14 +91,11 @@ pub(crate) fn tell_faults<E: Write>(
     err: &mut E,
     format: Format,
     loaded: &Loaded,
+    resolver: &Resolver,
     faults: &[LinkFault],
 ) -> io::Result<()> {
-    if faults.is_empty() {
-        return Ok(());
-    }
-    let resolver = Resolver::new(alloc, loaded.files.as_slice())?;
     for group in faults.chunk_by(|fault, next| fault.file == next.file) {
-        tell_of_file(alloc, err, format, loaded, &resolver, group)?;
+        tell_of_file(alloc, err, format, loaded, resolver, group)?;
     }
     Ok(())
 }

@@ -5,12 +5,12 @@
 ghost use Rattle.std.specs.Prelude.{◌≡◌, ◌≢◌, ◌≤◌, [], ◌∷◌, ◌++◌, true, false, All, IfOk, IfSome, IsSome, OnOk, map, slice_index, string_bytes};
 ghost use Rattle.protolink_run.specs.Outcomes.{AreRight, IsPlainWord};
 ghost use Rattle.protolink_words.specs.Asking.{IsNameWord};
-ghost use Rattle.protox_link.specs.Link.{AreWrong};
 
 mod alike;
 mod checks;
 mod faults;
 mod host;
+mod linking;
 mod load;
 mod options;
 mod output;
@@ -21,19 +21,14 @@ mod statements;
 mod told;
 mod warnings;
 
-use crate::faults::tell_faults;
 pub use crate::host::Host;
 use crate::host::is_want;
-use crate::load::{Loaded, Reading, SourceFile, load_all, paths_of};
-use crate::options::add_options;
-use crate::output::{Set, chosen, rule, set_bytes};
+use crate::linking::linked;
+use crate::load::{Reading, load_all};
 use crate::paths::{Place, places};
 use crate::search::{Input, beside_program, input_of};
 use crate::told::{cause, say, say_line};
-use crate::warnings::{warn_of_alike, warn_of_options, warn_of_unused};
 use protolink_words::{Asked, Work, asked_by};
-use protox_link::{LinkedSet, check, link};
-use protox_link_fault::LinkFailure;
 use std::alloc::{AllocError, Global};
 use std::io::{self, Write};
 
@@ -207,157 +202,6 @@ fn names_of<H: Host, E: Write>(
         }
     }
     Ok(if all { Some(names) } else { None })
-}
-
-// Writes a file, and tells if that fails. Answers whether it was written.
-fn write<H: Host, E: Write>(
-    alloc: Global,
-    host: &H,
-    name: &str,
-    bytes: &[u8],
-    err: &mut E,
-) -> io::Result<bool> {
-    match host.write(name, bytes) {
-        Ok(()) => Ok(true),
-        Err(error) if is_want(&error) => Err(error),
-        Err(error) => {
-            let why = cause(alloc, &error)?;
-            say(alloc, err, name, why.as_str())?;
-            Ok(false)
-        }
-    }
-}
-
-// Writes the file that lists what a set was made of, if it is asked for. Answers whether all is well.
-fn write_rule<H: Host, E: Write>(
-    alloc: Global,
-    host: &H,
-    work: &Work<'_>,
-    name: &str,
-    set: &Set,
-    err: &mut E,
-) -> io::Result<bool> {
-    let Some(list) = work.dependencies else {
-        return Ok(true);
-    };
-    let text = rule(alloc, name, set)?;
-    write(alloc, host, list, text.as_str().as_bytes(), err)
-}
-
-// Writes what is asked for of linked files. The set is written last, so that it is there only if all
-// is well. The set `-` goes to standard output.
-fn write_all<H: Host, W: Write, E: Write>(
-    alloc: Global,
-    host: &H,
-    work: &Work<'_>,
-    mut set: Set,
-    out: &mut W,
-    err: &mut E,
-) -> io::Result<bool> {
-    let Some(name) = work.set else {
-        return Ok(true);
-    };
-    let numbers = chosen(alloc, &set, work.imports)?;
-    let numbers = numbers.as_slice();
-    if set.options.is_empty() {
-        warn_of_options(alloc, err, name, set.linked.files.as_slice(), numbers)?;
-    }
-    let Some(bytes) = set_bytes(alloc, err, work, numbers, &mut set)? else {
-        return Ok(false);
-    };
-    if !write_rule(alloc, host, work, name, &set, err)? {
-        return Ok(false);
-    }
-    if name == "-" {
-        out.write_all(bytes.as_slice())?;
-        return Ok(true);
-    }
-    write(alloc, host, name, bytes.as_slice(), err)
-}
-
-// Reads the options of linked files, and writes what is asked for. Answers whether all is well.
-fn read_and_write<H: Host, W: Write, E: Write>(
-    alloc: Global,
-    host: &H,
-    work: &Work<'_>,
-    linked: LinkedSet,
-    sources: Vec<SourceFile>,
-    inputs: usize,
-    out: &mut W,
-    err: &mut E,
-) -> io::Result<bool> {
-    let mut options = Vec::new(alloc);
-    let (files, texts) = (linked.files.as_slice(), sources.as_slice());
-    match add_options(alloc, err, work.format, files, texts, &mut options) {
-        Ok(true) => {}
-        Ok(false) => return Ok(false),
-        Err(error) => return Err(error),
-    }
-    match paths_of(alloc, sources) {
-        Ok(paths) => {
-            let set = Set {
-                linked,
-                paths,
-                inputs,
-                options,
-            };
-            write_all(alloc, host, work, set, out, err)
-        }
-        Err(error) => Err(error.into()),
-    }
-}
-
-// Links files in which nothing is wrong, and writes what is asked for. Answers whether all is well.
-fn link_and_write<H: Host, W: Write, E: Write>(
-    alloc: Global,
-    host: &H,
-    work: &Work<'_>,
-    loaded: Loaded,
-    out: &mut W,
-    err: &mut E,
-) -> io::Result<bool> {
-    let Loaded {
-        files,
-        sources,
-        inputs,
-        schema,
-        ..
-    } = loaded;
-    match link(alloc, files) {
-        Ok(mut linked) => {
-            linked.order.retain(|number| Some(*number) != schema);
-            read_and_write(alloc, host, work, linked, sources, inputs, out, err)
-        }
-        // it can't be, as nothing is wrong with the files
-        Err(LinkFailure::Refused(_)) => Ok(false),
-        Err(LinkFailure::OutOfMemory) => Err(AllocError.into()),
-    }
-}
-
-// Tells what is wrong with files that were read. If nothing is, it links them, and writes what is
-// asked for. Answers whether all is well.
-fn linked<H: Host, W: Write, E: Write>(
-    alloc: Global,
-    host: &H,
-    work: &Work<'_>,
-    loaded: Loaded,
-    out: &mut W,
-    err: &mut E,
-) -> io::Result<bool>
-    // All is well only if each file could be read, and nothing is wrong with them.
-    ensures read { IfOk result (λ well. well ≡ true → loaded.failed ≡ false) }
-    ensures right { IfOk result (λ well. well ≡ true → AreWrong loaded.files.items []) }
-{
-    let faults = check(alloc, loaded.files.as_slice())?;
-    tell_faults(alloc, err, work.format, &loaded, faults.as_slice())?;
-    if loaded.failed || !faults.is_empty() {
-        return Ok(false);
-    }
-    let alike = warn_of_alike(alloc, err, work.format, &loaded)?;
-    let unused = warn_of_unused(alloc, err, work.format, &loaded)?;
-    let well = link_and_write(alloc, host, work, loaded, out, err)?;
-    let warned = alike || unused;
-    Ok(well && !(warned && work.fatal_warnings))
 }
 
 // The folders in which files are looked for: those that are named, and then that of the files that

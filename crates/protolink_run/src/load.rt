@@ -7,7 +7,7 @@ ghost use Rattle.protolink_run.specs.Outcomes.{IsReadFile};
 use crate::faults::tell_refusal;
 use crate::host::{Host, is_want};
 use crate::options::some_has_options;
-use crate::paths::{Place, canonical, leads_up};
+use crate::paths::{Place, is_name};
 use crate::search::path_of;
 use crate::told::{Grade, Told, cause, say};
 use protolink_words::Format;
@@ -20,6 +20,9 @@ use std::io::{self, ErrorKind, Write};
 
 // The file that declares what options there are.
 const SCHEMA: &str = "google/protobuf/descriptor.proto";
+
+const NO_NAME: &str =
+    "Backslashes, consecutive slashes, \".\", or \"..\" are not allowed in the virtual path";
 
 /// The source of a file that was read.
 #[derive(Drop)]
@@ -207,20 +210,15 @@ fn found<H: Host, E: Write>(
     reading: &Reading<'_, H>,
     name: &str,
 ) -> io::Result<Option<String>> {
-    if leads_up(name) || canonical(alloc, name)?.as_str() != name {
-        say(
-            alloc,
-            err,
-            name,
-            "Backslashes, consecutive slashes, \".\", or \"..\" are not allowed in the virtual path",
-        )?;
+    if !is_name(alloc, name)? {
+        say(alloc, err, name, NO_NAME)?;
         return Ok(None);
     }
-    let path = path_of(alloc, reading.host, reading.places, name)?;
-    if path.is_none() {
-        say(alloc, err, name, "File not found.")?;
+    if let Some(path) = path_of(alloc, reading.host, reading.places, name)? {
+        return Ok(Some(path));
     }
-    Ok(path)
+    say(alloc, err, name, "File not found.")?;
+    Ok(None)
 }
 
 // Reads a file, and adds it. Answers whether it was added.

@@ -242,16 +242,17 @@ fn add_known<E: Write>(
 
 /// Adds what the options of each of the linked files say. Nothing is added if no file sets any, or if
 /// no file declares what options there are: then they stay as they are written. Answers whether nothing
-/// is wrong with the options, and with what has them. What is wrong is told.
+/// is wrong with the options, and with what has them. What is wrong is told. What is known of the files
+/// is let go of.
 pub(crate) fn add_options<E: Write>(
     alloc: Global,
     err: &mut E,
     format: Format,
+    resolver: Resolver,
     files: &[FileDescriptorProto],
     sources: &[SourceFile],
     all: &mut Vec<InterpretedFile>,
 ) -> io::Result<bool> {
-    let resolver = Resolver::new(alloc, files)?;
     if !add_known(alloc, err, format, &resolver, files, sources, all)? {
         return Ok(false);
     }

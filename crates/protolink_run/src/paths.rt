@@ -32,9 +32,23 @@ pub(crate) fn canonical(alloc: Global, path: &str) -> Result<String, AllocError>
     Ok(made)
 }
 
-/// Whether a part of the path leads up.
-pub(crate) fn leads_up(path: &str) -> bool {
-    path.split('/').any(|part| part == "..")
+// Whether a part of the path leads up.
+fn leads_up(path: &str) -> bool {
+    for part in path.split('/') {
+        if part == ".." {
+            return true;
+        }
+    }
+    false
+}
+
+/// Whether a path may be the name of a file: none of its parts leads up or counts for nothing.
+pub(crate) fn is_name(alloc: Global, path: &str) -> Result<bool, AllocError> {
+    if leads_up(path) {
+        return Ok(false);
+    }
+    let made = canonical(alloc, path)?;
+    Ok(made.as_str() == path)
 }
 
 // What stands behind a folder in a path. The empty one is in front of each relative path.

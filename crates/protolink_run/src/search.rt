@@ -1,7 +1,7 @@
 //! Looking for files in folders.
 
 use crate::host::Host;
-use crate::paths::{Place, canonical, leads_up, moved};
+use crate::paths::{Place, canonical, is_name, moved};
 use std::alloc::{AllocError, Global};
 use std::io;
 
@@ -62,7 +62,7 @@ pub(crate) fn path_of<H: Host>(
     places: &[Place],
     name: &str,
 ) -> io::Result<Option<String>> {
-    if leads_up(name) || canonical(alloc, name)?.as_str() != name {
+    if !is_name(alloc, name)? {
         return Ok(None);
     }
     first_file(alloc, host, places, name)

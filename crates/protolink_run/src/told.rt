@@ -71,6 +71,15 @@ fn within(whole: Span, part: Option<Span>) -> Span {
     }
 }
 
+// Where a fault of syntax stands, if it stands anywhere.
+fn place_in(source: &str, fault: &ParseErrorKind) -> Option<Span> {
+    if let ParseErrorKind::FileTooLarge = fault {
+        return None;
+    }
+    let place = place_of(source, fault);
+    Some(place..place)
+}
+
 impl<'a> Told<'a> {
     /// A file, by its name, its path and its source.
     ///
@@ -200,14 +209,9 @@ impl<'a> Told<'a> {
         source: &str,
         fault: &ParseErrorKind,
     ) -> Result<(), AllocError> {
+        let span = place_in(source, fault);
         let text = format!(in alloc; "{}", ShownFault(fault))?;
-        let place = place_of(source, fault);
-        let span = place..place;
-        let span = match fault {
-            ParseErrorKind::FileTooLarge => None,
-            _ => Some(&span),
-        };
-        self.push_line(alloc, out, Grade::Error, span, text.as_str())
+        self.push_line(alloc, out, Grade::Error, span.as_ref(), text.as_str())
     }
 
     /// Writes a fault of syntax in this source.

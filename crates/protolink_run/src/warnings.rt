@@ -1,5 +1,7 @@
 //! Warnings.
 
+ghost use Rattle.protox_link.specs.Known.{IsKnownOf};
+
 use crate::alike::{AlikeValue, alike_in};
 use crate::load::{Loaded, SourceFile};
 use crate::places::span_of;
@@ -7,6 +9,7 @@ use crate::told::{Grade, say};
 use protolink_words::Format;
 use protox_descriptor::descriptor::FileDescriptorProto;
 use protox_descriptor::tag::file::DEPENDENCY;
+use protox_link::Resolver;
 use protox_usage::{Usage, has_options};
 use std::alloc::{AllocError, Global};
 use std::io::{self, Write};
@@ -85,13 +88,16 @@ pub(crate) fn warn_of_unused<E: Write>(
     err: &mut E,
     format: Format,
     loaded: &Loaded,
-) -> io::Result<bool> {
+    resolver: &Resolver,
+) -> io::Result<bool>
+    requires { IsKnownOf loaded.now.files.items resolver.now }
+{
     let files = loaded.files.as_slice();
     let inputs = files.get(..loaded.inputs).unwrap_or(files);
     if !has_imports(inputs) {
         return Ok(false);
     }
-    let usage = Usage::new(alloc, files)?;
+    let usage = Usage::with_resolver(alloc, files, resolver)?;
     let mut warned = false;
     for number in 0..inputs.len() {
         let unused = usage.unused(alloc, number)?;

@@ -1,6 +1,7 @@
 pub mod Standing
 pub mod Doing
 pub mod Seeing
+pub mod LinkingRight
 pub mod Closing
 pub mod Keeping
 pub mod Telling

@@ -14,7 +14,7 @@ use Rattle.protox_imports.specs.Order.{IsInOrder}
 use Rattle.protox_imports.specs.Rows.{named_of, rows_of}
 use Rattle.protox_imports.specs.Seen.{AreSeen}
 use Rattle.protox_link.specs.Files.{AreFaults, AreLinked, NoFile, NoMore, OneFile, OneMore, faults_in, linked_in}
-use Rattle.protox_link.specs.Link.{IsFailureOf}
+use Rattle.protox_link.specs.Link.{IsCircleAlone, IsFailureOf}
 use Rattle.protox_link.specs.Seen.{IsSeenBy}
 use Rattle.protox_link_checks.specs.Faults.{declared_faults, faults_named}
 use Rattle.protox_link_checks.specs.Imports.{import_faults, package_faults}
@@ -208,3 +208,9 @@ pub only_where_wrong : (files : List FileDescriptorProto) (order : List ℕ) (fa
 only_where_wrong files order OutOfMemory ordered right why = refl
 only_where_wrong files order (Refused faults) ordered right (inl circle) = absurd (ordered_has_no_cycle files order circle.2.circle ordered circle.2.is)
 only_where_wrong files order (Refused faults) ordered right (inr wrong) = absurd (wrong.0 (one_list files files 0 faults.items [] wrong.1 right))
+
+-- Of a circle something is told.
+pub no_circle_told : (files : List FileDescriptorProto) (faults : List LinkFault) → IsCircleAlone files faults → faults ≡ [] → ⊥
+no_circle_told files faults alone none =
+    let told : [] ≡ alone.0 ∷ [] = sym none ∙ alone.1 in
+    cc

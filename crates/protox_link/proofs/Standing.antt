@@ -18,6 +18,7 @@ use Rattle.protox_descriptor.specs.declared.tag.file.TheConstants.{PACKAGE}
 use Rattle.protox_descriptor.specs.declared.tag.file.TheConstants as file_tag
 use Rattle.protox_descriptor.specs.declared.tag.message.TheConstants as message_tag
 use Rattle.protox_link.specs.Closed.{IsItself}
+use Rattle.protox_link.specs.Files.{IsInTable}
 use Rattle.protox_link_checks.specs.Faults.{all_declared_faults, bad_name, clash_faults, declared_faults, faults_named, is_declared_at}
 use Rattle.protox_link_checks.specs.File.{file_faults}
 use Rattle.protox_link_checks.specs.Imports.{import_faults, package_faults, wrong_length, wrong_package_found}
@@ -254,17 +255,29 @@ module _ (t : Table) (file : ℕ) where
       inr (found_there name (number_of t.names name)
       (none_of_second (faults_at file [] PACKAGE (wrong_length name)) _ (sym (map-append (fault_at file [] PACKAGE) (wrong_length name) (wrong_package_found t name (number_of t.names name))) ∙ none)))
 
+module _ (t : Table) where
   named_by : (name : List ℕ) (number : Option ℕ) → number ≡ number_of t.names name → (name ≡ []) ⊎ (is_some number ≡ true) → name_of_place (name_at t.names) number ≡ name
   named_by name None is (inl top) = sym top
   named_by name None is (inr there) = absurd (false≢true there)
   named_by name (Some n) is there = get_or_from_slice_get t.names.full_names n name [] (found_name t.names.full_names name n (sym is))
 
   -- the number of a package is that of its name
-  pub package_named : (package1 : Option (List ℕ)) (read : List ℕ) (number : Option ℕ) → read ≡ text_of package1 → number ≡ number_of t.names (name_in t.names None read) → package_faults t file (text_of package1) ≡ [] → name_of_place (name_at t.names) number ≡ linked.text_of package1
-  package_named package1 read number same is none =
+  pub package_named : (package1 : Option (List ℕ)) (read : List ℕ) (number : Option ℕ) → read ≡ text_of package1 → number ≡ number_of t.names (name_in t.names None read) → (text_of package1 ≡ []) ⊎ (stands t (text_of package1) ≡ true) → name_of_place (name_at t.names) number ≡ linked.text_of package1
+  package_named package1 read number same is of_package =
       let found : number ≡ number_of t.names (text_of package1) = is ∙ ap (number_of t.names) same in
-      let there : (text_of package1 ≡ []) ⊎ (is_some number ≡ true) = elim (package_there (text_of package1) none) [
+      let there : (text_of package1 ≡ []) ⊎ (is_some number ≡ true) = elim of_package [
         | inl top ↦ inl top
         | inr stand ↦ inr (ap is_some found ∙ stand)
       ] in
       named_by (text_of package1) number found there ∙ sym (same_text package1)
+
+-- ---- what linking a file looks up
+
+-- where nothing is wrong with a file, the table has it
+pub in_table : (t : Table) (sees packages : List Bool) (n : ℕ) (imports : List (Option ℕ)) (f : FileDescriptorProto) → file_faults t sees packages n imports f ≡ [] → IsInTable t f
+in_table t sees packages n imports f none =
+    let there = package_there t n (text_of f.«package») (package_right t sees packages n imports f none) in
+    record {
+      of_package = there;
+      scopes = file_there t sees packages n f there (declared_right t sees packages n imports f none);
+    }

@@ -1,15 +1,16 @@
 -- The files of a list, one by one: what is wrong with each, and what linking makes of each.
-use Rattle.std.specs.Prelude.{◌≡◌, ◌+◌, ℕ, Bool, List, [], ◌∷◌, ◌++◌, Option}
+use Rattle.std.specs.Prelude.{◌≡◌, ◌+◌, ◌⊎◌, ℕ, Bool, true, List, [], ◌∷◌, ◌++◌, Option}
 use Rattle.protox_descriptor.specs.declared.descriptor.FileDescriptorProto.{FileDescriptorProto}
 use Rattle.protox_imports.specs.Rows.{named_of, rows_of}
 use Rattle.protox_link.specs.Seen.{IsSeenBy}
 use Rattle.protox_link_checks.specs.Extensions.{extended_faults}
 use Rattle.protox_link_checks.specs.File.{file_faults}
 use Rattle.protox_link_fault.specs.declared.LinkFault.{LinkFault}
-use Rattle.protox_linked.specs.Linked.{linked_file}
+use Rattle.protox_linked.specs.Linked.{file_stands, linked_file}
 use Rattle.protox_symbols.specs.Symbols.{Table}
 use Rattle.protox_symbols.specs.Things.{table_of}
-use Rattle.protox_views.specs.Views.{meaning}
+use Rattle.protox_views.specs.Views.{meaning, stands}
+use Rattle.protox_walk.specs.Declarations.{text_of}
 
 -- what is wrong with the file of a list that has a number, where it sees this
 abbrev pub faults_in : List FileDescriptorProto → ℕ → List Bool → List Bool → FileDescriptorProto → List LinkFault
@@ -53,6 +54,18 @@ pub record IsToldOf (all : List FileDescriptorProto) (n : ℕ) (file : FileDescr
   pub packages : List Bool
   pub seen : IsSeenBy all n sees packages
   pub faults : after ≡ before ++ faults_in all n sees packages file
+
+-- The file of a list that has the number n was linked.
+pub record IsLinkedAt (all : List FileDescriptorProto) (n : ℕ) (file made : FileDescriptorProto) : Type 0 where
+  pub sees : List Bool
+  pub packages : List Bool
+  pub seen : IsSeenBy all n sees packages
+  pub linked : made ≡ linked_in all sees packages file
+
+-- The table has what linking a file looks up: the package of the file, and all scopes in it.
+pub record IsInTable (table : Table) (file : FileDescriptorProto) : Type 0 where
+  pub of_package : (text_of file.«package» ≡ []) ⊎ (stands table (text_of file.«package») ≡ true)
+  pub scopes : file_stands (stands table) file ≡ true
 
 -- ---- all files
 

@@ -31,6 +31,13 @@ pub record IsOfCircle (files : List FileDescriptorProto) (fault : LinkFault) : T
   pub at_imports : fault.path ≡ DEPENDENCY ∷ []
   pub is : IsCycle (Imports files) circle
 
+-- Nothing is wrong with the files, and they have an order in which imports come first. So they don't
+-- import one another in a circle.
+pub record NothingIsWrong (files : List FileDescriptorProto) : Type 0 where
+  pub none : AreFaults files 0 files []
+  pub order : List ℕ
+  pub ordered : IsInOrder (Imports files) (length files) order
+
 -- The one fault is that of a circle.
 abbrev pub IsCircleAlone : List FileDescriptorProto → List LinkFault → Type 0
 IsCircleAlone files faults = (fault : LinkFault) × (faults ≡ fault ∷ []) × IsOfCircle files fault

@@ -1,19 +1,20 @@
 //! What is wrong with a list of files, which stay as they are.
 
-ghost use Rattle.std.specs.Prelude.{◌<◌, length, List, IfOk, OnOk};
+ghost use Rattle.std.specs.Prelude.{◌≡◌, ◌<◌, [], length, List, IfOk, OnOk};
 ghost use Rattle.std.specs.List.{All};
 ghost use Rattle.protox_descriptor.specs.declared.descriptor.FileDescriptorProto.{FileDescriptorProto};
 ghost use Rattle.protox_link.specs.Files.{AreFaults, IsToldOf};
 ghost use Rattle.protox_link.specs.Known.{HasRows, IsKnownOf};
-ghost use Rattle.protox_link.specs.Link.{AreWrong};
+ghost use Rattle.protox_link.specs.Link.{AreWrong, NothingIsWrong};
 ghost use Rattle.protox_link.specs.Stands.{Stands};
 ghost use Rattle.protox_link_checks.specs.Ranges.{AreRangesOf};
 ghost use Rattle.protox_symbols.specs.Things.{table_of};
 
 use crate::circle::told_circle;
 use crate::known::Known;
-use crate::prepare::{Prepared, prepare};
+use crate::prepare::{Prepared, order_of, prepare};
 use protox_descriptor::descriptor::FileDescriptorProto;
+use protox_imports::Order;
 use protox_link_checks::{Ranges, check_extensions, check_file};
 use protox_link_fault::LinkFault;
 use std::alloc::{AllocError, Global};
@@ -56,6 +57,23 @@ fn check_ready(
         check_one(alloc, known, &ranges, number, file, &mut faults)?;
     }
     Ok(faults)
+}
+
+/// All that is wrong with a list of files of which this is known.
+pub(crate) fn check_known(
+    alloc: Global,
+    known: &Known,
+    files: &[FileDescriptorProto],
+) -> Result<Vec<LinkFault>, AllocError>
+    requires { IsKnownOf files.now known.now }
+    ensures wrong { IfOk result (λ faults. AreWrong files.now faults.items) }
+    ensures right { IfOk result (λ faults. faults.items ≡ [] → NothingIsWrong files.now) }
+    ensures stands { IfOk result (λ faults. All (Stands files.now) faults.items) }
+{
+    match order_of(alloc, &known.imports)? {
+        Order::Sorted(_) => check_ready(alloc, known, files),
+        Order::Cycle(circle) => told_circle(alloc, circle),
+    }
 }
 
 /// All that is wrong with a list of files: what `link` tells of them where it refuses them, and

@@ -2,10 +2,12 @@
 
 ghost use Rattle.std.specs.Prelude.{◌≡◌, ◌<◌, ℕ, List, Some, length, Contains, OnOk};
 ghost use Rattle.protox_descriptor.specs.declared.descriptor.FileDescriptorProto.{FileDescriptorProto};
-ghost use Rattle.protox_link.specs.Files.{IsChecked, IsDone};
+ghost use Rattle.protox_link.specs.Files.{IsChecked, IsDone, IsInTable, IsLinkedAt};
 ghost use Rattle.protox_link.specs.Known.{HasRows, IsKnownOf};
 ghost use Rattle.protox_link_checks.specs.Ranges.{AreRangesOf};
+ghost use Rattle.protox_linked.specs.Linked.{linked_file};
 ghost use Rattle.protox_symbols.specs.Things.{table_of};
+ghost use Rattle.protox_views.specs.Views.{meaning};
 
 use crate::known::Known;
 use crate::packages::text_of;
@@ -15,6 +17,20 @@ use protox_link_fault::LinkFault;
 use protox_linked::link_file;
 use protox_views::View;
 use std::alloc::{AllocError, Global};
+
+// Links a file that sees this.
+fn link_seen(
+    alloc: Global,
+    view: &View<'_>,
+    file: &mut FileDescriptorProto,
+) -> Result<(), AllocError>
+    requires { IsInTable view.now.symbols.now file.old }
+    ensures { OnOk result (file.new
+        ≡ linked_file (meaning view.now.symbols.now view.now.sees.now view.now.packages) file.old) }
+{
+    let package = view.symbols.find(None, text_of(file.package.as_ref()));
+    link_file(alloc, view, package, file)
+}
 
 // Adds what is wrong with a file that sees this, and links it if nothing is wrong so far.
 fn check_and_link(
@@ -38,8 +54,7 @@ fn check_and_link(
     if !is_whole || !faults.is_empty() {
         return Ok(());
     }
-    let package = view.symbols.find(None, text_of(file.package.as_ref()));
-    link_file(alloc, view, package, file)
+    link_seen(alloc, view, file)
 }
 
 /// Adds what is wrong with the file of this number, and links it if nothing is wrong so far.
@@ -61,4 +76,22 @@ pub(crate) fn do_file(
     let view = names.view();
     let imports = known.imports.named(number);
     check_and_link(alloc, &view, ranges, imports, number, file, faults)
+}
+
+/// Links the file of this number.
+pub(crate) fn link_numbered(
+    alloc: Global,
+    known: &Known,
+    number: usize,
+    file: &mut FileDescriptorProto,
+) -> Result<(), AllocError>
+    requires within { number < length known.now.imports.files }
+    requires rows { HasRows known.now }
+    requires in_table { IsInTable known.now.symbols file.old }
+    ensures { (all : List FileDescriptorProto) → IsKnownOf all known.now → OnOk result
+        (IsLinkedAt all number file.old file.new) }
+{
+    let names = known.names(alloc, number)?;
+    let view = names.view();
+    link_seen(alloc, &view, file)
 }

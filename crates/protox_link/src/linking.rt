@@ -1,21 +1,22 @@
 //! Linking.
 
-ghost use Rattle.std.specs.Prelude.{◌<◌, length, List, IfOk, IfErr};
+ghost use Rattle.std.specs.Prelude.{◌<◌, [], length, List, IfOk, IfErr, OnOk};
 ghost use Rattle.protox_descriptor.specs.declared.descriptor.FileDescriptorProto.{FileDescriptorProto};
 ghost use Rattle.protox_imports.specs.Imports.{Imports as ImportsOf};
 ghost use Rattle.protox_imports.specs.Order.{IsCycle, IsInOrder};
 ghost use Rattle.protox_link.specs.Closed.{AreClosed};
-ghost use Rattle.protox_link.specs.Files.{AreDone};
+ghost use Rattle.protox_link.specs.Files.{AreDone, AreFaults, AreLinked};
 ghost use Rattle.protox_link.specs.Known.{HasRows, IsKnownOf};
-ghost use Rattle.protox_link.specs.Link.{AreKept, IsFailureOf, IsSetOf};
+ghost use Rattle.protox_link.specs.Link.{AreKept, IsFailureOf, IsSetOf, NothingIsWrong};
 ghost use Rattle.protox_link.specs.Stands.{AllStand};
 
 use crate::LinkedSet;
 use crate::circle::told_circle;
-use crate::files::do_files;
+use crate::files::{do_files, link_files};
 use crate::known::Known;
-use crate::prepare::{Prepared, prepare};
+use crate::prepare::{Prepared, order_of, prepare};
 use protox_descriptor::descriptor::FileDescriptorProto;
+use protox_imports::Order;
 use protox_link_checks::Ranges;
 use protox_link_fault::{LinkFailure, LinkFault};
 use std::alloc::{AllocError, Global};
@@ -75,6 +76,77 @@ fn refused_circle(alloc: Global, circle: Vec<usize>) -> LinkFailure
     match told_circle(alloc, circle) {
         Ok(faults) => LinkFailure::Refused(faults),
         Err(_) => LinkFailure::OutOfMemory,
+    }
+}
+
+/// Links a list of files of which this is known.
+pub(crate) fn link_known(
+    alloc: Global,
+    known: &Known,
+    files: Vec<FileDescriptorProto>,
+) -> Result<LinkedSet, LinkFailure>
+    requires { IsKnownOf files.items known.now }
+    ensures linked { IfOk result (λ set. IsSetOf files.items set) }
+    ensures closed { IfOk result (λ set. AreClosed files.items set.files.items) }
+    ensures kept { IfOk result (λ set. AreKept files.items set.files.items) }
+    ensures refused { IfErr result (λ failure. IsFailureOf files.items failure) }
+    ensures stands { IfErr result (λ failure. AllStand files.items failure) }
+{
+    match order_of(alloc, &known.imports) {
+        Ok(Order::Sorted(order)) => link_ready(alloc, known, order, files),
+        Ok(Order::Cycle(circle)) => Err(refused_circle(alloc, circle)),
+        Err(_) => Err(LinkFailure::OutOfMemory),
+    }
+}
+
+// The order of files that have one.
+fn order_of_right(
+    alloc: Global,
+    known: &Known,
+    files: &[FileDescriptorProto],
+) -> Result<Vec<usize>, AllocError>
+    requires known { IsKnownOf files.now known.now }
+    requires right { NothingIsWrong files.now }
+    ensures { IfOk result (λ order. IsInOrder (ImportsOf files.now) (length files.now) order.items) }
+{
+    match order_of(alloc, &known.imports)? {
+        Order::Sorted(order) => Ok(order),
+        Order::Cycle(_) => unreachable!(),
+    }
+}
+
+// Links each of these files, with which nothing is wrong.
+fn link_each(
+    alloc: Global,
+    known: &Known,
+    files: &mut Vec<FileDescriptorProto>,
+) -> Result<(), AllocError>
+    requires known { IsKnownOf files.old.items known.now }
+    requires right { AreFaults files.old.items 0 files.old.items [] }
+    ensures { OnOk result (AreLinked files.old.items 0 files.old.items files.new.items) }
+{
+    link_files(alloc, known, files.as_mut_slice())
+}
+
+/// Links files with which nothing is wrong, and of which this is known.
+pub(crate) fn link_right(
+    alloc: Global,
+    known: &Known,
+    files: Vec<FileDescriptorProto>,
+) -> Result<LinkedSet, AllocError>
+    requires known { IsKnownOf files.items known.now }
+    requires right { NothingIsWrong files.items }
+    ensures linked { IfOk result (λ set. IsSetOf files.items set) }
+    ensures closed { IfOk result (λ set. AreClosed files.items set.files.items) }
+    ensures kept { IfOk result (λ set. AreKept files.items set.files.items) }
+{
+    let Ok(order) = order_of_right(alloc, known, files.as_slice()) else {
+        return Err(AllocError);
+    };
+    let mut files = files;
+    match link_each(alloc, known, &mut files) {
+        Ok(()) => Ok(LinkedSet { files, order }),
+        Err(error) => Err(error),
     }
 }
 

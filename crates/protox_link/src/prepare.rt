@@ -1,8 +1,11 @@
 //! What is known of a list of files before they are linked.
 
-ghost use Rattle.std.specs.Prelude.{◌≡◌, IfOk};
+ghost use Rattle.std.specs.Prelude.{◌≡◌, List, length, IfOk};
+ghost use Rattle.protox_descriptor.specs.declared.descriptor.FileDescriptorProto.{FileDescriptorProto};
+ghost use Rattle.protox_imports.specs.Answer.{IsAnswer};
 ghost use Rattle.protox_imports.specs.Imports.{Imports as ImportsOf};
 ghost use Rattle.protox_imports.specs.Order.{IsCycle};
+ghost use Rattle.protox_imports.specs.Rows.{rows_of};
 ghost use Rattle.protox_link.specs.Known.{IsKnownOf};
 ghost use Rattle.protox_link.specs.Prepared.{IsPreparedFor};
 
@@ -18,6 +21,17 @@ pub(crate) enum Prepared {
     Ready(Known, Vec<usize>),
     /// Files that import one another in a circle.
     Circle(Vec<usize>),
+}
+
+/// An order of files that import one another so, in which imports come first, or a circle.
+///
+/// # Errors
+/// `AllocError` where memory runs out.
+pub(crate) fn order_of(alloc: Global, imports: &Imports) -> Result<Order, AllocError>
+    ensures { (files : List FileDescriptorProto) → imports.now.files ≡ rows_of files
+        → IfOk result (IsAnswer (ImportsOf files) (length files)) }
+{
+    in_order(alloc, imports)
 }
 
 /// Finds out what is known of a list of files.

@@ -1,17 +1,15 @@
 -- What is known of a list of files, so that unused imports can be told.
-use Rattle.std.specs.Prelude.{◌≡◌, ◌&&◌, ◌||◌, ℕ, Bool, false, not, List, None, Option, slice_index_or}
+use Rattle.std.specs.Prelude.{◌&&◌, ◌||◌, ℕ, Bool, false, not, List, None, Option, slice_index_or}
 use Rattle.std.specs.Option.{option_map_or}
 use Rattle.protox_descriptor.specs.declared.descriptor.FileDescriptorProto.{FileDescriptorProto}
 use Rattle.protox_imports.specs.Rows.{rows_of}
-use Rattle.protox_imports.specs.declared.row.FileImports.{FileImports}
 use Rattle.protox_link.specs.Known.{IsKnownOf}
 use Rattle.protox_link.specs.declared.known.Known.{Known}
 use Rattle.protox_usage.specs.First.{AreFirst, IsOrderOf}
 use Rattle.protox_usage.specs.Unused.{has_public, is_public}
 use Rattle.protox_usage.specs.declared.searcher.Found.{Found}
 
-pub record IsUsageOf (files : List FileDescriptorProto) (rows : List FileImports) (known : Known) (first : List (Option ℕ)) : Type 0 where
-  pub imports : rows ≡ rows_of files
+pub record IsUsageOf (files : List FileDescriptorProto) (known : Known) (first : List (Option ℕ)) : Type 0 where
   pub known_of : IsKnownOf files known
   pub order : List ℕ
   pub in_order : IsOrderOf (rows_of files) order

@@ -5,3 +5,4 @@ pub mod First
 pub mod Unused
 pub mod Searched
 pub mod Known
+pub mod Names

@@ -2,6 +2,7 @@
 #![tactic(auto)]
 
 mod first;
+mod names;
 mod options;
 mod search;
 mod searcher;

@@ -3,17 +3,18 @@
 ghost use Rattle.std.specs.Prelude.{◌≡◌, pos, false, filter, length, replicate, IfOk};
 ghost use Rattle.std.specs.List.{flat_map, range_with_len};
 ghost use Rattle.std.specs.Ordering.{int_eq};
+ghost use Rattle.protox_link.specs.Known.{IsKnownOf};
 ghost use Rattle.protox_usage.specs.Lookups.{lookups_in_file, may_use_all};
 ghost use Rattle.protox_usage.specs.Searched.{met_by, noted};
-ghost use Rattle.protox_usage.specs.Known.{is_not_found, is_not_met};
+ghost use Rattle.protox_usage.specs.Known.{IsUsageOf, is_not_found, is_not_met};
 ghost use Rattle.protox_usage.specs.Unused.{AreUnused, has_public, is_public};
 
 use crate::first::{first_files, order_of, text_of};
+use crate::names::Names;
 use crate::options::options_of_file;
 use crate::search::Sight;
 use crate::searcher::{Found, Searcher};
 use protox_descriptor::descriptor::FileDescriptorProto;
-use protox_imports::Imports;
 use protox_link::Resolver;
 use protox_marks::Marks;
 use protox_names::within;
@@ -25,8 +26,7 @@ use std::marker::Model;
 #[derive(Drop)]
 pub struct Usage<'a> {
     files: &'a [FileDescriptorProto],
-    imports: Imports,
-    resolver: Resolver,
+    names: Names<'a>,
     first: Vec<Option<usize>>,
 }
 
@@ -36,6 +36,7 @@ impl<'a> Model for Usage<'a> {
     ghost use Rattle.protox_descriptor.specs.contracts.descriptor.DescriptorProto as message;
     ghost use Rattle.protox_descriptor.specs.declared.descriptor.FileDescriptorProto.{FileDescriptorProto};
     ghost use Rattle.protox_usage.specs.Known.{IsUsageOf};
+    ghost use Rattle.protox_usage.specs.Names.{known_by};
 
     ghost Value = { List FileDescriptorProto };
 
@@ -43,7 +44,7 @@ impl<'a> Model for Usage<'a> {
 
     ghost view = { λ u. u.files.now };
 
-    ghost invariant = { λ u. IsUsageOf u.files.now u.imports.files u.resolver u.first.items };
+    ghost invariant = { λ u. IsUsageOf u.files.now (known_by u.names) u.first.items };
 }
 
 // Whether a number of a list of public imports is this index.
@@ -85,6 +86,19 @@ fn search_file(
     Ok(searcher.found)
 }
 
+// The first file of each package.
+fn firsts(
+    alloc: Global,
+    files: &[FileDescriptorProto],
+    resolver: &Resolver,
+) -> Result<Vec<Option<usize>>, AllocError>
+    requires { IsKnownOf files.now resolver.now }
+    ensures { IfOk result (λ first. IsUsageOf files.now resolver.now first.items) }
+{
+    let order = order_of(alloc, resolver.imports())?;
+    first_files(alloc, files, resolver.symbols(), order.as_slice())
+}
+
 impl<'a> Usage<'a> {
     /// What tells which imports these files don't use. They have to be as they were parsed: once
     /// they are linked, the search for names goes another way.
@@ -95,14 +109,36 @@ impl<'a> Usage<'a> {
     pub fn new(alloc: Global, files: &'a [FileDescriptorProto]) -> Result<Usage<'a>, AllocError>
         ensures { IfOk result (λ usage. usage ≡ files.entry.now) }
     {
-        let imports = Imports::new(alloc, files)?;
-        let order = order_of(alloc, &imports)?;
         let resolver = Resolver::new(alloc, files)?;
-        let first = first_files(alloc, files, resolver.symbols(), order.as_slice())?;
+        let first = firsts(alloc, files, &resolver)?;
         Ok(Usage {
             files,
-            imports,
-            resolver,
+            names: Names::Own(resolver),
+            first,
+        })
+    }
+
+    /// The same, with what a caller knows of the files.
+    ///
+    /// # Errors
+    /// `AllocError` where memory runs out.
+    ///
+    /// ```
+    /// let resolver = Resolver::new(alloc, files)?;
+    /// let usage = Usage::with_resolver(alloc, files, &resolver)?;
+    /// ```
+    pub fn with_resolver(
+        alloc: Global,
+        files: &'a [FileDescriptorProto],
+        resolver: &'a Resolver,
+    ) -> Result<Usage<'a>, AllocError>
+        requires { IsKnownOf files.now resolver.now }
+        ensures { IfOk result (λ usage. usage ≡ files.entry.now) }
+    {
+        let first = firsts(alloc, files, resolver)?;
+        Ok(Usage {
+            files,
+            names: Names::Lent(resolver),
             first,
         })
     }
@@ -175,7 +211,8 @@ impl<'a> Usage<'a> {
         let Some(file) = self.files.get(number) else {
             return Ok(Vec::new(alloc));
         };
-        let Some(names) = self.resolver.file(alloc, number)? else {
+        let resolver = self.names.resolver();
+        let Some(names) = resolver.file(alloc, number)? else {
             return Ok(Vec::new(alloc));
         };
         if file.dependency.is_empty() {
@@ -189,6 +226,6 @@ impl<'a> Usage<'a> {
             first: self.first.as_slice(),
         };
         let found = search_file(alloc, file, &sight, self.files.len())?;
-        self.not_found(alloc, file, self.imports.named(number), &found)
+        self.not_found(alloc, file, resolver.imports().named(number), &found)
     }
 }

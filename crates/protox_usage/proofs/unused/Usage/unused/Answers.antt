@@ -4,6 +4,8 @@ use Rattle.std.specs.List.{range_with_len}
 use Rattle.std.proofs.lemmas.Option.{slice_get-get_or}
 use Rattle.std.proofs.lemmas.Result.{IfOk-weaker}
 use Rattle.protox_descriptor.specs.declared.descriptor.FileDescriptorProto.{FileDescriptorProto}
+use Rattle.protox_imports.specs.declared.imports.Imports.{Imports}
+use Rattle.protox_link.specs.Known.{IsKnownOf}
 use Rattle.protox_link.specs.Resolver.{IsOfFile}
 use Rattle.protox_name_tree.specs.Tree.{IsNameTree}
 use Rattle.protox_symbols.specs.Symbols.{Table}
@@ -20,7 +22,8 @@ pub returns-then-is_empty : goal.returns-then-is_empty
 returns-then-is_empty c =
     let files = c.self.inside.files.now in
     let names = c.in-Some-2.names in
-    let of_file : IsOfFile files c.args.number names = rw c.in-Some-2.is at (c.in_ok-names.ensures files c.self.invariant.known_of) in
+    let known : IsKnownOf files c.resolver-resolver.result.now = subst (IsKnownOf files) (sym c.resolver-resolver.ensures) c.self.invariant.known_of in
+    let of_file : IsOfFile files c.args.number names = rw c.in-Some-2.is at (c.in_ok-names.ensures files known) in
     let packages = seen_packages names.sees names.packages.now in
     let file = c.in-Some.file.now in
     let there : slice_get files c.args.number ≡ Some file = slice_get-get_or files c.args.number file c.in-Some.ensures.lookup.3.0 ∙ ap Some (sym c.in-Some.ensures.lookup.1) in
@@ -38,7 +41,8 @@ pub returns : goal.returns
 returns c =
     let files = c.self.inside.files.now in
     let names = c.in-Some-2.names in
-    let of_file : IsOfFile files c.args.number names = rw c.in-Some-2.is at (c.in_ok-names.ensures files c.self.invariant.known_of) in
+    let known : IsKnownOf files c.resolver-resolver.result.now = subst (IsKnownOf files) (sym c.resolver-resolver.ensures) c.self.invariant.known_of in
+    let of_file : IsOfFile files c.args.number names = rw c.in-Some-2.is at (c.in_ok-names.ensures files known) in
     let packages = seen_packages names.sees names.packages.now in
     let file = c.in-Some.file.now in
     let there : slice_get files c.args.number ≡ Some file = slice_get-get_or files c.args.number file c.in-Some.ensures.lookup.3.0 ∙ ap Some (sym c.in-Some.ensures.lookup.1) in
@@ -68,7 +72,7 @@ returns c =
       in_order = c.self.invariant.in_order;
       seen_by = of_file.seen;
       are = found_unused files order names.sees packages first file found c.named.result.now unused.items are
-          (c.named.ensures ∙ named_in_rows files c.self.inside.imports.files c.args.number file c.self.invariant.imports there)
+          (c.named.ensures ∙ named_in_rows files c.imports.result.now.files c.args.number file (ap (λ (i : Imports). i.files) c.imports.ensures ∙ known.rows) there)
           (is ∙ ap (λ (fs : List FileDescriptorProto). filter (is_not_found fs file c.named.result.now found) (range_with_len 0 (length c.named.result.now))) (sym c.self.view_is));
     })))
     c.not_found.ensures

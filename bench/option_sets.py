@@ -224,6 +224,18 @@ message Any { optional string u = 1; optional bytes v = 4; }
 extend MessageOptions { optional Any option = 52001; }
 message A { option (option) = { [type.googleapis.com/google.protobuf.Any] {} }; }
 ''',
+    'use/wrong_needs.proto': '''syntax = "proto2";
+package use.wrong_needs;
+import "google/protobuf/descriptor.proto";
+message Needs { required int32 a = 1; optional Needs more = 2; optional int32 n = 3; }
+extend google.protobuf.MessageOptions { optional Needs needs = 52010; }
+message A { option (needs) = { more {} n: "x" }; }
+message B { option (needs) = { a: 1 more {} bad: 1 }; }
+message C { option (needs) = { a: 1 more {} n: 1 }; }
+message D { option (needs) = { more { a: 1 } }; }
+message E { option (needs) = { more { more { a: 1 } } a: 2 more {} }; }
+message F { option (needs) = { more { a: 1 } a: 2 }; }
+''',
     'use/plain.proto': '''syntax = "proto3";
 package use.plain;
 option java_package = "use";

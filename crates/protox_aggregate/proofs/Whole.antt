@@ -1,8 +1,8 @@
 -- What a message in text format says is told by steps through a whole message.
-use Rattle.std.proofs.Common.{IfOk, ◌≡◌, ℕ, ◌+◌, ◌&&◌, Bool, true, false, cond, List, [], ◌∷◌, ◌++◌, length, Option, Some, None, Result, Ok, Err, refl, sym, ap, subst, ◌∙◌, append_assoc, append-nil, take}
-use Rattle.protox_aggregate.specs.Aggregates.{Reading, any_ends, at_step, closes, cut_back, ends, entries_of, goes_out, into, into_typed, is_any_told, is_bare, kept, lists, named_field, named_field_in, named_in, names, naming, naming_type, nothing_read, opened_as, opened_typed, opens, out_of, said_of, saying, saying_more, says_value, started, step, steps_from, told, unless_wrong, value_entry, value_of, with_field, wrong_with_list}
+use Rattle.std.proofs.Common.{IfOk, ◌≡◌, ℕ, ◌+◌, ◌&&◌, Bool, true, false, cond, List, [], ◌∷◌, ◌++◌, length, Option, Some, None, Result, Ok, Err, refl, sym, ap, subst, is_some, ◌∙◌, append_assoc, append-nil, take}
+use Rattle.protox_aggregate.specs.Aggregates.{Reading, any_ends, at_step, closes, cut_back, ends, entries_of, goes_out, into, into_typed, is_any_told, is_bare, kept, lacking, lists, named_field, named_field_in, named_in, names, naming, naming_type, nothing_read, opened_as, opened_typed, opens, out_of, said_of, saying, saying_more, says_value, started, step, steps_from, told, unless_missing, unless_wrong, value_entry, value_of, with_field, wrong_with_list}
 use Rattle.protox_aggregate.specs.Anys.{fields_for, type_in_text}
-use Rattle.protox_aggregate.specs.Complete.{completed, ended, ends_with, if_none_missing, zero_if_untold, zeros, untold}
+use Rattle.protox_aggregate.specs.Complete.{ended, missing_at_end, said_at_end, zero_if_untold, zeros, untold}
 use Rattle.protox_aggregate.specs.Fields.{is_in_proto3}
 use Rattle.protox_aggregate.specs.Levels.{Level, typed_in}
 use Rattle.protox_aggregate.specs.Names.{field_in_text}
@@ -92,16 +92,13 @@ zeros_whole table message told [] = (NoMore, refl)
 zeros_whole table message told (field ∷ more) =
     both_whole _ _ (zero_whole table message told field (untold table message told field)) (zeros_whole table message told more)
 
-missing_is : (held_as : Option ℕ) (es more : List Entry) (n : Option ℕ) → if_none_missing held_as es n ≡ Ok more → es ≡ more
-missing_is held_as es more None h = cc
-missing_is held_as es more (Some n) h = absurd cc
+missing_is : (es more : List Entry) (n : Option ℕ) → unless_missing es n ≡ Ok more → es ≡ more
+missing_is es more None h = cc
+missing_is es more (Some n) h = absurd cc
 
-ended_whole : (table : Table) (level : Level) (m : Option DescriptorProto) (more : List Entry) → ended table level m ≡ Ok more → IsWhole more
-ended_whole table level None more h = (NoMore, cc)
-ended_whole table level (Some m) more h =
-    let is : ends_with table level m ≡ more = missing_is level.held_as _ more _ h in
-    let (p, whole) = by_test _ _ [] (zeros_whole table level.message level.told _) (NoMore, refl) in
-    (p, sym is ∙ whole)
+ended_whole : (table : Table) (level : Level) (m : Option DescriptorProto) → IsWhole (ended table level m)
+ended_whole table level None = (NoMore, refl)
+ended_whole table level (Some m) = by_test _ _ [] (zeros_whole table level.message level.told _) (NoMore, refl)
 
 -- ---- what steps keep
 
@@ -181,6 +178,10 @@ not_refused : {A : Type 0} (b : Bool) (w : AggregateFaultKind) (a next : A) → 
 not_refused true w a next h = absurd cc
 not_refused false w a next h = cc
 
+not_wrong : {A : Type 0} (b : Bool) (w : AggregateFaultKind) (x : Result A AggregateFaultKind) (next : A) → cond b (Err w) x ≡ Ok next → x ≡ Ok next
+not_wrong true w x next h = absurd cc
+not_wrong false w x next h = h
+
 -- ---- messages that end, one around another
 
 module _ (r : Reading) (number : ℕ) (group : Bool) (inside : Parts) where
@@ -237,37 +238,38 @@ module _ (files : List FileDescriptorProto) (table : Table) where
   lists_stays : (r next : Reading) → lists files table r ≡ Ok next → r ≡ next
   lists_stays r next h = let (f, is, h1) = then (named_field files table r.level) (λ f. unless_wrong r (wrong_with_list table f.0 f.1)) next h in unless_is r (wrong_with_list table f.0 f.1) next h1
 
-  completed_whole : (level : Level) (more : List Entry) → completed files table level ≡ Ok more → IsWhole more
-  completed_whole level more h = ended_whole table level (message_numbered files table level.message) more h
+  ending_whole : (level : Level) → IsWhole (said_at_end files table level)
+  ending_whole level = ended_whole table level (message_numbered files table level.message)
 
-  out_goes : (r : Reading) (number : ℕ) (group : Bool) (inside : Parts) (level : Level) (x : Reading) → x.entries ≡ begun r number group inside ++ steps inside → (o : Option Typed) → ((t : Typed) → o ≡ Some t → t.start ≡ length r.entries) → (next : Reading) → goes_out files table x level r.outer o ≡ Ok next → Goes r next
-  out_goes r number group inside level x is None starts next h =
-      let made : Reading = record { level = level; outer = r.outer; entries = x.entries ++ entry.Close ∷ [] } in
+  out_goes : (missing : Option ℕ) (r : Reading) (number : ℕ) (group : Bool) (inside : Parts) (level : Level) (x : Reading) → x.entries ≡ begun r number group inside ++ steps inside → (o : Option Typed) → ((t : Typed) → o ≡ Some t → t.start ≡ length r.entries) → (next : Reading) → goes_out files table missing x level r.outer o ≡ Ok next → Goes r next
+  out_goes missing r number group inside level x is None starts next h =
+      let made : Reading = record { level = lacking level missing; outer = r.outer; entries = x.entries ++ entry.Close ∷ [] } in
       let same : made ≡ next = cc in
       record {
         outer = ap (λ (x : Reading). x.outer) (sym same);
         parts = Message number group inside NoMore;
         entries = ap (λ (x : Reading). x.entries) (sym same) ∙ closed_is r number group inside x.entries is;
       }
-  out_goes r number group inside level x is (Some typed) starts next h =
+  out_goes missing r number group inside level x is (Some typed) starts next h =
       let in_proto3 : Bool = is_in_proto3 files table level.message in
-      let same : any_ends in_proto3 level typed r.outer x.entries ≡ next = not_refused (is_any_told level typed) kind.AnyAgain _ next h in
+      let same : any_ends in_proto3 level typed r.outer x.entries ≡ next = not_refused (is_any_told level typed) kind.AnyAgain _ next (not_wrong (is_some missing) (kind.MissingInAny typed.message) _ next h) in
       let goes : Goes r (any_ends in_proto3 level typed r.outer x.entries) = any_goes r number group inside level typed x.entries is (starts typed refl) (in_proto3 && is_bare typed x.entries) in
       subst (λ n. Goes r n) same goes
 
   -- A message ends: what it said is the value of a field of the one around.
   closed_goes : (r inner after next : Reading) (enters : Enters r inner) → Goes inner after → closes files table after ≡ Ok next → Goes r next
   closed_goes r inner after next enters goes h =
-      let (more, is, h1) = then (completed files table after.level) (λ more. out_of files table (saying_more after more) after.outer) next h in
-      let (q, whole) = completed_whole after.level more is in
+      let missing : Option ℕ = missing_at_end files table after.level in
+      let more : List Entry = said_at_end files table after.level in
+      let (q, whole) = ending_whole after.level in
       let around : after.outer ≡ enters.level ∷ r.outer = goes.outer ∙ enters.outer in
-      let left : out_of files table (saying_more after more) (enters.level ∷ r.outer) ≡ Ok next = ap (λ o. out_of files table (saying_more after more) o) (sym around) ∙ h1 in
+      let left : out_of files table missing (saying_more after more) (enters.level ∷ r.outer) ≡ Ok next = ap (λ o. out_of files table missing (saying_more after more) o) (sym around) ∙ h in
       let inside : Parts = joined goes.parts q in
       let front : List Entry = begun r enters.number enters.group inside in
       let told : after.entries ++ more ≡ front ++ steps inside =
       ap (λ es. es ++ more) (goes.entries ∙ ap (λ es. es ++ steps goes.parts) enters.entries) ∙ ap (λ es. (front ++ steps goes.parts) ++ es) whole
       ∙ append_assoc front (steps goes.parts) (steps q) ∙ ap (λ es. front ++ es) (sym (steps_joined goes.parts q)) in
-      out_goes r enters.number enters.group inside enters.level (saying_more after more) told (typed_in enters.level) enters.typed next left
+      out_goes missing r enters.number enters.group inside enters.level (saying_more after more) told (typed_in enters.level) enters.typed next left
 
 -- ---- all steps
 
@@ -350,8 +352,9 @@ module _ (files : List FileDescriptorProto) (table : Table) (sees packages : Lis
       let (final, is, h1) = then (from 0 (nothing_read files table sees packages message) told) (λ reading. at_step (length told) (ends files table reading)) entries h in
       let a = onward AMessage n pieces told spells 0 (nothing_read files table sees packages message) [] final (ap (from 0 (nothing_read files table sees packages message)) (append-nil told) ∙ is) in
       let same : a.after ≡ final = cc in
-      let (more, also, h2) = then (completed files table final.level) (λ more. Ok (final.entries ++ more)) entries (ok_at (length told) (ends files table final) entries h1) in
-      let (q, whole) = completed_whole files table final.level more also in
-      let told_all : final.entries ++ more ≡ entries = cc in
+      let more : List Entry = said_at_end files table final.level in
+      let (q, whole) = ending_whole files table final.level in
+      let told_all : final.entries ++ more ≡ entries =
+      missing_is (final.entries ++ more) entries (missing_at_end files table final.level) (ok_at (length told) (ends files table final) entries h1) in
       let first : final.entries ≡ steps a.goes.parts = ap (λ (x : Reading). x.entries) (sym same) ∙ a.goes.entries in
       both_whole_of final.entries more entries (a.goes.parts, first) (q, whole) told_all

@@ -1,7 +1,8 @@
 -- What a message in text format says, step by step.
 use Rattle.std.specs.Prelude.{ℕ, ◌+◌, ◌-◌, ◌==◌, Bool, false, not, ◌&&◌, ◌||◌, List, [], ◌∷◌, ◌++◌, length, Option, Some, None, Result, Ok, Err, is_some, take, if◌then◌else◌}
+use Rattle.std.specs.Option.{option_or}
 use Rattle.protox_aggregate.specs.Anys.{fields_for, type_in_text}
-use Rattle.protox_aggregate.specs.Complete.{completed}
+use Rattle.protox_aggregate.specs.Complete.{missing_at_end, said_at_end}
 use Rattle.protox_aggregate.specs.Fields.{is_group, is_implicit, is_in_proto3, is_packed, is_zero, wire_number}
 use Rattle.protox_aggregate.specs.Levels.{Level, has_told, telling, told_alone, typed_in, unread, wrong_with_naming}
 use Rattle.protox_aggregate.specs.Names.{field_in_text}
@@ -64,7 +65,7 @@ saying reading named field said = record reading { level = told reading.level na
 -- Its value is a message of this type, which begins.
 abbrev pub into : Reading → Named → FieldDescriptorProto → ℕ → Reading
 into reading named field message = record {
-  level = unread message reading.level.held_as;
+  level = unread message;
   outer = told reading.level named field ∷ reading.outer;
   entries = reading.entries ++ entry.Open (wire_number field) (is_group field) ∷ [];
 }
@@ -76,7 +77,7 @@ started level named typed n = record level { field = Some (record named { typed 
 -- The message of a type that was named in an `Any` begins.
 abbrev pub into_typed : Reading → Named → Typed → Reading
 into_typed reading named typed = record {
-  level = unread typed.message (Some typed.message);
+  level = unread typed.message;
   outer = started reading.level named typed (length reading.entries) ∷ reading.outer;
   entries = reading.entries ++ entry.Open 2 false ∷ [];
 }
@@ -109,6 +110,11 @@ any_ends in_proto3 level typed outer entries =
 -- One of the two fields of an `Any` has a value.
 abbrev pub is_any_told : Level → Typed → Bool
 is_any_told level typed = has_told level.told typed.fields.url || has_told level.told typed.fields.value
+
+-- A message in this one has ended. If that needs a field that has no value, this one lacks it, unless
+-- it lacks another one before.
+abbrev pub lacking : Level → Option ℕ → Level
+lacking level missing = record level { missing = option_or level.missing missing }
 
 -- This is said besides.
 abbrev pub saying_more : Reading → List Entry → Reading
@@ -149,6 +155,10 @@ module _ (table : Table) where
       else if is_repeated field then None
       else Some kind.NotRepeated
 
+abbrev pub unless_missing : List Entry → Option ℕ → Result (List Entry) AggregateFaultKind
+unless_missing entries None = Ok entries
+unless_missing entries (Some n) = Err (kind.Missing n)
+
 abbrev pub with_field : Named → Option FieldDescriptorProto → Result (Named × FieldDescriptorProto) AggregateFaultKind
 with_field named None = Err kind.Misplaced
 with_field named (Some field) = Ok (named, field)
@@ -188,24 +198,26 @@ module _ (files : List FileDescriptorProto) (table : Table) where
   abbrev pub lists : Reading → Result Reading AggregateFaultKind
   lists reading = goes_on (named_field reading.level) (λ f. unless_wrong reading (wrong_with_list table f.0 f.1))
 
-  -- The innermost message ends, and the one around it goes on. That is an `Any` if a type was named in
-  -- it.
-  abbrev pub goes_out : Reading → Level → List Level → Option Typed → Result Reading AggregateFaultKind
-  goes_out reading level outer None = Ok (record { level = level; outer = outer; entries = reading.entries ++ entry.Close ∷ [] })
-  goes_out reading level outer (Some typed) =
-      if is_any_told level typed then Err kind.AnyAgain
+  -- The innermost message ends, where a field has no value that it needs, or where all have one. The
+  -- message around it goes on. That is an `Any` if a type was named in it.
+  abbrev pub goes_out : Option ℕ → Reading → Level → List Level → Option Typed → Result Reading AggregateFaultKind
+  goes_out missing reading level outer None = Ok (record { level = lacking level missing; outer = outer; entries = reading.entries ++ entry.Close ∷ [] })
+  goes_out missing reading level outer (Some typed) =
+      if is_some missing then Err (kind.MissingInAny typed.message)
+      else if is_any_told level typed then Err kind.AnyAgain
       else Ok (any_ends (is_in_proto3 files table level.message) level typed outer reading.entries)
 
-  abbrev pub out_of : Reading → List Level → Result Reading AggregateFaultKind
-  out_of reading [] = Err kind.Misplaced
-  out_of reading (level ∷ outer) = goes_out reading level outer (typed_in level)
+  abbrev pub out_of : Option ℕ → Reading → List Level → Result Reading AggregateFaultKind
+  out_of missing reading [] = Err kind.Misplaced
+  out_of missing reading (level ∷ outer) = goes_out missing reading level outer (typed_in level)
 
   abbrev pub closes : Reading → Result Reading AggregateFaultKind
-  closes reading = goes_on (completed files table reading.level) (λ more. out_of (saying_more reading more) reading.outer)
+  closes reading =
+      out_of (missing_at_end files table reading.level) (saying_more reading (said_at_end files table reading.level)) reading.outer
 
-  -- what is said of all, where the outermost message ends
+  -- what is said of all, where the outermost message ends; or which field has no value that is needed
   abbrev pub ends : Reading → Result (List Entry) AggregateFaultKind
-  ends reading = goes_on (completed files table reading.level) (λ more. Ok (reading.entries ++ more))
+  ends reading = unless_missing (reading.entries ++ said_at_end files table reading.level) (missing_at_end files table reading.level)
 
 -- what is wrong, and at which step
 abbrev pub at_step : {A : Type 0} → ℕ → Result A AggregateFaultKind → Result A AggregateFault
@@ -235,7 +247,7 @@ module _ (files : List FileDescriptorProto) (table : Table) (sees packages : Lis
 
   -- where nothing was read of a message of this type
   abbrev pub nothing_read : ℕ → Reading
-  nothing_read message = record { level = unread message None; outer = []; entries = [] }
+  nothing_read message = record { level = unread message; outer = []; entries = [] }
 
   -- What a message of this type says, as steps through the fields that are set.
   abbrev pub entries_of : ℕ → List Step → Result (List Entry) AggregateFault

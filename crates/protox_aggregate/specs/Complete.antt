@@ -1,12 +1,10 @@
 -- Messages that end: which fields they need, and what the entry of a map has that isn't told.
-use Rattle.std.specs.Prelude.{ℕ, Bool, false, not, ◌||◌, List, [], ◌∷◌, ◌++◌, Option, Some, None, Result, Ok, Err, if◌then◌else◌}
+use Rattle.std.specs.Prelude.{ℕ, Bool, false, not, ◌||◌, List, [], ◌∷◌, ◌++◌, Option, Some, None, if◌then◌else◌}
 use Rattle.std.specs.Option.{option_eq, option_map_or, option_or, unwrap_or}
 use Rattle.std.specs.Ordering.{int_eq}
 use Rattle.protox_aggregate.specs.Fields.{has_type, wire_number}
 use Rattle.protox_aggregate.specs.Levels.{Level, has_told}
 use Rattle.protox_aggregate.specs.Names.{if_fits, inside}
-use Rattle.protox_aggregate.specs.declared.fault.AggregateFaultKind.{AggregateFaultKind}
-use Rattle.protox_aggregate.specs.declared.fault.AggregateFaultKind.TheVariants as kind
 use Rattle.protox_aggregate.specs.declared.level.Told.{Told}
 use Rattle.protox_descriptor.specs.FieldDescriptorProto.{FieldDescriptorProto}
 use Rattle.protox_descriptor.specs.FieldWords.{label_number}
@@ -76,23 +74,19 @@ is_map_entry m = option_map_or (λ options. unwrap_or options.map_entry false) (
 abbrev pub ends_with : Table → Level → DescriptorProto → List Entry
 ends_with table level m = if is_map_entry m then zeros table level.message level.told (out-DescriptorProto m).field else []
 
--- what is told of a field that is missing, in the value of an `Any` or elsewhere
-abbrev pub missing_kind : Option ℕ → ℕ → AggregateFaultKind
-missing_kind None n = kind.Missing n
-missing_kind (Some held_as) n = kind.MissingInAny held_as
+abbrev pub ended : Table → Level → Option DescriptorProto → List Entry
+ended table level None = []
+ended table level (Some m) = ends_with table level m
 
-abbrev pub if_none_missing : Option ℕ → List Entry → Option ℕ → Result (List Entry) AggregateFaultKind
-if_none_missing held_as entries None = Ok entries
-if_none_missing held_as entries (Some n) = Err (missing_kind held_as n)
+-- what is said besides where a message ends
+abbrev pub said_at_end : List FileDescriptorProto → Table → Level → List Entry
+said_at_end files table level = ended table level (message_numbered files table level.message)
 
-abbrev pub ended : Table → Level → Option DescriptorProto → Result (List Entry) AggregateFaultKind
-ended table level None = Ok []
-ended table level (Some m) = if_none_missing level.held_as (ends_with table level m) (missing table level.message level.told (out-DescriptorProto m).field)
+abbrev pub missing_of : Table → Level → Option DescriptorProto → Option ℕ
+missing_of table level None = None
+missing_of table level (Some m) = missing table level.message level.told (out-DescriptorProto m).field
 
--- What is said besides where a message ends, or which of the fields that it needs has no value.
-abbrev pub completed : List FileDescriptorProto → Table → Level → Result (List Entry) AggregateFaultKind
-completed files table level = ended table level (message_numbered files table level.message)
-
-abbrev pub said_more : List Entry → Result (List Entry) AggregateFaultKind → Result (List Entry) AggregateFaultKind
-said_more entries (Ok more) = Ok (entries ++ more)
-said_more entries (Err wrong) = Err wrong
+-- Which field has no value, where a message ends: one that a message in it needs, or that it needs
+-- itself.
+abbrev pub missing_at_end : List FileDescriptorProto → Table → Level → Option ℕ
+missing_at_end files table level = option_or level.missing (missing_of table level (message_numbered files table level.message))

@@ -12,17 +12,17 @@ use Rattle.protox_descriptor.specs.FieldDescriptorProto.{FieldDescriptorProto}
 use Rattle.protox_settings.specs.Fields.{is_repeated}
 
 -- A message: its number in the table; the field that was named last in it; those of its fields that
--- aren't repeated and have a value; and, if it is the value of an `Any` or stands in one, the type of
--- the innermost such value.
+-- aren't repeated and have a value; and the first field, if there is one, that has no value, which a
+-- message needs that has ended in it.
 pub record Level : Type 0 where
   pub message : ℕ
   pub field : Option Named
   pub told : List Told
-  pub held_as : Option ℕ
+  pub missing : Option ℕ
 
 -- a message of which nothing was read
-abbrev pub unread : ℕ → Option ℕ → Level
-unread message held_as = record { message = message; field = None; told = []; held_as = held_as }
+abbrev pub unread : ℕ → Level
+unread message = record { message = message; field = None; told = []; missing = None }
 
 -- the type that was named last in a message `Any`, if one was
 abbrev pub typed_in : Level → Option Typed

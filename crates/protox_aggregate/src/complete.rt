@@ -1,18 +1,16 @@
 //! Messages that end.
 
-ghost use Rattle.std.specs.Prelude.{◌≡◌, ◌++◌, ◌||◌, Err, IfErr, IfOk, Ok, OnOk};
+ghost use Rattle.std.specs.Prelude.{◌≡◌, ◌++◌, ◌||◌, OnOk};
 ghost use Rattle.protox_aggregate.specs.Complete as words;
 ghost use Rattle.protox_aggregate.specs.Fields.{has_type as has_type_of};
 ghost use Rattle.protox_aggregate.specs.Levels.{has_told};
 ghost use Rattle.protox_descriptor.specs.declared.descriptor.field_descriptor_proto.FieldType.TheVariants as type;
 ghost use Rattle.std.specs.Option.{option_copied};
-ghost use Rattle.protox_aggregate.specs.Unsaid.{IfUnsaid};
+ghost use Rattle.protox_settings.specs.Fields.{message_numbered as message_of_number};
 ghost use Rattle.protox_walk.specs.Declarations.{text_of};
 
-use crate::fault::AggregateFaultKind;
 use crate::fields::{has_type, wire_number};
 use crate::level::{Level, Told};
-use crate::unsaid::Unsaid;
 use protox_descriptor::descriptor::field_descriptor_proto::{FieldType, Label};
 use protox_descriptor::descriptor::{DescriptorProto, FieldDescriptorProto, FileDescriptorProto};
 use protox_descriptor::values::{Items, Text};
@@ -131,16 +129,6 @@ fn missing_field(
     }
 }
 
-// What is told of a field that is missing, in the value of an `Any` or elsewhere.
-fn missing_kind(held_as: Option<usize>, number: usize) -> AggregateFaultKind
-    ensures { result ≡ words.missing_kind held_as number }
-{
-    match held_as {
-        Some(held_as) => AggregateFaultKind::MissingInAny(held_as),
-        None => AggregateFaultKind::Missing(number),
-    }
-}
-
 // The first field that is required and has no value.
 fn missing(
     symbols: &Symbols,
@@ -208,29 +196,47 @@ fn end(
     }
 }
 
-/// Says what is said besides where a message ends, or tells which of the fields that it needs has no
-/// value.
-pub(crate) fn complete(
+/// Says what is said besides where a message ends.
+pub(crate) fn say_at_end(
     alloc: Global,
     symbols: &Symbols,
     files: &[FileDescriptorProto],
     level: &Level,
     entries: &mut Vec<Entry>,
-) -> Result<(), Unsaid>
-    ensures ok { OnOk result (words.said_more entries.old.items
-        (words.completed files.now symbols.now level.now) ≡ Ok entries.new.items) }
-    ensures err { IfErr result (λ unsaid. IfUnsaid unsaid (λ kind.
-        words.completed files.now symbols.now level.now ≡ Err kind)) }
+) -> Result<(), AllocError>
+    ensures { OnOk result (entries.new.items ≡ entries.old.items
+        ++ words.said_at_end files.now symbols.now level.now) }
 {
-    let Some(message) = message_numbered(symbols, files, level.message) else {
-        return Ok(());
-    };
-    let fields = message.field.as_slice();
-    if let Some(number) = missing(symbols, level.message, &level.told, fields) {
-        return Err(Unsaid::Fault(missing_kind(level.held_as, number)));
+    match message_numbered(symbols, files, level.message) {
+        Some(message) => end(alloc, symbols, level, message, entries),
+        None => Ok(()),
     }
-    match end(alloc, symbols, level, message, entries) {
-        Ok(()) => Ok(()),
-        Err(_) => Err(Unsaid::OutOfMemory),
+}
+
+fn missing_of(symbols: &Symbols, files: &[FileDescriptorProto], level: &Level) -> Option<usize>
+    ensures { result ≡ words.missing_of symbols.now level.now
+        (message_of_number files.now symbols.now level.now.message) }
+{
+    let message = message_numbered(symbols, files, level.message)?;
+    missing(
+        symbols,
+        level.message,
+        &level.told,
+        message.field.as_slice(),
+    )
+}
+
+/// Which field has no value, where a message ends: one that a message in it needs, or that it needs
+/// itself.
+pub(crate) fn missing_at_end(
+    symbols: &Symbols,
+    files: &[FileDescriptorProto],
+    level: &Level,
+) -> Option<usize>
+    ensures { result ≡ words.missing_at_end files.now symbols.now level.now }
+{
+    match level.missing {
+        Some(number) => Some(number),
+        None => missing_of(symbols, files, level),
     }
 }

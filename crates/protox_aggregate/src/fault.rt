@@ -29,7 +29,8 @@ pub enum AggregateFaultKind {
     /// The field with the first number is of a oneof of which the one with the second has a value
     /// already.
     Along(usize, usize),
-    /// The message ends, and the field with this number has no value, which it needs.
+    /// The whole message ends, and the field with this number has no value, which that message
+    /// needs, or one in it.
     Missing(usize),
     /// The field has no type. In linked files each field has one.
     Untyped,
@@ -42,8 +43,8 @@ pub enum AggregateFaultKind {
     UnknownType,
     /// The message `Any` has the name of a type or a value already.
     AnyAgain,
-    /// A message ends that is the value of an `Any` or stands in one, and a field has no value, which
-    /// it needs. The value of the `Any` is of the type with this number.
+    /// The value of an `Any` ends, and a field has no value, which that needs, or a message in it.
+    /// The type of the value has this number.
     MissingInAny(usize),
 }
 

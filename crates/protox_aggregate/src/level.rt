@@ -1,7 +1,7 @@
 //! Messages that are read.
 
 ghost use Rattle.std.specs.Prelude.{◌≡◌, ◌++◌, ◌∷◌, [], OnOk};
-ghost use Rattle.protox_aggregate.specs.Aggregates.{told};
+ghost use Rattle.protox_aggregate.specs.Aggregates.{lacking, told};
 ghost use Rattle.protox_aggregate.specs.Levels as words;
 
 use crate::complete::is_told;
@@ -11,8 +11,8 @@ use protox_settings::is_repeated;
 use std::alloc::{AllocError, Global};
 use std::marker::Model;
 
-// The fields of a message `Any`, by their numbers in the table: that for the name of a type, and that
-// for the value.
+// The fields of a message `Any`, by their numbers in the table: that for the name of a type, and
+// that for the value.
 #[derive(Clone, Copy)]
 pub(crate) struct AnyFields {
     pub(crate) url: usize,
@@ -28,8 +28,8 @@ pub(crate) struct Typed {
     pub(crate) start: usize,
 }
 
-// A field that was named, by its number in the table, and whether a colon stands behind the name. If
-// the name is that of a type, in a message `Any`, it is the field for the value.
+// A field that was named, by its number in the table, and whether a colon stands behind the name.
+// If the name is that of a type, in a message `Any`, it is the field for the value.
 #[derive(Clone, Copy)]
 pub(crate) struct Named {
     pub(crate) number: usize,
@@ -44,15 +44,15 @@ pub(crate) struct Told {
     pub(crate) oneof: Option<i32>,
 }
 
-// A message that is read: its number in the table; the field that was named last in it; those of its
-// fields that have a value; and, if it is the value of an `Any` or stands in one, the type of the
-// innermost such value.
+// A message that is read: its number in the table; the field that was named last in it; those of
+// its fields that have a value; and the first field, if there is one, that has no value, which a
+// message needs that has ended in it.
 #[derive(Drop)]
 pub(crate) struct Level {
     pub(crate) message: usize,
     pub(crate) field: Option<Named>,
     pub(crate) told: Vec<Told>,
-    pub(crate) held_as: Option<usize>,
+    pub(crate) missing: Option<usize>,
 }
 
 impl Model for Level {
@@ -64,20 +64,20 @@ impl Model for Level {
       message = l.message;
       field = l.field;
       told = l.told.items;
-      held_as = l.held_as;
+      missing = l.missing;
     } };
 }
 
 impl Level {
     // Nothing was read of the message.
-    pub(crate) fn unread(alloc: Global, message: usize, held_as: Option<usize>) -> Level
-        ensures { result ≡ words.unread message held_as }
+    pub(crate) fn unread(alloc: Global, message: usize) -> Level
+        ensures { result ≡ words.unread message }
     {
         Level {
             message,
             field: None,
             told: Vec::new(alloc),
-            held_as,
+            missing: None,
         }
     }
 
@@ -111,6 +111,15 @@ impl Level {
         Ok(())
     }
 
+    // A message in this one has ended, and may need a field that has no value.
+    pub(crate) fn lack(&mut self, missing: Option<usize>)
+        ensures { self.new ≡ lacking self.old missing }
+    {
+        if self.missing.is_none() {
+            self.missing = missing;
+        }
+    }
+
     // The type that was named last in a message `Any`.
     pub(crate) fn typed(&self) -> Option<Typed>
         ensures { result ≡ words.typed_in self.now }
@@ -135,8 +144,8 @@ fn told_along(told: &[Told], oneof: Option<i32>) -> Option<Told>
     None
 }
 
-// What is wrong with naming a field, if anything: a field that isn't repeated has one value, and of a
-// oneof one field has one.
+// What is wrong with naming a field, if anything: a field that isn't repeated has one value, and of
+// a oneof one field has one.
 pub(crate) fn wrong_with_naming(
     told: &[Told],
     number: usize,

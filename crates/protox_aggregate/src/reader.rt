@@ -80,7 +80,7 @@ impl Reader {
         self.entries
             .push(Entry::Open(wire_number(field), is_group(field)))?;
         self.level.tell(named, field)?;
-        let unread = Level::unread(alloc, message, self.level.held_as);
+        let unread = Level::unread(alloc, message);
         let level = mem::replace(&mut self.level, unread);
         self.outer.push(level)?;
         Ok(())
@@ -102,7 +102,7 @@ impl Reader {
             typed: Some(Typed { start, ..typed }),
             ..named
         });
-        let unread = Level::unread(alloc, typed.message, Some(typed.message));
+        let unread = Level::unread(alloc, typed.message);
         let level = mem::replace(&mut self.level, unread);
         self.outer.push(level)?;
         Ok(())

@@ -1,32 +1,32 @@
 //! Messages, step by step.
 
-ghost use Rattle.std.specs.Prelude.{◌≡◌, ℕ, List, Err, IfErr, IfOk, Ok, OnOk, None, Some, if◌then◌else◌, map};
+ghost use Rattle.std.specs.Prelude.{◌≡◌, ℕ, List, Err, IfErr, IfOk, Ok, OnOk, None, Some, map};
 ghost use Rattle.protox_aggregate.specs.Aggregates as words;
 ghost use Rattle.protox_aggregate.specs.Failure.{IfFault};
 ghost use Rattle.protox_aggregate.specs.Levels as levels;
 ghost use Rattle.protox_aggregate.specs.Reading.{IsRefused, Leads, reading_of};
 ghost use Rattle.protox_aggregate.specs.Unsaid.{IfUnsaid};
-ghost use Rattle.protox_settings.specs.Fields.{field_numbered as numbered, message_of_type as message_of};
+ghost use Rattle.protox_settings.specs.Fields.{field_numbered as numbered};
+ghost use Rattle.protox_settings.specs.Fields.{message_of_type as message_of};
 ghost use Rattle.protox_text_format.specs.Spelling.{AMessage, Name, Spells, seen};
 ghost use Rattle.protox_text_format.specs.declared.item.Piece.{Piece as APiece};
 ghost use Rattle.protox_text_values.specs.Scalars.{shapes_of};
 ghost use Rattle.protox_aggregate.specs.Whole.{IsWhole};
 
 use crate::anys::{fields_for, type_in_text};
-use crate::complete::{complete, is_told};
+use crate::complete::{is_told, missing_at_end, say_at_end};
 use crate::fault::{AggregateFailure, AggregateFault, AggregateFaultKind};
 use crate::fields::is_in_proto3;
 use crate::level::{AnyFields, Level, Named, Typed, wrong_with_naming};
 use crate::names::field_in_text;
 use crate::reader::Reader;
 use crate::unsaid::Unsaid;
-use crate::values::value_said;
+use crate::values::{no_message, value_of, wrong_with_list};
 use protox_descriptor::descriptor::{FieldDescriptorProto, FileDescriptorProto};
 use protox_message_bytes::Entry;
-use protox_settings::{field_numbered, is_repeated, message_of_type};
+use protox_settings::{field_numbered, message_of_type};
 use protox_symbols::Symbols;
 use protox_text_format::{Item, Piece};
-use protox_values::SettingValue;
 use protox_views::View;
 use std::alloc::Global;
 
@@ -60,63 +60,6 @@ fn wrong_with_field(
     match field_numbered(symbols, files, number) {
         Some(field) => wrong_with_naming(&level.told, number, field),
         None => Some(AggregateFaultKind::Misplaced),
-    }
-}
-
-// What a value says that is no message. The enums of a message of proto3 are open.
-fn value_of(
-    alloc: Global,
-    symbols: &Symbols,
-    files: &[FileDescriptorProto],
-    message: usize,
-    pieces: &[Piece<'_>],
-    named: Named,
-    field: &FieldDescriptorProto,
-) -> Result<SettingValue, Unsaid>
-    ensures said { IfOk result (λ value. words.value_of files.now symbols.now message pieces.now named
-        field.now ≡ Ok value) }
-    ensures fault { IfErr result (λ unsaid. IfUnsaid unsaid (λ kind. words.value_of files.now
-        symbols.now message pieces.now named field.now ≡ Err kind)) }
-{
-    if named.typed.is_some() || message_of_type(symbols, field).is_some() {
-        return Err(Unsaid::Fault(AggregateFaultKind::NotMessage));
-    }
-    if !named.colon {
-        return Err(Unsaid::Fault(AggregateFaultKind::NoColon));
-    }
-    let is_open = is_in_proto3(symbols, files, message);
-    value_said(alloc, symbols, files, field, is_open, pieces)
-}
-
-// What is wrong with a list of values of a field, if anything.
-fn wrong_with_list(
-    symbols: &Symbols,
-    named: Named,
-    field: &FieldDescriptorProto,
-) -> Option<AggregateFaultKind>
-    ensures { result ≡ words.wrong_with_list symbols.now named field.now }
-{
-    if named.typed.is_some() {
-        return Some(AggregateFaultKind::NotMessage);
-    }
-    if message_of_type(symbols, field).is_none() && !named.colon {
-        return Some(AggregateFaultKind::NoColon);
-    }
-    if is_repeated(field) {
-        None
-    } else {
-        Some(AggregateFaultKind::NotRepeated)
-    }
-}
-
-// What is wrong with a message as the value of a field whose type is none.
-fn no_message(named: Named) -> AggregateFaultKind
-    ensures { result ≡ (if named.colon then AggregateFaultKind.NotScalar else AggregateFaultKind.NoColon) }
-{
-    if named.colon {
-        AggregateFaultKind::NotScalar
-    } else {
-        AggregateFaultKind::NoColon
     }
 }
 
@@ -275,24 +218,25 @@ impl Reader {
         self.enter_named(alloc, symbols, named, field)
     }
 
-    // Goes back to the message around.
-    fn leave_to(
+    // Goes back to a message `Any`, in which a type was named.
+    fn leave_typed(
         &mut self,
         symbols: &Symbols,
         files: &[FileDescriptorProto],
+        missing: Option<usize>,
         around: Level,
+        typed: Typed,
     ) -> Result<(), Unsaid>
-        ensures ok { OnOk result (words.goes_out files.now symbols.now (reading_of self.old) around
-            (reading_of self.old).outer (levels.typed_in around) ≡ Ok (reading_of self.new)) }
+        ensures ok { OnOk result (words.goes_out files.now symbols.now missing
+            (reading_of self.old) around (reading_of self.old).outer (Some typed)
+            ≡ Ok (reading_of self.new)) }
         ensures err { IfErr result (λ unsaid. IfUnsaid unsaid (λ kind. words.goes_out files.now
-            symbols.now (reading_of self.old) around (reading_of self.old).outer
-            (levels.typed_in around) ≡ Err kind)) }
+            symbols.now missing (reading_of self.old) around (reading_of self.old).outer
+            (Some typed) ≡ Err kind)) }
     {
-        let Some(typed) = around.typed() else {
-            self.level = around;
-            self.entries.push(Entry::Close)?;
-            return Ok(());
-        };
+        if missing.is_some() {
+            return Err(Unsaid::Fault(AggregateFaultKind::MissingInAny(typed.message)));
+        }
         if is_any_told(&around, typed) {
             return Err(Unsaid::Fault(AggregateFaultKind::AnyAgain));
         }
@@ -303,14 +247,45 @@ impl Reader {
         }
     }
 
-    fn leave(&mut self, symbols: &Symbols, files: &[FileDescriptorProto]) -> Result<(), Unsaid>
-        ensures ok { OnOk result (words.out_of files.now symbols.now (reading_of self.old)
+    // Goes back to the message around.
+    fn leave_to(
+        &mut self,
+        symbols: &Symbols,
+        files: &[FileDescriptorProto],
+        missing: Option<usize>,
+        around: Level,
+    ) -> Result<(), Unsaid>
+        ensures ok { OnOk result (words.goes_out files.now symbols.now missing
+            (reading_of self.old) around (reading_of self.old).outer (levels.typed_in around)
+            ≡ Ok (reading_of self.new)) }
+        ensures err { IfErr result (λ unsaid. IfUnsaid unsaid (λ kind. words.goes_out files.now
+            symbols.now missing (reading_of self.old) around (reading_of self.old).outer
+            (levels.typed_in around) ≡ Err kind)) }
+    {
+        match around.typed() {
+            Some(typed) => self.leave_typed(symbols, files, missing, around, typed),
+            None => {
+                self.level = around;
+                self.level.lack(missing);
+                self.entries.push(Entry::Close)?;
+                Ok(())
+            }
+        }
+    }
+
+    fn leave(
+        &mut self,
+        symbols: &Symbols,
+        files: &[FileDescriptorProto],
+        missing: Option<usize>,
+    ) -> Result<(), Unsaid>
+        ensures ok { OnOk result (words.out_of files.now symbols.now missing (reading_of self.old)
             (reading_of self.old).outer ≡ Ok (reading_of self.new)) }
         ensures err { IfErr result (λ unsaid. IfUnsaid unsaid (λ kind. words.out_of files.now
-            symbols.now (reading_of self.old) (reading_of self.old).outer ≡ Err kind)) }
+            symbols.now missing (reading_of self.old) (reading_of self.old).outer ≡ Err kind)) }
     {
         match self.outer.pop() {
-            Some(around) => self.leave_to(symbols, files, around),
+            Some(around) => self.leave_to(symbols, files, missing, around),
             None => Err(Unsaid::Fault(AggregateFaultKind::Misplaced)),
         }
     }
@@ -326,8 +301,9 @@ impl Reader {
         ensures err { IfErr result (λ unsaid. IfUnsaid unsaid (λ kind.
             words.closes files.now symbols.now (reading_of self.old) ≡ Err kind)) }
     {
-        complete(alloc, symbols, files, &self.level, &mut self.entries)?;
-        self.leave(symbols, files)
+        let missing = missing_at_end(symbols, files, &self.level);
+        say_at_end(alloc, symbols, files, &self.level, &mut self.entries)?;
+        self.leave(symbols, files, missing)
     }
 
     fn list(&self, symbols: &Symbols, files: &[FileDescriptorProto]) -> Result<(), Unsaid>
@@ -408,11 +384,14 @@ fn finish(
     ensures fault { IfErr result (λ failure. IfFault failure (λ fault. words.at_step step
         (words.ends files.now symbols.now (reading_of reader)) ≡ Err fault)) }
 {
+    if let Some(number) = missing_at_end(symbols, files, &reader.level) {
+        let kind = AggregateFaultKind::Missing(number);
+        return Err(AggregateFailure::Fault(AggregateFault { step, kind }));
+    }
     let mut entries = reader.entries;
-    match complete(alloc, symbols, files, &reader.level, &mut entries) {
+    match say_at_end(alloc, symbols, files, &reader.level, &mut entries) {
         Ok(()) => Ok(entries),
-        Err(Unsaid::Fault(kind)) => { Err(AggregateFailure::Fault(AggregateFault { step, kind })) }
-        Err(Unsaid::OutOfMemory) => Err(AggregateFailure::OutOfMemory),
+        Err(_) => Err(AggregateFailure::OutOfMemory),
     }
 }
 
@@ -431,7 +410,7 @@ fn read_entries(
         ≡ Err fault)) }
 {
     let mut reader = Reader {
-        level: Level::unread(alloc, message, None),
+        level: Level::unread(alloc, message),
         outer: Vec::new(alloc),
         entries: Vec::new(alloc),
     };
@@ -441,23 +420,24 @@ fn read_entries(
     }
 }
 
-/// What a message in text format says in a set of linked files, as steps through the fields that are
-/// set. `message` is the number of its type in the table.
+/// What a message in text format says in a set of linked files, as steps through the fields that
+/// are set. `message` is the number of its type in the table.
 ///
 /// Each name is that of a field of the message in which it stands, or of an extension of it that the
-/// file sees. Each value is one of the field's type. A field that isn't repeated is set once, one field
-/// of a oneof is set, and no field is missing that its message needs. In proto3 a field that is set to
-/// 0, `false` or an empty text isn't set. The entry of a map has both its key and its value.
+/// file sees. Each value is one of the field's type. A field that isn't repeated is set once, one
+/// field of a oneof is set, and no field is missing that its message needs. In proto3 a field that is
+/// set to 0, `false` or an empty text isn't set. The entry of a map has both its key and its value.
 ///
-/// In a message `google.protobuf.Any` a name in brackets is that of a type that the file sees, behind
-/// one of protobuf's domains and a slash. What is in the brackets is the value of `type_url`, and the
-/// bytes of the message of this type are that of `value`.
+/// In a message `google.protobuf.Any` a name in brackets is that of a type that the file sees,
+/// behind one of protobuf's domains and a slash. What is in the brackets is the value of `type_url`,
+/// and the bytes of the message of this type are that of `value`.
 ///
-/// If the steps are those through a message, as `read` gives them, what is answered are steps through a
-/// whole message, too, of which `message_bytes` gives the bytes.
+/// If the steps are those through a message, as `read` gives them, what is answered are steps
+/// through a whole message, too, of which `message_bytes` gives the bytes.
 ///
 /// # Errors
-/// `Fault` with the first step that is wrong. `OutOfMemory` where memory runs out.
+/// `Fault` with the first step that is wrong. That a field is missing is told where the whole
+/// message ends, or the value of an `Any`. `OutOfMemory` where memory runs out.
 pub fn entries_of(
     alloc: Global,
     view: &View<'_>,

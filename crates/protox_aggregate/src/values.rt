@@ -1,7 +1,8 @@
 //! What a value says to a field.
 
-ghost use Rattle.std.specs.Prelude.{◌≡◌, Err, IfErr, IfOk, Ok};
+ghost use Rattle.std.specs.Prelude.{◌≡◌, Err, IfErr, IfOk, Ok, if◌then◌else◌};
 ghost use Rattle.protox_aggregate.specs.Unsaid.{IfUnsaid};
+ghost use Rattle.protox_aggregate.specs.Aggregates as aggregates;
 ghost use Rattle.protox_aggregate.specs.Values as words;
 ghost use Rattle.protox_text_values.specs.Enums.{enum_says_in_text};
 ghost use Rattle.protox_text_values.specs.Scalars.{says_in_text, shapes_of};
@@ -11,10 +12,12 @@ ghost use Rattle.protox_settings.specs.Settings.{type_numbered as type_of_number
 ghost use Rattle.std.specs.Option.{option_and_then};
 
 use crate::fault::AggregateFaultKind;
+use crate::fields::is_in_proto3;
+use crate::level::Named;
 use crate::unsaid::Unsaid;
 use protox_descriptor::descriptor::field_descriptor_proto::FieldType;
 use protox_descriptor::descriptor::{FieldDescriptorProto, FileDescriptorProto};
-use protox_settings::{type_numbered, values_named};
+use protox_settings::{is_repeated, message_of_type, type_numbered, values_named};
 use protox_symbols::Symbols;
 use protox_text_format::Piece;
 use protox_text_values::{TextValueFailure, enum_in_text, scalar_in_text};
@@ -114,9 +117,9 @@ fn type_of(field: &FieldDescriptorProto) -> Option<FieldType>
     }
 }
 
-/// What a value that is no message says to a field, on the wire. An open enum takes numbers that no
-/// value has.
-pub(crate) fn value_said(
+// What a value that is no message says to a field, on the wire. An open enum takes numbers that no
+// value has.
+fn value_said(
     alloc: Global,
     symbols: &Symbols,
     files: &[FileDescriptorProto],
@@ -132,5 +135,63 @@ pub(crate) fn value_said(
     match type_of(field) {
         Some(field_type) => { said_by(alloc, symbols, files, field, field_type, is_open, pieces) }
         None => Err(Unsaid::Fault(AggregateFaultKind::Untyped)),
+    }
+}
+
+/// What a value says that is no message. The enums of a message of proto3 are open.
+pub(crate) fn value_of(
+    alloc: Global,
+    symbols: &Symbols,
+    files: &[FileDescriptorProto],
+    message: usize,
+    pieces: &[Piece<'_>],
+    named: Named,
+    field: &FieldDescriptorProto,
+) -> Result<SettingValue, Unsaid>
+    ensures said { IfOk result (λ value. aggregates.value_of files.now symbols.now message
+        pieces.now named field.now ≡ Ok value) }
+    ensures fault { IfErr result (λ unsaid. IfUnsaid unsaid (λ kind. aggregates.value_of files.now
+        symbols.now message pieces.now named field.now ≡ Err kind)) }
+{
+    if named.typed.is_some() || message_of_type(symbols, field).is_some() {
+        return Err(Unsaid::Fault(AggregateFaultKind::NotMessage));
+    }
+    if !named.colon {
+        return Err(Unsaid::Fault(AggregateFaultKind::NoColon));
+    }
+    let is_open = is_in_proto3(symbols, files, message);
+    value_said(alloc, symbols, files, field, is_open, pieces)
+}
+
+/// What is wrong with a list of values of a field, if anything.
+pub(crate) fn wrong_with_list(
+    symbols: &Symbols,
+    named: Named,
+    field: &FieldDescriptorProto,
+) -> Option<AggregateFaultKind>
+    ensures { result ≡ aggregates.wrong_with_list symbols.now named field.now }
+{
+    if named.typed.is_some() {
+        return Some(AggregateFaultKind::NotMessage);
+    }
+    if message_of_type(symbols, field).is_none() && !named.colon {
+        return Some(AggregateFaultKind::NoColon);
+    }
+    if is_repeated(field) {
+        None
+    } else {
+        Some(AggregateFaultKind::NotRepeated)
+    }
+}
+
+/// What is wrong with a message as the value of a field whose type is none.
+pub(crate) fn no_message(named: Named) -> AggregateFaultKind
+    ensures { result ≡ (if named.colon then AggregateFaultKind.NotScalar
+        else AggregateFaultKind.NoColon) }
+{
+    if named.colon {
+        AggregateFaultKind::NotScalar
+    } else {
+        AggregateFaultKind::NoColon
     }
 }

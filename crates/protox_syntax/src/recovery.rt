@@ -26,19 +26,16 @@ fn begins_statement(class: u8) -> bool
     )
 }
 
-// These rows, less all before the next word that begins a statement. It moves a copy of the place
-// that it keeps to itself: each row that is skipped would else be written down.
-fn from_statement<'t, 'a>(rows: Unread<'t, 'a>) -> Unread<'t, 'a>
-    ensures { result ≡ from_statement rows }
+// Skips to the next word that begins a statement, or to the end.
+fn skip_to_statement(rows: &mut Unread<'_, '_>)
+    ensures { rows.new ≡ from_statement rows.old }
 {
-    let mut left = rows;
-    'rows: while let Some((first, rest)) = left.split() {
+    'rows: while let Some((first, rest)) = rows.split() {
         if begins_statement(first.class()) {
-            return left;
+            return;
         }
-        left = rest;
+        *rows = rest;
     }
-    left
 }
 
 // Skips the rest of a block, up to and with its `}`. The `{` has been read.
@@ -72,7 +69,9 @@ fn at_most(most: usize, left: usize) -> usize
 fn from_last<'t, 'a>(table: &'t TokenTable<'a>, count: usize) -> Unread<'t, 'a>
     ensures { result ≡ from_statement (last_rows table.now count) }
 {
-    from_statement(Unread::last(table, count))
+    let mut rows = Unread::last(table, count);
+    skip_to_statement(&mut rows);
+    rows
 }
 
 // The same, after skipping to the end of the block that is open.
@@ -81,7 +80,8 @@ fn behind_last<'t, 'a>(table: &'t TokenTable<'a>, count: usize) -> Unread<'t, 'a
 {
     let mut rows = Unread::last(table, count);
     skip_block(&mut rows);
-    from_statement(rows)
+    skip_to_statement(&mut rows);
+    rows
 }
 
 /// The rows at which reading goes on behind a refused statement; at most `most` of them.

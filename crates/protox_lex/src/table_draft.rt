@@ -32,6 +32,10 @@ const AT_ONCE: usize = 0x10_0000;
 /// A source of the usual kind has a row for 6 to 12 bytes. Room that no row takes is given back.
 const BYTES_A_ROW: usize = 6;
 
+/// For fewer rows there is no room at once, and none is given back: lists that grow to so few leave
+/// less than what both would cost.
+const FEW_ROWS: usize = 64;
+
 /// A table, as far as the source has been cut.
 #[derive(Drop)]
 pub(crate) struct TableDraft<'a> {
@@ -223,11 +227,17 @@ impl<'a> TableDraft<'a> {
     }
 }
 
+// For how many rows there is room at once in the table of a part of `len` bytes.
+fn room_at_once(len: usize) -> usize {
+    let rows = len.min(AT_ONCE) / BYTES_A_ROW;
+    if rows < FEW_ROWS { 0 } else { rows }
+}
+
 // A draft without a lexeme, with room for those of a part of `len` bytes.
 fn begun_draft<'a>(alloc: Global, len: usize) -> Result<TableDraft<'a>, AllocError>
     ensures { IfOk result (λ draft. (xs : List spec.Lexeme) → finished draft xs ≡ table_of xs) }
 {
-    let room = len.min(AT_ONCE) / BYTES_A_ROW;
+    let room = room_at_once(len);
     Ok(TableDraft {
         rows: SharedRows::new(alloc, room)?,
         gaps: SharedGaps::new(alloc, room)?,
@@ -311,7 +321,9 @@ pub(crate) fn ended_draft<'a>(
 {
     let (mut draft, end) = draft_or_rest(alloc, source, from, until, long)?;
     draft.end_gap()?;
-    draft.rows.shrink_to_fit();
-    draft.gaps.shrink_to_fit();
+    if FEW_ROWS <= draft.rows.len() || 0 < room_at_once(until - from) {
+        draft.rows.shrink_to_fit();
+        draft.gaps.shrink_to_fit();
+    }
     Ok((draft, end))
 }

@@ -13,6 +13,9 @@ use protox_fault::error::Span;
 use protox_places::lines::LineResolver;
 use std::alloc::{AllocError, Global};
 
+// So many numbers take no memory.
+const FEW: usize = 7;
+
 /// The path to the current part, the locations so far, and the line in which the last of them
 /// starts. The next one is looked for there first.
 #[derive(Drop)]
@@ -47,6 +50,29 @@ fn copied(alloc: Global, texts: &[Text]) -> Result<Items<Text>, AllocError>
     Ok(Items::from_vec(copies))
 }
 
+// A path and one tag behind it. The tag is pushed: it is not worth a copy of its own.
+fn pushed(alloc: Global, path: &[i32], tag: i32) -> Result<Numbers, AllocError>
+    ensures { IfOk result (λ made. made ≡ path.now ++ tag ∷ []) }
+{
+    if path.len() < FEW {
+        return Numbers::joined(alloc, path, &[tag]);
+    }
+    let mut numbers = Vec::with_capacity(alloc, path.len() + 1)?;
+    numbers.extend_from_slice(path)?;
+    numbers.push(tag)?;
+    Ok(Numbers::from_vec(numbers))
+}
+
+// A copy of a path.
+fn copied_path(alloc: Global, path: &[i32]) -> Result<Numbers, AllocError>
+    ensures { IfOk result (λ made. made ≡ path.now) }
+{
+    if path.len() <= FEW {
+        return Numbers::from_slice(alloc, path);
+    }
+    Ok(Numbers::from_vec(Vec::from_slice(alloc, path)?))
+}
+
 // A path and one tag behind it. Paths of usual lengths are taken apart, so that nothing is called.
 #[inline(always)]
 fn tagged(alloc: Global, path: &[i32], tag: i32) -> Result<Numbers, AllocError>
@@ -55,7 +81,7 @@ fn tagged(alloc: Global, path: &[i32], tag: i32) -> Result<Numbers, AllocError>
     match path {
         [a, b] => Ok(Numbers::few(&[*a, *b, tag])),
         [a, b, c, d] => Ok(Numbers::few(&[*a, *b, *c, *d, tag])),
-        _ => Numbers::joined(alloc, path, &[tag]),
+        _ => pushed(alloc, path, tag),
     }
 }
 
@@ -67,7 +93,7 @@ fn untagged(alloc: Global, path: &[i32]) -> Result<Numbers, AllocError>
     match path {
         [a, b] => Ok(Numbers::few(&[*a, *b])),
         [a, b, c, d] => Ok(Numbers::few(&[*a, *b, *c, *d])),
-        _ => Numbers::from_slice(alloc, path),
+        _ => copied_path(alloc, path),
     }
 }
 

@@ -1,14 +1,14 @@
 -- What is made of the items of a source, one by one.
 use Rattle.std.proofs.Common.{◌≡◌, ℕ, Bool, true, false, nat_eq, List, [], ◌∷◌, ◌++◌, length, map, refl, sym, ap, subst, ◌∙◌, append_assoc, append-nil, arith}
 use Rattle.std.proofs.lemmas.Bool.{eqb-true, eqb-false}
-use Rattle.std.proofs.lemmas.Fn.{chained_keeps}
+use Rattle.std.proofs.lemmas.Fn.{FoldsTo-push, chained_keeps}
 use Rattle.std.specs.List.{FoldsTo}
 use Rattle.protox_ast.specs.declared.ast.File.{File}
 use Rattle.protox_ast.specs.declared.ast.FileItem.{FileItem}
 use Rattle.protox_ast.specs.declared.ast.Syntax.{Syntax}
-use Rattle.protox_checks.proofs.ItemFaults.{none_of_none, with_the_rest}
+use Rattle.protox_checks.proofs.ItemFaults.{none_of_none, one_more_item, with_the_rest}
 use Rattle.protox_checks.proofs.ListedFaults.{found-wrong, none-listed}
-use Rattle.protox_checks.specs.Checks.{AreListed, AreListedOfItems}
+use Rattle.protox_checks.specs.Checks.{AreListed, AreListedOfItem, AreListedOfItems}
 use Rattle.protox_checks.specs.Faults.{EachIsWrong, IsFaultless, settled}
 use Rattle.protox_descriptor.specs.declared.descriptor.FileDescriptorProto.{FileDescriptorProto}
 use Rattle.protox_fault.specs.declared.error.ParseErrorKind.{ParseErrorKind}
@@ -44,6 +44,30 @@ hand_kept source syntax items item draft old new more hand = record {
   split = ap (λ l. hand.first ++ l) more ∙ sym (append_assoc hand.first old (item ∷ [])) ∙ ap (λ l. l ++ item ∷ []) hand.split;
   taken = hand.taken;
 }
+
+-- ---- items that are checked first, and are to be kept
+
+-- the state in which these items are kept besides
+abbrev pub keeping : Translation → List FileItem → Translation
+keeping made kept = record made { kept = kept }
+
+-- nothing is kept besides
+pub keeps_none : (syntax : Syntax) (made : Translation) → FoldsTo (TakesNext syntax) made [] (keeping made (made.kept ++ []))
+keeps_none syntax made = ap (keeping made) (sym (append-nil made.kept))
+
+-- One more item is checked, and is to be kept.
+module _ (syntax : Syntax) (item : FileItem) (old new : Translation) (adds : AddsListed (AreListedOfItem syntax item) old.faults.items new.faults.items) (same : new.draft ≡ old.draft) where
+  next_kept : (kept more : List FileItem) → more ≡ kept ++ item ∷ [] → TakesNext syntax (keeping old kept) item (keeping new more)
+  next_kept kept more e source items so_far = record {
+    listed = subst (AreListedOfItems syntax (items ++ item ∷ [])) (sym adds.behind) (one_more_item syntax items item old.faults.items adds.own so_far.listed adds.listed);
+    in_hand = λ none. subst (λ (draft : FileDraft). AreInHand source syntax (items ++ item ∷ []) draft more) (sym same) (hand_kept source syntax items item old.draft kept more e (so_far.in_hand (parted old.faults.items adds.own (sym adds.behind ∙ none)).0));
+  }
+
+  pub one_more_kept : (before : Translation) (kept done : List FileItem) → FoldsTo (TakesNext syntax) before done (keeping old (kept ++ done))
+      → FoldsTo (TakesNext syntax) before (done ++ item ∷ []) (keeping new (kept ++ (done ++ item ∷ [])))
+  one_more_kept before kept done folds =
+      FoldsTo-push (TakesNext syntax) before done (keeping old (kept ++ done)) item (keeping new (kept ++ (done ++ item ∷ []))) folds
+      (next_kept (kept ++ done) (kept ++ (done ++ item ∷ [])) (sym (append_assoc kept done (item ∷ []))))
 
 -- ---- all items
 

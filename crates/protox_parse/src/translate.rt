@@ -1,6 +1,7 @@
 //! What is made of the items of a source, while it is read.
 
 ghost use Rattle.std.specs.Prelude.{◌≡◌, ◌++◌, ◌∷◌, [], ℕ, List, IfErr, IfOk, OnOk};
+ghost use Rattle.std.specs.List.{FoldsTo};
 ghost use Rattle.protox_ast.specs.Accepted.{Fits};
 ghost use Rattle.protox_ast.specs.declared.ast.File as file_type;
 ghost use Rattle.protox_ast.specs.declared.ast.FileItem as item_type;
@@ -72,19 +73,22 @@ impl TakesItems for Translation<'_> {
     ghost takes = { TakesNext };
 
     fn take(&mut self, alloc: Global, head: &File, item: FileItem) -> Result<(), AllocError> {
-        add_faults(alloc, head.syntax, &item, &mut self.faults)?;
-        if !self.faults.is_empty() {
-            // A file with a fault gets no descriptor.
-            return Ok(());
+        self.take_one(alloc, head, item)
+    }
+
+    fn take_all(
+        &mut self,
+        alloc: Global,
+        head: &File,
+        items: Vec<FileItem>,
+    ) -> Result<Vec<FileItem>, AllocError> {
+        if self.short && self.kept.is_empty() {
+            // All items of a short source come at once. The list of them is kept as it is.
+            self.check_all(alloc, head.syntax, items.as_slice())?;
+            self.kept = Items::from_vec(items);
+            return Ok(Vec::new(alloc));
         }
-        describe(
-            alloc,
-            head,
-            item,
-            &mut self.draft,
-            &mut self.kept,
-            self.short,
-        )
+        self.take_each(alloc, head, items)
     }
 }
 
@@ -141,6 +145,57 @@ impl<'a> Translation<'a> {
             kept: Items::new(alloc),
             short: source.len() <= CHECKED_FIRST,
         }
+    }
+
+    // Adds the faults of an item. If there are none so far, it is described, or kept for the end.
+    fn take_one(&mut self, alloc: Global, head: &File, item: FileItem) -> Result<(), AllocError>
+        ensures { OnOk result (TakesNext head.now.syntax self.old item self.new) }
+    {
+        add_faults(alloc, head.syntax, &item, &mut self.faults)?;
+        if !self.faults.is_empty() {
+            // A file with a fault gets no descriptor.
+            return Ok(());
+        }
+        describe(
+            alloc,
+            head,
+            item,
+            &mut self.draft,
+            &mut self.kept,
+            self.short,
+        )
+    }
+
+    // Takes items, one behind another. Answers the list without them.
+    fn take_each(
+        &mut self,
+        alloc: Global,
+        head: &File,
+        items: Vec<FileItem>,
+    ) -> Result<Vec<FileItem>, AllocError>
+        ensures taken { OnOk result (FoldsTo (TakesNext head.now.syntax) self.old items.items self.new) }
+        ensures empty { IfOk result (λ left. left.items ≡ []) }
+    {
+        let mut left = items;
+        for item in left.drain(..) {
+            self.take_one(alloc, head, item)?;
+        }
+        Ok(left)
+    }
+
+    // Adds the faults of items that are to be kept.
+    fn check_all(
+        &mut self,
+        alloc: Global,
+        syntax: Syntax,
+        items: &[FileItem],
+    ) -> Result<(), AllocError>
+        ensures { OnOk result (FoldsTo (TakesNext syntax) self.old items.now (record self.new { kept = self.old.kept ++ items.now })) }
+    {
+        for item in items {
+            add_faults(alloc, syntax, item, &mut self.faults)?;
+        }
+        Ok(())
     }
 
     /// The descriptor of the file of this name that has this head and the items taken; or the

@@ -26,16 +26,19 @@ fn begins_statement(class: u8) -> bool
     )
 }
 
-// Skips to the next word that begins a statement, or to the end.
-fn skip_to_statement(rows: &mut Unread<'_, '_>)
-    ensures { rows.new ≡ from_statement rows.old }
+// These rows, less all before the next word that begins a statement. It moves a copy of the place
+// that it keeps to itself: each row that is skipped would else be written down.
+fn from_statement<'t, 'a>(rows: Unread<'t, 'a>) -> Unread<'t, 'a>
+    ensures { result ≡ from_statement rows }
 {
-    'rows: while let Some((first, rest)) = rows.split() {
+    let mut left = rows;
+    'rows: while let Some((first, rest)) = left.split() {
         if begins_statement(first.class()) {
-            return;
+            return left;
         }
-        *rows = rest;
+        left = rest;
     }
+    left
 }
 
 // Skips the rest of a block, up to and with its `}`. The `{` has been read.
@@ -69,9 +72,7 @@ fn at_most(most: usize, left: usize) -> usize
 fn from_last<'t, 'a>(table: &'t TokenTable<'a>, count: usize) -> Unread<'t, 'a>
     ensures { result ≡ from_statement (last_rows table.now count) }
 {
-    let mut rows = Unread::last(table, count);
-    skip_to_statement(&mut rows);
-    rows
+    from_statement(Unread::last(table, count))
 }
 
 // The same, after skipping to the end of the block that is open.
@@ -80,8 +81,7 @@ fn behind_last<'t, 'a>(table: &'t TokenTable<'a>, count: usize) -> Unread<'t, 'a
 {
     let mut rows = Unread::last(table, count);
     skip_block(&mut rows);
-    skip_to_statement(&mut rows);
-    rows
+    from_statement(rows)
 }
 
 /// The rows at which reading goes on behind a refused statement; at most `most` of them.

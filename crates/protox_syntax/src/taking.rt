@@ -1,6 +1,6 @@
 //! What takes the items of a source, one by one.
 
-ghost use Rattle.std.specs.Prelude.{◌≡◌, ◌++◌, ◌∷◌, [], ⊤, OnOk};
+ghost use Rattle.std.specs.Prelude.{◌≡◌, ◌++◌, ◌∷◌, [], ⊤, IfOk, OnOk};
 ghost use Rattle.std.specs.List.{FoldsTo};
 ghost use Rattle.protox_ast.specs.declared.ast.File as file_type;
 ghost use Rattle.protox_ast.specs.declared.ast.FileItem as item_type;
@@ -21,6 +21,24 @@ pub trait TakesItems {
     /// syntax is known, but an import or a package may still follow. `AllocError` ends the reading.
     fn take(&mut self, alloc: Global, head: &File, item: FileItem) -> Result<(), AllocError>
         ensures { OnOk result (takes head.now.syntax self.old item self.new) };
+
+    /// Takes the next items, one behind another, as `take` does. Answers an empty list, which may
+    /// have room for others. A taker that can do with the whole list may write it anew.
+    fn take_all(
+        &mut self,
+        alloc: Global,
+        head: &File,
+        items: Vec<FileItem>,
+    ) -> Result<Vec<FileItem>, AllocError>
+        ensures taken { OnOk result (FoldsTo (takes head.now.syntax) self.old items.items self.new) }
+        ensures empty { IfOk result (λ left. left.items ≡ []) }
+    {
+        let mut left = items;
+        for item in left.drain(..) {
+            self.take(alloc, head, item)?;
+        }
+        Ok(left)
+    }
 }
 
 /// A list keeps each item, behind those that it has.
@@ -42,10 +60,8 @@ pub(crate) fn hand_over<T: TakesItems>(
     ensures head { OnOk result (head.new ≡ record head.old { items = [] }) }
     ensures taken { OnOk result (FoldsTo (T.takes head.old.syntax) to.old head.old.items to.new) }
 {
-    let mut items = mem::replace(&mut head.items, Items::new(alloc)).into_vec();
-    for item in items.drain(..) {
-        to.take(alloc, head, item)?;
-    }
-    head.items = Items::from_vec(items);
+    let items = mem::replace(&mut head.items, Items::new(alloc)).into_vec();
+    let left = to.take_all(alloc, head, items)?;
+    head.items = Items::from_vec(left);
     Ok(())
 }

@@ -29,7 +29,7 @@ fn begins_statement(class: u8) -> bool
 // These rows, less all before the next word that begins a statement. It moves a copy of the place
 // that it keeps to itself: each row that is skipped would else be written down.
 fn from_statement<'t, 'a>(rows: Unread<'t, 'a>) -> Unread<'t, 'a>
-    ensures { result ≡ from_statement rows }
+    ensures { result ≡ from_statement rows.entry }
 {
     let mut left = rows;
     'rows: while let Some((first, rest)) = left.split() {

@@ -1,7 +1,7 @@
 #!/usr/bin/env python3
 """Tries the edits that the gate doesn't: the prover must refuse each.
 
-usage: edits.py [--dry] [--all] [--part=I/N] [CRATE..]        at the top of the repository
+usage: edits.py [--dry] [--all] [--part=I/N] [CRATE.. | CRATE/EDIT..]     at the top of the repository
 
 The gate tries the edits of `crates/CRATE/must-fail/`. All others stand in `bench/edits/CRATE/`, in the
 same form. This program copies the crates that are named, and those below them. It lays those edits
@@ -9,7 +9,8 @@ same form. This program copies the crates that are named, and those below them. 
 Those of a crate are told when all of them are done. With --part=I/N it tries the I-th of N parts alone,
 so that a long run can be done in pieces; each piece proves the crates of its edits once more. With
 --dry it tries nothing, and only says of each edit of both folders whether it can be applied: whether
-each of its `old:` texts stands once in its file. Without a CRATE all are tried.
+each of its `old:` texts stands once in its file. CRATE/EDIT names one edit of either folder. Without
+such words all are tried.
 
 The last line is 'N passed, M failed'.
 """
@@ -70,6 +71,17 @@ def look(crates):
     return passed, failed
 
 
+def named(words):
+    """The edits that are named one by one, each of which has to be there."""
+    edits = []
+    for crate, _, name in (word.partition('/') for word in words):
+        found = [(crate, edit) for edit in edits_of(crate) if edit.endswith(f'/{name}.edit')]
+        if not found:
+            sys.exit(f'{crate} has no edit {name}')
+        edits += found
+    return edits
+
+
 def chosen_of(crates, both, part, parts):
     """The edits of these crates that are tried: those of one of so many parts."""
     edits = [(crate, edit) for crate in crates
@@ -122,7 +134,9 @@ def try_all(edits):
 
 def main():
     flags = [word for word in sys.argv[1:] if word.startswith('--')]
-    crates = [word for word in sys.argv[1:] if not word.startswith('--')]
+    words = [word for word in sys.argv[1:] if not word.startswith('--')]
+    alone = [word for word in words if '/' in word]
+    crates = [word for word in words if '/' not in word]
     known = sorted(os.listdir('crates'))
     unknown = [word for word in crates if word not in known]
     part, parts = 0, 1
@@ -131,11 +145,14 @@ def main():
             part, parts = int(found[1]) - 1, int(found[2])
         elif flag not in ('--dry', '--all'):
             unknown.append(flag)
-    if unknown or not 0 <= part < parts:
+    if unknown or not 0 <= part < parts or alone and (crates or flags):
         print(__doc__)
         return 2
     crates = crates or known
-    passed, failed = look(crates) if '--dry' in flags else try_all(chosen_of(crates, '--all' in flags, part, parts))
+    if '--dry' in flags:
+        passed, failed = look(crates)
+    else:
+        passed, failed = try_all(named(alone) if alone else chosen_of(crates, '--all' in flags, part, parts))
     print(f'{passed} passed, {failed} failed')
     return 1 if failed else 0
 

@@ -1,5 +1,5 @@
 /* check FILE..: says what is wrong with each file. The status is 0 if nothing is, 1 if something
- * is, and 2 if a file could not be read or memory ran out. */
+ * is, and 2 if a file could not be read, isn't UTF-8, or has no answer. */
 #include <stdio.h>
 #include <stdlib.h>
 #include <string.h>
@@ -100,9 +100,12 @@ static uint32_t check(const char *name)
     }
     if (status == PROTOX_REFUSED) {
         show(name, out, out + needed);
+    } else if (status == PROTOX_NOT_UTF8) {
+        fprintf(stderr, "%s: is not UTF-8\n", name);
+    } else if (status == PROTOX_OUT_OF_MEMORY) {
+        fprintf(stderr, "%s: out of memory\n", name);
     } else if (status != PROTOX_ACCEPTED) {
-        fprintf(
-            stderr, "%s: %s\n", name, status == PROTOX_NOT_UTF8 ? "is not UTF-8" : "out of memory");
+        fprintf(stderr, "%s: the answer is too large\n", name);
     }
     free(out);
     free(source);

@@ -1,6 +1,6 @@
 /* link SET FILE..: links files, and writes their FileDescriptorSet to SET; or says what is wrong. A
  * file is imported under the name that is given here. The status is 0 if nothing is wrong, 1 if
- * something is, and 2 if a file could not be read or written, or memory ran out. */
+ * something is, and 2 if a file could not be read or written, isn't UTF-8, or there is no answer. */
 #include <stdio.h>
 #include <stdlib.h>
 #include <string.h>
@@ -103,8 +103,11 @@ static int finish(const char *set, const struct protox_file *files, size_t n)
     case PROTOX_NOT_UTF8:
         fprintf(stderr, "a file is not UTF-8\n");
         break;
-    default:
+    case PROTOX_OUT_OF_MEMORY:
         fprintf(stderr, "out of memory\n");
+        break;
+    default:
+        fprintf(stderr, "there is no answer\n");
     }
     free(out);
     return status;

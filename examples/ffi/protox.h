@@ -34,9 +34,11 @@
  * `out` and `out_len`. Memory comes from malloc, realloc and free, which must be of one allocator;
  * when it runs out that is a status. Don't call from a signal handler.
  *
- * A SOURCE THAT YOU DON'T TRUST may be any bytes. A byte of it costs up to some 1,100 bytes of
- * memory while it is parsed, so bound its length. protox_link holds the descriptors of all files at
- * once: bound the sum of the lengths. No file is opened: an import names one of the given files.
+ * A SOURCE THAT YOU DON'T TRUST may be any bytes. For most sources a byte costs up to some 1,100
+ * bytes of memory while it is parsed. But with many ranges in one `extensions 1, 2 [options];`, or
+ * many fields in one `extend`, memory grows with the square of the length: 18 KB took 2.9 GB. So
+ * bound the length, and the memory of the process. protox_link holds the descriptors of all files
+ * at once: bound the sum of the lengths. No file is opened: an import names one of the given files.
  *
  * VERSIONS. PROTOX_VERSION changes when a call, a status, a kind or a record changes. A program
  * that loads the library at run time compares it with protox_version(). Numbers of kinds and
@@ -111,8 +113,8 @@ uint32_t protox_parse_to_descriptor(const uint8_t *name, size_t name_len,
  *       text    label
  *
  * Faults come in the order in which they were found, the first as the parser stopped or refused. A
- * fault at the end of the source stands there, with an empty place; PROTOX_FILE_TOO_LARGE has no
- * place, and four zeros. Don't rely on the words of a message.
+ * fault at the end of the source has an empty place there, or before a newline that ends it;
+ * PROTOX_FILE_TOO_LARGE has no place, and four zeros. Don't rely on the words of a message.
  */
 uint32_t protox_report(const uint8_t *name, size_t name_len,
                        const uint8_t *source, size_t source_len,

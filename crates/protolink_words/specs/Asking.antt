@@ -1,5 +1,5 @@
 -- What words without options ask for.
-use Rattle.std.specs.Prelude.{ℕ, ◌≡◌, ◌≢◌, List, [], ◌∷◌, ◌++◌, None, map, slice_index, string_bytes}
+use Rattle.std.specs.Prelude.{ℕ, ◌≡◌, ◌≢◌, ◌<◌, ⊤, List, [], ◌∷◌, ◌++◌, None, length, map, slice_index, string_bytes}
 use Rattle.std.specs.declared.alloc.Global.{Global}
 use Rattle.std.specs.declared.string.String.{String}
 use Rattle.protolink_words.specs.declared.Asked.{Asked}
@@ -23,6 +23,13 @@ pub record IsPlain (names : List (List ℕ)) (work : WorkOn) : Type 0 where
   pub folders : work.folders.items ≡ []
   pub set : work.set ≡ None
   pub dependencies : work.dependencies ≡ None
+
+-- Work on no file is never asked for.
+abbrev pub HasFiles : Asked → Type 0
+HasFiles (Work work) = 0 < length work.files.items
+HasFiles (Wrong wrong) = ⊤
+HasFiles Help = ⊤
+HasFiles Version = ⊤
 
 abbrev pub IsPlainWork : List (List ℕ) → Asked → Type 0
 IsPlainWork names (Work work) = IsPlain names work

@@ -1,8 +1,8 @@
 //! The words of the program `protolink`: what they ask for. They are protoc's words.
 #![tactic(auto)]
 
-ghost use Rattle.std.specs.Prelude.{◌≡◌, ◌≢◌, ◌++◌, ◌∷◌, [], ℕ, List, None, All, MatchBool, IfOk, IfSome, OnOk, map, string_bytes};
-ghost use Rattle.protolink_words.specs.Asking.{IsName, IsNameWord, IsPlain, IsPlainWork, names_of};
+ghost use Rattle.std.specs.Prelude.{◌≡◌, ◌≢◌, ◌++◌, ◌∷◌, ◌<◌, [], ℕ, List, None, All, length, MatchBool, IfOk, IfSome, OnOk, map, string_bytes};
+ghost use Rattle.protolink_words.specs.Asking.{HasFiles, IsName, IsNameWord, IsPlain, IsPlainWork, names_of};
 ghost use Rattle.protolink_words.specs.declared.Taken.TheVariants.{More};
 
 mod flags;
@@ -199,7 +199,8 @@ fn take_word<'a>(
 
 // What is wrong with the words as a whole, if anything is.
 fn wrong_work<'a>(work: &Work<'a>) -> Option<Wrong<'a>>
-    ensures { (names : List (List ℕ)) → IsPlain names work.now → IfSome result (λ wrong. names ≡ []) }
+    ensures plain { (names : List (List ℕ)) → IsPlain names work.now → IfSome result (λ wrong. names ≡ []) }
+    ensures some { result ≡ None → 0 < length work.now.files.items }
 {
     if work.files.is_empty() {
         return Some(Wrong::NoFile);
@@ -230,8 +231,9 @@ fn no_work<'a>(alloc: Global) -> Work<'a>
 
 // What the work is asked for, once all words are taken.
 fn ended<'a>(work: Work<'a>, waits: Option<&'a str>) -> Asked<'a>
-    ensures { (names : List (List ℕ)) → waits.entry ≡ None → IsPlain names work.entry
+    ensures plain { (names : List (List ℕ)) → waits.entry ≡ None → IsPlain names work.entry
         → IsPlainWork names result }
+    ensures some { HasFiles result }
 {
     if let Some(option) = waits {
         return Asked::Wrong(Wrong::NoValue(option));
@@ -290,6 +292,8 @@ fn take_all<'a>(
 pub fn asked_by(alloc: Global, words: &[String]) -> Result<Asked<'_>, AllocError>
     // Where each word is a file's name, these files are to be linked, and nothing is written.
     ensures names { All IsNameWord words.now → IfOk result (IsPlainWork (map string_bytes words.now)) }
+    // So where there is no word, something is wrong.
+    ensures some { IfOk result HasFiles }
 {
     let mut work = no_work(alloc);
     let mut waits: Option<&str> = None;

@@ -50,13 +50,10 @@ fn copied(alloc: Global, texts: &[Text]) -> Result<Items<Text>, AllocError>
     Ok(Items::from_vec(copies))
 }
 
-// A path and one tag behind it. The tag is pushed: it is not worth a copy of its own.
+// A long path and one tag behind it. The tag is pushed: it is not worth a copy of its own.
 fn pushed(alloc: Global, path: &[i32], tag: i32) -> Result<Numbers, AllocError>
     ensures { IfOk result (λ made. made ≡ path.now ++ tag ∷ []) }
 {
-    if path.len() < FEW {
-        return Numbers::joined(alloc, path, &[tag]);
-    }
     let mut numbers = Vec::with_capacity(alloc, path.len() + 1)?;
     numbers.extend_from_slice(path)?;
     numbers.push(tag)?;
@@ -81,6 +78,7 @@ fn tagged(alloc: Global, path: &[i32], tag: i32) -> Result<Numbers, AllocError>
     match path {
         [a, b] => Ok(Numbers::few(&[*a, *b, tag])),
         [a, b, c, d] => Ok(Numbers::few(&[*a, *b, *c, *d, tag])),
+        _ if path.len() < FEW => Numbers::joined(alloc, path, &[tag]),
         _ => pushed(alloc, path, tag),
     }
 }

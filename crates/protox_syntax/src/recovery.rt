@@ -27,7 +27,9 @@ fn begins_statement(class: u8) -> bool
 }
 
 // These rows, less all before the next word that begins a statement. It moves a copy of the place
-// that it keeps to itself: each row that is skipped would else be written down.
+// that it keeps to itself: each row that is skipped would else be written down. For the same reason
+// it is no part of its callers.
+#[inline(never)]
 fn from_statement<'t, 'a>(rows: Unread<'t, 'a>) -> Unread<'t, 'a>
     ensures { result ≡ from_statement rows.entry }
 {

@@ -16,14 +16,16 @@ use protox_rows::rows::Unread;
 use std::alloc::{AllocError, Global};
 
 // Whether reading may go on at a token of this class. Written out, so that no list is walked: each
-// row that is skipped is asked.
+// row that is skipped is asked. `message` has the largest of these classes, so most rows are asked
+// for no other.
 fn begins_statement(class: u8) -> bool
     ensures { result ≡ among statement_words class }
 {
-    matches!(
-        class,
-        ENUM | EXTEND | IMPORT | MESSAGE | OPTION | SERVICE | PACKAGE
-    )
+    class <= MESSAGE
+        && matches!(
+            class,
+            ENUM | EXTEND | IMPORT | MESSAGE | OPTION | SERVICE | PACKAGE
+        )
 }
 
 // These rows, less all before the next word that begins a statement. It moves a copy of the place

@@ -9,6 +9,8 @@ use Rattle.protox_link.specs.declared.set.LinkedSet.{LinkedSet}
 use Rattle.protox_link_fault.specs.declared.LinkFailure.{LinkFailure}
 use Rattle.protox_link_fault.specs.declared.LinkFailure.TheVariants.{OutOfMemory, Refused}
 use Rattle.protox_link_fault.specs.declared.LinkFault.{LinkFault}
+use Rattle.protox_link_fault.specs.declared.LinkFaultKind.{LinkFaultKind}
+use Rattle.protox_link_fault.specs.declared.LinkFaultKind.TheVariants.{ImportCycle}
 use Rattle.protox_linked.specs.Kept.{file_kept}
 
 -- The files of the set are the given ones, linked. Nothing is wrong with them, and the order is one
@@ -24,11 +26,18 @@ pub record IsSetOf (files : List FileDescriptorProto) (set : LinkedSet) : Type 0
 abbrev pub AreKept : List FileDescriptorProto → List FileDescriptorProto → Type 0
 AreKept files made = map file_kept made ≡ map file_kept files
 
--- The fault is that of files that import one another in a circle. It is told at the last of them.
+-- The kind is that of a circle of imports, and names these files, in this order.
+abbrev pub NamesCircle : List ℕ → LinkFaultKind → Type 0
+NamesCircle circle (ImportCycle files) = files.items ≡ circle
+NamesCircle circle _ = ⊥
+
+-- The fault is that of files that import one another in a circle. It is told at the last of them, and
+-- names them all.
 pub record IsOfCircle (files : List FileDescriptorProto) (fault : LinkFault) : Type 0 where
   pub circle : List ℕ
   pub last : slice_get circle (length circle - 1) ≡ Some fault.file
   pub at_imports : fault.path ≡ DEPENDENCY ∷ []
+  pub named : NamesCircle circle fault.kind
   pub is : IsCycle (Imports files) circle
 
 -- Nothing is wrong with the files, and they have an order in which imports come first. So they don't

@@ -5,7 +5,7 @@ ghost use Rattle.std.specs.List.{All};
 ghost use Rattle.protox_descriptor.specs.declared.descriptor.FileDescriptorProto.{FileDescriptorProto};
 ghost use Rattle.protox_imports.specs.Imports.{Imports as ImportsOf};
 ghost use Rattle.protox_imports.specs.Order.{IsCycle};
-ghost use Rattle.protox_link.specs.Link.{IsCircleAlone};
+ghost use Rattle.protox_link.specs.Link.{IsCircleAlone, NamesCircle};
 ghost use Rattle.protox_link.specs.Stands.{Stands};
 
 use protox_descriptor::tag::file::DEPENDENCY;
@@ -19,6 +19,7 @@ fn fault_of_circle(alloc: Global, circle: Vec<usize>) -> Result<LinkFault, Alloc
     ensures file { IfOk result (λ fault. slice_get circle.items (length circle.items - 1)
         ≡ Some fault.file) }
     ensures path { IfOk result (λ fault. fault.path ≡ DEPENDENCY ∷ []) }
+    ensures kind { IfOk result (λ fault. NamesCircle circle.items fault.kind) }
 {
     let path = Numbers::from_slice(alloc, &[DEPENDENCY])?;
     let file = circle[circle.len() - 1];

@@ -1,5 +1,5 @@
 -- What is wrong with a field or an extension.
-use Rattle.std.specs.Prelude.{ℕ, ℤ, Bool, false, not, ◌&&◌, ◌||◌, List, [], ◌++◌, Option, Some, None, codes, option_map, slice_get, if◌then◌else◌}
+use Rattle.std.specs.Prelude.{ℕ, ℤ, Bool, false, not, ◌&&◌, ◌||◌, List, [], ◌++◌, Option, Some, None, bytes_eq, codes, option_map, slice_get, if◌then◌else◌}
 use Rattle.std.specs.Option.{option_and_then, option_map_or}
 use Rattle.protox_descriptor.specs.FieldDescriptorProto.{FieldDescriptorProto}
 use Rattle.protox_descriptor.specs.declared.descriptor.FileDescriptorProto.{FileDescriptorProto}
@@ -8,6 +8,7 @@ use Rattle.protox_descriptor.specs.declared.descriptor.field_descriptor_proto.La
 use Rattle.protox_descriptor.specs.declared.descriptor.options.FieldOptions.{FieldOptions}
 use Rattle.protox_descriptor.specs.declared.descriptor.options.UninterpretedOption.{UninterpretedOption}
 use Rattle.protox_descriptor.specs.declared.tag.field.TheConstants as field_tag
+use Rattle.protox_names.specs.Cases.{json_name}
 use Rattle.protox_option_checks.specs.Faults.{fault_at, fault_if}
 use Rattle.protox_option_checks.specs.Maps.{has_late_values}
 use Rattle.protox_option_checks.specs.Marks.{Marks, is_marked}
@@ -15,10 +16,10 @@ use Rattle.protox_option_checks.specs.Names.{message_of}
 use Rattle.protox_option_checks.specs.Statements.{is_true, says}
 use Rattle.protox_option_checks.specs.Types.{has_label, has_type}
 use Rattle.protox_option_checks.specs.declared.fault.CheckFault.{CheckFault}
-use Rattle.protox_option_checks.specs.declared.fault.CheckFaultKind.TheVariants.{ClosedEnum, JsType, Lazy, LiteExtension, MapValueEnum, MessageSetExtension, Packed}
+use Rattle.protox_option_checks.specs.declared.fault.CheckFaultKind.TheVariants.{ClosedEnum, ExtensionJsonName, JsType, Lazy, LiteExtension, MapValueEnum, MessageSetExtension, Packed}
 use Rattle.protox_settings.specs.Fields.{named}
 use Rattle.protox_symbols.specs.Symbols.{Table}
-use Rattle.protox_walk.specs.Declarations.{Path}
+use Rattle.protox_walk.specs.Declarations.{Path, text_of}
 use Rattle.protox_walk.specs.Words.{options_in}
 
 abbrev pub statements_of_field : FieldDescriptorProto → List UninterpretedOption
@@ -60,6 +61,15 @@ abbrev pub has_wrong_js_type : FieldDescriptorProto → Bool
 has_wrong_js_type field =
     (says (statements_of_field field) (codes "jstype") (codes "JS_STRING") || says (statements_of_field field) (codes "jstype") (codes "JS_NUMBER"))
     && not (may_have_js_type field)
+
+-- The name in JSON isn't the one that linking gives to a field without one.
+abbrev pub has_own_json_name : FieldDescriptorProto → Bool
+has_own_json_name field =
+    option_map_or (λ name. not (bytes_eq name (json_name (text_of field.name)))) field.json_name false
+
+-- A field of a message may have such a name, an extension may not.
+abbrev pub is_wrongly_named : FieldDescriptorProto → Bool
+is_wrongly_named field = option_map_or (λ extendee. has_own_json_name field) field.extendee false
 
 -- ---- what the field extends, and its type
 
@@ -118,4 +128,5 @@ module _ (table : Table) (marks : Marks) where
         ++ (fault_if (is_wrong_in_lite file field) (fault_at file path field_tag.EXTENDEE LiteExtension)
         ++ (fault_if (has_late_values files table field) (fault_at file path (type_tag field) MapValueEnum)
         ++ (fault_if (has_wrong_js_type field) (fault_at file path (type_tag field) JsType)
-        ++ enum_faults field)))))
+        ++ (fault_if (is_wrongly_named field) (fault_at file path field_tag.JSON_NAME ExtensionJsonName)
+        ++ enum_faults field))))))

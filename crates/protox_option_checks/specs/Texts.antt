@@ -4,7 +4,7 @@ use Rattle.std.specs.Option.{option_and_then}
 use Rattle.protox_descriptor.specs.declared.descriptor.FileDescriptorProto.{FileDescriptorProto}
 use Rattle.protox_name_tree.specs.Tree.{name_at}
 use Rattle.protox_option_checks.specs.declared.fault.CheckFaultKind.{CheckFaultKind}
-use Rattle.protox_option_checks.specs.declared.fault.CheckFaultKind.TheVariants.{ClosedEnum, JsType, Lazy, LiteExtension, LiteImport, LiteService, MapValueEnum, MessageSetExtension, MessageSetField, MessageSetInProto3, Packed, SharedNumber}
+use Rattle.protox_option_checks.specs.declared.fault.CheckFaultKind.TheVariants.{ClosedEnum, ExtensionJsonName, JsType, Lazy, LiteExtension, LiteImport, LiteService, MapValueEnum, MessageSetExtension, MessageSetField, MessageSetInProto3, Packed, SharedNumber}
 use Rattle.protox_symbols.specs.Symbols.{Table}
 use Rattle.protox_walk.specs.Declarations.{text_of}
 
@@ -48,6 +48,7 @@ fixed_text MessageSetExtension = codes "Extensions of MessageSets must be option
 fixed_text LiteExtension = codes "Extensions to non-lite types can only be declared in non-lite files.  Note that you cannot extend a non-lite type to contain a lite type, but the reverse is allowed."
 fixed_text MapValueEnum = codes "Enum value in map must define 0 as the first value."
 fixed_text JsType = codes "jstype is only allowed on int64, uint64, sint64, fixed64 or sfixed64 fields."
+fixed_text ExtensionJsonName = codes "option json_name is not allowed on extension fields."
 fixed_text MessageSetInProto3 = codes "MessageSet is not supported in proto3."
 fixed_text LiteService = codes "Files with optimize_for = LITE_RUNTIME cannot define services unless you set both options cc_generic_services and java_generic_services to false."
 fixed_text (ClosedEnum n message) = []
@@ -65,5 +66,6 @@ check_text table files MessageSetExtension = fixed_text MessageSetExtension
 check_text table files LiteExtension = fixed_text LiteExtension
 check_text table files MapValueEnum = fixed_text MapValueEnum
 check_text table files JsType = fixed_text JsType
+check_text table files ExtensionJsonName = fixed_text ExtensionJsonName
 check_text table files MessageSetInProto3 = fixed_text MessageSetInProto3
 check_text table files LiteService = fixed_text LiteService

@@ -34,6 +34,8 @@ pub enum CheckFaultKind {
     /// At its type: a field has a `jstype` other than `JS_NORMAL`, and its type is none of the
     /// integers of 64 bits.
     JsType,
+    /// At its name in JSON: an extension has one that isn't the default one.
+    ExtensionJsonName,
     /// At its type: in a file of proto3 the type of a field is the enum with this number, and the
     /// file of that isn't of proto3.
     ClosedEnum {

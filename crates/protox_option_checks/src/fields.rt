@@ -1,23 +1,24 @@
 //! What is wrong with a field or an extension.
 
-ghost use Rattle.std.specs.Prelude.{◌≡◌, ◌++◌, OnOk};
+ghost use Rattle.std.specs.Prelude.{◌≡◌, ◌++◌, IfOk, OnOk};
 ghost use Rattle.std.specs.Option.{option_copied};
 ghost use Rattle.protox_option_checks.specs.Faults.{fault_at, fault_if};
 ghost use Rattle.protox_option_checks.specs.Fields as words;
 
 use crate::adding::{add, add_if};
-use crate::names::{found, message_of};
+use crate::names::{found, message_of, text_of};
 use crate::site::Site;
 use crate::statements::{is_true, says};
 use crate::types::{has_label, has_type};
 use crate::{CheckFault, CheckFaultKind};
 use protox_descriptor::descriptor::field_descriptor_proto::{FieldType, Label};
 use protox_descriptor::descriptor::{FieldDescriptorProto, UninterpretedOption};
-use protox_descriptor::tag::field::{EXTENDEE, TYPE, TYPE_NAME};
+use protox_descriptor::tag::field::{EXTENDEE, JSON_NAME, TYPE, TYPE_NAME};
 use protox_descriptor::values::Text;
+use protox_names::cases::json_name;
 use protox_symbols::Symbols;
 use protox_written::HasUninterpreted;
-use std::alloc::AllocError;
+use std::alloc::{AllocError, Global};
 
 fn statements_of_field(field: &FieldDescriptorProto) -> &[UninterpretedOption]
     ensures { result.now ≡ words.statements_of_field field.now }
@@ -84,6 +85,27 @@ fn has_wrong_js_type(field: &FieldDescriptorProto) -> bool
     let statements = statements_of_field(field);
     (says(statements, "jstype", "JS_STRING") || says(statements, "jstype", "JS_NUMBER"))
         && !may_have_js_type(field)
+}
+
+// Whether a field has a name in JSON that isn't the default one.
+fn has_own_json_name(alloc: Global, field: &FieldDescriptorProto) -> Result<bool, AllocError>
+    ensures { IfOk result (λ own. own ≡ words.has_own_json_name field.now) }
+{
+    let Some(name) = field.json_name() else {
+        return Ok(false);
+    };
+    let default = json_name(alloc, text_of(field.name.as_ref()))?;
+    let is_default = name.as_str() == default.as_str();
+    Ok(!is_default)
+}
+
+fn is_wrongly_named(alloc: Global, field: &FieldDescriptorProto) -> Result<bool, AllocError>
+    ensures { IfOk result (λ wrong. wrong ≡ words.is_wrongly_named field.now) }
+{
+    match field.extendee() {
+        Some(_) => has_own_json_name(alloc, field),
+        None => Ok(false),
+    }
 }
 
 fn is_optional_message(field: &FieldDescriptorProto) -> bool
@@ -202,6 +224,28 @@ impl Site<'_> {
         add_if(wrong, self.alloc, self.number, path, EXTENDEE, kind, faults)
     }
 
+    // Adds a fault at the name of a field in JSON, if it should have none.
+    fn add_at_json_name(
+        &self,
+        wrong: bool,
+        path: &[i32],
+        faults: &mut Vec<CheckFault>,
+    ) -> Result<(), AllocError>
+        ensures { OnOk result (faults.new.items ≡ faults.old.items ++ fault_if wrong
+            (fault_at self.now.number path.now JSON_NAME CheckFaultKind.ExtensionJsonName)) }
+    {
+        let kind = CheckFaultKind::ExtensionJsonName;
+        add_if(
+            wrong,
+            self.alloc,
+            self.number,
+            path,
+            JSON_NAME,
+            kind,
+            faults,
+        )
+    }
+
     /// Adds what is wrong with a field or an extension.
     pub(crate) fn check_field(
         &self,
@@ -227,6 +271,8 @@ impl Site<'_> {
         self.add_at_type(late, path, field, CheckFaultKind::MapValueEnum, faults)?;
         let in_script = has_wrong_js_type(field);
         self.add_at_type(in_script, path, field, CheckFaultKind::JsType, faults)?;
+        let named = is_wrongly_named(self.alloc, field)?;
+        self.add_at_json_name(named, path, faults)?;
         self.check_enum(path, full_name, field, faults)
     }
 }

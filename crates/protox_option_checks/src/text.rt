@@ -62,6 +62,9 @@ fn fixed_text(kind: CheckFaultKind) -> &'static str
         CheckFaultKind::JsType => {
             "jstype is only allowed on int64, uint64, sint64, fixed64 or sfixed64 fields."
         }
+        CheckFaultKind::ExtensionJsonName => {
+            "option json_name is not allowed on extension fields."
+        }
         CheckFaultKind::MessageSetInProto3 => "MessageSet is not supported in proto3.",
         CheckFaultKind::LiteService => {
             "Files with optimize_for = LITE_RUNTIME cannot define services unless you set both options cc_generic_services and java_generic_services to false."

@@ -91,9 +91,9 @@ pub mark_push : (tokens : List KeptToken) (rows : List NumberedRow) (row : Numbe
     → rows_seen tokens (rows ++ row ∷ []) ≡ and_row (rows_seen tokens rows) record { shape = Mark byte; at = span_from row.start (row.start + len) } true
 mark_push tokens rows row byte len e size = known_push tokens rows row (Mark byte) len e refl size
 
-pub shared_known : (tokens : List KeptToken) (rows : List NumberedRow) (marks : List (Option ℕ)) (row : NumberedRow) → AreShared tokens rows marks → IsKept tokens row
-    → AreShared tokens (rows ++ row ∷ []) marks
-shared_known tokens rows marks row s h = record { kept = All-push (IsKept tokens) rows row s.kept h; marks_are = s.marks_are; classed = s.classed; bytes = s.bytes }
+pub shared_known : (tokens : List KeptToken) (rows : List NumberedRow) (marks : List (Option ℕ)) (recent : List ℕ) (row : NumberedRow) → AreShared tokens rows marks recent → IsKept tokens row
+    → AreShared tokens (rows ++ row ∷ []) marks recent
+shared_known tokens rows marks recent row s h = record { kept = All-push (IsKept tokens) rows row s.kept h; marks_are = s.marks_are; classed = s.classed; bytes = s.bytes; slots = s.slots }
 
 -- the class of what is kept
 abbrev HasClass : KeptToken → Type 0
@@ -148,20 +148,21 @@ marks_push tokens token marks h byte number e =
     let (l, s) = h byte number e in
     (omega (arith, l, length-append tokens (token ∷ [])), ap (λ k. shape_of_result k.token) (kept_stays tokens (token ∷ []) number l) ∙ s)
 
-pub shared_push : (tokens : List KeptToken) (token : KeptToken) (rows : List NumberedRow) (marks : List (Option ℕ)) (start number len : ℕ) → AreShared tokens rows marks → number ≡ length tokens
-    → token.len ≡ kept_len len → start + len < 2 ^ 64 → HasClass token → AreShared (tokens ++ token ∷ []) (rows ++ record { start = start; token = number; len = own_len len } ∷ []) marks
-shared_push tokens token rows marks start number len s e size ends of = record {
+pub shared_push : (tokens : List KeptToken) (token : KeptToken) (rows : List NumberedRow) (marks : List (Option ℕ)) (recent : List ℕ) (start number len : ℕ) → AreShared tokens rows marks recent → number ≡ length tokens
+    → token.len ≡ kept_len len → start + len < 2 ^ 64 → HasClass token → AreShared (tokens ++ token ∷ []) (rows ++ record { start = start; token = number; len = own_len len } ∷ []) marks recent
+shared_push tokens token rows marks recent start number len s e size ends of = record {
   kept = kept_push tokens token rows start number len s.kept e size ends;
   marks_are = marks_push tokens token marks s.marks_are;
   classed = All-push HasClass tokens token s.classed of;
   bytes = s.bytes;
+  slots = s.slots;
 }
 
 -- One more token, which no row has yet.
-pub shared_more : (tokens : List KeptToken) (token : KeptToken) (rows : List NumberedRow) (marks : List (Option ℕ)) → AreShared tokens rows marks
-    → HasClass token → AreShared (tokens ++ token ∷ []) rows marks
-shared_more tokens token rows marks s of =
-    record { kept = kept_more tokens token rows s.kept; marks_are = marks_push tokens token marks s.marks_are; classed = All-push HasClass tokens token s.classed of; bytes = s.bytes }
+pub shared_more : (tokens : List KeptToken) (token : KeptToken) (rows : List NumberedRow) (marks : List (Option ℕ)) (recent : List ℕ) → AreShared tokens rows marks recent
+    → HasClass token → AreShared (tokens ++ token ∷ []) rows marks recent
+shared_more tokens token rows marks recent s of =
+    record { kept = kept_more tokens token rows s.kept; marks_are = marks_push tokens token marks s.marks_are; classed = All-push HasClass tokens token s.classed of; bytes = s.bytes; slots = s.slots }
 
 -- A row with a mark that is kept from now on.
 marks_first : (tokens : List KeptToken) (token : KeptToken) (marks : List (Option ℕ)) (byte : ℕ) → AreMarks tokens marks → shape_of_result token.token ≡ Mark byte → byte < length marks
@@ -176,15 +177,16 @@ marks_first tokens token marks byte h s l b number e = elim (cases_Bool (eqb b b
       marks_push tokens token marks h b number (sym (get_or-set_other marks byte b (Some (length tokens)) None (eqb-false b byte other)) ∙ e)
 ]
 
-pub shared_first : (tokens : List KeptToken) (token : KeptToken) (rows : List NumberedRow) (marks : List (Option ℕ)) (byte number : ℕ) → AreShared (tokens ++ token ∷ []) rows marks → AreMarks tokens marks
-    → number ≡ length tokens → shape_of_result token.token ≡ Mark byte → byte < 256 → AreShared (tokens ++ token ∷ []) rows (set marks byte (Some number))
-shared_first tokens token rows marks byte number s before e shape l =
+pub shared_first : (tokens : List KeptToken) (token : KeptToken) (rows : List NumberedRow) (marks : List (Option ℕ)) (recent : List ℕ) (byte number : ℕ) → AreShared (tokens ++ token ∷ []) rows marks recent → AreMarks tokens marks
+    → number ≡ length tokens → shape_of_result token.token ≡ Mark byte → byte < 256 → AreShared (tokens ++ token ∷ []) rows (set marks byte (Some number)) recent
+shared_first tokens token rows marks recent byte number s before e shape l =
     let P : ℕ → Type 0 = λ number. AreMarks (tokens ++ token ∷ []) (set marks byte (Some number)) in
     record {
       kept = s.kept;
       marks_are = subst P (sym e) (marks_first tokens token marks byte before shape (omega (arith, l, s.bytes)));
       classed = s.classed;
       bytes = length-set marks byte (Some number) ∙ s.bytes;
+      slots = s.slots;
     }
 
 -- the number of a mark that is kept
@@ -272,13 +274,14 @@ newlines_grouped tokens all ends count within added =
     )
 
 -- no row yet
-pub nothing_shared : (tokens : List KeptToken) (rows : List NumberedRow) (marks : List (Option ℕ)) → tokens ≡ [] → rows ≡ [] → marks ≡ replicate 256 None
-    → AreShared tokens rows marks
-nothing_shared tokens rows marks t r m = record {
+pub nothing_shared : (tokens : List KeptToken) (rows : List NumberedRow) (marks : List (Option ℕ)) (recent : List ℕ) → tokens ≡ [] → rows ≡ [] → marks ≡ replicate 256 None → length recent ≡ 4096
+    → AreShared tokens rows marks recent
+nothing_shared tokens rows marks recent t r m size = record {
   kept = rw r (λ k d l. absurd (omega arith));
   classed = rw t (λ k d l. absurd (omega arith));
   marks_are = λ byte number e. absurd (never 256 byte number (sym (ap (λ ms. slice_index_or ms byte None) m) ∙ e));
   bytes = ap length m ∙ (let none : Option ℕ = None in length-replicate 256 none);
+  slots = size;
 } where
   never : (n byte number : ℕ) → slice_index_or (replicate n None) byte None ≡ Some number → ⊥
   never zero byte number e = absurd (cc)

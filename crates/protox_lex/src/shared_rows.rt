@@ -33,11 +33,8 @@ const ROWS_A_TOKEN: usize = 8;
 // How many words and integers are remembered.
 const SLOTS: usize = 4096;
 
-// Slots are made behind so many tokens. All slots together cost more than a source of so few.
-const BEFORE_SLOTS: usize = 8;
-
 /// Rows. Equal tokens share what is kept of them: each mark is kept once, and so is a word or an
-/// integer while it is remembered. There is no slot to remember one in before some tokens are kept.
+/// integer while it is remembered.
 #[derive(Drop)]
 pub(crate) struct SharedRows<'a> {
     rows: RowList,
@@ -53,7 +50,7 @@ impl<'a> Model for SharedRows<'a> {
 
     ghost view = { λ s. rows_seen s.tokens.items s.rows };
 
-    ghost invariant = { λ s. AreShared s.tokens.items s.rows s.marks.items };
+    ghost invariant = { λ s. AreShared s.tokens.items s.rows s.marks.items s.recent.items };
 }
 
 /// The slot in which the number of a token is remembered, by the first `len` bytes of the text. Any
@@ -87,39 +84,18 @@ fn known(
     token: &Token<'_>,
     len: usize,
 ) -> Option<u32>
+    requires { slot < length recent.now }
     ensures within { IfSome result (λ number. number < length tokens.now) }
     ensures equal { IfSome result (λ number. shape_at tokens.now number ≡ shape_of token.now) }
     ensures size { IfSome result (λ number. len_at tokens.now number ≡ len) }
 {
-    let number = *recent.get(slot)?;
+    let number = recent[slot];
     let kept = tokens.get(number as usize)?;
     if is_kept(kept, token, len) {
         Some(number)
     } else {
         None
     }
-}
-
-// Makes the slots, if there are none yet and there are enough tokens.
-fn make_slots(alloc: Global, recent: &mut Vec<u32>, tokens: usize) -> Result<(), AllocError> {
-    if BEFORE_SLOTS <= tokens && recent.is_empty() {
-        *recent = vec![in alloc; 0; SLOTS]?;
-    }
-    Ok(())
-}
-
-// Remembers the number of a token in a slot, if there are slots.
-fn remember(
-    alloc: Global,
-    recent: &mut Vec<u32>,
-    slot: usize,
-    number: usize,
-) -> Result<(), AllocError> {
-    make_slots(alloc, recent, number)?;
-    if let (Some(kept), Ok(number)) = (recent.get_mut(slot), u32::try_from(number)) {
-        *kept = number;
-    }
-    Ok(())
 }
 
 // The number of the mark with this byte, if one of this length is kept.
@@ -223,7 +199,7 @@ impl<'a> SharedRows<'a> {
             rows: RowList::new(alloc, room),
             tokens: with_room(alloc, room / ROWS_A_TOKEN),
             marks: vec![in alloc; None; 256]?,
-            recent: Vec::new(alloc),
+            recent: vec![in alloc; 0; SLOTS]?,
         })
     }
 
@@ -327,17 +303,19 @@ impl<'a> SharedRows<'a> {
     #[inline(never)]
     fn push_first(
         &mut self,
-        alloc: Global,
         token: Token<'a>,
         slot: usize,
         start: usize,
         len: usize,
     ) -> Result<(), AllocError>
+        requires slot { slot < 4096 }
         requires holds { holds_none (shape_of token) ≡ true }
         requires fits { start + len < 2 ^ 64 }
         ensures { OnOk result (self.new ≡ and_row self.old record { shape = shape_of token.entry; at = span_from start (start + len) } true) }
     {
-        remember(alloc, &mut self.recent, slot, self.tokens.len())?;
+        if let Ok(number) = u32::try_from(self.tokens.len()) {
+            self.recent[slot] = number;
+        }
         self.push(Ok(token), start, len)
     }
 
@@ -346,19 +324,19 @@ impl<'a> SharedRows<'a> {
     #[tactic(auto, using(crate::proofs::Sharing::known_push, crate::proofs::Sharing::shared_known))]
     pub(crate) fn push_plain(
         &mut self,
-        alloc: Global,
         token: Token<'a>,
         slot: usize,
         start: usize,
         len: usize,
     ) -> Result<(), AllocError>
+        requires slot { slot < 4096 }
         requires holds { holds_none (shape_of token) ≡ true }
         requires fits { start + len < 2 ^ 64 }
         ensures { OnOk result (self.new ≡ and_row self.old record { shape = shape_of token.entry; at = span_from start (start + len) } true) }
     {
         match known(&self.tokens, &self.recent, slot, &token, len) {
             Some(number) => push_known(&mut self.rows, number, start),
-            None => self.push_first(alloc, token, slot, start, len),
+            None => self.push_first(token, slot, start, len),
         }
     }
 }

@@ -132,7 +132,6 @@ impl<'a> TableDraft<'a> {
     #[inline(always)]
     fn add_plain(
         &mut self,
-        alloc: Global,
         token: Token<'a>,
         text: &[u8],
         start: usize,
@@ -146,8 +145,7 @@ impl<'a> TableDraft<'a> {
     {
         let stop = start + len;
         self.end_gap()?;
-        self.rows
-            .push_plain(alloc, token, slot_of(text, len), start, len)?;
+        self.rows.push_plain(token, slot_of(text, len), start, len)?;
         Ok(stop)
     }
 
@@ -221,7 +219,7 @@ impl<'a> TableDraft<'a> {
             Some((Kind::Mark, len)) => self.add_mark(text.as_bytes()[0], start, len),
             Some((Kind::Newline, len)) => self.add_newline(start, len),
             Some((kind, len)) => match plain_token(text, kind, len) {
-                Some(token) => self.add_plain(alloc, token, text.as_bytes(), start, len),
+                Some(token) => self.add_plain(token, text.as_bytes(), start, len),
                 None => self.read_kind(alloc, text, kind, len, start),
             },
             None => self.add(start, invalid(alloc, text, start)),
@@ -305,8 +303,7 @@ fn draft_or_rest<'a>(
 
 /// The table of the lexemes that stand between `from` and `until`, with the whole of the last one.
 /// If that one ends more than `long` bytes behind `until`, then of all lexemes from `from` on. Its
-/// last gap has ended, and room that it doesn't take is given back, but for the little of few rows.
-/// Answers where the lexemes end.
+/// last gap has ended, and room that it doesn't take is given back. Answers where the lexemes end.
 pub(crate) fn ended_draft<'a>(
     alloc: Global,
     source: &'a str,

@@ -81,11 +81,12 @@ abbrev pub AreClassed : List KeptToken → Type 0
 AreClassed tokens = All (λ (t : KeptToken). t.class ≡ class (shape_of_result t.token)) tokens
 
 -- What always holds for shared rows.
-pub record AreShared (tokens : List KeptToken) (rows : List NumberedRow) (marks : List (Option ℕ)) : Type 0 where
+pub record AreShared (tokens : List KeptToken) (rows : List NumberedRow) (marks : List (Option ℕ)) (recent : List ℕ) : Type 0 where
   pub kept : AreKept tokens rows
   pub marks_are : AreMarks tokens marks
   pub classed : AreClassed tokens
   pub bytes : length marks ≡ 256
+  pub slots : length recent ≡ 4096
 
 -- ---- gaps
 

@@ -18,9 +18,9 @@ invariant_of-self c =
     let size : len_by tokens row ≡ c.args.len = ap (λ ts. len_at ts c.in-Some.number) (sym same) ∙ c.in-Some.ensures.size in
     let lengths = ap length same in
     let kept : IsKept tokens row = (omega (arith, c.in-Some.ensures.within, lengths), omega (arith, size, c.requires.fits)) in
-    let P : List NumberedRow → Type 0 = λ rows. AreShared tokens rows c.self.inside.marks.items in
+    let P : List NumberedRow → Type 0 = λ rows. AreShared tokens rows c.self.inside.marks.items c.self.inside.recent.items in
     by_result c.push_known.result P c.self.inside.rows c.push_known.new.rows row c.push_known.ensures.ok c.push_known.ensures.err
-    (shared_known tokens c.self.inside.rows c.self.inside.marks.items row c.self.invariant kept) c.self.invariant
+    (shared_known tokens c.self.inside.rows c.self.inside.marks.items c.self.inside.recent.items row c.self.invariant kept) c.self.invariant
   where
     by_result : {A E : Type 0} (r : Result A E) (P : List NumberedRow → Type 0) (old new : List NumberedRow) (row : NumberedRow) → OnOk r (new ≡ old ++ row ∷ []) → OnErr r (new ≡ old)
         → P (old ++ row ∷ []) → P old → P new

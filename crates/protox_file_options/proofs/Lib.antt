@@ -4,3 +4,4 @@ pub mod One
 pub mod Paths
 pub mod Bytes
 pub mod Counting
+pub mod Taking

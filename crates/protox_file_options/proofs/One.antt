@@ -50,26 +50,24 @@ one_outcome view files at outcome a b is faults moves options = record {
 
 -- ---- interpreters
 
-adds_one : (a b : Interpreter) (path : Path) (scope options : List ℕ) (statements : List UninterpretedOption)
-    → (length statements == 0) ≡ false → b.view.now ≡ a.view.now → b.files.now ≡ a.files.now
-    → AreAdded a.view.now a.files.now a.answer (place path scope options statements ∷ []) b.answer
-    → Adds a (place_if_any path scope options statements) b
-adds_one a b path scope options statements some view files added = record {
+adds_one : (a b : Interpreter) (at : Place) → b.view.now ≡ a.view.now → b.files.now ≡ a.files.now
+    → AreAdded a.view.now a.files.now a.answer (at ∷ []) b.answer → Adds a (at ∷ []) b
+adds_one a b at view files added = record {
   view = view;
   files = files;
-  added = subst (λ (places : List Place). AreAdded a.view.now a.files.now a.answer places b.answer) (sym (some_place path scope options statements some)) added;
+  added = added;
 }
 
 -- Something is wrong at the place, and it is noted.
 pub adds_fault : (a b : Interpreter) (path : Path) (scope options : List ℕ) (statements : List UninterpretedOption) (n m : Option ℕ) (fault : PlaceFault)
-    → (length statements == 0) ≡ false → b.view.now ≡ a.view.now → b.files.now ≡ a.files.now → b.answer.options ≡ a.answer.options → b.answer.moves.items ≡ a.answer.moves.items
+    → b.view.now ≡ a.view.now → b.files.now ≡ a.files.now → b.answer.options ≡ a.answer.options → b.answer.moves.items ≡ a.answer.moves.items
     → n ≡ number_of (names_of a.view.now) scope → m ≡ number_of (names_of a.view.now) options
     → IsOutcome a.view.now a.files.now (place path scope options statements) (Wrong fault)
     → b.answer.faults.items ≡ a.answer.faults.items ++ record { path = path; scope = n; message = m; fault = fault } ∷ []
-    → Adds a (place_if_any path scope options statements) b
-adds_fault a b path scope options statements n m fault some view files kept stayed scope_is message_is is noted =
+    → Adds a (place path scope options statements ∷ []) b
+adds_fault a b path scope options statements n m fault view files kept stayed scope_is message_is is noted =
     let told : Option ℕ → Option ℕ → List OptionsFault = λ i j. a.answer.faults.items ++ record { path = path; scope = i; message = j; fault = fault } ∷ [] in
-    adds_one a b path scope options statements some view files
+    adds_one a b (place path scope options statements) view files
     (one_outcome a.view.now a.files.now (place path scope options statements) (Wrong fault) a.answer b.answer is
     (noted ∙ ap (λ (i : Option ℕ). told i m) scope_is ∙ ap (λ (j : Option ℕ). told (number_of (names_of a.view.now) scope) j) message_is)
     (stayed ∙ sym (append-nil a.answer.moves.items))
@@ -77,12 +75,12 @@ adds_fault a b path scope options statements n m fault some view files kept stay
 
 -- The statements at the place set this, and it is kept.
 pub adds_set : (a b : Interpreter) (path : Path) (scope options : List ℕ) (statements : List UninterpretedOption) (set : Interpreted)
-    → (length statements == 0) ≡ false → b.view.now ≡ a.view.now → b.files.now ≡ a.files.now → b.answer.faults ≡ a.answer.faults
+    → b.view.now ≡ a.view.now → b.files.now ≡ a.files.now → b.answer.faults ≡ a.answer.faults
     → IsOutcome a.view.now a.files.now (place path scope options statements) (Sets set)
     → b.answer.moves.items ≡ a.answer.moves.items ++ moves_of path (map path_seen set.paths.items)
     → ((q : List ℕ) → set_at b.answer.options q ≡ cond (same_path q (map unsigned_abs path)) set.bytes.items (set_at a.answer.options q))
-    → Adds a (place_if_any path scope options statements) b
-adds_set a b path scope options statements set some view files kept is moved put =
-    adds_one a b path scope options statements some view files
+    → Adds a (place path scope options statements ∷ []) b
+adds_set a b path scope options statements set view files kept is moved put =
+    adds_one a b (place path scope options statements) view files
     (one_outcome a.view.now a.files.now (place path scope options statements) (Sets set) a.answer b.answer is
     (ap (λ faults. faults.items) kept ∙ sym (append-nil a.answer.faults.items)) moved put)

@@ -1,29 +1,15 @@
 //! All options messages of a file.
 
-ghost use Rattle.std.specs.Prelude.{IfOk, OnOk};
+ghost use Rattle.std.specs.Prelude.{IfOk};
 ghost use Rattle.protox_file_options.specs.Interpreted.{IsInterpreted};
-ghost use Rattle.protox_file_options.specs.Places.{places_of};
-ghost use Rattle.protox_file_options.specs.inner.Added.{Adds};
 
 use crate::answer::InterpretedFile;
 use crate::interpreter::Interpreter;
-use crate::places::{package_of, statements_of_file};
+use crate::walking::walk_places;
 use protox_descriptor::descriptor::FileDescriptorProto;
-use protox_descriptor::tag::file::OPTIONS;
 use protox_encode_linked::OptionBytes;
 use protox_views::View;
-use protox_walk::walk;
 use std::alloc::{AllocError, Global};
-
-// Takes the statements of all places of a file.
-fn take_all(interpreter: &mut Interpreter<'_>, file: &FileDescriptorProto) -> Result<(), AllocError>
-    ensures { OnOk result (Adds interpreter.old (places_of file.now) interpreter.new) }
-{
-    walk(interpreter.alloc, file, interpreter)?;
-    let statements = statements_of_file(file);
-    let options = "google.protobuf.FileOptions";
-    interpreter.take(&[OPTIONS], package_of(file), options, statements)
-}
 
 /// What the statements of a file set: bytes for each of its options messages, or what is wrong.
 ///
@@ -51,7 +37,7 @@ pub fn interpret_file(
 ) -> Result<InterpretedFile, AllocError>
     ensures interpreted { IfOk result (IsInterpreted view.now files.now file.now) }
 {
-    let mut interpreter = Interpreter {
+    let interpreter = Interpreter {
         alloc,
         view,
         files,
@@ -61,8 +47,8 @@ pub fn interpret_file(
             faults: Vec::new(alloc),
         },
     };
-    match take_all(&mut interpreter, file) {
-        Ok(()) => Ok(interpreter.answer),
+    match walk_places(alloc, file, interpreter) {
+        Ok(interpreter) => Ok(interpreter.answer),
         Err(error) => Err(error),
     }
 }

@@ -11,6 +11,8 @@ mod interpreter;
 pub mod laws;
 mod moves;
 mod places;
+mod walking;
 
 pub use crate::answer::{InterpretedFile, OptionsFault, PlaceFault};
 pub use crate::file::interpret_file;
+pub use crate::walking::{TakePlaces, walk_places};

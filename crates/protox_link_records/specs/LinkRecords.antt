@@ -34,10 +34,13 @@ syntax_records file source faults = flat_map (syntax_record file source) faults
 abbrev pub place_bytes : Place → List ℕ
 place_bytes place = (number place.start ++ number place.end) ++ (number place.line ++ number place.column)
 
--- The record of an error: the number of the file, that of the kind, the place, and what is wrong. There is no label, no help and no second place.
+-- A record: the number of the file, that of the kind, the place, and a text that says what is wrong. There is no label, no help and no second place.
+abbrev pub record_with : ℕ → ℕ → Place → List ℕ → List ℕ
+record_with file kind place text = number file ++ (number kind ++ (place_bytes place ++ (counted text ++ (counted [] ++ (counted [] ++ number 0)))))
+
+-- The record of an error.
 abbrev pub error_record : ℕ → Place → LinkError → List ℕ
-error_record file place error =
-    number file ++ (number (kind_of error) ++ (place_bytes place ++ (counted (text_of error) ++ (counted [] ++ (counted [] ++ number 0)))))
+error_record file place error = record_with file (kind_of error) place (text_of error)
 
 -- The records of what is told of a fault of these files, which have these sources. Its file sees this of them.
 abbrev pub fault_records : List (List ℕ) → List FileDescriptorProto → List Bool → List Bool → LinkFault → List ℕ

@@ -8,12 +8,17 @@ pub mod kinds;
 mod lines;
 mod parts;
 mod places;
+mod record;
 mod records;
 mod search;
 mod source;
 mod syntax;
 mod told;
 
+pub use crate::lines::{SourceLines, lines_of};
+pub use crate::places::{Place, no_place};
+pub use crate::record::push_record;
 pub use crate::records::link_records;
+pub use crate::search::place_in;
 pub use crate::source::SourceFile;
 pub use crate::syntax::push_syntax_records;

@@ -11,7 +11,7 @@ use std::marker::Model;
 
 /// A source with a table of its lines. Contracts see the source.
 #[derive(Drop)]
-pub(crate) struct SourceLines<'a> {
+pub struct SourceLines<'a> {
     source: &'a str,
     // the offsets behind its newlines
     begins: Vec<usize>,
@@ -56,7 +56,7 @@ impl<'a> SourceLines<'a> {
     ///
     /// # Errors
     /// `AllocError` where memory runs out.
-    pub(crate) fn new(alloc: Global, source: &'a str) -> Result<SourceLines<'a>, AllocError>
+    pub fn new(alloc: Global, source: &'a str) -> Result<SourceLines<'a>, AllocError>
         ensures { IfOk result (λ lines. lines ≡ source.now) }
     {
         let begins = starts_of(alloc, source.as_bytes())?;
@@ -90,7 +90,7 @@ impl<'a> SourceLines<'a> {
 ///
 /// # Errors
 /// `AllocError` where memory runs out.
-pub(crate) fn lines_of<'a>(
+pub fn lines_of<'a>(
     alloc: Global,
     sources: &[SourceFile<'a>],
 ) -> Result<Vec<SourceLines<'a>>, AllocError>

@@ -9,19 +9,19 @@ use protox_descriptor::descriptor::source_code_info::Location;
 
 /// A place in a source.
 #[derive(Clone, Copy, Drop)]
-pub(crate) struct Place {
+pub struct Place {
     /// The offset of its first byte.
-    pub(crate) start: usize,
+    pub start: usize,
     /// The offset behind its last byte.
-    pub(crate) end: usize,
+    pub end: usize,
     /// The line of its start, from 0.
-    pub(crate) line: usize,
+    pub line: usize,
     /// The column of its start, from 0, in bytes.
-    pub(crate) column: usize,
+    pub column: usize,
 }
 
 /// The place of what the source doesn't write.
-pub(crate) fn no_place() -> Place
+pub fn no_place() -> Place
     ensures { result ≡ found.no_place }
 {
     Place {

@@ -40,8 +40,10 @@ fn location_of<'a>(file: &'a FileDescriptorProto, path: &[i32]) -> Option<&'a Lo
     }
 }
 
-// The place of that.
-fn place_in(lines: &SourceLines<'_>, file: &FileDescriptorProto, path: &[i32]) -> Place
+/// The place of the part of a file that a path leads to, or of the innermost part around it that the
+/// source writes; four zeros, if it writes none of these. The locations of the file are sorted by
+/// path, as those that `parse` answers are.
+pub fn place_in(lines: &SourceLines<'_>, file: &FileDescriptorProto, path: &[i32]) -> Place
     requires { IsSorted file.now }
     ensures { result ≡ found.place_in lines.now file.now path.now }
 {

@@ -5,52 +5,22 @@ ghost use Rattle.protox_descriptor.specs.declared.descriptor.FileDescriptorProto
 ghost use Rattle.protox_link.specs.Known.{IsKnownOf};
 ghost use Rattle.protox_link.specs.Seen.{IsSeenBy};
 ghost use Rattle.protox_link_fault.specs.declared.LinkFault.{LinkFault};
-ghost use Rattle.protox_link_records.specs.Kinds.{kind_of};
 ghost use Rattle.protox_link_records.specs.LinkPlaces.{IsSorted};
 ghost use Rattle.protox_link_records.specs.LinkRecords.{AreTold, error_record, fault_records};
-ghost use Rattle.protox_link_text.specs.Errors.{text_of};
-ghost use Rattle.protox_records.specs.Records as spelled;
 ghost use Rattle.protox_symbols.specs.Things.{table_of};
 ghost use Rattle.std.specs.List.{flat_map};
 
 use crate::kinds::kind_number;
 use crate::lines::SourceLines;
-use crate::parts::{push_both, push_place};
 use crate::places::Place;
+use crate::record::push_record;
 use crate::search::{fault_place, file_told};
 use protox_descriptor::descriptor::FileDescriptorProto;
 use protox_link::Resolver;
 use protox_link_fault::LinkFault;
 use protox_link_text::{LinkError, errors_of};
-use protox_records::parts::{push_number, push_text};
 use protox_views::View;
 use std::alloc::{AllocError, Global};
-
-// Adds the number of the file, and that of the kind.
-fn push_front(out: &mut Vec<u8>, file: usize, error: &LinkError) -> Result<(), AllocError>
-    ensures { OnOk result (out.new.items ≡ out.old.items ++ (spelled.number file ++ spelled.number (kind_of error.now))) }
-{
-    push_both(out, file, kind_number(error))
-}
-
-// Adds what is wrong.
-fn push_message(alloc: Global, out: &mut Vec<u8>, error: &LinkError) -> Result<(), AllocError>
-    ensures { OnOk result (out.new.items ≡ out.old.items ++ spelled.counted (text_of error.now)) }
-{
-    let text = format!(in alloc; "{error}")?;
-    push_text(out, text.as_str())
-}
-
-// Adds that there is no label, no help and no second place.
-fn push_end(out: &mut Vec<u8>) -> Result<(), AllocError>
-    ensures { OnOk result (out.new.items
-        ≡ out.old.items ++ (spelled.counted [] ++ (spelled.counted [] ++ spelled.number 0))) }
-{
-    push_text(out, "")?;
-    push_text(out, "")?;
-    push_number(out, 0)?;
-    Ok(())
-}
 
 // Adds the record of an error.
 fn push_error(
@@ -62,11 +32,8 @@ fn push_error(
 ) -> Result<(), AllocError>
     ensures { OnOk result (out.new.items ≡ out.old.items ++ error_record file place.now error.now) }
 {
-    push_front(out, file, error)?;
-    push_place(out, place)?;
-    push_message(alloc, out, error)?;
-    push_end(out)?;
-    Ok(())
+    let text = format!(in alloc; "{error}")?;
+    push_record(out, file, kind_number(error), place, text.as_str())
 }
 
 // Adds a record for each error that is told of a fault.

@@ -274,7 +274,7 @@ newlines_grouped tokens all ends count within added =
     )
 
 -- no row yet
-pub nothing_shared : (tokens : List KeptToken) (rows : List NumberedRow) (marks : List (Option ℕ)) (recent : List ℕ) → tokens ≡ [] → rows ≡ [] → marks ≡ replicate 256 None → length recent ≡ 4096
+pub nothing_shared : (tokens : List KeptToken) (rows : List NumberedRow) (marks : List (Option ℕ)) (recent : List ℕ) → tokens ≡ [] → rows ≡ [] → marks ≡ replicate 256 None → length recent ≡ 1024
     → AreShared tokens rows marks recent
 nothing_shared tokens rows marks recent t r m size = record {
   kept = rw r (λ k d l. absurd (omega arith));

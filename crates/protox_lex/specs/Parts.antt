@@ -34,4 +34,8 @@ pub record IsReach (source : List ℕ) (from until end : ℕ) : Type 0 where
 abbrev pub IsReachOrRest : List ℕ → ℕ → ℕ → ℕ → ℕ → Type 0
 IsReachOrRest source from until long end =
     (IsReach source from until end × (end ≤ until + long))
-    ⊎ ((mid : ℕ) × IsReach source from until mid × (until + long < mid) × IsReach source from (length source) end)
+    ⊎ ((mid : ℕ)
+    × IsReach source from until mid
+    × (until + long < mid)
+    × IsReach source from (length source) end
+    × (length source ≤ end))

@@ -31,7 +31,7 @@ pub(crate) struct KeptToken<'a> {
 const ROWS_A_TOKEN: usize = 8;
 
 // How many words and integers are remembered.
-const SLOTS: usize = 4096;
+const SLOTS: usize = 1024;
 
 /// Rows. Equal tokens share what is kept of them: each mark is kept once, and so is a word or an
 /// integer while it is remembered.
@@ -57,7 +57,7 @@ impl<'a> Model for SharedRows<'a> {
 /// slot would do, but tokens that share a slot are kept more often.
 #[inline(always)]
 pub(crate) fn slot_of(text: &[u8], len: usize) -> usize
-    ensures { result < 4096 }
+    ensures { result < 1024 }
 {
     let first = byte_at(text, 0) as usize;
     let middle = byte_at(text, len / 2) as usize;
@@ -308,7 +308,7 @@ impl<'a> SharedRows<'a> {
         start: usize,
         len: usize,
     ) -> Result<(), AllocError>
-        requires slot { slot < 4096 }
+        requires slot { slot < 1024 }
         requires holds { holds_none (shape_of token) ≡ true }
         requires fits { start + len < 2 ^ 64 }
         ensures { OnOk result (self.new ≡ and_row self.old record { shape = shape_of token.entry; at = span_from start (start + len) } true) }
@@ -329,7 +329,7 @@ impl<'a> SharedRows<'a> {
         start: usize,
         len: usize,
     ) -> Result<(), AllocError>
-        requires slot { slot < 4096 }
+        requires slot { slot < 1024 }
         requires holds { holds_none (shape_of token) ≡ true }
         requires fits { start + len < 2 ^ 64 }
         ensures { OnOk result (self.new ≡ and_row self.old record { shape = shape_of token.entry; at = span_from start (start + len) } true) }

@@ -303,7 +303,8 @@ fn draft_or_rest<'a>(
 
 /// The table of the lexemes that stand between `from` and `until`, with the whole of the last one.
 /// If that one ends more than `long` bytes behind `until`, then of all lexemes from `from` on. Its
-/// last gap has ended, and room that it doesn't take is given back. Answers where the lexemes end.
+/// last gap has ended. Room that it doesn't take is given back, but for the room of a few rows.
+/// Answers where the lexemes end.
 pub(crate) fn ended_draft<'a>(
     alloc: Global,
     source: &'a str,

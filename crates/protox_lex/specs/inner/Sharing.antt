@@ -86,7 +86,7 @@ pub record AreShared (tokens : List KeptToken) (rows : List NumberedRow) (marks 
   pub marks_are : AreMarks tokens marks
   pub classed : AreClassed tokens
   pub bytes : length marks ≡ 256
-  pub slots : length recent ≡ 4096
+  pub slots : length recent ≡ 1024
 
 -- ---- gaps
 

@@ -40,7 +40,7 @@ returns-clause-reach c =
     let first = reach_of source c.args.from c.args.until mid t.0 t.2 in
     ok_map c.draft-2.result _ _ _ _
     (λ x h past within.
-    inr (mid, first, omega arith, reach_joined source c.args.from c.args.until mid x.1 t.0 h.0 c.requires.fits (omega (arith, past, within.0)) t.2 h.2))
+    inr (mid, first, omega arith, reach_joined source c.args.from c.args.until mid x.1 t.0 h.0 c.requires.fits (omega (arith, past, within.0)) t.2 h.2, past))
     c.draft-2.ensures.table c.draft-2.ensures.past c.draft-2.ensures.boundary
 
 pub returns-clause-near : goal.returns-clause-near

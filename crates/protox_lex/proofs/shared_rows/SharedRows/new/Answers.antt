@@ -5,5 +5,5 @@ use Rattle.protox_lex.proofs.shared_rows.SharedRows.new.Goals as goal
 
 pub invariant_of-result : goal.invariant_of-result
 invariant_of-result c =
-    let slots = ap length (c.in_ok-vec-2.ensures.items_if_clones_equal (λ y same. same)) ∙ length-replicate {A = ℕ} 4096 0 in
+    let slots = ap length (c.in_ok-vec-2.ensures.items_if_clones_equal (λ y same. same)) ∙ length-replicate {A = ℕ} 1024 0 in
     nothing_shared _ _ _ _ c.with_room.ensures c.new.ensures (c.in_ok-vec.ensures.items_if_clones_equal (only_none _ (λ n same. same))) slots

@@ -32,7 +32,7 @@ RUNS += [('protoscan', words) for words in (['foo.proto'], ['foo.proto', '4.0'],
 RUNS += [('protoscan', [f'../../../examples/{name}.proto']) for name in ('library', 'store')]
 # A last word <FILE is the standard input.
 RUNS += [('linkcases', ['<../../../bench/two_files.txt'])]
-RUNS += [('setcases', ['<../../../bench/two_files.txt'])]
+RUNS += [('setcases', [f'<../../../bench/{name}.txt']) for name in ('two_files', 'option_files')]
 RUNS += [('protolink', ['-I../../protolink/data', '-o-', '--include_imports', '../../protolink/data/shop.proto'])]
 RUNS += [('protolink', ['-I../../../examples/linked', 'shop/wrong.proto'])]
 

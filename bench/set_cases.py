@@ -5,8 +5,8 @@ usage: set_cases.py PROTOC [--write]      at the top of the repository
 
 The sets are those of crates/setcases/stdin: add sets there. With --write, stdout there gets protoc's answers: the
 bytes of each set, with locations sorted by path, or its complaints in the order of the files. Without, the answers of crates/setcases/out/setcases
-are compared with them. What protoc says otherwise, faults of syntax, stands in ALONE, by hand. The last line is
-'N passed, M failed'.
+are compared with them. What protoc says otherwise, faults of syntax, stands in ALONE, by hand, and so do the places of statements of options: protoc
+tells the name or the value. The last line is 'N passed, M failed'.
 """
 import os
 import re
@@ -26,6 +26,17 @@ ALONE = {
         "a.proto:2:31: message numbers must be between 1 and 536870911",
         "c.proto:1:10: unknown syntax 'proto4'",
     ],
+    # protoc's words, each at its statement, a message's own before those of its fields
+    '== set with options wrong statements': [
+        'a.proto:7:3: Option "nothing" unknown. Ensure that your proto definition file imports the proto which defines the option.',
+        'a.proto:8:25: Option "lazy" was already set.',
+        'a.proto:9:12: Error while parsing option value for "r": Message type "R" has no field named "m".',
+        'a.proto:10:12: Error while parsing option value for "r": Expected integer, got: "x"',
+        'a.proto:11:12: Error while parsing option value for "r": Expected ":", found "1".',
+        'a.proto:3:1: Value must be quoted string for string option "google.protobuf.FileOptions.java_package".',
+    ],
+    # protoc reads options by its own descriptor.proto
+    '== set with options no descriptor.proto': ['a.proto:3:3: no file declares what options there are here'],
 }
 
 
@@ -69,6 +80,7 @@ def answer(protoc, files):
     names = [name for name, _ in files]
     with tempfile.TemporaryDirectory() as folder:
         for name, source in files:
+            os.makedirs(os.path.dirname(os.path.join(folder, name)), exist_ok=True)
             with open(os.path.join(folder, name), 'w', encoding='utf-8') as file:
                 file.write(source)
         words = [protoc, '-I.', '--include_imports', '--include_source_info', '--descriptor_set_out=set', *names]

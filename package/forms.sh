@@ -40,7 +40,8 @@ put_library() { # ROOT LIBDIR PREFIX
     mkdir -p "$1/$2/pkgconfig"
     fill package/protox.pc "PREFIX=$3" "LIBDIR=$2" >"$1/$2/pkgconfig/protox.pc"
     put 644 "$1/share/man/man3" "$work"/parts/man/*.3
-    for call in protox_parse_to_descriptor protox_report protox_link protox_version; do
+    for call in protox_parse_to_descriptor protox_report protox_link protox_link_with_options \
+        protox_version; do
         ln -s protox.3 "$1/share/man/man3/$call.3"
     done
 }

@@ -1,4 +1,4 @@
-/* Tests of protox_link. tests.c reads this file. */
+/* Tests of protox_link and protox_link_with_options. tests.c reads this file. */
 #ifndef LINKING_H
 #define LINKING_H
 
@@ -10,13 +10,17 @@ static struct protox_file file(const char *name, const char *source)
     return (struct protox_file){n.at, n.len, s.at, s.len};
 }
 
+/* The call that is tried. */
+static uint32_t (*linking)(
+    const struct protox_file *, size_t, uint8_t *, size_t, size_t *) = protox_link;
+
 static struct answer link_asked(const struct protox_file *files, size_t n, size_t room)
 {
     struct answer answer = {99, 12345, room_for(room + 16)};
     memset(answer.out, 0xa5, room + 16);
     requests = blocks = 0;
     watched = 1;
-    answer.status = protox_link(files, n, answer.out, room, &answer.len);
+    answer.status = linking(files, n, answer.out, room, &answer.len);
     watched = 0;
     if (blocks != 0) {
         test(0, "nothing is left on the heap", "link");
@@ -289,6 +293,106 @@ static void link_no_memory(
         all ? "all from each" : "each", n - 1);
     test(holds && n > 1, name, of);
     free(full.out);
+}
+
+/* What options there are, as much as the files below need. */
+#define DESCRIPTOR "google/protobuf/descriptor.proto"
+static const char declares[] =
+    "syntax = \"proto2\";\npackage google.protobuf;\n"
+    "message FileOptions { optional string java_package = 1; extensions 1000 to max; }\n"
+    "message FieldOptions { optional bool packed = 2; extensions 1000 to max; }\n";
+
+/* A file that sets options, and what protoc 3.21.12 makes of it with --include_source_info and its own
+ * descriptor.proto, but that locations are sorted by path. */
+static const char sets_options[] =
+    "syntax = \"proto2\";\nimport \"" DESCRIPTOR "\";\noption java_package = \"p\";\n"
+    "extend google.protobuf.FieldOptions { optional int32 size = 50000; }\n"
+    "message A { repeated int32 b = 1 [packed = true, (size) = 7]; }\n";
+static const uint8_t option_set[] = {
+    10, 144, 3, 10, 7, 97, 46, 112, 114, 111, 116, 111, 26, 32, 103, 111, 111, 103, 108, 101,
+    47, 112, 114, 111, 116, 111, 98, 117, 102, 47, 100, 101, 115, 99, 114, 105, 112, 116, 111, 114,
+    46, 112, 114, 111, 116, 111, 34, 25, 10, 1, 65, 18, 20, 10, 1, 98, 24, 1, 32, 3,
+    40, 5, 66, 6, 16, 1, 128, 181, 24, 7, 82, 1, 98, 58, 51, 10, 4, 115, 105, 122,
+    101, 18, 29, 46, 103, 111, 111, 103, 108, 101, 46, 112, 114, 111, 116, 111, 98, 117, 102, 46,
+    70, 105, 101, 108, 100, 79, 112, 116, 105, 111, 110, 115, 24, 208, 134, 3, 32, 1, 40, 5,
+    82, 4, 115, 105, 122, 101, 66, 3, 10, 1, 112, 74, 141, 2, 10, 6, 18, 4, 0, 0,
+    4, 63, 10, 9, 10, 2, 3, 0, 18, 3, 1, 0, 42, 10, 9, 10, 2, 4, 0, 18,
+    3, 4, 0, 63, 10, 10, 10, 3, 4, 0, 1, 18, 3, 4, 8, 9, 10, 11, 10, 4,
+    4, 0, 2, 0, 18, 3, 4, 12, 61, 10, 12, 10, 5, 4, 0, 2, 0, 1, 18, 3,
+    4, 27, 28, 10, 12, 10, 5, 4, 0, 2, 0, 3, 18, 3, 4, 31, 32, 10, 12, 10,
+    5, 4, 0, 2, 0, 4, 18, 3, 4, 12, 20, 10, 12, 10, 5, 4, 0, 2, 0, 5,
+    18, 3, 4, 21, 26, 10, 12, 10, 5, 4, 0, 2, 0, 8, 18, 3, 4, 33, 60, 10,
+    13, 10, 6, 4, 0, 2, 0, 8, 2, 18, 3, 4, 34, 47, 10, 15, 10, 8, 4, 0,
+    2, 0, 8, 208, 134, 3, 18, 3, 4, 49, 59, 10, 8, 10, 1, 7, 18, 3, 3, 0,
+    68, 10, 9, 10, 2, 7, 0, 18, 3, 3, 38, 66, 10, 10, 10, 3, 7, 0, 1, 18,
+    3, 3, 53, 57, 10, 10, 10, 3, 7, 0, 2, 18, 3, 3, 7, 35, 10, 10, 10, 3,
+    7, 0, 3, 18, 3, 3, 60, 65, 10, 10, 10, 3, 7, 0, 4, 18, 3, 3, 38, 46,
+    10, 10, 10, 3, 7, 0, 5, 18, 3, 3, 47, 52, 10, 8, 10, 1, 8, 18, 3, 2,
+    0, 26, 10, 9, 10, 2, 8, 1, 18, 3, 2, 0, 26, 10, 8, 10, 1, 12, 18, 3,
+    0, 0, 18,
+};
+
+static void reads_options_as_protoc(void)
+{
+    const struct protox_file files[] = {file("a.proto", sets_options), file(DESCRIPTOR, declares)};
+    size_t room;
+    struct answer set = link_whole(files, 2, &room);
+    /* descriptor.proto comes first, as a.proto imports it */
+    int holds = set.status == PROTOX_ACCEPTED && set.len > sizeof option_set &&
+                memcmp(set.out + set.len - sizeof option_set, option_set, sizeof option_set) == 0 &&
+                untouched(&set, set.len, room);
+    test(holds, "options are set as by protoc", "link with options");
+    free(set.out);
+}
+
+/* The messages are those that protoc prints. A statement has its own place. */
+static void tells_options_as_protoc(void)
+{
+    const struct protox_file wrong[] = {
+        file("a.proto", "syntax = \"proto2\";\nimport \"" DESCRIPTOR "\";\noption java_pakage = \"p\";\n"
+                        "message A {\n  repeated int32 b = 1 [packed = 3];\n}\n"),
+        file(DESCRIPTOR, declares),
+    };
+    const struct wanted both[] = {
+        {0, PROTOX_OPTION_VALUE, 5, 25, 10,
+            "Value must be identifier for boolean option \"google.protobuf.FieldOptions.packed\"."},
+        {0, PROTOX_OPTION_NAME, 3, 1, 25,
+            "Option \"java_pakage\" unknown. Ensure that your proto definition file imports the proto "
+            "which defines the option."},
+    };
+    test(are_told(wrong, 2, both, 2), "statements are told as by protoc", "link with options");
+    const struct protox_file asked[] = {
+        file("a.proto", "message A {\n  repeated string b = 1 [packed = true];\n}\n"),
+        file(DESCRIPTOR, declares),
+    };
+    const struct wanted packed[] = {{0, PROTOX_OPTION_PACKED, 2, 12, 6,
+        "[packed = true] can only be specified for repeated primitive fields."}};
+    test(are_told(asked, 2, packed, 1), "what options ask is told as by protoc", "link with options");
+    const struct wanted none[] = {{0, PROTOX_OPTION_NO_TYPE, 2, 25, 13,
+        "no file declares what options there are here"}};
+    test(are_told(asked, 1, none, 1), "without descriptor.proto there are no options", "link with options");
+}
+
+static void test_link_with_options(void)
+{
+    const struct protox_file fine[] = {file("a.proto", sets_options), file(DESCRIPTOR, declares)};
+    const struct protox_file wrong[] = {
+        file("a.proto", "option no = 1;\nmessage A { repeated string b = 1 [(c).d = {}]; }\n"),
+        file(DESCRIPTOR, declares),
+    };
+    linking = protox_link_with_options;
+    links_as_protoc();
+    tells_as_protoc();
+    reads_options_as_protoc();
+    tells_options_as_protoc();
+    link_texts();
+    link_short(fine, 2, PROTOX_ACCEPTED, "set with options");
+    link_short(wrong, 2, PROTOX_REFUSED, "wrong options");
+    for (int all = 0; all < 2; all++) {
+        link_no_memory(fine, 2, PROTOX_ACCEPTED, all, "set with options");
+        link_no_memory(wrong, 2, PROTOX_REFUSED, all, "wrong options");
+    }
+    linking = protox_link;
 }
 
 static void test_link(void)

@@ -1,11 +1,12 @@
 /*
  * protox.h: a parser of Protocol Buffers source files (proto2 and proto3), as a C library.
  *
- * There are four calls. `protox_parse_to_descriptor` makes of a file's name and text the bytes of
+ * There are five calls. `protox_parse_to_descriptor` makes of a file's name and text the bytes of
  * its FileDescriptorProto, with SourceCodeInfo: paths, spans and comments. `protox_report` says
  * all that is wrong with a file, with places. `protox_link` makes of several files the bytes of a
  * FileDescriptorSet in which all names are resolved, or says all that is wrong with them.
- * `protox_version` numbers these calls and what they write.
+ * `protox_link_with_options` does the same, and reads their options. `protox_version` numbers these
+ * calls and what they write.
  *
  * With a package, link with libprotox, the shared or the static library:
  *
@@ -27,8 +28,8 @@
  * ROOM. You give the buffer. Where it is too short the status is PROTOX_TOO_SHORT, `*out_len` is
  * the room that is needed, and nothing was written to `out`. The next call parses again, so give
  * room enough at first: 8 bytes for each byte of the source and 64 KiB more serve nearly every
- * file, as memory that is never written to costs little. Reports need less. For protox_link count
- * the bytes of all sources; its records need more only where many messages repeat long names.
+ * file, as memory that is never written to costs little. Reports need less. Of the calls that link,
+ * count the bytes of all sources; their records need more only where many messages repeat long names.
  *
  * THREADS. The library has no state. Any number of threads may call at once, each with its own
  * `out` and `out_len`. Memory comes from malloc, realloc and free, which must be of one allocator;
@@ -37,14 +38,15 @@
  * A SOURCE THAT YOU DON'T TRUST may be any bytes. For most sources a byte costs up to some 1,100
  * bytes of memory while it is parsed. But with many ranges in one `extensions 1, 2 [options];`, or
  * many fields in one `extend`, memory grows with the square of the length: 18 KB took 2.9 GB. So
- * bound the length, and the memory of the process. protox_link holds the descriptors of all files
- * at once: bound the sum of the lengths. No file is opened: an import names one of the given files.
+ * bound the length, and the memory of the process. The calls that link hold the descriptors of all
+ * files at once: bound the sum of the lengths. No file is opened: an import names one of the given
+ * files.
  *
  * VERSIONS. PROTOX_VERSION changes when a call, a status, a kind or a record changes. A program
  * that loads the library at run time compares it with protox_version(). Numbers of kinds and
- * statuses keep their meaning, and new ones may come. A call that is new, as protox_link was,
- * doesn't change it: a program that needs the call fails to link, or to load, with a library that
- * lacks it.
+ * statuses keep their meaning, and new ones may come. A call that is new, as
+ * protox_link_with_options was, doesn't change it: a program that needs the call fails to link, or
+ * to load, with a library that lacks it.
  */
 #ifndef PROTOX_H
 #define PROTOX_H
@@ -59,11 +61,11 @@ extern "C" {
 #define PROTOX_VERSION 1
 
 /* What a call answers. protox_parse_to_descriptor writes to `out` where it answers PROTOX_ACCEPTED,
- * protox_report where it answers PROTOX_REFUSED, and protox_link at both; else `out` stays as it
- * was. */
+ * protox_report where it answers PROTOX_REFUSED, and the calls that link at both; else `out` stays
+ * as it was. */
 enum protox_status {
     PROTOX_ACCEPTED = 0,      /* nothing is wrong with the source, or with any of the files */
-    PROTOX_REFUSED = 1,       /* something is; protox_report and protox_link say what */
+    PROTOX_REFUSED = 1,       /* something is; protox_report and the calls that link say what */
     PROTOX_OUT_OF_MEMORY = 2, /* memory ran out; nothing is said of the source */
     PROTOX_TOO_SHORT = 3,     /* `out` is too short; *out_len is the room that is needed */
     PROTOX_NOT_UTF8 = 4,      /* a name or a source is not UTF-8 */
@@ -120,7 +122,7 @@ uint32_t protox_report(const uint8_t *name, size_t name_len,
                        const uint8_t *source, size_t source_len,
                        uint8_t *out, size_t out_capacity, size_t *out_len);
 
-/* A file for protox_link: the name by which other files import it, and its text. */
+/* A file to be linked: the name by which other files import it, and its text. */
 struct protox_file {
     const uint8_t *name;
     size_t name_len;
@@ -156,6 +158,24 @@ struct protox_file {
  */
 uint32_t protox_link(const struct protox_file *files, size_t n,
                      uint8_t *out, size_t out_capacity, size_t *out_len);
+
+/*
+ * Parses and links files as protox_link does, and reads their options, as protoc does. In the set
+ * each options message has the fields that its statements set, packed, custom ones and those in
+ * braces too, in place of the statements; and the location of a statement has the path of the field
+ * that it sets. Defaults stay as they are written.
+ *
+ * Which options there are is told by google/protobuf/descriptor.proto: give it, too. It is in the set
+ * like the others.
+ *
+ * Statuses are those of protox_link, but PROTOX_NOT_A_FLOAT isn't answered. Where protox_link refuses
+ * files, so does this call, with the same records. Else it refuses them where an option is wrong: with
+ * a record for the first wrong statement of each options message, which has a kind of
+ * enum protox_option_kind and the place of the statement. Where no option is, it refuses them for what
+ * options ask of what has them, with kinds from PROTOX_OPTION_LAZY on.
+ */
+uint32_t protox_link_with_options(const struct protox_file *files, size_t n,
+                                  uint8_t *out, size_t out_capacity, size_t *out_len);
 
 /* The kinds of faults of syntax. */
 enum protox_kind {
@@ -243,6 +263,30 @@ enum protox_link_kind {
     PROTOX_LINK_MISSING_IMPORT = 142,            /* no file has the name of an import */
     PROTOX_LINK_REPEATED_IMPORT = 143,           /* a file imports another one twice */
     PROTOX_LINK_IMPORT_CYCLE = 144               /* files import one another in a circle */
+};
+
+/* The kinds of what is wrong with options. */
+enum protox_option_kind {
+    PROTOX_OPTION_NO_TYPE = 201,                 /* no file declares what options there are here */
+    PROTOX_OPTION_NAME = 202,                    /* a name leads to no field of the options */
+    PROTOX_OPTION_ALREADY_SET = 203,             /* the field is set, or one inside of it */
+    PROTOX_OPTION_VALUE = 204,                   /* a value is none of the field's type */
+    PROTOX_OPTION_TOKEN = 205,                   /* what stands in braces has no tokens */
+    PROTOX_OPTION_TEXT = 206,                    /* it is no message in text format */
+    PROTOX_OPTION_AGGREGATE = 207,               /* it is none of the field's type */
+    PROTOX_OPTION_LAZY = 221,                    /* a lazy field is no message */
+    PROTOX_OPTION_PACKED = 222,                  /* a packed field can't be packed */
+    PROTOX_OPTION_MESSAGE_SET_FIELD = 223,       /* a message set has a field */
+    PROTOX_OPTION_MESSAGE_SET_EXTENSION = 224,   /* its extension is no optional message */
+    PROTOX_OPTION_LITE_EXTENSION = 225,          /* a lite file extends what isn't lite */
+    PROTOX_OPTION_MAP_VALUE_ENUM = 226,          /* the enum of a map doesn't begin with 0 */
+    PROTOX_OPTION_JS_TYPE = 227,                 /* a jstype on what is no integer of 64 bits */
+    PROTOX_OPTION_EXTENSION_JSON_NAME = 228,     /* an extension has a name in JSON */
+    PROTOX_OPTION_CLOSED_ENUM = 229,             /* proto3: a field of an enum of proto2 */
+    PROTOX_OPTION_SHARED_NUMBER = 230,           /* two values have one number, without allow_alias */
+    PROTOX_OPTION_MESSAGE_SET_IN_PROTO3 = 231,   /* proto3: a message set */
+    PROTOX_OPTION_LITE_SERVICE = 232,            /* a lite file has a service */
+    PROTOX_OPTION_LITE_IMPORT = 233              /* a file that isn't lite imports one that is */
 };
 
 #ifdef __cplusplus

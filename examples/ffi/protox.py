@@ -2,8 +2,8 @@
 
 `parse(name, source)` and `parse_file(path)` return a FileDescriptorProto or raise ParseError, and
 `report(name, source)` returns what is wrong. `link(files)` returns a FileDescriptorSet with all
-names resolved, or raises LinkError. `messages(file)` lists the messages of a descriptor with their
-comments:
+names resolved, or raises LinkError; `link(files, options=True)` reads options, too.
+`messages(file)` lists the messages of a descriptor with their comments:
 
     import protox
     for name, comment in protox.messages(protox.parse_file("foo.proto")):
@@ -73,7 +73,7 @@ class Place:
 
 @dataclass
 class Fault:
-    """One thing that is wrong. `kind` is a number of `enum protox_kind` or `enum protox_link_kind`.
+    """One thing that is wrong. `kind` is a number of one of the enums of kinds in protox.h.
 
     `file` is the name of the file, if `link` tells it.
     """
@@ -170,11 +170,11 @@ def parse(name: Text, source: Text) -> FileDescriptorProto:
     return FileDescriptorProto.FromString(data)
 
 
-def _link_call() -> Callable[..., int]:
+def _link_call(name: str) -> Callable[..., int]:
     try:
-        call = _library.protox_link
+        call: Callable[..., int] = getattr(_library, name)
     except AttributeError:
-        raise NotImplementedError("this libprotox.so has no protox_link") from None
+        raise NotImplementedError(f"this libprotox.so has no {name}") from None
     call.restype = ctypes.c_uint32
     call.argtypes = [
         ctypes.POINTER(_File), ctypes.c_size_t,
@@ -183,17 +183,21 @@ def _link_call() -> Callable[..., int]:
     return call
 
 
-def link(files: Mapping[str, Text]) -> FileDescriptorSet:
+def link(files: Mapping[str, Text], options: bool = False) -> FileDescriptorSet:
     """The files, by name and source, with all names resolved; each behind what it imports.
 
     Give each file that one of them imports. LinkError says what is wrong: the faults of syntax of
     all files, or else what is wrong with the names and numbers in them.
+
+    With `options` their options are read, as protoc does. Then give google/protobuf/descriptor.proto,
+    too. LinkError also says what is wrong with options. Without it they stay `uninterpreted_option`.
     """
     names = list(files)
     texts = [(name.encode(), _as_bytes(files[name])) for name in names]
     array = (_File * len(texts))(*(_given(name, source) for name, source in texts))
     room = 8 * sum(len(source) for _, source in texts) + (1 << 14)
-    status, data = _call_with_room(_link_call(), (array, len(texts)), room)
+    call = _link_call("protox_link_with_options" if options else "protox_link")
+    status, data = _call_with_room(call, (array, len(texts)), room)
     _raise_unless_good(status)
     if status == REFUSED:
         raise LinkError(_link_faults(names, data))

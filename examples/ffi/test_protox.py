@@ -12,6 +12,23 @@ import protox
 
 GOOD = "// A.\nmessage A {\n  optional int32 b = 1 [default = 2];\n}\n"
 WRONG = "message A { optional int32 b = 0; }\n"
+DESCRIPTOR = "/usr/include/google/protobuf/descriptor.proto"
+OPTIONS = """syntax = "proto2";
+package p;
+import "google/protobuf/descriptor.proto";
+option java_package = "com.p";
+message Rule { optional string name = 1; repeated int32 sizes = 2; optional Rule inner = 3; }
+extend google.protobuf.FieldOptions {
+  optional Rule rule = 50000;
+  repeated int32 size = 50001;
+}
+message M {
+  option deprecated = true;
+  repeated int32 a = 1 [packed = true, (rule) = {name: "x" sizes: [1, 2] inner {}}, (size) = 3];
+  optional M b = 2 [(rule).inner.name = "y", (size) = 4, (size) = 5, lazy = true];
+}
+enum E { option allow_alias = true; A = 0; B = 0; }
+"""
 CHAIN = {
     "a.proto": 'import "b.proto";\nmessage A {\n  optional p.B b = 1;\n'
     "  repeated p.C some_cs = 2;\n}\n",
@@ -105,6 +122,31 @@ class Calls(unittest.TestCase):
         for file in files.file:
             file.source_code_info.location.sort(key=lambda it: list(it.path))
         self.assertEqual(protox.link(CHAIN), files)
+
+    @unittest.skipUnless(shutil.which("protoc") and os.path.exists(DESCRIPTOR), "protoc is not there")
+    def test_link_options_as_protoc(self):
+        with open(DESCRIPTOR) as file:
+            files = {"a.proto": OPTIONS, "google/protobuf/descriptor.proto": file.read()}
+        with tempfile.TemporaryDirectory() as folder:
+            with open(os.path.join(folder, "a.proto"), "w") as file:
+                file.write(OPTIONS)
+            words = ["protoc", "-I.", "-I/usr/include", "--include_imports", "--include_source_info"]
+            words += ["--descriptor_set_out=set", "a.proto"]
+            subprocess.run(words, cwd=folder, check=True)
+            with open(os.path.join(folder, "set"), "rb") as file:
+                wanted = FileDescriptorSet.FromString(file.read())
+        found = protox.link(files, options=True)
+        for file in (*found.file, *wanted.file):
+            # protoc lists locations as it reads
+            file.source_code_info.location.sort(key=lambda it: (list(it.path), list(it.span)))
+        self.assertEqual(found, wanted)
+
+    def test_link_options_error(self):
+        with self.assertRaises(protox.LinkError) as caught:
+            protox.link({"a.proto": "option no = 1;"}, options=True)
+        (fault,) = caught.exception.faults
+        # PROTOX_OPTION_NO_TYPE
+        self.assertEqual((fault.file, fault.kind, fault.place.line), ("a.proto", 201, 0))
 
     def test_link_error(self):
         wrong = CHAIN["b.proto"].replace("C c", "Gone c").replace("public ", "")

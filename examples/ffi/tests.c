@@ -241,6 +241,7 @@ int main(int count, char **given)
     }
     odd_texts();
     test_link();
+    test_link_with_options();
     two_threads(fine, wrong);
     compare(repeated("empty.proto", "", "", 0));
     compare(repeated("second.proto", "package a;\n\n  package b;\n", "", 0));

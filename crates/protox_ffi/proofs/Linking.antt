@@ -4,13 +4,15 @@ use Rattle.std.proofs.lemmas.List.{get_or-map, length-map, map-append, take_more
 use Rattle.std.proofs.lemmas.List.Elements.{All-get_or}
 use Rattle.std.specs.Str.{IsUtf8}
 use Rattle.protox_ffi.specs.Linked as linked
-use Rattle.protox_ffi.specs.Linked.{AreNotAllTexts, IsNoText, given_input}
+use Rattle.protox_ffi.specs.Linked.{AreNotAllTexts, HasNoAnswer, HasNoTexts, IsNoText, given_input}
+use Rattle.protox_ffi.specs.LinkedOptions.{HasNoOptionAnswer}
 use Rattle.protox_ffi.specs.declared.linked.Input.{Input}
 use Rattle.protox_link_bytes.specs.Given.{GivenFile, given_file}
 use Rattle.protox_link_bytes.specs.Given as text
 use Rattle.protox_link_records.specs.declared.source.SourceFile.{SourceFile}
 use Rattle.protox_ffi.specs.Answers.{Answered, AnsweredBy, given, short, without, written, too_short}
 use Rattle.protox_ffi.specs.declared.outcome.Reason.{Reason}
+use Rattle.protox_ffi.specs.declared.outcome.Reason.TheVariants.{Accepted, Refused, OutOfMemory, NotUtf8, TooLarge, NotAFloat}
 
 pub answered_by : (Found : ℕ → List ℕ → Type 0) (Missing : Reason → Type 0) (done : ℕ) (old new : List ℕ) (len status : ℕ) (bytes lent : List ℕ) → Found done bytes
     → lent ≡ bytes → Answered (λ written. written ≡ lent) (λ reason. ⊥) done old new len status → AnsweredBy Found Missing old new len status
@@ -31,3 +33,20 @@ text_more files i file before after made lt is same e so_far =
     ap text.given e ∙ map-append given_file before (made ∷ []) ∙ ap (λ (t : GivenFile). text.given before ++ t ∷ []) same ∙ ap (λ fs. fs ++ given_input file ∷ []) so_far
     ∙ ap (λ (x : Input). linked.given (take i files) ++ given_input x ∷ []) is ∙ sym (map-append given_input (take i files) (get_or files i file ∷ []))
     ∙ ap linked.given (sym (take_more files i file lt))
+
+-- Files that aren't taken have no answer.
+pub no_texts : (files : List GivenFile) (reason : Reason) → HasNoTexts files reason → HasNoAnswer files reason
+no_texts files Accepted none = none
+no_texts files Refused none = none
+no_texts files OutOfMemory none = none
+no_texts files NotUtf8 none = none
+no_texts files TooLarge none = absurd none
+no_texts files NotAFloat none = absurd none
+
+pub no_texts_with_options : (files : List GivenFile) (reason : Reason) → HasNoTexts files reason → HasNoOptionAnswer files reason
+no_texts_with_options files Accepted none = none
+no_texts_with_options files Refused none = none
+no_texts_with_options files OutOfMemory none = none
+no_texts_with_options files NotUtf8 none = none
+no_texts_with_options files TooLarge none = absurd none
+no_texts_with_options files NotAFloat none = absurd none

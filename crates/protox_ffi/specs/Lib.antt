@@ -1,3 +1,4 @@
 pub mod Answers
 pub mod Linked
+pub mod LinkedOptions
 pub mod Outcomes

@@ -34,6 +34,15 @@ IsNoText file = IsUtf8 file.name × IsUtf8 file.source → ⊥
 abbrev pub AreNotAllTexts : List GivenFile → Type 0
 AreNotAllTexts files = All (λ file. IsUtf8 file.name × IsUtf8 file.source) files → ⊥
 
+-- Why the files aren't taken. Memory may run out at any files.
+abbrev pub HasNoTexts : List GivenFile → Reason → Type 0
+HasNoTexts files Accepted = ⊥
+HasNoTexts files Refused = ⊥
+HasNoTexts files OutOfMemory = ⊤
+HasNoTexts files NotUtf8 = AreNotAllTexts files
+HasNoTexts files TooLarge = ⊥
+HasNoTexts files NotAFloat = ⊥
+
 -- The bytes of the set would be 2 GiB or more, or those of the records.
 pub data AreTooLarge (files : List GivenFile) : Type 0 where
   SetIs : IsLargeSet files → AreTooLarge files

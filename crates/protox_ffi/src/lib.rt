@@ -5,15 +5,18 @@
 ghost use Rattle.std.specs.Prelude.{◌≡◌};
 ghost use Rattle.protox_ffi.specs.Answers.{Answered, AnsweredBy};
 ghost use Rattle.protox_ffi.specs.Linked.{HasNoAnswer, IsAnswer, given};
+ghost use Rattle.protox_ffi.specs.LinkedOptions.{HasNoOptionAnswer, IsOptionAnswer};
 ghost use Rattle.protox_ffi.specs.Outcomes.{HasNoDescriptor, HasNoReport, IsDescriptor, IsReport};
 
 mod found;
 mod linked;
+mod linked_options;
 mod outcome;
 
 use found::{descriptor, report};
 pub use linked::Input;
 use linked::{Found, linked as link};
+use linked_options::linked_with_options;
 use outcome::{deliver, status};
 use std::alloc::Global;
 
@@ -79,6 +82,28 @@ pub extern "C" fn protox_link(
     match link(alloc, files) {
         Ok(Found::Set(bytes)) => deliver(bytes.as_slice(), 0, out, out_len),
         Ok(Found::Records(bytes)) => deliver(bytes.as_slice(), 1, out, out_len),
+        Err(reason) => {
+            *out_len = 0;
+            status(reason)
+        }
+    }
+}
+
+/// Writes the bytes of the linked set of these files to `out`, in which what their options set stands
+/// in place of their statements, or the records of what is wrong with them, and how many bytes there
+/// are to `out_len`.
+#[unsafe(no_mangle)]
+pub extern "C" fn protox_link_with_options(
+    alloc: Global,
+    files: &[Input<'_>],
+    out: &mut [u8],
+    out_len: &mut usize,
+) -> u32
+    ensures { AnsweredBy (IsOptionAnswer (given files.now)) (HasNoOptionAnswer (given files.now)) out.old out.new out_len.new result }
+{
+    match linked_with_options(alloc, files) {
+        Ok(Found::Set(set)) => deliver(set.as_slice(), 0, out, out_len),
+        Ok(Found::Records(told)) => deliver(told.as_slice(), 1, out, out_len),
         Err(reason) => {
             *out_len = 0;
             status(reason)

@@ -1,7 +1,7 @@
 //! The bytes of a linked set, or the records of what is wrong with files.
 
 ghost use Rattle.std.specs.Prelude.{◌≡◌, ◌≤◌, ◌<◌, ◌^◌, length, MatchOption, MatchResult};
-ghost use Rattle.protox_ffi.specs.Linked.{HasNoAnswer, IsFound, IsNoText, given, given_input};
+ghost use Rattle.protox_ffi.specs.Linked.{HasNoAnswer, HasNoTexts, IsFound, IsNoText, given, given_input};
 ghost use Rattle.protox_link_bytes.specs.Given.{given as given_texts, given_file};
 
 use crate::outcome::Reason;
@@ -39,9 +39,12 @@ fn text_of<'a>(file: &Input<'a>) -> Option<SourceFile<'a>>
     Some(SourceFile { name, source })
 }
 
-// The files as the library takes them.
-fn texts_of<'a>(alloc: Global, files: &[Input<'a>]) -> Result<Vec<SourceFile<'a>>, Reason>
-    ensures { MatchResult result (λ texts. given_texts texts.items ≡ given files.now) (HasNoAnswer (given files.now)) }
+/// The files as the library takes them, or why they aren't taken.
+pub(crate) fn texts_of<'a>(
+    alloc: Global,
+    files: &[Input<'a>],
+) -> Result<Vec<SourceFile<'a>>, Reason>
+    ensures { MatchResult result (λ texts. given_texts texts.items ≡ given files.now) (HasNoTexts (given files.now)) }
 {
     let mut texts = Vec::new(alloc);
     for file in files {
@@ -55,8 +58,8 @@ fn texts_of<'a>(alloc: Global, files: &[Input<'a>]) -> Result<Vec<SourceFile<'a>
     Ok(texts)
 }
 
-// The bytes, if there are fewer than 2 GiB of them.
-fn within(bytes: Vec<u8>) -> Option<Vec<u8>>
+/// The bytes, if there are fewer than 2 GiB of them.
+pub(crate) fn within(bytes: Vec<u8>) -> Option<Vec<u8>>
     ensures { MatchOption result (2 ^ 31 ≤ length bytes.items) (λ same. same.items ≡ bytes.items) }
 {
     if bytes.len() < 0x8000_0000 {

@@ -1,4 +1,5 @@
 pub mod Errors
+pub mod Keeping
 pub mod Refusing
 pub mod Sets
 pub mod Sources

@@ -7,9 +7,9 @@ use Rattle.protox_link.proofs.Seeing.{one_list}
 use Rattle.protox_link.specs.Link.{AreOfFiles}
 use Rattle.protox_link_bytes.proofs.Sources as sources_of
 use Rattle.protox_link_bytes.specs.Given.{GivenFile}
-use Rattle.protox_link_bytes.specs.Outcomes.{AreLinkable, AreRefused, HasNoSet, IsNoRefusal}
-use Rattle.protox_link_bytes.specs.declared.failure.LinkBytesFailure.{LinkBytesFailure}
-use Rattle.protox_link_bytes.specs.declared.failure.LinkBytesFailure.TheVariants.{Refused, TooLarge, NotAFloat, OutOfMemory}
+use Rattle.protox_link_bytes.specs.Outcomes.{AreLinkable, AreRefused, HasNoLinking, IsWant}
+use Rattle.protox_link_bytes.specs.declared.failure.LinkSourcesFailure.{LinkSourcesFailure}
+use Rattle.protox_link_bytes.specs.declared.failure.LinkSourcesFailure.TheVariants as set
 use Rattle.protox_link_fault.specs.declared.LinkFault.{LinkFault}
 
 nothing_wrong : (sources : List GivenFile) (can : AreLinkable sources) (faults : List LinkFault) → AreOfFiles can.files faults → ⊥
@@ -22,12 +22,10 @@ not_refused sources bytes can (inr linking) =
     nothing_wrong sources can linking.faults
     (subst (λ files. AreOfFiles files linking.faults) (sources_of.one_list sources linking.files can.files linking.translated can.translated) linking.wrong)
 
-no_refusal : (sources : List GivenFile) (failure : LinkBytesFailure) → AreLinkable sources → HasNoSet sources failure → IsNoRefusal failure
-no_refusal sources (Refused bytes) can h = not_refused sources bytes.items can h
-no_refusal sources TooLarge can h = tt
-no_refusal sources NotAFloat can h = tt
-no_refusal sources OutOfMemory can h = tt
+wanting : (sources : List GivenFile) (failure : LinkSourcesFailure) → AreLinkable sources → HasNoLinking sources failure → IsWant failure
+wanting sources (set.Refused bytes) can h = not_refused sources bytes.items can h
+wanting sources set.OutOfMemory can h = tt
 
-pub not_refused_if : {V : Type 0} (sources : List GivenFile) (r : Result V LinkBytesFailure) → AreLinkable sources → IfErr r (HasNoSet sources) → IfErr r IsNoRefusal
+pub not_refused_if : {V : Type 0} (sources : List GivenFile) (r : Result V LinkSourcesFailure) → AreLinkable sources → IfErr r (HasNoLinking sources) → IfErr r IsWant
 not_refused_if {V} sources (Ok v) can h = tt
-not_refused_if {V} sources (Err failure) can h = no_refusal sources failure can h
+not_refused_if {V} sources (Err failure) can h = wanting sources failure can h

@@ -13,6 +13,8 @@ use Rattle.protox_link_bytes.specs.Parsed.{AreTranslations, HaveSyntaxFaults}
 use Rattle.protox_link_bytes.specs.Spelled.{bytes_of, files_of}
 use Rattle.protox_link_bytes.specs.declared.failure.LinkBytesFailure.{LinkBytesFailure}
 use Rattle.protox_link_bytes.specs.declared.failure.LinkBytesFailure.TheVariants.{Refused, TooLarge, NotAFloat, OutOfMemory}
+use Rattle.protox_link_bytes.specs.declared.failure.LinkSourcesFailure.{LinkSourcesFailure}
+use Rattle.protox_link_bytes.specs.declared.failure.LinkSourcesFailure.TheVariants as set
 use Rattle.protox_link_fault.specs.declared.LinkFault.{LinkFault}
 use Rattle.protox_link_records.specs.LinkRecords.{AreTold}
 
@@ -39,6 +41,16 @@ pub record HaveLinkFaults (sources : List GivenFile) (bytes : List ℕ) : Type 0
 -- Something is wrong with the files, and the bytes are its records.
 abbrev pub AreRefused : List GivenFile → List ℕ → Type 0
 AreRefused sources bytes = HaveSyntaxFaults sources bytes ⊎ HaveLinkFaults sources bytes
+
+-- Why there is no linked set. Memory may run out at any sources.
+abbrev pub HasNoLinking : List GivenFile → LinkSourcesFailure → Type 0
+HasNoLinking sources (set.Refused bytes) = AreRefused sources bytes.items
+HasNoLinking sources set.OutOfMemory = ⊤
+
+-- Memory ran out.
+abbrev pub IsWant : LinkSourcesFailure → Type 0
+IsWant (set.Refused bytes) = ⊥
+IsWant set.OutOfMemory = ⊤
 
 -- The bytes of the set would be 2 GiB or more.
 pub record IsLargeSet (sources : List GivenFile) : Type 0 where

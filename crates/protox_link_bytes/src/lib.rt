@@ -6,6 +6,6 @@ mod linking;
 mod parsing;
 mod spelling;
 
-pub use crate::failure::LinkBytesFailure;
-pub use crate::linking::link_to_bytes;
+pub use crate::failure::{LinkBytesFailure, LinkSourcesFailure};
+pub use crate::linking::{link_sources, link_to_bytes};
 pub use protox_link_records::SourceFile;

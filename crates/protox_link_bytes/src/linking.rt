@@ -5,10 +5,12 @@ ghost use Rattle.protox_descriptor.specs.declared.descriptor.FileDescriptorProto
 ghost use Rattle.protox_link.specs.Link.{AreOfFiles};
 ghost use Rattle.protox_link.specs.Stands.{Stands};
 ghost use Rattle.protox_link_bytes.specs.Given.{GivenFile, given};
-ghost use Rattle.protox_link_bytes.specs.Outcomes.{AreLinkable, HasNoSet, IsLinkedSet, IsLinking, IsNoRefusal};
+ghost use Rattle.protox_link_bytes.specs.Outcomes.{AreLinkable, HasNoLinking, HasNoSet};
+ghost use Rattle.protox_link_bytes.specs.Outcomes.{IsLinkedSet, IsLinking, IsNoRefusal, IsWant};
 ghost use Rattle.protox_link_bytes.specs.Parsed.{AreParsed, AreTranslations};
+ghost use Rattle.protox_link_records.specs.LinkPlaces.{IsSorted};
 
-use crate::failure::LinkBytesFailure;
+use crate::failure::{LinkBytesFailure, LinkSourcesFailure};
 use crate::parsing::{Parsed, parse_all};
 use crate::spelling::set_bytes;
 use protox_descriptor::descriptor::FileDescriptorProto;
@@ -34,17 +36,17 @@ fn spelled(alloc: Global, set: &LinkedSet) -> Result<Vec<u8>, LinkBytesFailure>
 
 // What is wrong with files that linking refused for these faults. Linking took the descriptors, so
 // the sources are parsed once more.
-fn told(alloc: Global, sources: &[SourceFile<'_>], faults: &[LinkFault]) -> LinkBytesFailure
+fn told(alloc: Global, sources: &[SourceFile<'_>], faults: &[LinkFault]) -> LinkSourcesFailure
     requires { (files : List FileDescriptorProto) × AreTranslations (given sources.now) files × AreOfFiles files faults.now
         × All (Stands files) faults.now }
-    ensures { HasNoSet (given sources.now) result }
+    ensures { HasNoLinking (given sources.now) result }
 {
     let Ok(Parsed::Files(files)) = parse_all(alloc, sources) else {
-        return LinkBytesFailure::OutOfMemory;
+        return LinkSourcesFailure::OutOfMemory;
     };
     match link_records(alloc, sources, files.as_slice(), faults) {
-        Ok(records) => LinkBytesFailure::Refused(records),
-        Err(_) => LinkBytesFailure::OutOfMemory,
+        Ok(records) => LinkSourcesFailure::Refused(records),
+        Err(_) => LinkSourcesFailure::OutOfMemory,
     }
 }
 
@@ -53,15 +55,41 @@ fn linked(
     alloc: Global,
     sources: &[SourceFile<'_>],
     files: Vec<FileDescriptorProto>,
-) -> Result<Vec<u8>, LinkBytesFailure>
+) -> Result<LinkedSet, LinkSourcesFailure>
     requires { AreParsed (given sources.now) files.items }
-    ensures set { IfOk result (λ bytes. IsLinkedSet (given sources.now) bytes.items) }
-    ensures without { IfErr result (HasNoSet (given sources.now)) }
+    ensures set { IfOk result (IsLinking (given sources.now)) }
+    ensures sorted { IfOk result (λ set. All IsSorted set.files.items) }
+    ensures without { IfErr result (HasNoLinking (given sources.now)) }
 {
     match link(alloc, files) {
-        Ok(set) => spelled(alloc, &set),
+        Ok(set) => Ok(set),
         Err(LinkFailure::Refused(faults)) => Err(told(alloc, sources, faults.as_slice())),
-        Err(LinkFailure::OutOfMemory) => Err(LinkBytesFailure::OutOfMemory),
+        Err(LinkFailure::OutOfMemory) => Err(LinkSourcesFailure::OutOfMemory),
+    }
+}
+
+/// Parses files, and links them. The locations of each file of the set are sorted by path, as `parse`
+/// answers them.
+///
+/// # Errors
+/// `Refused` if something is wrong with the files, as for `link_to_bytes`. `OutOfMemory` if memory
+/// runs out, or if a list has more than 2,147,483,648 parts.
+pub fn link_sources(
+    alloc: Global,
+    files: &[SourceFile<'_>],
+) -> Result<LinkedSet, LinkSourcesFailure>
+    // The set is the one that linking makes of the translations of the sources.
+    ensures set { IfOk result (IsLinking (given files.now)) }
+    ensures sorted { IfOk result (λ set. All IsSorted set.files.items) }
+    // Else something is wrong, and the records tell what.
+    ensures without { IfErr result (HasNoLinking (given files.now)) }
+    // Files that can be linked are not refused.
+    ensures only { AreLinkable (given files.now) → IfErr result IsWant }
+{
+    match parse_all(alloc, files) {
+        Ok(Parsed::Files(parsed)) => linked(alloc, files, parsed),
+        Ok(Parsed::Refused(records)) => Err(LinkSourcesFailure::Refused(records)),
+        Err(_) => Err(LinkSourcesFailure::OutOfMemory),
     }
 }
 
@@ -82,9 +110,9 @@ pub fn link_to_bytes(alloc: Global, files: &[SourceFile<'_>]) -> Result<Vec<u8>,
     // Files that can be linked are not refused.
     ensures only { AreLinkable (given files.now) → IfErr result IsNoRefusal }
 {
-    match parse_all(alloc, files) {
-        Ok(Parsed::Files(parsed)) => linked(alloc, files, parsed),
-        Ok(Parsed::Refused(records)) => Err(LinkBytesFailure::Refused(records)),
-        Err(_) => Err(LinkBytesFailure::OutOfMemory),
+    match link_sources(alloc, files) {
+        Ok(set) => spelled(alloc, &set),
+        Err(LinkSourcesFailure::Refused(records)) => Err(LinkBytesFailure::Refused(records)),
+        Err(LinkSourcesFailure::OutOfMemory) => Err(LinkBytesFailure::OutOfMemory),
     }
 }

@@ -3,6 +3,7 @@
 use crate::Source;
 use crate::record::{Record, next_record};
 use protox_link_bytes::{LinkBytesFailure, SourceFile, link_to_bytes};
+use protox_link_options::link_with_options;
 use std::alloc::{AllocError, Global};
 use std::io::{self, Write};
 
@@ -55,6 +56,19 @@ fn write_records<W: Write>(out: &mut W, sources: &[Source], bytes: &[u8]) -> io:
     writeln!(out, "and {} bytes", left.len())
 }
 
+fn write_failure<W: Write>(
+    out: &mut W,
+    sources: &[Source],
+    failure: &LinkBytesFailure,
+) -> io::Result<()> {
+    match failure {
+        LinkBytesFailure::Refused(records) => write_records(out, sources, records.as_slice()),
+        LinkBytesFailure::TooLarge => writeln!(out, "too large"),
+        LinkBytesFailure::NotAFloat => writeln!(out, "not a float"),
+        LinkBytesFailure::OutOfMemory => writeln!(out, "out of memory"),
+    }
+}
+
 /// Writes what comes of a set.
 pub(crate) fn write_set<W: Write>(
     alloc: Global,
@@ -64,9 +78,19 @@ pub(crate) fn write_set<W: Write>(
     let files = files_of(alloc, sources)?;
     match link_to_bytes(alloc, files.as_slice()) {
         Ok(bytes) => write_bytes(out, bytes.as_slice()),
-        Err(LinkBytesFailure::Refused(records)) => write_records(out, sources, records.as_slice()),
-        Err(LinkBytesFailure::TooLarge) => writeln!(out, "too large"),
-        Err(LinkBytesFailure::NotAFloat) => writeln!(out, "not a float"),
-        Err(LinkBytesFailure::OutOfMemory) => writeln!(out, "out of memory"),
+        Err(failure) => write_failure(out, sources, &failure),
+    }
+}
+
+/// Writes what comes of a set if its options are read.
+pub(crate) fn write_set_with_options<W: Write>(
+    alloc: Global,
+    out: &mut W,
+    sources: &[Source],
+) -> io::Result<()> {
+    let files = files_of(alloc, sources)?;
+    match link_with_options(alloc, files.as_slice()) {
+        Ok(bytes) => write_bytes(out, bytes.as_slice()),
+        Err(failure) => write_failure(out, sources, &failure),
     }
 }

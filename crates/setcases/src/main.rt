@@ -1,6 +1,7 @@
 //! `setcases` reads sets of .proto files, and prints what `link_to_bytes` makes of each.
 //!
-//! - `== set WORDS` begins a set, and is printed as it is
+//! - `== set WORDS` begins a set, and is printed as it is. If the words begin with `with options`,
+//!   `link_with_options` is called
 //! - `== file NAME` begins a file of the set; the lines behind it are its source
 //! - `== end` ends the set
 //!
@@ -11,7 +12,7 @@
 mod answers;
 mod record;
 
-use crate::answers::write_set;
+use crate::answers::{write_set, write_set_with_options};
 use std::alloc::{AllocError, Global};
 use std::io::{self, BufRead, BufReader, BufWriter, Write};
 
@@ -37,19 +38,31 @@ fn note(alloc: Global, sources: &mut Vec<Source>, line: &str) -> Result<(), Allo
     Ok(())
 }
 
-// Takes one line: of a source, or one that begins or ends something.
+// Takes the end of a set.
+fn end<W: Write>(alloc: Global, out: &mut W, sources: &[Source], options: bool) -> io::Result<()> {
+    if options {
+        write_set_with_options(alloc, out, sources)
+    } else {
+        write_set(alloc, out, sources)
+    }
+}
+
+// Takes one line: of a source, or one that begins or ends something. `options` is whether those of the
+// set are read.
 fn take<W: Write>(
     alloc: Global,
     out: &mut W,
     sources: &mut Vec<Source>,
+    options: &mut bool,
     line: &str,
 ) -> io::Result<()> {
     if line == "== end" {
-        write_set(alloc, out, sources.as_slice())?;
+        end(alloc, out, sources.as_slice(), *options)?;
         sources.clear();
         return Ok(());
     }
     if line.starts_with("== set") {
+        *options = line.starts_with("== set with options");
         return writeln!(out, "{line}");
     }
     note(alloc, sources, line)?;
@@ -60,8 +73,9 @@ fn main(rt: HostRuntime) -> io::Result<()> {
     let alloc = rt.alloc();
     let mut out = BufWriter::new(alloc, io::writer(&rt))?;
     let mut sources = Vec::new(alloc);
+    let mut options = false;
     for line in BufReader::new(alloc, rt.reader())?.lines(alloc) {
-        take(alloc, &mut out, &mut sources, line?.as_str())?;
+        take(alloc, &mut out, &mut sources, &mut options, line?.as_str())?;
     }
     out.flush()
 }

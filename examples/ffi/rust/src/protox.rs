@@ -16,7 +16,12 @@ extern "C" {
     fn protox_link(
         files: *const File, n: usize,
         out: *mut u8, out_capacity: usize, out_len: *mut usize) -> u32;
+    fn protox_link_with_options(
+        files: *const File, n: usize,
+        out: *mut u8, out_capacity: usize, out_len: *mut usize) -> u32;
 }
+
+type LinkCall = unsafe extern "C" fn(*const File, usize, *mut u8, usize, *mut usize) -> u32;
 
 /// `struct protox_file`
 #[repr(C)]
@@ -106,22 +111,20 @@ pub fn parse(name: &str, source: &str) -> Result<Vec<u8>, Failure> {
     Err(if status == 1 { Failure::Refused(faults) } else { Failure::NoAnswer })
 }
 
-fn link_call(files: &[File], room: usize) -> (u32, Vec<u8>) {
+fn link_call(call: LinkCall, files: &[File], room: usize) -> (u32, Vec<u8>) {
     let (mut out, mut len) = (vec![0; room], 0);
     // SAFETY: each pointer goes with the length of what it points to, and `out` overlaps none.
     let status = unsafe {
-        protox_link(files.as_ptr(), files.len(), out.as_mut_ptr(), room, &mut len)
+        call(files.as_ptr(), files.len(), out.as_mut_ptr(), room, &mut len)
     };
     if status == 3 {
-        return link_call(files, len);
+        return link_call(call, files, len);
     }
     out.truncate(len);
     (status, out)
 }
 
-/// The bytes of the FileDescriptorSet of files, each with its name and its source, in which all
-/// names are resolved; or what is wrong with them. Give each file that one of them imports.
-pub fn link(files: &[(&str, &str)]) -> Result<Vec<u8>, LinkFailure> {
+fn linked(call: LinkCall, files: &[(&str, &str)]) -> Result<Vec<u8>, LinkFailure> {
     let lens = files.iter().map(|(_, source)| source.len());
     let room = 8 * lens.sum::<usize>() + 65536;
     let file = |(name, source): &(&str, &str)| File {
@@ -130,7 +133,7 @@ pub fn link(files: &[(&str, &str)]) -> Result<Vec<u8>, LinkFailure> {
         source: source.as_ptr(),
         source_len: source.len(),
     };
-    let (status, bytes) = link_call(&files.iter().map(file).collect::<Vec<_>>(), room);
+    let (status, bytes) = link_call(call, &files.iter().map(file).collect::<Vec<_>>(), room);
     match status {
         0 => return Ok(bytes),
         1 => {}
@@ -142,4 +145,16 @@ pub fn link(files: &[(&str, &str)]) -> Result<Vec<u8>, LinkFailure> {
         faults.push(FileFault { file, fault: fault(&mut rest) });
     }
     Err(LinkFailure::Refused(faults))
+}
+
+/// The bytes of the FileDescriptorSet of files, each with its name and its source, in which all
+/// names are resolved; or what is wrong with them. Give each file that one of them imports.
+pub fn link(files: &[(&str, &str)]) -> Result<Vec<u8>, LinkFailure> {
+    linked(protox_link, files)
+}
+
+/// The same, with what their options set, as protoc has it. Give google/protobuf/descriptor.proto,
+/// too, which says what options there are.
+pub fn link_with_options(files: &[(&str, &str)]) -> Result<Vec<u8>, LinkFailure> {
+    linked(protox_link_with_options, files)
 }

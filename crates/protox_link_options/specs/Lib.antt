@@ -1,0 +1,3 @@
+pub mod OptionSets
+pub mod Options
+pub mod SpelledOptions

@@ -1,0 +1,4 @@
+pub mod Lists
+pub mod Reading
+pub mod Records
+pub mod Telling

@@ -1,0 +1,4 @@
+pub mod CheckRecords
+pub mod OptionKinds
+pub mod OptionRecords
+pub mod inner

@@ -28,8 +28,9 @@
  * ROOM. You give the buffer. Where it is too short the status is PROTOX_TOO_SHORT, `*out_len` is
  * the room that is needed, and nothing was written to `out`. The next call parses again, so give
  * room enough at first: 8 bytes for each byte of the source and 64 KiB more serve nearly every
- * file, as memory that is never written to costs little. Reports need less. Of the calls that link,
- * count the bytes of all sources; their records need more only where many messages repeat long names.
+ * file, as memory that is never written to costs little. Reports need less. For the calls that link
+ * count the bytes of all sources; their records need more only where many messages repeat long
+ * names.
  *
  * THREADS. The library has no state. Any number of threads may call at once, each with its own
  * `out` and `out_len`. Memory comes from malloc, realloc and free, which must be of one allocator;
@@ -165,14 +166,14 @@ uint32_t protox_link(const struct protox_file *files, size_t n,
  * braces too, in place of the statements; and the location of a statement has the path of the field
  * that it sets. Defaults stay as they are written.
  *
- * Which options there are is told by google/protobuf/descriptor.proto: give it, too. It is in the set
- * like the others.
+ * Which options there are is told by google/protobuf/descriptor.proto: give it, too. It is in the
+ * set like the others.
  *
- * Statuses are those of protox_link, but PROTOX_NOT_A_FLOAT isn't answered. Where protox_link refuses
- * files, so does this call, with the same records. Else it refuses them where an option is wrong: with
- * a record for the first wrong statement of each options message, which has a kind of
- * enum protox_option_kind and the place of the statement. Where no option is, it refuses them for what
- * options ask of what has them, with kinds from PROTOX_OPTION_LAZY on.
+ * Statuses are those of protox_link, but PROTOX_NOT_A_FLOAT isn't answered. Where protox_link
+ * refuses files, so does this call, with the same records. Else it refuses them where an option is
+ * wrong: with a record for the first wrong statement of each options message, which has a kind of
+ * enum protox_option_kind and the place of the statement. Where no option is, it refuses them for
+ * what options ask of what has them, with kinds from PROTOX_OPTION_LAZY on.
  */
 uint32_t protox_link_with_options(const struct protox_file *files, size_t n,
                                   uint8_t *out, size_t out_capacity, size_t *out_len);
@@ -283,7 +284,7 @@ enum protox_option_kind {
     PROTOX_OPTION_JS_TYPE = 227,                 /* a jstype on what is no integer of 64 bits */
     PROTOX_OPTION_EXTENSION_JSON_NAME = 228,     /* an extension has a name in JSON */
     PROTOX_OPTION_CLOSED_ENUM = 229,             /* proto3: a field of an enum of proto2 */
-    PROTOX_OPTION_SHARED_NUMBER = 230,           /* two values have one number, without allow_alias */
+    PROTOX_OPTION_SHARED_NUMBER = 230,           /* two values of one number, no allow_alias */
     PROTOX_OPTION_MESSAGE_SET_IN_PROTO3 = 231,   /* proto3: a message set */
     PROTOX_OPTION_LITE_SERVICE = 232,            /* a lite file has a service */
     PROTOX_OPTION_LITE_IMPORT = 233              /* a file that isn't lite imports one that is */

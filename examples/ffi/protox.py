@@ -189,8 +189,9 @@ def link(files: Mapping[str, Text], options: bool = False) -> FileDescriptorSet:
     Give each file that one of them imports. LinkError says what is wrong: the faults of syntax of
     all files, or else what is wrong with the names and numbers in them.
 
-    With `options` their options are read, as protoc does. Then give google/protobuf/descriptor.proto,
-    too. LinkError also says what is wrong with options. Without it they stay `uninterpreted_option`.
+    With `options` their options are read, as protoc does. Then give
+    google/protobuf/descriptor.proto, too. LinkError also says what is wrong with options. Without
+    it they stay `uninterpreted_option`.
     """
     names = list(files)
     texts = [(name.encode(), _as_bytes(files[name])) for name in names]

@@ -35,7 +35,7 @@ use Rattle.protox_ast.proofs.Keeps.{Pairs}
 use Rattle.protox_places.specs.Lines.{span_numbers}
 use Rattle.protox_locate.specs.LocationWords.{Path, part}
 use Rattle.protox_locate.specs.Locations as l
-use Rattle.protox_locate.specs.Locations.{file_at, file_from_blocks, file_locations, import_locations, package_locations, public_words, weak_words, syntax_locations}
+use Rattle.protox_locate.specs.Locations.{file_at, file_locations, import_locations, package_locations, public_words, weak_words, syntax_locations}
 
 module _ (syntax : Syntax) (source : List ℕ) where
   abbrev numbers : Span → List ℤ

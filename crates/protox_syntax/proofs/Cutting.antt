@@ -1,5 +1,5 @@
 -- Parts that are cut from a source.
-use Rattle.std.proofs.Common.{◌≡◌, ℕ, List, Bool, drop, length, leb, leb-true}
+use Rattle.std.proofs.Common.{ℕ, List, Bool, drop, length, leb, leb-true}
 use Rattle.protox_lexeme.specs.Lexemes.{cut}
 use Rattle.protox_lexeme.specs.Table.{Table}
 use Rattle.protox_lex.proofs.Tables.{none_at_end}

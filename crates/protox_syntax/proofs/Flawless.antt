@@ -1,5 +1,5 @@
 -- Lexemes without a fault: their rows are valid tokens, and they are clean.
-use Rattle.std.proofs.Common.{◌≡◌, ℕ, Bool, true, false, cond, List, [], ◌∷◌, refl, sym, ap, ◌∙◌, true≢false, subst, inl, inr}
+use Rattle.std.proofs.Common.{◌≡◌, Bool, true, false, cond, List, [], ◌∷◌, refl, sym, ap, ◌∙◌, subst, inl, inr}
 use Rattle.std.proofs.lemmas.Bool.{cases_Bool}
 use Rattle.std.specs.List.{All}
 use Rattle.protox_fault.specs.Faults.{Span, span_from}
@@ -8,7 +8,6 @@ use Rattle.protox_lexeme.specs.Lexemes.{Lexeme}
 use Rattle.protox_lexeme.specs.Shapes.{Shape, Ident, Int, Float, Str, Mark, LineComment, BlockComment, Newline, Invalid, Row, Rows}
 use Rattle.protox_lexeme.specs.Table.{faults_of, in_front, invalid_faults, is_gap, row_faults, rows_of}
 use Rattle.protox_ast.specs.Basics.{Each}
-use Rattle.protox_ast.specs.Fronts.{AreClean, AreCleanBehind}
 use Rattle.protox_ast.specs.Places.{placed_from}
 use Rattle.protox_grammar.specs.Told.{is_invalid, AreValidTokens}
 use Rattle.protox_syntax.proofs.Entries.{all-each, append-empty}

@@ -1,5 +1,5 @@
 -- More is read of a part.
-use Rattle.std.proofs.Common.{◌≡◌, ◌⊎◌, ℕ, length, inl, inr, false, List, [], ◌∷◌, ◌++◌, map, refl, sym, ap, subst, ◌∙◌, append-nil, append_assoc}
+use Rattle.std.proofs.Common.{◌≡◌, ℕ, inl, inr, false, List, [], ◌∷◌, ◌++◌, map, refl, sym, ap, subst, ◌∙◌, append_assoc}
 use Rattle.protox_lexeme.specs.Shapes.{Row, Rows}
 use Rattle.protox_lexeme.specs.Table.{table_of}
 use Rattle.protox_ast.proofs.SpansStand.{each-back}

@@ -1,5 +1,5 @@
 -- The last part of a source: how it begins, and what it gives when it is read.
-use Rattle.std.proofs.Common.{◌≡◌, ◌≤◌, ◌+◌, inl, inr, ℕ, suc, Bool, true, false, List, [], ◌∷◌, ◌++◌, length, Option, Some, None, option_map, Ok, refl, sym, ap, subst, ◌∙◌, append-nil, append_assoc, arith}
+use Rattle.std.proofs.Common.{◌≡◌, ◌+◌, inl, inr, ℕ, suc, Bool, true, false, List, [], ◌∷◌, ◌++◌, length, Option, Some, None, option_map, Ok, refl, sym, ap, subst, ◌∙◌, append-nil, append_assoc, arith}
 use Rattle.std.proofs.lemmas.Bool.{cases_Bool}
 use Rattle.std.proofs.lemmas.List.{length-append}
 use Rattle.std.specs.Prelude.{slice_index_or}
@@ -9,18 +9,16 @@ use Rattle.std.specs.Option.{is_none}
 use Rattle.protox_fault.specs.Faults.{Span, span_from}
 use Rattle.protox_fault.specs.declared.error.ParseErrorKind.{ParseErrorKind}
 use Rattle.protox_fault.specs.declared.error.SyntaxFailure.TheVariants.{Faults}
-use Rattle.protox_lexeme.specs.Lexemes.{Lexeme, cut}
+use Rattle.protox_lexeme.specs.Lexemes.{Lexeme}
 use Rattle.protox_lexeme.specs.Shapes.{Row, Rows}
 use Rattle.protox_lexeme.specs.Table.{Table, gaps_of, is_gap, rows_of, table_of}
 use Rattle.protox_ast.proofs.SpansStand.{each-back, each-front}
 use Rattle.protox_ast.proofs.Standing.{as-many}
 use Rattle.protox_ast.specs.Accepted.{Fits}
-use Rattle.protox_ast.specs.Ast as ast
 use Rattle.protox_ast.specs.AstParts.{last_place, rows_span}
 use Rattle.protox_ast.specs.Basics.{Each}
 use Rattle.protox_ast.specs.Places.{Place, placed, placed_from}
 use Rattle.protox_ast.specs.Spelling as s
-use Rattle.protox_ast.specs.Tree as tree
 use Rattle.protox_ast.specs.declared.ast.Comments.{Comments}
 use Rattle.protox_ast.specs.declared.ast.File.{File}
 use Rattle.protox_ast.specs.declared.ast.FileItem.{FileItem}
@@ -50,11 +48,11 @@ use Rattle.protox_syntax.specs.declared.parts.Progress.{Progress}
 use Rattle.protox_syntax.specs.inner.Leading.{Leads}
 use Rattle.protox_syntax.specs.inner.Merge.{merged_faults}
 use Rattle.protox_syntax.specs.inner.OnWay.{IsBehindRefusal, IsOnWay, IsReadTo, IsUnrefused, table_in}
-use Rattle.protox_syntax.specs.inner.ParsedTable.{AreAllOf, IsTableOf, IsWhole, RefusesTable, bare_span, built_file, syntax_or_default, syntax_place, total_of}
+use Rattle.protox_syntax.specs.inner.ParsedTable.{AreAllOf, IsTableOf, RefusesTable, bare_span, built_file, syntax_or_default, syntax_place, total_of}
 use Rattle.protox_syntax.specs.inner.Parts.{IsAllButSpan, IsBetween, IsFlawless, IsHeld, IsPartOf, IsReached, lexemes_from, place_in, places, rows, span_to_end, with_syntax}
 use Rattle.protox_syntax.specs.inner.Recovery.{AreLast}
 use Rattle.protox_syntax.specs.inner.SoFar.{begun}
-use Rattle.protox_syntax.specs.inner.Statements.{Statements, add_statement, first_place, no_statements, notes_behind, statement, statements_at, statements_seen, syntax_if_any, syntax_seen}
+use Rattle.protox_syntax.specs.inner.Statements.{add_statement, first_place, no_statements, notes_behind, statement, statements_at, statements_seen, syntax_if_any, syntax_seen}
 use Rattle.protox_syntax.specs.inner.Whole.{all_notes, whole}
 use Rattle.protox_syntax.specs.inner.Words as said
 

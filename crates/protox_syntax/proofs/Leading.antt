@@ -21,7 +21,6 @@ use Rattle.protox_grammar.proofs.Reading.{map_err}
 use Rattle.protox_grammar.proofs.Shows.{as_is, shows-eats}
 use Rattle.protox_options.specs.inner.Options.{here}
 use Rattle.protox_rows.proofs.Turns.{all_read}
-use Rattle.protox_rows.specs.inner.Notes.{AddsTo}
 use Rattle.protox_rows.specs.inner.Outcome.{Fails}
 use Rattle.protox_rows.specs.declared.refused.Refused.{Refused}
 use Rattle.protox_rows.specs.declared.refused.Refused.TheVariants.{OutOfMemory, At, TooDeep}

@@ -1,5 +1,5 @@
 -- What is noted of a part, once some of its rows are read.
-use Rattle.std.proofs.Common.{◌≡◌, inl, inr, ℕ, suc, ◌+◌, Bool, true, false, List, [], ◌∷◌, ◌++◌, length, nat_eq, Some, None, refl, sym, ap, subst, ◌∙◌, append-nil, append_assoc, true≢false, arith}
+use Rattle.std.proofs.Common.{◌≡◌, inl, inr, ℕ, suc, ◌+◌, Bool, true, false, List, [], ◌∷◌, ◌++◌, length, nat_eq, Some, None, refl, sym, ap, subst, ◌∙◌, append_assoc, true≢false, arith}
 use Rattle.std.specs.Prelude.{slice_index_or}
 use Rattle.std.proofs.lemmas.Bool.{eqb-true}
 use Rattle.std.proofs.lemmas.List.{length-append}
@@ -8,7 +8,6 @@ use Rattle.protox_lexeme.specs.Lexemes.{Lexeme, cut}
 use Rattle.protox_lexeme.specs.Shapes.{Row, Rows}
 use Rattle.protox_lexeme.specs.Table.{gaps_of, is_gap, rows_of, table_of}
 use Rattle.protox_ast.specs.AstParts.{last_place, rows_span}
-use Rattle.protox_ast.specs.Basics.{Each}
 use Rattle.protox_ast.specs.Places.{Place}
 use Rattle.protox_ast.specs.Spelling as s
 use Rattle.protox_ast.specs.declared.ast.File.{File}
@@ -20,7 +19,7 @@ use Rattle.protox_syntax.proofs.Spans.{placed-span}
 use Rattle.protox_syntax.specs.inner.ParsedTable.{bare_span}
 use Rattle.protox_syntax.specs.declared.parts.Progress.{Progress}
 use Rattle.protox_syntax.specs.declared.parts.Part.{Part}
-use Rattle.protox_syntax.specs.inner.Parts.{IsFlawless, places}
+use Rattle.protox_syntax.specs.inner.Parts.{IsFlawless}
 use Rattle.protox_syntax.specs.inner.Parts.{IsBetween, IsInPart, IsLast, IsNoted, IsOpen, rows}
 use Rattle.protox_syntax.proofs.Rows.{row_of, rows-before}
 

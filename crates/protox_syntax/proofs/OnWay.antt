@@ -1,13 +1,10 @@
 -- One turn in the last part of a source: a statement is read, or it is refused.
-use Rattle.std.proofs.Common.{◌≡◌, ◌≤◌, ◌-◌, ℕ, Bool, true, false, List, [], ◌∷◌, ◌++◌, length, Option, Some, Ok, refl, sym, ap, subst, ◌∙◌, append-nil, append_assoc, arith}
-use Rattle.protox_fault.specs.Faults.{Span}
+use Rattle.std.proofs.Common.{◌≡◌, ◌-◌, ℕ, Bool, true, false, List, [], ◌∷◌, ◌++◌, length, Ok, refl, sym, ap, subst, ◌∙◌, append_assoc, arith}
 use Rattle.protox_lexeme.specs.Shapes.{Rows}
 use Rattle.protox_lexeme.specs.Table.{Table}
 use Rattle.protox_ast.specs.Places.{Place, placed}
-use Rattle.protox_ast.specs.declared.ast.Comments.{Comments}
 use Rattle.protox_ast.specs.declared.ast.File.{File}
 use Rattle.protox_ast.specs.declared.ast.FileItem.{FileItem}
-use Rattle.protox_ast.specs.declared.ast.Syntax.{Syntax}
 use Rattle.protox_grammar.specs.Class.{all, in_set}
 use Rattle.protox_grammar.specs.Reader.{◌>>=◌, gathered, head_in, star}
 use Rattle.protox_grammar.specs.Told.{Notes}
@@ -19,7 +16,7 @@ use Rattle.protox_rows.specs.declared.refused.Refused.{Refused}
 use Rattle.protox_rows.specs.declared.refused.Refused.TheVariants.{OutOfMemory, At, TooDeep}
 use Rattle.protox_syntax.proofs.Growing.{held-one, place-held, place-with, span-with}
 use Rattle.protox_syntax.proofs.Leading.{leads-behind, leads-more}
-use Rattle.protox_syntax.proofs.Recovering.{first-stays, further-lies, last-behind, last-fewer, lies-further, lies-itself, next-last, recovers-at_refusal, recovers-more, refused-later, statement-later}
+use Rattle.protox_syntax.proofs.Recovering.{first-stays, further-lies, last-behind, lies-further, lies-itself, next-last, recovers-at_refusal, recovers-more, refused-later, statement-later}
 use Rattle.protox_syntax.proofs.Refusing.{added-behind, at_refusal-lie, at_refusal-notable}
 use Rattle.protox_syntax.proofs.Shift.{fails-within, next-same, refusal-same}
 use Rattle.protox_syntax.proofs.Turns.{first-added, last-notes, more-notes, statement-eats}
@@ -29,8 +26,8 @@ use Rattle.protox_syntax.specs.inner.OnWay.{IsBehindRefusal, IsOnWay, IsReadTo, 
 use Rattle.protox_syntax.specs.inner.ParsedTable.{syntax_or_default}
 use Rattle.protox_syntax.specs.inner.Parts.{place_in, with_statement}
 use Rattle.protox_syntax.specs.inner.Recovery.{AreRefusalNotes, FirstLies, LiesToo, next_rows}
-use Rattle.protox_syntax.specs.inner.Statements.{Statements, add_statement, first_place, next_first, notes_behind, statement}
-use Rattle.protox_syntax.specs.inner.Whole.{Whole, all_notes, whole}
+use Rattle.protox_syntax.specs.inner.Statements.{add_statement, first_place, next_first, statement}
+use Rattle.protox_syntax.specs.inner.Whole.{all_notes, whole}
 use Rattle.protox_syntax.specs.inner.Words as said
 
 some-head : (xs : Rows Place) → (xs ≡ [] → ⊥) → head_in (in_set all) xs ≡ true

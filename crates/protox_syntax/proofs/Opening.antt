@@ -1,7 +1,7 @@
 -- How a part begins.
-use Rattle.std.proofs.Common.{◌≡◌, inl, inr, ℕ, true, false, List, [], ◌∷◌, ◌++◌, drop, length, Option, Some, None, refl, sym, ap, subst, ◌∙◌, append-nil, append_assoc, arith, true≢false}
+use Rattle.std.proofs.Common.{◌≡◌, inl, inr, ℕ, true, false, List, [], ◌∷◌, ◌++◌, length, Option, Some, None, refl, sym, ap, subst, ◌∙◌, append_assoc, arith, true≢false}
 use Rattle.std.specs.Option.{is_none}
-use Rattle.protox_fault.specs.Faults.{Span, span_from}
+use Rattle.protox_fault.specs.Faults.{Span}
 use Rattle.protox_lexeme.specs.Lexemes.{Lexeme, cut}
 use Rattle.protox_lexeme.specs.Shapes.{Row, Rows}
 use Rattle.protox_lexeme.specs.Table.{gaps_of, is_gap, rows_of, table_of}

@@ -1,12 +1,10 @@
 -- A part is read behind which others come.
-use Rattle.std.proofs.Common.{◌≡◌, ℕ, Bool, true, false, List, [], Option, Some, None, refl, sym, ap, subst, ◌∙◌}
+use Rattle.std.proofs.Common.{◌≡◌, ℕ, Bool, true, false, List, [], refl, sym, subst, ◌∙◌}
 use Rattle.std.specs.Option.{is_none}
 use Rattle.std.specs.List.{All}
-use Rattle.protox_fault.specs.Faults.{Span}
 use Rattle.protox_fault.specs.declared.error.ParseErrorKind.{ParseErrorKind}
-use Rattle.protox_lexeme.specs.Lexemes.{Lexeme}
 use Rattle.protox_lexeme.specs.Shapes.{Rows}
-use Rattle.protox_lexeme.specs.Table.{Table, faults_of, table_of}
+use Rattle.protox_lexeme.specs.Table.{Table}
 use Rattle.protox_ast.specs.Basics.{Each}
 use Rattle.protox_ast.specs.Places.{Place, placed}
 use Rattle.protox_ast.specs.declared.ast.File.{File}

@@ -48,7 +48,7 @@ use Rattle.protox_syntax.specs.NextStatement.{BeginWithSyntax, syntax_steps}
 use Rattle.protox_syntax.specs.declared.statement_types.Statement.{Statement}
 use Rattle.protox_syntax.specs.inner.Leading.{Leads}
 use Rattle.protox_syntax.specs.inner.SoFar.{IsRightSoFar, begun}
-use Rattle.protox_syntax.specs.inner.Statements.{Statements, add_statement, levels, next_first, notes_behind, or_package, statement, statement_rule, statement_seen, statements_at, statements_of, statements_seen, syntax_if_any, syntax_seen}
+use Rattle.protox_syntax.specs.inner.Statements.{Statements, add_statement, levels, next_first, notes_behind, statement, statement_rule, statement_seen, statements_at, statements_seen, syntax_if_any, syntax_seen}
 use Rattle.protox_syntax.specs.inner.Whole.{Whole, all_notes, whole}
 use Rattle.protox_syntax.specs.inner.Words as said
 

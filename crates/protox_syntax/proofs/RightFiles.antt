@@ -1,27 +1,18 @@
 -- A file that is read statement by statement: once all rows are read, the source is accepted.
-use Rattle.std.proofs.Common.{◌≡◌, ℕ, List, [], ◌∷◌, ◌++◌, Option, None, Ok, refl, sym, ap, subst, ◌∙◌, append-nil, append_assoc}
+use Rattle.std.proofs.Common.{◌≡◌, List, [], ◌∷◌, ◌++◌, Option, None, sym, ap, subst, ◌∙◌, append-nil, append_assoc}
 use Rattle.protox_fault.specs.Faults.{Span}
-use Rattle.protox_lexeme.specs.Lexemes.{cut}
 use Rattle.protox_lexeme.specs.Shapes.{Rows}
-use Rattle.protox_lexeme.specs.Table.{table_of}
 use Rattle.protox_ast.proofs.SpansStand.{each-append}
-use Rattle.protox_ast.specs.Accepted.{Fits, IsAccepted}
-use Rattle.protox_ast.specs.Checks.{NothingWrong}
-use Rattle.protox_ast.specs.Fronts.{AreClean}
 use Rattle.protox_ast.specs.inner.Fine.{IsFine}
 use Rattle.protox_ast.specs.KeywordWalk as k
 use Rattle.protox_ast.specs.Keywords.{Each}
-use Rattle.protox_ast.specs.Places.{Place, placed}
+use Rattle.protox_ast.specs.Places.{Place}
 use Rattle.protox_ast.specs.Spelling as s
 use Rattle.protox_ast.specs.Tree as tree
 use Rattle.protox_grammar.specs.Bodies as bodies
-use Rattle.protox_grammar.specs.Noted.{noted_nodes, steps, trace}
-use Rattle.protox_grammar.specs.Reads.{read}
+use Rattle.protox_grammar.specs.Noted.{noted_nodes, steps}
 use Rattle.protox_grammar.specs.Steps.{Steps, steps_of_many}
-use Rattle.protox_grammar.specs.Told.{first_behind, keyword_behind, AreValidTokens, place_of}
-use Rattle.protox_grammar.proofs.FineNotes.{told-fine}
-use Rattle.protox_grammar.proofs.Main as main
-use Rattle.protox_grammar.proofs.NotedWrong.{noted-wrong, read-traced}
+use Rattle.protox_grammar.specs.Told.{first_behind, keyword_behind, place_of}
 use Rattle.protox_grammar.proofs.Stated.{first-append, noted-append}
 use Rattle.protox_options.specs.inner.Options.{here}
 use Rattle.protox_syntax.specs.NextStatement.{IsNextSyntax, IsRight, syntax_steps}

@@ -19,7 +19,7 @@ use Rattle.protox_syntax.proofs.Growing.{place-all, right-last, with-last}
 use Rattle.protox_syntax.proofs.OneMore.{many-more}
 use Rattle.protox_syntax.proofs.ReadRight.{drop-all, none_faulty, statement-next, syntax-next}
 use Rattle.protox_syntax.proofs.RightFiles.{right-begun}
-use Rattle.protox_syntax.specs.NextStatement.{IsNextSyntax, IsRight, is_no_fault}
+use Rattle.protox_syntax.specs.NextStatement.{IsRight, is_no_fault}
 use Rattle.protox_syntax.specs.declared.parts.Part.{Part}
 use Rattle.protox_syntax.specs.declared.statement_types.Statement.{Statement}
 use Rattle.protox_syntax.specs.inner.Parts.{IsHeld, IsInPart, IsLast, IsReached, place_in, with_statement, with_statements, with_syntax}

@@ -1,11 +1,10 @@
 -- Where lexemes stand in a source, and how far it has been read.
-use Rattle.std.proofs.Common.{◌≡◌, inl, inr, ℕ, zero, suc, ◌+◌, ◌-◌, ◌≤◌, ◌<◌, false, List, [], ◌∷◌, ◌++◌, length, drop, Some, refl, sym, ap, subst, ◌∙◌, append_assoc, length-drop, arith}
+use Rattle.std.proofs.Common.{◌≡◌, inl, inr, ℕ, ◌+◌, ◌-◌, ◌≤◌, ◌<◌, List, [], ◌∷◌, ◌++◌, length, drop, Some, refl, sym, ap, subst, ◌∙◌, append_assoc, length-drop, arith}
 use Rattle.std.proofs.lemmas.List.{drop-drop}
 use Rattle.std.proofs.lemmas.Str.{IsCharBoundary-from_drop, IsUtf8-drop}
 use Rattle.std.specs.Str.{IsCharBoundary, IsUtf8}
 use Rattle.protox_fault.specs.Faults.{Span, span_from}
 use Rattle.protox_lexeme.specs.Lexemes.{IsCut, Lexeme, blanks, cut}
-use Rattle.protox_lexeme.specs.Table.{is_gap}
 use Rattle.protox_lexeme.proofs.Boundaries.{blanks_boundary}
 use Rattle.protox_lexeme.proofs.Cut.{cut_is_cut}
 use Rattle.protox_lexeme.proofs.Extents.{lexeme_stands}

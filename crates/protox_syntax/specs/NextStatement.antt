@@ -1,12 +1,11 @@
 -- What rows begin with, if nothing is wrong with it.
-use Rattle.std.specs.Prelude.{◌≡◌, ◌++◌, Bool, true, false, List, Option, None, option_map}
+use Rattle.std.specs.Prelude.{◌≡◌, ◌++◌, Bool, true, false, Option, None, option_map}
 use Rattle.protox_fault.specs.Faults.{Span}
-use Rattle.protox_lexeme.specs.Shapes.{Rows, Shape}
+use Rattle.protox_lexeme.specs.Shapes.{Rows}
 use Rattle.protox_ast.specs.inner.Fine.{IsFine}
 use Rattle.protox_ast.specs.Keywords.{Each}
 use Rattle.protox_ast.specs.Places.{Place}
 use Rattle.protox_ast.specs.Spelling as s
-use Rattle.protox_ast.specs.Spells.{shapes}
 use Rattle.protox_ast.specs.Tree as tree
 use Rattle.protox_ast.specs.declared.ast.Comments.{Comments}
 use Rattle.protox_ast.specs.declared.ast.Syntax.{Syntax}

@@ -15,17 +15,24 @@ use protox_rows::refused::Refused;
 use protox_rows::rows::Unread;
 use std::alloc::{AllocError, Global};
 
-// Whether reading may go on at a token of this class. Written out, so that no list is walked: each
-// row that is skipped is asked. `message` has the largest of these classes, so most rows are asked
-// for no other.
+// Whether this is the class of a word that begins a statement. Written out, so that no list is
+// walked. It is no part of its caller: joined with the range there, it made each row dearer.
+#[inline(never)]
+fn is_statement_word(class: u8) -> bool
+    ensures { result ≡ among statement_words class }
+{
+    matches!(
+        class,
+        ENUM | EXTEND | IMPORT | MESSAGE | OPTION | SERVICE | PACKAGE
+    )
+}
+
+// Whether reading may go on at a token of this class. Each row that is skipped is asked. `message`
+// has the largest class of these words, so most rows are asked for no other.
 fn begins_statement(class: u8) -> bool
     ensures { result ≡ among statement_words class }
 {
-    class <= MESSAGE
-        && matches!(
-            class,
-            ENUM | EXTEND | IMPORT | MESSAGE | OPTION | SERVICE | PACKAGE
-        )
+    class <= MESSAGE && is_statement_word(class)
 }
 
 // These rows, less all before the next word that begins a statement. It moves a copy of the place

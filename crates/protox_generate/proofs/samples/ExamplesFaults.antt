@@ -30,7 +30,7 @@ use Rattle.protox_generate.proofs.samples.Files.{FileTree, AMessage, AnExtend, A
 use Rattle.protox_generate.proofs.samples.Trees as t
 use Rattle.protox_generate.proofs.samples.Trees.{◌&◌}
 use Rattle.protox_generate.proofs.samples.Written as w
-use Rattle.protox_generate.proofs.samples.Written.{at, word, int, minus, made_message, made_oneof, no_field, no_option}
+use Rattle.protox_generate.proofs.samples.Written.{at, word, int, minus, no_field}
 
 -- the faults of a file of one item, of proto2 and of proto3
 abbrev faults2 : FileTree → List ParseErrorKind

@@ -13,7 +13,7 @@ use Rattle.protox_generate.proofs.samples.Files.{FileTree, AMessage, filled, tab
 use Rattle.protox_generate.proofs.samples.Trees as t
 use Rattle.protox_generate.proofs.samples.Trees.{◌&◌}
 use Rattle.protox_generate.proofs.samples.Written as w
-use Rattle.protox_generate.proofs.samples.Written.{at, word, int, minus, made_message, made_oneof, no_field, no_option}
+use Rattle.protox_generate.proofs.samples.Written.{at, word, int, made_message, made_oneof, no_field, no_option}
 
 -- ---- a group: its field has the name in small letters, its message stands in the message
 

@@ -10,7 +10,7 @@ use Rattle.protox_generate.proofs.samples.Files.{FileTree, AMessage, AnExtend, A
 use Rattle.protox_generate.proofs.samples.Trees as t
 use Rattle.protox_generate.proofs.samples.Trees.{◌&◌}
 use Rattle.protox_generate.proofs.samples.Written as w
-use Rattle.protox_generate.proofs.samples.Written.{at, word, int, minus, made_message, made_oneof, no_field, no_option}
+use Rattle.protox_generate.proofs.samples.Written.{at, word, int, minus, made_message, no_field}
 
 -- ---- an enum
 

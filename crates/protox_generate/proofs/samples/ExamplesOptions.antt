@@ -21,7 +21,7 @@ use Rattle.protox_ast.specs.Spans.{body_span, parts_span}
 use Rattle.protox_ast.specs.Values.{default_text, wanted}
 use Rattle.protox_generate.proofs.samples.Files.{FileTree, Another, filled, table}
 use Rattle.protox_generate.proofs.samples.Written as w
-use Rattle.protox_generate.proofs.samples.Written.{at, word, int, minus, made_message, made_oneof, no_field, no_option}
+use Rattle.protox_generate.proofs.samples.Written.{at, word, int, minus, no_option}
 
 -- ---- two options of a file, the second led by a comment
 

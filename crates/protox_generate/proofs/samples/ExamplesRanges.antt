@@ -9,9 +9,8 @@ use Rattle.protox_ast.specs.Options.{OptionStatement}
 use Rattle.protox_ast.specs.Ranges.{reserved_range}
 use Rattle.protox_generate.proofs.samples.Files.{FileTree, AMessage, filled, table, table-of, messages, messages-of}
 use Rattle.protox_generate.proofs.samples.Trees as t
-use Rattle.protox_generate.proofs.samples.Trees.{◌&◌}
 use Rattle.protox_generate.proofs.samples.Written as w
-use Rattle.protox_generate.proofs.samples.Written.{at, word, int, minus, made_message, made_oneof, no_field, no_option}
+use Rattle.protox_generate.proofs.samples.Written.{at, word, int, minus, no_option}
 
 -- ---- ranges and names in a message
 

@@ -1,5 +1,5 @@
 -- The notes that are made while reading give the list of all faults, step by step.
-use Rattle.std.specs.Prelude.{◌≡◌, suc, ◌+◌, ◌∷◌, ◌++◌, List, length, map, Option}
+use Rattle.std.specs.Prelude.{◌≡◌, suc, ◌+◌, List, length, map, Option}
 use Rattle.protox_fault.specs.Faults.{Span}
 use Rattle.protox_fault.specs.declared.error.ParseErrorKind.{ParseErrorKind}
 use Rattle.protox_lexeme.specs.Shapes.{Rows}

@@ -16,7 +16,6 @@ use Rattle.protox_ast.specs.declared.ast.FileItem.{FileItem}
 use Rattle.protox_ast.specs.declared.ast.Syntax.{Syntax}
 use Rattle.protox_ast.specs.declared.ast.Syntax.TheVariants.{Proto2}
 use Rattle.protox_grammar.specs.Told.{is_invalid}
-use Rattle.protox_syntax.specs.NextStatement.{BeginWithSyntax}
 use Rattle.protox_syntax.specs.declared.parts.Part.{Part}
 use Rattle.protox_syntax.specs.declared.parts.Progress.{Progress}
 use Rattle.protox_syntax.specs.declared.statement_types.Statement as statement_type

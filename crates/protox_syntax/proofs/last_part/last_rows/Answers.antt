@@ -1,4 +1,4 @@
-use Rattle.std.proofs.Common.{◌≡◌, refl, sym, subst, ◌∙◌}
+use Rattle.std.proofs.Common.{sym, ◌∙◌}
 use Rattle.protox_syntax.proofs.Answering.{if-ok}
 use Rattle.protox_syntax.proofs.LastPart.{first-row, rest-on, whole-part}
 use Rattle.protox_syntax.proofs.Opening.{fresh-reached, none-is, some-is}

@@ -1,4 +1,4 @@
-use Rattle.std.proofs.Common.{◌≡◌, ◌++◌, [], false, length, Ok, refl, sym, ap, subst, ◌∙◌}
+use Rattle.std.proofs.Common.{◌≡◌, ◌++◌, [], false, length, Ok, sym, ap, subst, ◌∙◌}
 use Rattle.protox_fault.specs.declared.error.SyntaxFailure.TheVariants.{Faults}
 use Rattle.protox_lexeme.specs.Table.{Table}
 use Rattle.protox_ast.specs.Places.{placed}

@@ -1,4 +1,4 @@
-use Rattle.std.proofs.Common.{◌≡◌, ◌+◌, [], false, length, refl, ap, sym, subst, ◌∙◌, arith}
+use Rattle.std.proofs.Common.{◌+◌, false, length, refl, ap, sym, subst, arith}
 use Rattle.protox_syntax.proofs.LastPart.{end-faulty, end-right}
 use Rattle.protox_syntax.proofs.ParsedTable.{total-fits}
 use Rattle.protox_syntax.proofs.Spans.{none-if-empty, some-if-not-empty}

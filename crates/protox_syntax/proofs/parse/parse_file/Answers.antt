@@ -1,6 +1,3 @@
-use Rattle.std.proofs.Common.{◌≡◌, [], refl, sym, ap, subst, ◌∙◌}
-use Rattle.protox_ast.specs.Accepted.{IsFileOf}
-use Rattle.protox_ast.specs.declared.ast.File.{File}
 use Rattle.protox_grammar.proofs.Main as main
 use Rattle.protox_options.specs.inner.Options.{here}
 use Rattle.protox_syntax.proofs.Aggregates.{aggregates-lex-back}

@@ -1,10 +1,10 @@
-use Rattle.std.proofs.Common.{◌≡◌, ◌++◌, [], List, None, length, true, false, arith, refl, sym, ap, subst, ◌∙◌}
+use Rattle.std.proofs.Common.{◌++◌, [], List, None, length, true, false, arith, refl, sym, ap, subst}
 use Rattle.std.specs.List.{FoldsTo}
 use Rattle.protox_ast.specs.declared.ast.File.{File}
 use Rattle.protox_ast.specs.declared.ast.FileItem.{FileItem}
 use Rattle.protox_syntax.proofs.Answering.{between-handed, between-none, read-into, taken-more}
 use Rattle.protox_syntax.proofs.Standing.{last-within}
-use Rattle.protox_syntax.specs.inner.Parts.{IsAll, IsBetween, IsTurned}
+use Rattle.protox_syntax.specs.inner.Parts.{IsBetween, IsTurned}
 use Rattle.protox_syntax.specs.inner.ReadInto.{IsReadInto}
 use Rattle.protox_syntax.proofs.parse.read_parts.Goals as goal
 

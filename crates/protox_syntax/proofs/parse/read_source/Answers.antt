@@ -1,4 +1,4 @@
-use Rattle.std.proofs.Common.{◌≡◌, Ok, Err, length, refl, subst}
+use Rattle.std.proofs.Common.{Err, subst}
 use Rattle.std.specs.Option.{option_map}
 use Rattle.protox_fault.specs.declared.error.SyntaxFailure.TheVariants.{Faults}
 use Rattle.protox_syntax.proofs.Accepts.{parsed-only, parsed-refused}
@@ -10,7 +10,6 @@ use Rattle.protox_syntax.proofs.ParsedTableFirst.{parsed-first, parsed-found-all
 use Rattle.protox_syntax.proofs.TrueWords.{parsed-words}
 use Rattle.protox_syntax.specs.inner.Front.{IsFront, IsRefusedFirst}
 use Rattle.protox_syntax.specs.inner.OnWay.{table_in}
-use Rattle.protox_syntax.specs.inner.ParsedTable.{RefusesTable}
 use Rattle.protox_syntax.proofs.parse.read_source.Goals as goal
 
 pub returns-clause-taken : goal.returns-clause-taken

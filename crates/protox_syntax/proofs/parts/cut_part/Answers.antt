@@ -1,8 +1,7 @@
-use Rattle.std.proofs.Common.{◌≡◌, ◌≤◌, ℕ, None, Some, true, arith, drop, leb, length, refl, sym, subst, ap, ◌∙◌}
+use Rattle.std.proofs.Common.{◌≤◌, ℕ, arith, drop, leb, length, sym, subst}
 use Rattle.std.proofs.lemmas.Str.{IsCharBoundary-from_drop}
 use Rattle.std.specs.Option.{is_none}
 use Rattle.std.specs.Str.{IsCharBoundary}
-use Rattle.protox_fault.specs.Faults.{Span}
 use Rattle.protox_lexeme.specs.Lexemes.{cut}
 use Rattle.protox_syntax.specs.inner.Parts.{IsPartOf, lexemes_from}
 use Rattle.protox_syntax.proofs.Cutting.{part-of}

@@ -1,4 +1,4 @@
-use Rattle.std.proofs.Common.{◌≡◌, sym, ap, ◌∙◌}
+use Rattle.std.proofs.Common.{sym, ap, ◌∙◌}
 use Rattle.std.specs.List.{list_all}
 use Rattle.protox_grammar.specs.declared.note.Note.{Note}
 use Rattle.protox_syntax.proofs.SomeRead.{some-left, syntax-read}

@@ -1,11 +1,10 @@
-use Rattle.std.proofs.Common.{◌≡◌, [], false, true, refl, sym, ap, subst, ◌∙◌}
+use Rattle.std.proofs.Common.{false, refl, sym, subst, ◌∙◌}
 use Rattle.protox_ast.specs.Spelling as s
 use Rattle.protox_ast.specs.declared.ast.File.{File}
 use Rattle.protox_grammar.specs.Told.{AreValidTokens}
 use Rattle.protox_rows.proofs.Turns.{all_read}
 use Rattle.protox_syntax.proofs.Further.{valid-behind}
 use Rattle.protox_syntax.proofs.SomeRead.{none-read, read-more}
-use Rattle.protox_syntax.specs.declared.statement_loop.Going.TheVariants as going
 use Rattle.protox_syntax.specs.inner.SomeRead.{AreRead}
 use Rattle.protox_syntax.proofs.statement_loop.read_statements.Goals as goal
 

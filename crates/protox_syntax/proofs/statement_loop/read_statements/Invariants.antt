@@ -1,4 +1,4 @@
-use Rattle.std.proofs.Common.{◌≡◌, Bool, List, true, false, length}
+use Rattle.std.proofs.Common.{◌≡◌, List, true, false, length}
 use Rattle.protox_ast.specs.declared.ast.FileItem.{FileItem}
 use Rattle.protox_grammar.specs.Told.{AreValidTokens}
 use Rattle.protox_syntax.specs.inner.OnWay.{IsOnWay}

@@ -1,12 +1,12 @@
 -- Plain words are names of files, and work on them has files.
-use Rattle.std.proofs.Common.{◌≡◌, ◌≢◌, ◌∙◌, ℕ, List, [], ◌∷◌, All, ap, arith, length, map, refl, subst, sym}
+use Rattle.std.proofs.Common.{◌≡◌, ◌≢◌, ℕ, List, [], ◌∷◌, All, ap, arith, length, map, refl, subst, sym}
 use Rattle.std.proofs.lemmas.List.{get_or-map, length-map}
 use Rattle.std.proofs.lemmas.List.Elements.{All-map}
 use Rattle.std.specs.String.{string_bytes}
 use Rattle.std.specs.declared.alloc.Global.{Global}
 use Rattle.std.specs.declared.string.String.{String}
 use Rattle.protolink_run.specs.Outcomes.{IsPlainWord}
-use Rattle.protolink_words.specs.Asking.{IsName, IsNameWord, IsPlain, names_of}
+use Rattle.protolink_words.specs.Asking.{IsName, IsNameWord, IsPlain}
 use Rattle.protolink_words.specs.declared.Work.{Work}
 
 All-of_mapped : {X Y : Type 0} (P : Y → Type 0) (f : X → Y) (xs : List X) → All P (map f xs) → All (λ x. P (f x)) xs

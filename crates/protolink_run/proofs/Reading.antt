@@ -1,12 +1,10 @@
 -- One file more that was read.
 use Rattle.std.proofs.Common.{◌≡◌, ℕ, List, [], ◌∷◌, ◌++◌, sym, subst}
 use Rattle.std.proofs.lemmas.List.Elements.{All-push}
-use Rattle.std.specs.Prelude.{All, IfSome, Option, Some, string_bytes}
-use Rattle.std.specs.declared.alloc.Global.{Global}
-use Rattle.std.specs.declared.string.String.{String}
+use Rattle.std.specs.Prelude.{All}
 use Rattle.protox_descriptor.specs.declared.descriptor.FileDescriptorProto.{FileDescriptorProto}
 use Rattle.protox_parse.specs.Files.{IsTranslation}
-use Rattle.protolink_run.specs.Outcomes.{IsRead, IsReadFile}
+use Rattle.protolink_run.specs.Outcomes.{IsReadFile}
 
 module _ {H : Type 0} (holds : H → List ℕ → List ℕ → Type 0) (host : H) where
   pub one_more : (files more : List FileDescriptorProto) (file : FileDescriptorProto) (name path text : List ℕ) → All (IsReadFile holds host) files

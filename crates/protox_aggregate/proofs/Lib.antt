@@ -1,2 +1,3 @@
 pub mod Outer
 pub mod Whole
+pub mod SameSteps

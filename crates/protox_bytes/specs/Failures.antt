@@ -1,5 +1,5 @@
 -- When a source has no bytes.
-use Rattle.std.specs.Prelude.{◌≡◌, ◌≤◌, ◌^◌, false, length, Result, Ok, Err}
+use Rattle.std.specs.Prelude.{◌≡◌, ◌≤◌, ◌^◌, false, length, Result, Err}
 use Rattle.protox_descriptor.specs.declared.descriptor.FileDescriptorProto.{FileDescriptorProto}
 use Rattle.protox_encode.specs.Floats.{has_floats}
 use Rattle.protox_encode.specs.Messages.{file_descriptor}

@@ -1,5 +1,5 @@
 -- What linking finds for the names and sources of files, and why there is nothing.
-use Rattle.std.specs.Prelude.{◌≡◌, ◌≤◌, ◌^◌, ⊤, ℕ, List, All, length, map}
+use Rattle.std.specs.Prelude.{◌≤◌, ◌^◌, ⊤, ℕ, List, All, length, map}
 use Rattle.std.specs.Str.{IsUtf8}
 use Rattle.protox_ffi.specs.declared.linked.Found.{Found}
 use Rattle.protox_ffi.specs.declared.linked.Found.TheVariants.{Set, Records}

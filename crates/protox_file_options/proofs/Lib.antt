@@ -5,3 +5,4 @@ pub mod Paths
 pub mod Bytes
 pub mod Counting
 pub mod Taking
+pub mod OneOutcome

@@ -1,5 +1,5 @@
 -- What comes of one place.
-use Rattle.std.proofs.Common.{◌≡◌, ℕ, ◌==◌, false, List, Option, [], ◌∷◌, ◌++◌, ap, append-nil, cond, length, map, refl, subst, sym, ◌∙◌, unsigned_abs}
+use Rattle.std.proofs.Common.{◌≡◌, ℕ, ◌==◌, false, List, Option, [], ◌∷◌, ◌++◌, ap, append-nil, cond, length, map, refl, sym, ◌∙◌, unsigned_abs}
 use Rattle.std.proofs.lemmas.Bool.{false≢true}
 use Rattle.std.proofs.lemmas.List.Elements.{All-cons, All-nil}
 use Rattle.protox_descriptor.specs.declared.descriptor.FileDescriptorProto.{FileDescriptorProto}

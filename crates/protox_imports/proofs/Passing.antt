@@ -1,16 +1,15 @@
 -- Marking what files pass on, and what is known once all rows are made.
-use Rattle.std.proofs.Common.{◌≡◌, ◌≢◌, ◌⊎◌, inl, inr, ℕ, zero, suc, ◌<◌, ◌≤◌, ◌+◌, ◌||◌, ◌==◌, List, [], ◌∷◌, ◌++◌, length, get_or, set, replicate, take, Option, Some, None, Bool, true, false, refl, sym, ◌∙◌, ap, subst, arith, length-set, nat_eq}
+use Rattle.std.proofs.Common.{◌≡◌, ◌≢◌, ◌⊎◌, inl, inr, ℕ, zero, suc, ◌<◌, ◌≤◌, ◌+◌, ◌||◌, ◌==◌, List, [], ◌∷◌, length, get_or, set, replicate, take, Option, Some, None, Bool, true, false, refl, sym, ◌∙◌, ap, subst, arith, length-set}
 use Rattle.std.specs.Prelude.{slice_get, Contains, ◌↔◌}
-use Rattle.std.specs.List.{list_any}
 use Rattle.std.proofs.Math.Bool.{Bool-set}
 use Rattle.std.proofs.Math.Logic.{∥∥₁_elim}
 use Rattle.std.proofs.lemmas.Bool.{false≢true}
-use Rattle.std.proofs.lemmas.Bool.Decides.{Decides-eqb, eqb_tells, leb_tells}
-use Rattle.std.proofs.lemmas.List.{get_or-set_same, get_or-set_other, get_or_past, length-replicate, take_all, take_more}
+use Rattle.std.proofs.lemmas.Bool.Decides.{Decides-eqb, eqb_tells}
+use Rattle.std.proofs.lemmas.List.{get_or-set_same, get_or-set_other, length-replicate, take_all, take_more}
 use Rattle.std.proofs.lemmas.List.Elements.{Contains-append_left, Contains-push, Contains-push_cases}
 use Rattle.std.proofs.lemmas.Option.{get_or_from_slice_get, same_Some, slice_get-get_or}
 use Rattle.protox_imports.specs.Order.{IsInOrder}
-use Rattle.protox_imports.specs.Passing.{AreRows, IsRow, PassedBy, PassedIn}
+use Rattle.protox_imports.specs.Passing.{AreRows, IsRow, PassedIn}
 use Rattle.protox_imports.specs.Rows.{ImportsIn, PassesOnIn, AreAmongImports, named_of, public_of}
 use Rattle.protox_imports.specs.Sees.{Passes, Sees}
 use Rattle.protox_imports.specs.Sees.Passes.{Itself, Publicly}

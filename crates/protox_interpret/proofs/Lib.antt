@@ -2,3 +2,4 @@ pub mod Entering
 pub mod Kept
 pub mod Named
 pub mod Giving
+pub mod OneAnswer

@@ -2,7 +2,8 @@
 use Rattle.std.specs.Prelude.{◌≡◌, ℕ, Bool, List, map}
 use Rattle.protox_descriptor.specs.declared.descriptor.options.UninterpretedOption.{UninterpretedOption}
 use Rattle.protox_interpret.specs.Settings.{Setting, options_bytes}
-use Rattle.protox_interpret.specs.Statements.{AreSet}
+use Rattle.protox_interpret.specs.Statements.{AreSet, IsFirstFault}
+use Rattle.protox_interpret.specs.declared.fault.StatementFault.{StatementFault}
 use Rattle.protox_interpret.specs.declared.site.Interpreted.{Interpreted}
 use Rattle.protox_interpret.specs.declared.site.SetPath.{SetPath}
 use Rattle.protox_interpret.specs.declared.site.Site.{Site}
@@ -21,3 +22,7 @@ pub record IsAnswer (here : Site) (statements : List UninterpretedOption) (answe
   pub set : AreSet here statements settings
   pub bytes : answer.bytes.items ≡ options_bytes settings
   pub paths : map path_seen answer.paths.items ≡ map path_set settings
+
+-- Statements that all set something have none that is wrong.
+abbrev pub NeverBoth : Site → List UninterpretedOption → Type 0
+NeverBoth here statements = (answer : Interpreted) (fault : StatementFault) → IsAnswer here statements answer → IsFirstFault here statements fault → ⊥

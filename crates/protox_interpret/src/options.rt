@@ -1,7 +1,7 @@
 //! The statements of an options message, one behind the other.
 
 ghost use Rattle.std.specs.Prelude.{◌≡◌, List, IfErr, IfOk, OnOk, map};
-ghost use Rattle.protox_interpret.specs.Answers.{IsAnswer, path_seen, path_set};
+ghost use Rattle.protox_interpret.specs.Answers.{IsAnswer, NeverBoth, path_seen, path_set};
 ghost use Rattle.protox_interpret.specs.Failure.{IfFault};
 ghost use Rattle.protox_interpret.specs.Settings.{Setting as ASetting, options_bytes};
 ghost use Rattle.protox_interpret.specs.Statements.{AreSet, IsFirstFault};
@@ -94,6 +94,8 @@ pub fn interpret(
     ensures set { IfOk result (IsAnswer here.entry statements.now) }
     ensures first { IfErr result (λ failure. IfFault failure
         (IsFirstFault here.entry statements.now)) }
+    // One of the two is so, whatever is answered.
+    ensures one { NeverBoth here.entry statements.now }
 {
     match take_all(alloc, here, statements) {
         Ok(work) => match finish(alloc, work) {

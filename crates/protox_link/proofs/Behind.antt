@@ -25,7 +25,7 @@ use Rattle.protox_link.specs.Files.{AreFaults, AreLinked, faults_in, linked_in}
 use Rattle.protox_link.specs.Laws.{Local}
 use Rattle.protox_link.specs.Seen.{IsSeenBy, packages_of}
 use Rattle.protox_link_checks.specs.File.{file_faults}
-use Rattle.protox_link_checks.specs.Imports.{import_faults, import_faults_from, package_faults, wrong_import}
+use Rattle.protox_link_checks.specs.Imports.{import_faults, import_faults_from, wrong_import}
 use Rattle.protox_link_checks.specs.Uses.{faults_at}
 use Rattle.protox_linked.specs.Linked.{linked_file}
 use Rattle.protox_linked.specs.declared.target.Target.{Target}

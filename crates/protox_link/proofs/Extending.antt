@@ -1,6 +1,6 @@
 -- Faults of extensions: where they are told, and that they are what is wrong.
-use Rattle.std.proofs.Common.{◌≡◌, ℕ, Bool, true, false, cond, ◌||◌, List, [], ◌∷◌, ◌++◌, map, position, Option, Some, None, is_some, inl, refl, sym, ap, subst, ◌∙◌, slice_get}
-use Rattle.std.specs.Prelude.{ℤ, All, Contains}
+use Rattle.std.proofs.Common.{◌≡◌, ℕ, Bool, true, false, cond, ◌||◌, List, [], ◌∷◌, ◌++◌, Option, Some, None, is_some, inl, refl, sym, ap, subst, slice_get}
+use Rattle.std.specs.Prelude.{All, Contains}
 use Rattle.std.specs.List.{flat_map, list_any}
 use Rattle.std.specs.Option.{option_and_then}
 use Rattle.std.proofs.lemmas.Bool.{false≢true}
@@ -15,7 +15,7 @@ use Rattle.protox_link.proofs.WrongClashes.{earlier_listed, earlier_told}
 use Rattle.protox_link.specs.Seen.{IsSeenBy}
 use Rattle.protox_link.specs.Stands.{LeadsInto, LeadsWithin, ToDeclared, ToExtendee, ToNumber}
 use Rattle.protox_link.specs.Wrong.{IsInNoRange, IsNotOfOptions, IsReused, MeetsEarlier, OfExtension, WrongExtension, WrongLink}
-use Rattle.protox_link_checks.specs.Extensions.{all_extension_faults, extended_faults, extension_of, extensions_of, if_message, is_options, message_named, numbered_extension, options_faults, pair_faults, part_extension, range_faults, ranges_numbered, reused_extensions, reused_faults, same_number}
+use Rattle.protox_link_checks.specs.Extensions.{extended_faults, extension_of, extensions_of, is_options, message_named, numbered_extension, options_faults, pair_faults, part_extension, range_faults, ranges_numbered, reused_extensions, reused_faults, same_number}
 use Rattle.protox_link_checks.specs.Proto3.{is_proto3}
 use Rattle.protox_link_checks.specs.Uses.{fault_at}
 use Rattle.protox_link_checks.specs.declared.extensions.Extension.{Extension}
@@ -31,7 +31,7 @@ use Rattle.protox_spans.specs.declared.span.Span.{Span}
 use Rattle.protox_symbols.specs.Symbols.{Table}
 use Rattle.protox_symbols.specs.Things.{table_of}
 use Rattle.protox_walk.specs.Declarations.{Path, file_declarations, text_of}
-use Rattle.protox_walk.specs.Parts.{Declared, Described, Enum, Field, Message, Method, Oneof, Service, Value}
+use Rattle.protox_walk.specs.Parts.{Described, Enum, Field, Message, Method, Oneof, Service, Value}
 
 -- ---- where they are told
 

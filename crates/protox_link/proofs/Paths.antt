@@ -1,5 +1,5 @@
 -- The path of each fault leads to a part of its file.
-use Rattle.std.proofs.Common.{◌≡◌, ◌<◌, ℕ, ◌+◌, ◌-◌, Bool, true, false, cond, List, [], ◌∷◌, ◌++◌, map, Option, Some, None, is_some, refl, sym, ap, subst, ◌∙◌, arith, length, nat_lt, slice_get, suc, zero}
+use Rattle.std.proofs.Common.{◌≡◌, ◌<◌, ℕ, ◌+◌, ◌-◌, Bool, true, List, [], ◌∷◌, ◌++◌, map, Option, Some, None, is_some, refl, sym, ap, subst, ◌∙◌, arith, length, nat_lt, slice_get, suc, zero}
 use Rattle.std.specs.Prelude.{ℤ, pos, All, Contains}
 use Rattle.std.specs.List.{flat_map}
 use Rattle.std.specs.Option.{option_and_then, option_map, option_map_or}
@@ -40,7 +40,7 @@ use Rattle.protox_link_checks.specs.Reserved.{again_fault, again_faults, is_amon
 use Rattle.protox_link_checks.specs.Uses.{default_faults, enum_itself, fault_at, faults_at, kind_named, message_faults, message_itself, type_faults, uses_of, wrong_message, wrong_type}
 use Rattle.protox_link_fault.specs.declared.LinkFault.{LinkFault}
 use Rattle.protox_link_fault.specs.declared.LinkFaultKind.{LinkFaultKind}
-use Rattle.protox_link_fault.specs.declared.LinkFaultKind.TheVariants.{Alike, AlreadyDefined, EmptyRange, ExtensionsInProto3, FirstNotZero, ForImplementation, NoValue, NotInTable, ReservedAgain, ReservedName}
+use Rattle.protox_link_fault.specs.declared.LinkFaultKind.TheVariants.{AlreadyDefined, EmptyRange, ExtensionsInProto3, FirstNotZero, ForImplementation, NoValue, NotInTable, ReservedAgain, ReservedName}
 use Rattle.protox_link_fault.specs.declared.NumberFault.{NumberFault}
 use Rattle.protox_name_tree.specs.Tree.{has_innermost, kind_at, number_of}
 use Rattle.protox_names.specs.Names.{is_identifier, scopes}

@@ -64,12 +64,20 @@ marked_alike : (all : List FileDescriptorProto) (n : ℕ) (sees other : List Boo
 marked_alike all n sees other here there h below marked =
     get_or_from_slice_get other h true false ((there h).1 ((here h).0 (mark_at sees h below marked)))
 
-same_marks : (all : List FileDescriptorProto) (n : ℕ) (sees other packages packages' : List Bool) → IsSeenBy all n sees packages → IsSeenBy all n other packages' → sees ≡ other
+pub same_marks : (all : List FileDescriptorProto) (n : ℕ) (sees other packages packages' : List Bool) → IsSeenBy all n sees packages → IsSeenBy all n other packages' → sees ≡ other
 same_marks all n sees other packages packages' here there =
     let long = here.as_many ∙ sym there.as_many in
     ext_get_or false sees other long (λ h below. same_bools (get_or sees h false) (get_or other h false)
     (marked_alike all n sees other here.of_files there.of_files h below)
     (marked_alike all n other sees there.of_files here.of_files h (subst (λ count. h < count) long below)))
+
+-- With one mark for each number of the table, the marks of packages are the same.
+pub same_packages : (all : List FileDescriptorProto) (n : ℕ) (sees packages packages' : List Bool) → IsSeenBy all n sees packages → IsSeenBy all n sees packages'
+    → length packages ≡ length (table_of all).names.full_names → length packages' ≡ length (table_of all).names.full_names → packages ≡ packages'
+same_packages all n sees packages packages' here there long long' =
+    ext_get_or false packages packages' (long ∙ sym long') (λ h below.
+    let inside : h < length (table_of all).names.full_names = subst (λ count. h < count) long below in
+    here.of_packages h inside ∙ sym (there.of_packages h inside))
 
 -- ---- the same things are seen
 

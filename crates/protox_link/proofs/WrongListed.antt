@@ -1,5 +1,5 @@
 -- What is wrong with files is in the list of faults.
-use Rattle.std.proofs.Common.{◌≡◌, ◌≢◌, ◌+◌, ◌==◌, inl, inr, is_some, ℕ, zero, suc, Bool, true, false, cond, List, [], ◌∷◌, ◌++◌, length, map, Option, Some, None, refl, sym, ap, subst, ◌∙◌, arith, slice_get, ◌<◌, ◌≤◌, nat_lt, ◌⊎◌}
+use Rattle.std.proofs.Common.{◌≡◌, ◌≢◌, ◌+◌, ◌==◌, inl, inr, is_some, ℕ, zero, suc, Bool, true, false, cond, List, [], ◌∷◌, ◌++◌, length, map, Option, Some, None, refl, sym, ap, subst, ◌∙◌, arith, slice_get, ◌<◌, ◌≤◌, nat_lt}
 use Rattle.std.specs.Prelude.{ℤ, pos, Contains, bytes_eq, count_by}
 use Rattle.std.specs.Option.{option_map}
 use Rattle.std.proofs.lemmas.Bool.{false≢true}
@@ -9,7 +9,7 @@ use Rattle.std.specs.List.{flat_map}
 use Rattle.std.proofs.lemmas.Option.{same_Some}
 use Rattle.protox_alike.specs.Alike.{fields_alike, is_of_two, values_alike}
 use Rattle.protox_alike.specs.Keys.{key_of_field, key_of_value}
-use Rattle.protox_ast.proofs.Membership.{Among, among-flat, among-from, among-left, among-right, contains-from, somewhere-at}
+use Rattle.protox_ast.proofs.Membership.{Among, among-from, among-left, among-right, contains-from}
 use Rattle.protox_descriptor.specs.declared.descriptor.DescriptorProto.{DescriptorProto, out-DescriptorProto}
 use Rattle.protox_descriptor.specs.declared.descriptor.EnumDescriptorProto.{EnumDescriptorProto}
 use Rattle.protox_descriptor.specs.declared.descriptor.EnumValueDescriptorProto.{EnumValueDescriptorProto}

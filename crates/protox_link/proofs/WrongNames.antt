@@ -1,5 +1,5 @@
 -- Reserved names: what is wrong with them, and the list of their faults.
-use Rattle.std.proofs.Common.{◌≡◌, ◌||◌, ◌<◌, inl, inr, ℕ, zero, suc, ◌+◌, Bool, true, false, cond, List, [], ◌∷◌, ◌++◌, map, take, Option, Some, None, bytes_eq, refl, sym, ap, subst, ◌∙◌, arith, slice_get}
+use Rattle.std.proofs.Common.{◌≡◌, ◌||◌, ◌<◌, inl, inr, ℕ, zero, suc, ◌+◌, Bool, true, false, cond, List, [], ◌∷◌, ◌++◌, map, take, Some, bytes_eq, refl, sym, ap, subst, ◌∙◌, arith, slice_get}
 use Rattle.std.specs.Prelude.{ℤ, pos, All, Contains}
 use Rattle.std.proofs.lemmas.Bool.{false≢true}
 use Rattle.std.proofs.lemmas.List.{append_assoc, append-nil}
@@ -10,7 +10,6 @@ use Rattle.protox_ast.proofs.Membership.{Among, among-from, among-left, among-ri
 use Rattle.protox_link.proofs.Standing.{true_or_false}
 use Rattle.protox_link_checks.specs.Reserved.{again_fault, again_faults, is_among, reserved_fault, reserved_faults}
 use Rattle.protox_link_fault.specs.declared.LinkFault.{LinkFault}
-use Rattle.protox_link_fault.specs.declared.LinkFaultKind.{LinkFaultKind}
 use Rattle.protox_link_fault.specs.declared.LinkFaultKind.TheVariants as told
 use Rattle.protox_descriptor.specs.declared.tag.message.TheConstants as message_tag
 use Rattle.protox_walk.specs.Declarations.{Path}

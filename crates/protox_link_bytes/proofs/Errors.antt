@@ -1,5 +1,5 @@
 -- Errors of results of different kinds.
-use Rattle.std.proofs.Common.{◌≡◌, Result, Ok, Err, ap}
+use Rattle.std.proofs.Common.{Result, Ok, Err, ap}
 use Rattle.std.specs.Prelude.{IsErrOf}
 
 error_or : {T E : Type 0} → Result T E → E → E

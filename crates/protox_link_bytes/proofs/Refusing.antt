@@ -1,7 +1,5 @@
 -- Files that can be linked are not refused.
-use Rattle.std.proofs.Common.{◌≡◌, ℕ, List, [], Result, Ok, Err, IfErr, inl, inr, sym, subst}
-use Rattle.std.specs.Prelude.{◌⊎◌}
-use Rattle.protox_descriptor.specs.declared.descriptor.FileDescriptorProto.{FileDescriptorProto}
+use Rattle.std.proofs.Common.{ℕ, List, [], Result, Ok, Err, IfErr, inl, inr, subst}
 use Rattle.protox_imports.proofs.NamesAgree.{ordered_has_no_cycle}
 use Rattle.protox_link.proofs.Seeing.{one_list}
 use Rattle.protox_link.specs.Link.{AreOfFiles}

@@ -2,13 +2,12 @@
 use Rattle.std.proofs.Common.{◌≡◌, ◌≤◌, ◌<◌, ◌+◌, ◌^◌, ℕ, Bool, false, true, ◌&&◌, List, append-nil, [], ◌∷◌, ◌++◌, append_assoc, arith, drop, get_or, length, take, refl, ap, sym, subst, ◌∙◌}
 use Rattle.std.proofs.lemmas.List.{drop_more, length-append, take_more, take-append-drop}
 use Rattle.std.proofs.lemmas.List.Folds.{list_all-append}
-use Rattle.std.specs.List.{flat_map, list_all}
+use Rattle.std.specs.List.{list_all}
 use Rattle.std.specs.Prelude.{Option, Some, None, slice_get}
 use Rattle.protox_descriptor.specs.declared.descriptor.FileDescriptorProto.{FileDescriptorProto}
 use Rattle.protox_encode.proofs.OneKind.{sets_join}
 use Rattle.protox_encode.specs.Floats.{has_floats}
 use Rattle.protox_encode.specs.Messages.{file_set}
-use Rattle.protox_encode.specs.Wire.{message}
 use Rattle.protox_link_bytes.specs.Spelled.{bytes_of, file_at, in_order}
 
 pub none : bytes_of [] ≡ []

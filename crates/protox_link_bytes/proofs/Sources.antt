@@ -27,7 +27,7 @@ use Rattle.protox_parse.specs.Files.{IsFile, IsTranslation}
 use Rattle.protox_parse.specs.FirstFault.{BeginsWithFirst}
 use Rattle.protox_parse.specs.Refusal.{Refusal}
 use Rattle.protox_parse.specs.declared.failure.ParseFailure.{ParseFailure}
-use Rattle.protox_parse.specs.declared.failure.ParseFailure.TheVariants.{Refused, OutOfMemory}
+use Rattle.protox_parse.specs.declared.failure.ParseFailure.TheVariants.{Refused}
 
 -- ---- lists
 

@@ -1,5 +1,5 @@
 -- What parsing makes of the files of a list.
-use Rattle.std.specs.Prelude.{◌≡◌, ⊤, ℕ, List, [], ◌∷◌, ◌++◌, All, length}
+use Rattle.std.specs.Prelude.{⊤, ℕ, List, [], ◌∷◌, ◌++◌, All, length}
 use Rattle.protox_ast.specs.Accepted.{IsAccepted}
 use Rattle.protox_ast.specs.Ast as ast_of
 use Rattle.protox_ast.specs.Places.{Place}

@@ -1,5 +1,5 @@
 -- What proto3 alone doesn't allow, in lists of declarations.
-use Rattle.std.proofs.Common.{◌≡◌, ℕ, ◌+◌, List, OnOk, Result, [], ◌∷◌, ◌++◌, refl, sym, ap, ◌∙◌, subst, append-nil, append_assoc}
+use Rattle.std.proofs.Common.{◌≡◌, ℕ, ◌+◌, List, OnOk, Result, [], ◌∷◌, ◌++◌, refl, sym, ap, ◌∙◌, append-nil, append_assoc}
 use Rattle.std.specs.Prelude.{ℤ}
 use Rattle.std.specs.List.{flat_map}
 use Rattle.std.proofs.lemmas.Grind.{flat_map-append}

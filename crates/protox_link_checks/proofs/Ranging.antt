@@ -1,5 +1,5 @@
 -- Messages that paths lead to, and their extension ranges.
-use Rattle.std.proofs.Common.{◌≡◌, ◌≤◌, ◌<◌, ◌≢◌, ◌-◌, ◌+◌, ◌*◌, ℕ, ℤ, pos, Bool, true, false, ◌&&◌, ◌||◌, ◌==◌, ◌++◌, All, map, slice_get, cond, nat_lt, refl, rules, List, [], ◌∷◌, drop, get_or, length, take, Option, Some, None, sym, ap, ◌∙◌, arith}
+use Rattle.std.proofs.Common.{◌≡◌, ◌≤◌, ◌<◌, ◌≢◌, ◌-◌, ◌+◌, ◌*◌, ℕ, pos, Bool, true, false, ◌&&◌, ◌||◌, ◌==◌, ◌++◌, All, map, slice_get, cond, nat_lt, refl, rules, List, [], ◌∷◌, drop, get_or, length, take, Option, Some, None, sym, ap, ◌∙◌, arith}
 use Rattle.std.specs.Option.{option_and_then, option_map_or}
 use Rattle.std.proofs.lemmas.Option.{slice_get_past}
 use Rattle.protox_numbers.specs.Message.{extension_spans}

@@ -1,5 +1,5 @@
 -- Extensions that have the same message and number.
-use Rattle.std.proofs.Common.{◌≡◌, ◌≢◌, ◌<◌, ◌≤◌, ◌+◌, ◌*◌, ℕ, Bool, true, false, ◌&&◌, ◌==◌, All, List, [], ◌∷◌, Option, Some, None, map, option_map, cond, length, nat_lt, not, position, refl, sym, ap, ◌∙◌, arith, rules}
+use Rattle.std.proofs.Common.{◌≡◌, ◌≢◌, ◌<◌, ◌≤◌, ◌+◌, ℕ, Bool, true, false, ◌&&◌, ◌==◌, All, List, [], ◌∷◌, Option, Some, None, map, cond, length, nat_lt, not, position, refl, sym, ap, ◌∙◌, arith, rules}
 use Rattle.std.specs.List.{position_or_len}
 use Rattle.std.proofs.lemmas.List.{length-map}
 use Rattle.std.proofs.lemmas.List.Elements.{All-head, All-tail}

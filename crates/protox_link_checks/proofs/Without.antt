@@ -1,6 +1,6 @@
 -- Messages without extensions, and messages without extension ranges.
-use Rattle.std.proofs.Common.{◌≡◌, ℕ, ◌+◌, Bool, true, false, cond, All, List, [], ◌∷◌, ◌++◌, Option, Some, None, map, slice_get, zero, suc, length, ◌==◌, arith, rules, refl, sym, ap, ◌∙◌, append-nil}
-use Rattle.std.specs.Prelude.{ℤ, pos, negsuc, Contains}
+use Rattle.std.proofs.Common.{◌≡◌, ℕ, ◌+◌, Bool, true, false, cond, All, List, [], ◌∷◌, ◌++◌, Option, None, map, zero, suc, length, ◌==◌, arith, rules, refl, sym, ap, ◌∙◌}
+use Rattle.std.specs.Prelude.{ℤ, pos, negsuc}
 use Rattle.std.specs.List.{flat_map}
 use Rattle.std.specs.Option.{option_and_then, option_map_or}
 use Rattle.std.specs.Ordering.{int_eq}
@@ -19,7 +19,6 @@ use Rattle.protox_link_checks.specs.declared.extensions.Extension.{Extension}
 use Rattle.protox_link_checks.specs.inner.Bare.{ExtendsNothing, HasNoRanges}
 use Rattle.protox_numbers.specs.Message.{extension_spans}
 use Rattle.protox_numbers.specs.Numbers.{of_extension_range}
-use Rattle.protox_spans.specs.declared.span.Span.{Span}
 use Rattle.protox_symbols.specs.Symbols.{Table}
 use Rattle.protox_walk.specs.Declarations.{Path, all_in, field_at, full_name, message_at, nth, numbered, text_of}
 use Rattle.protox_walk.specs.Parts.{Declared}

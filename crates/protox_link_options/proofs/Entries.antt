@@ -1,5 +1,5 @@
 -- Entries of files, one behind another.
-use Rattle.std.proofs.Common.{◌≡◌, ◌≤◌, ◌^◌, ◌+◌, ℕ, List, [], ◌∷◌, ◌++◌, ap, append_assoc, arith, length, map, refl, subst, suc, sym, take, zero, ◌∙◌}
+use Rattle.std.proofs.Common.{◌≡◌, ◌≤◌, ◌^◌, ◌+◌, ◌==◌, ℕ, Bool, true, false, List, [], ◌∷◌, ◌++◌, ap, append_assoc, arith, length, map, refl, subst, suc, sym, zero, ◌∙◌}
 use Rattle.std.specs.Prelude.{None, Some, reverse, slice_get, slice_index_or}
 use Rattle.std.proofs.lemmas.Option.{same_Some}
 use Rattle.std.proofs.lemmas.List.{length-append, map-append, nil_from_length, reverse-append}
@@ -109,3 +109,8 @@ module _ (all_files : List FileDescriptorProto) (all_answers : List InterpretedF
       → reverse made ≡ entries_of all_files all_answers
   all_made files answers made none are =
       sym (are.behind ∙ ap (λ (fs : List FileDescriptorProto). entries_of fs answers ++ reverse made) (nil_from_length files (are.same ∙ none)))
+
+-- A list that isn't empty has something.
+pub not_none : {X : Type 0} (xs : List X) (empty : Bool) → empty ≡ false → empty ≡ (length xs == 0) → xs ≡ [] → ⊥
+not_none xs empty some is none =
+    let no : false ≡ true = sym some ∙ (is ∙ ap (λ (n : ℕ). n == 0) (ap length none)) in cc

@@ -3,7 +3,7 @@ use Rattle.std.specs.Prelude.{◌≡◌, ◌⊎◌, ⊤, ℕ, List}
 use Rattle.protox_file_options.specs.declared.answer.InterpretedFile.{InterpretedFile}
 use Rattle.protox_link.specs.declared.set.LinkedSet.{LinkedSet}
 use Rattle.protox_link_bytes.specs.Given.{GivenFile, texts}
-use Rattle.protox_link_bytes.specs.Outcomes.{AreRefused, IsLinking}
+use Rattle.protox_link_bytes.specs.Outcomes.{AreLinkable, AreRefused, IsLinking}
 use Rattle.protox_link_bytes.specs.declared.failure.LinkBytesFailure.{LinkBytesFailure}
 use Rattle.protox_link_bytes.specs.declared.failure.LinkBytesFailure.TheVariants.{Refused, TooLarge, NotAFloat, OutOfMemory}
 use Rattle.protox_link_options.specs.Options.{AreRight, AreWrongOptions}
@@ -44,3 +44,8 @@ HasNoOptionSet sources (Refused bytes) = AreRefusedWithOptions sources bytes.ite
 HasNoOptionSet sources TooLarge = IsLargeOptionSet sources
 HasNoOptionSet sources NotAFloat = ⊥
 HasNoOptionSet sources OutOfMemory = ⊤
+
+-- The sources can be linked, and of the set that linking makes of them the options are right.
+pub record AreLinkableWithOptions (sources : List GivenFile) : Type 0 where
+  pub linkable : AreLinkable sources
+  pub right : (set : LinkedSet) → IsLinking sources set → (answers : List InterpretedFile) × AreRight set.files.items answers

@@ -2,9 +2,10 @@
 
 ghost use Rattle.std.specs.Prelude.{◌≡◌, [], All, IfErr, IfOk, List, MatchOption};
 ghost use Rattle.protox_link_bytes.specs.Given.{GivenFile, given};
-ghost use Rattle.protox_link_bytes.specs.Outcomes.{IsLinking};
+ghost use Rattle.protox_file_options.specs.declared.answer.InterpretedFile.{InterpretedFile as AnInterpretedFile};
+ghost use Rattle.protox_link_bytes.specs.Outcomes.{IsLinking, IsNoRefusal, IsWant};
 ghost use Rattle.protox_link_options.specs.Options.{AreRight, AreWrongUses, IsOptionFailure};
-ghost use Rattle.protox_link_options.specs.OptionSets.{HasNoOptionSet, IsOptionSet};
+ghost use Rattle.protox_link_options.specs.OptionSets.{AreLinkableWithOptions, HasNoOptionSet, IsOptionSet};
 ghost use Rattle.protox_link_records.specs.LinkPlaces.{IsSorted};
 ghost use Rattle.protox_link_records.specs.LinkRecords.{texts};
 ghost use Rattle.protox_option_checks.specs.Checks.{check_faults};
@@ -50,6 +51,7 @@ fn read_files(
     requires { All IsSorted files.now }
     ensures right { IfOk result (λ answers. AreRight files.now answers.items) }
     ensures wrong { IfErr result (IsOptionFailure (texts sources.now) files.now) }
+    ensures only { (answers : List AnInterpretedFile) → AreRight files.now answers → IfErr result IsWant }
 {
     let Ok(resolver) = Resolver::new(alloc, files) else {
         return Err(LinkSourcesFailure::OutOfMemory);
@@ -79,6 +81,7 @@ fn spelled(
         → IfOk result (λ bytes. IsOptionSet sources bytes.items) }
     ensures without { (sources : List GivenFile) → IsLinking sources set
         → IfErr result (HasNoOptionSet sources) }
+    ensures only { IfErr result IsNoRefusal }
 {
     match set_bytes(alloc, set, answers) {
         Ok(bytes) => Ok(bytes),
@@ -98,6 +101,8 @@ fn read_and_spell(
     requires sorted { All IsSorted set.files.items }
     ensures set { IfOk result (λ bytes. IsOptionSet (given sources.now) bytes.items) }
     ensures without { IfErr result (HasNoOptionSet (given sources.now)) }
+    ensures only { (answers : List AnInterpretedFile) → AreRight set.files.items answers
+        → IfErr result IsNoRefusal }
 {
     match read_files(alloc, sources, set.files.as_slice()) {
         Ok(answers) => spelled(alloc, set, answers),
@@ -129,6 +134,8 @@ pub fn link_with_options(
     ensures set { IfOk result (λ bytes. IsOptionSet (given files.now) bytes.items) }
     // Else something is wrong, and the records tell what; or the set has no bytes.
     ensures without { IfErr result (HasNoOptionSet (given files.now)) }
+    // Files that can be linked, and whose options are right, are not refused.
+    ensures only { AreLinkableWithOptions (given files.now) → IfErr result IsNoRefusal }
 {
     match link_sources(alloc, files) {
         Ok(set) => read_and_spell(alloc, files, set),

@@ -1,5 +1,5 @@
 -- How what is wrong with the files of a list stands as bytes: a record for each fault of syntax, or for each error of linking.
-use Rattle.std.specs.Prelude.{◌≡◌, ℕ, Bool, List, [], ◌∷◌, ◌++◌, map}
+use Rattle.std.specs.Prelude.{ℕ, Bool, List, [], ◌∷◌, ◌++◌, map}
 use Rattle.std.specs.List.{flat_map}
 use Rattle.protox_descriptor.specs.declared.descriptor.FileDescriptorProto.{FileDescriptorProto}
 use Rattle.protox_fault.specs.declared.error.ParseErrorKind.{ParseErrorKind}

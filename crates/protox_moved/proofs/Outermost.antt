@@ -1,12 +1,10 @@
 -- Of sorted moves, those that begin neither at nor below the start of one before them say the same as
 -- all. The last of them that begins before a path is the only one that it can lie below.
 use Rattle.std.proofs.Common.{◌≡◌, ℕ, zero, suc, ◌+◌, ◌-◌, ◌<◌, ◌≤◌, Bool, true, false, cond, List, [], ◌∷◌, length, get_or, refl, sym, ap, ◌∙◌, arith, inl, inr}
-use Rattle.std.specs.Prelude.{ℤ, ⊤, ◌||◌, Option, Some, if◌then◌else◌}
+use Rattle.std.specs.Prelude.{ℤ, ⊤, ◌||◌, Option, Some}
 use Rattle.std.specs.Cmp.{both_ways, IsStrictWeakOrder}
-use Rattle.std.specs.Cmp.Lexicographic.{pointwise}
 use Rattle.std.specs.Cmp.Rules.{signed_items}
 use Rattle.std.specs.List.{AllWithin, dedup, dedup_from, list_any}
-use Rattle.std.specs.Ordering.{int_eq}
 use Rattle.std.proofs.lemmas.Bool.{cases_Bool, cases_lt, false≢true}
 use Rattle.std.proofs.lemmas.List.{get_or_default}
 use Rattle.std.proofs.lemmas.List.Folds.{Any-from_list_any, list_any-from_Any}

@@ -2,3 +2,4 @@ pub mod Lists
 pub mod Reading
 pub mod Records
 pub mod Telling
+pub mod NoneTold

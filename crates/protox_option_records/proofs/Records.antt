@@ -1,8 +1,8 @@
 -- The record of a fault is that of what is wrong at its place.
-use Rattle.std.proofs.Common.{◌≡◌, ◌≢◌, ◌∙◌, ℕ, List, Option, [], Some, None, ap, refl, subst, sym}
+use Rattle.std.proofs.Common.{◌≡◌, ◌∙◌, ℕ, List, Option, Some, None, ap, refl, subst, sym}
 use Rattle.std.specs.Prelude.{slice_get}
 use Rattle.protox_descriptor.specs.declared.descriptor.options.UninterpretedOption.{UninterpretedOption}
-use Rattle.protox_file_options.specs.Outcomes.{AllSet, HasNoType, IsOutcome, IsSite, OneWrong, Outcome, Sets, Wrong, names_of}
+use Rattle.protox_file_options.specs.Outcomes.{AllSet, HasNoType, IsOutcome, IsSite, OneWrong, Outcome, Wrong, names_of}
 use Rattle.protox_file_options.specs.Places.{Place}
 use Rattle.protox_file_options.specs.declared.answer.OptionsFault.{OptionsFault}
 use Rattle.protox_file_options.specs.declared.answer.PlaceFault.{PlaceFault}
@@ -11,8 +11,8 @@ use Rattle.protox_interpret.specs.Statements.{IsFirstFault}
 use Rattle.protox_interpret.specs.declared.fault.StatementFault.{StatementFault}
 use Rattle.protox_interpret.specs.declared.site.Site.{Site}
 use Rattle.protox_name_tree.specs.Tree.{number_of}
-use Rattle.protox_option_records.specs.OptionRecords.{AStatement, FileAt, IsRecordAt, IsTextOf, NoType, no_type_record, statement_record}
-use Rattle.protox_option_records.specs.inner.Telling.{IsHere, IsRecordOf, OfNoType, OfNothing, OfStatement}
+use Rattle.protox_option_records.specs.OptionRecords.{AStatement, FileAt, IsRecordAt, NoType, statement_record}
+use Rattle.protox_option_records.specs.inner.Telling.{IsRecordOf, OfNoType, OfNothing, OfStatement}
 
 module _ (at : FileAt) (place : Place) where
   -- the fault that is told of what is wrong at the place

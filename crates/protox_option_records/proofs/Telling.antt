@@ -1,7 +1,6 @@
 -- What a teller tells at places one behind another.
-use Rattle.std.proofs.Common.{◌≡◌, ◌≢◌, ◌∙◌, ℕ, ◌+◌, List, [], ◌∷◌, ◌++◌, Some, None, ap, append-nil, append_assoc, drop, map, refl, subst, sym, unsigned_abs}
+use Rattle.std.proofs.Common.{◌≡◌, ◌≢◌, ◌∙◌, ℕ, ◌+◌, List, [], ◌∷◌, ◌++◌, ap, append-nil, append_assoc, drop, map, refl, subst, sym, unsigned_abs}
 use Rattle.std.specs.List.{FoldsTo}
-use Rattle.std.specs.Prelude.{slice_get}
 use Rattle.protox_file_options.proofs.Each.{Each}
 use Rattle.protox_file_options.proofs.Paths.{Apart}
 use Rattle.protox_file_options.specs.Interpreted.{Taken, faults_at, faults_of}

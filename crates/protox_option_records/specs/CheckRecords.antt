@@ -1,5 +1,5 @@
 -- The records of what options ask of what has them.
-use Rattle.std.specs.Prelude.{ℕ, List, [], Option, Some, None, slice_get}
+use Rattle.std.specs.Prelude.{ℕ, List, Option, Some, slice_get}
 use Rattle.std.specs.List.{flat_map}
 use Rattle.protox_descriptor.specs.declared.descriptor.FileDescriptorProto.{FileDescriptorProto}
 use Rattle.protox_link_records.specs.LinkPlaces.{no_place, place_in}

@@ -7,6 +7,7 @@ ghost use Rattle.protox_link.specs.Known.{IsKnownOf};
 ghost use Rattle.protox_link_records.specs.LinkPlaces.{IsSorted};
 ghost use Rattle.protox_link_records.specs.LinkRecords.{texts};
 ghost use Rattle.protox_option_records.specs.OptionRecords.{AreRead, AreRecordsAt, IsFileRead, text_at};
+ghost use Rattle.protox_set_options.specs.Read.{AreInterpreted};
 ghost use Rattle.protox_set_options.specs.ReadBack.{AreReadBack};
 
 use crate::record::Subject;
@@ -132,6 +133,9 @@ pub fn read_options(
     // Without a record nothing is wrong.
     ensures none { IfOk result (λ read. read.records.items ≡ []
         → All (λ answer. answer.faults.items ≡ []) read.files.items) }
+    // Where all statements are right, there is no record.
+    ensures only { (answers : List InterpretedFile) → AreInterpreted files.now answers
+        → All (λ answer. answer.faults.items ≡ []) answers → IfOk result (λ read. read.records.items ≡ []) }
 {
     let mut read = ReadOptions {
         files: Vec::new(alloc),

@@ -1,12 +1,12 @@
 -- What is interpreted is read back.
-use Rattle.std.proofs.Common.{◌≡◌, ℕ, ◌+◌, suc, zero, List, [], ◌∷◌, ◌++◌, map, arith, refl, subst, sym, ◌∙◌}
+use Rattle.std.proofs.Common.{◌≡◌, ℕ, ◌+◌, suc, zero, List, [], ◌∷◌, ◌++◌, arith, refl, subst, sym, ◌∙◌}
 use Rattle.std.specs.Prelude.{All, slice_index_or}
 use Rattle.std.proofs.lemmas.List.Elements.{All-map}
 use Rattle.protox_descriptor.specs.declared.descriptor.FileDescriptorProto.{FileDescriptorProto}
 use Rattle.protox_encode_linked.specs.Setting.{set_at}
-use Rattle.protox_file_options.specs.Interpreted.{IsInterpreted, Taken, bytes_of, faults_at, faults_of}
-use Rattle.protox_file_options.specs.Outcomes.{IsOutcome, Outcome, Sets, Wrong, AllSet, HasNoType, OneWrong, names_of}
-use Rattle.protox_file_options.specs.Places.{Place, key_of, places_of}
+use Rattle.protox_file_options.specs.Interpreted.{Taken, bytes_of, faults_at, faults_of}
+use Rattle.protox_file_options.specs.Outcomes.{IsOutcome, Outcome, AllSet, HasNoType, OneWrong, names_of}
+use Rattle.protox_file_options.specs.Places.{Place, key_of}
 use Rattle.protox_file_options.specs.declared.answer.InterpretedFile.{InterpretedFile}
 use Rattle.protox_name_tree.specs.Tree.{Names}
 use Rattle.protox_reading.proofs.Options.{options_read_back}

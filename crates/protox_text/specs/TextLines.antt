@@ -1,5 +1,5 @@
 -- Lines of the text format of Protocol Buffers.
-use Rattle.std.specs.Prelude.{ℕ, zero, suc, ◌+◌, min, ℤ, Bool, true, false, List, [], ◌∷◌, ◌++◌, codes, flat_map, Option, Some, None}
+use Rattle.std.specs.Prelude.{ℕ, zero, suc, ◌+◌, min, ℤ, Bool, true, false, List, [], ◌++◌, codes, flat_map, Option, Some, None}
 use Rattle.std.specs.Fmt.{decimal, signed_decimal}
 use Rattle.protox_descriptor.specs.Literal.{printed_byte}
 

@@ -7,3 +7,4 @@ pub mod Sound
 pub mod Complete
 pub mod Steps
 pub mod Stops
+pub mod SameShapes

@@ -193,7 +193,8 @@ go_open angle in_list all_frames frames left more old new few open_now b pushed 
         (subst (λ (f : List Frame). Reads levels turn.Field f others rest) open_now reads);
     back = λ others all follows reads.
         let inner = back.back_open 100 angle in_list frames (b.piece ∷ others) others b.piece all refl b.is reads in
-        (inner.1.0, subst (λ (f : List Frame). Reads 100 turn.Field f others inner.1.0) (sym open_now) inner.1.1);
+        let outer = inner.1 in
+        (outer.0, outer.1, subst (λ (f : List Frame). Reads 100 turn.Field f others outer.0) (sym open_now) outer.2);
   };
   less = less_one left more b.piece 0 0 b.cut (omega arith);
 }
@@ -300,7 +301,7 @@ goes_none here = record {
   steps = no_steps here.steps;
   deep = λ h. h;
   on = λ levels high others rest reads. reads;
-  back = λ others all follows reads. (all, reads);
+  back = λ others all follows reads. (all, refl, reads);
 }
 
 pub goes_on : (here there last : Spot) → Goes here there → Goes there last → Goes here last
@@ -318,5 +319,6 @@ goes_on here there last a b = record {
       let first = a.back (b.taken ++ others) all
       (subst (λ (p : List Piece). Follows p (b.taken ++ others)) (sym b.cut) (follows_append b.taken last.left others follows))
       (subst (λ (p : List Piece). Reads 100 here.turn here.frames p all) (append_assoc a.taken b.taken others) reads) in
-      b.back others first.0 follows first.1;
+      let second = b.back others first.0 follows first.2 in
+      (second.0, first.1 ∙ (ap (λ (s : List Step). a.added ++ s) second.1 ∙ sym (append_assoc a.added b.added second.0)), second.2);
 }

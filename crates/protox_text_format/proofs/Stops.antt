@@ -3,7 +3,7 @@ use Rattle.std.proofs.Common.{◌≡◌, ◌≢◌, ℕ, ◌+◌, ◌-◌, ◌<�
 use Rattle.std.specs.Bool.{beq}
 use Rattle.std.proofs.Math.Seq.{drop-append_seam}
 use Rattle.protox_text_format.specs.Failure.{Begins as BeginsMessage, IsFirst, IsNumber, IsTrue, StopsAt}
-use Rattle.protox_text_format.specs.Spelling.{AMessage, Close, CloseList, IsName, IsWord, Name, Open, Scalar, Spells, Stands, Step}
+use Rattle.protox_text_format.specs.Spelling.{AMessage, Close, CloseList, IsName, IsWord, Name, Open, Scalar, Spells, SpellsOnly, Stands, Step}
 use Rattle.protox_text_format.specs.Spelling.IsColon.{NoColon}
 use Rattle.protox_text_format.specs.Spelling.IsName.{OfField}
 use Rattle.protox_text_format.specs.Spelling.IsScalar.{Plain}
@@ -219,13 +219,19 @@ stuck_deep angle in_list frames left more items many b = record {
       let less = back.back_open 100 angle in_list frames others rest.0 b.piece steps rest.1 b.is reads in
       let few = less.0 in
       omega (arith, few, many);
-  tells = λ deep.
-      let e = field_end 101 (frame angle in_list ∷ frames) in (
-        e.0,
-        Open ∷ e.1,
-        subst (λ (p : List Piece). Reads 101 (turn.Value in_list) frames (take 1 p ++ e.0) (Open ∷ e.1)) (sym b.cut)
-            (AtOpen angle in_list frames b.piece e.0 e.1 (omega (arith, deep)) b.is e.2),
-      );
+  tells = λ deep. (
+    λ piece n. let e = behind_end 100 in_list frames in (
+      e.0,
+      Scalar (piece ∷ []) ∷ e.1,
+      AtScalar in_list frames (piece ∷ e.0) (piece ∷ []) e.0 e.1 refl (Plain piece (number_plain piece n)) e.2,
+    ),
+    let e = field_end 101 (frame angle in_list ∷ frames) in (
+      e.0,
+      Open ∷ e.1,
+      subst (λ (p : List Piece). Reads 101 (turn.Value in_list) frames (take 1 p ++ e.0) (Open ∷ e.1)) (sym b.cut)
+          (AtOpen angle in_list frames b.piece e.0 e.1 (omega (arith, deep)) b.is e.2),
+    ),
+  );
 }
 
 -- ---- what that says of all pieces
@@ -247,9 +253,10 @@ module _ (pieces wrong : List Piece) (there : Spot) (kind : TextFaultKind)
   comes : (more all : List Piece) (steps : List Step) → all ≡ before ++ more → Follows wrong more → Spells AMessage 100 all steps
       → (rest : List Step) × Reads 100 there.turn there.frames (stuck.before ++ more) rest
   comes more all steps e follows is =
-      goes.back (stuck.before ++ more) steps
+      let b = goes.back (stuck.before ++ more) steps
       (subst (λ (p : List Piece). Follows p (stuck.before ++ more)) (sym stuck.cut) (follows_append stuck.before wrong more follows))
-      (subst (λ (p : List Piece). Reads 100 turn.Field [] p steps) (e ∙ split more) (message_reads 100 all steps is))
+      (subst (λ (p : List Piece). Reads 100 turn.Field [] p steps) (e ∙ split more) (message_reads 100 all steps is)) in
+      (b.0, b.2)
 
   leads : (levels : ℕ) (more all : List Piece) (rest : List Step) → 100 ≤ levels → all ≡ before ++ more
       → Reads levels there.turn there.frames (stuck.before ++ more) rest → Spells AMessage levels all (goes.added ++ rest)
@@ -300,11 +307,15 @@ is_told NoValue wrong pieces there goes stuck =
     goes_with pieces wrong there NoValue goes stuck IsNumber (stuck.tells (few pieces wrong there NoValue goes stuck))
 is_told TooDeep wrong pieces there goes stuck =
     let front = before pieces wrong there TooDeep goes stuck in
-    let told = stuck.tells (few pieces wrong there TooDeep goes stuck) in (
-      told.0,
-      goes.added ++ told.1,
-      leads pieces wrong there TooDeep goes stuck 101 (take 1 wrong ++ told.0)
-          ((front ++ take 1 wrong) ++ told.0) told.1 (omega arith) (append_assoc front (take 1 wrong) told.0) told.2,
+    let told = stuck.tells (few pieces wrong there TooDeep goes stuck) in
+    let deep = told.1 in (
+      goes_with pieces wrong there TooDeep goes stuck IsNumber told.0,
+      (
+        deep.0,
+        goes.added ++ deep.1,
+        leads pieces wrong there TooDeep goes stuck 101 (take 1 wrong ++ deep.0)
+            ((front ++ take 1 wrong) ++ deep.0) deep.1 (omega arith) (append_assoc front (take 1 wrong) deep.0) deep.2,
+      ),
     )
 
 -- The piece is the first with which no message goes on.
@@ -326,6 +337,11 @@ is_first pieces wrong there kind piece goes stuck e =
       is_true = subst (λ (p : List Piece). IsTrue kind p (drop piece pieces)) (sym taken)
           (subst (λ (p : List Piece). IsTrue kind front p) (sym left) (is_told kind wrong pieces there goes stuck));
     }
+
+-- Pieces spell one message at most.
+pub is_only : (pieces : List Piece) (steps : List Step) → Spells AMessage 100 pieces steps → SpellsOnly AMessage 100 pieces steps
+is_only pieces steps is = λ others also.
+    back.one_way 100 turn.Field [] pieces steps others (message_reads 100 pieces steps is) (message_reads 100 pieces others also)
 
 -- What is read to its end is a message.
 pub is_spelled : (pieces : List Piece) (there : Spot) → Goes (place turn.Field [] pieces []) there → there.turn ≡ turn.Field

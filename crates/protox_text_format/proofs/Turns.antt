@@ -1,9 +1,10 @@
 -- What the next piece tells of what is read: there is one way on.
 use Rattle.std.proofs.Common.{◌≡◌, ◌≢◌, ◌⊎◌, inl, inr, ℕ, ◌<◌, Bool, true, false, List, [], ◌∷◌, ◌++◌, length, refl, sym, ◌∙◌, ap, subst, lit<}
 use Rattle.std.specs.Prelude.{All}
+use Rattle.std.proofs.lemmas.List.{append_cancel_right}
 use Rattle.std.proofs.lemmas.List.Elements.{All-head}
 use Rattle.protox_text_format.specs.Failure.{IsNumber}
-use Rattle.protox_text_format.specs.Spelling.{IsColon, IsName, IsPlain, IsScalar, IsString, IsWord, Stands, Step}
+use Rattle.protox_text_format.specs.Spelling.{Close, CloseList, IsColon, IsName, IsPlain, IsScalar, IsString, IsWord, Name, Open, OpenList, Scalar, Stands, Step}
 use Rattle.protox_text_format.specs.Spelling.IsColon.{AColon, NoColon}
 use Rattle.protox_text_format.specs.Spelling.IsName.{OfExtension, OfField, OfType}
 use Rattle.protox_text_format.specs.Spelling.IsScalar.{Negative, Plain, Strings}
@@ -142,27 +143,42 @@ held_no_colon levels frames pieces more all piece (AtOne fs x rest reads) e colo
     no_value_at levels false frames pieces more all piece 58 reads e colon (above 58 45 (lit< tt)) (below 58 123 (lit< tt)) (below 58 60 (lit< tt))
 
 colon_same : (has has' : Bool) (colon colon' x y : List Piece) → IsColon has colon → IsColon has' colon' → colon ++ x ≡ colon' ++ y
-    → (has ≡ false → NotFirst (Stands 58) x) → (has' ≡ false → NotFirst (Stands 58) y) → x ≡ y
-colon_same has has' colon colon' x y NoColon NoColon e nx ny = e
+    → (has ≡ false → NotFirst (Stands 58) x) → (has' ≡ false → NotFirst (Stands 58) y) → (has ≡ has') × (x ≡ y)
+colon_same has has' colon colon' x y NoColon NoColon e nx ny = (refl, e)
 colon_same has has' colon colon' x y NoColon (AColon k is) e nx ny = absurd (not_first (Stands 58) k x y (nx refl) e is)
 colon_same has has' colon colon' x y (AColon k is) NoColon e nx ny = absurd (not_first (Stands 58) k y x (ny refl) (sym e) is)
-colon_same has has' colon colon' x y (AColon k is) (AColon k' is') e nx ny = tails k k' x y e
+colon_same has has' colon colon' x y (AColon k is) (AColon k' is') e nx ny = (refl, tails k k' x y e)
 
 -- ---- from what is read to what is read next
 
-to_reads : (levels : ℕ) (t : Turn) (frames : List Frame) (x y : List Piece) (rest : List Step) → x ≡ y
-    → Reads levels t frames x rest → (rest : List Step) × Reads levels t frames y rest
-to_reads levels t frames x y rest e reads = (rest, subst (λ (ps : List Piece). Reads levels t frames ps rest) e reads)
+-- The steps `all` begin with these, and what is left is read in the others.
+abbrev Back : ℕ → Turn → List Frame → List Piece → List Step → List Step → Type 0
+Back levels t frames more all added = (rest : List Step) × (all ≡ added ++ rest) × Reads levels t frames more rest
+
+to_reads : (levels : ℕ) (t : Turn) (frames : List Frame) (x y : List Piece) (all added rest : List Step) → all ≡ added ++ rest → x ≡ y
+    → Reads levels t frames x rest → Back levels t frames y all added
+to_reads levels t frames x y all added rest es e reads = (rest, es, subst (λ (ps : List Piece). Reads levels t frames ps rest) e reads)
+
+name_step : (n m : List Piece) (h k : Bool) (rest : List Step) → n ≡ m → h ≡ k
+    → ◌≡◌ {A = List Step} (Name n h ∷ rest) ((Name m k ∷ []) ++ rest)
+name_step n m h k rest en eh = cc
+
+scalar_step : (v w : List Piece) (rest : List Step) → v ≡ w → ◌≡◌ {A = List Step} (Scalar v ∷ rest) ((Scalar w ∷ []) ++ rest)
+scalar_step v w rest e = cc
+
+-- values in front of the same
+value_same : (v w x y : List Piece) → v ++ x ≡ w ++ y → x ≡ y → v ≡ w
+value_same v w x y e same = append_cancel_right v w y (ap (λ (p : List Piece). v ++ p) (sym same) ∙ e)
 
 pub back_name : (levels : ℕ) (frames : List Frame) (pieces name colon more : List Piece) (has : Bool) (all : List Step)
     → pieces ≡ name ++ (colon ++ more) → IsName name → IsColon has colon → (has ≡ false → NotFirst (Stands 58) more)
-    → Reads levels turn.Field frames pieces all → (rest : List Step) × Reads levels turn.Held frames more rest
+    → Reads levels turn.Field frames pieces all → Back levels turn.Held frames more all (Name name has ∷ [])
 back_name levels frames pieces name colon more has all cut n k none AtEnd = absurd (name_some name (colon ++ more) n cut)
 back_name levels frames pieces name colon more has all cut n k none (AtName fs ps has' name' colon' x rest cut' n' k' reads) =
     let names = name_same name' name (colon' ++ x) (colon ++ more) n' n (sym cut' ∙ cut) in
-    to_reads levels turn.Held frames x more rest
-    (colon_same has' has colon' colon x more k' k names.1
-    (λ h. none_first (Stands 58) x (λ piece others e is. held_no_colon levels frames x others rest piece reads e is)) none) reads
+    let colons = colon_same has' has colon' colon x more k' k names.1
+    (λ h. none_first (Stands 58) x (λ piece others e is. held_no_colon levels frames x others rest piece reads e is)) none in
+    to_reads levels turn.Held frames x more all (Name name has ∷ []) rest (name_step name' name has' has rest names.0 colons.0) colons.1 reads
 back_name levels frames pieces name colon more has all cut n k none (AtClose angle in_list fs first x rest closes reads) =
     absurd (no_name_at name (colon ++ more) x first (close_of angle) n (sym cut) closes (close_bracket angle))
 
@@ -173,13 +189,14 @@ frame_list a b c d xs ys e =
 
 pub back_close : (levels : ℕ) (angle in_list : Bool) (frames all_frames : List Frame) (pieces more : List Piece) (mark : Piece) (all : List Step)
     → all_frames ≡ frame angle in_list ∷ frames → pieces ≡ mark ∷ more → Stands (close_of angle) mark
-    → Reads levels turn.Field all_frames pieces all → (rest : List Step) × Reads levels (turn.After in_list) frames more rest
+    → Reads levels turn.Field all_frames pieces all → Back levels (turn.After in_list) frames more all (Close ∷ [])
 back_close levels angle in_list frames all_frames pieces more mark all ef e is AtEnd = cc
 back_close levels angle in_list frames all_frames pieces more mark all ef e is (AtName fs ps has name colon x rest cut n k reads) =
     absurd (no_name_at name (colon ++ x) more mark (close_of angle) n (sym cut ∙ e) is (close_bracket angle))
 back_close levels angle in_list frames all_frames pieces more mark all ef e is (AtClose angle' in_list' fs first x rest closes reads) =
     let same = frame_list angle' in_list' angle in_list fs frames ef in (
       rest,
+      refl,
       subst (λ (b : Bool). Reads levels (turn.After b) frames more rest) same.0
           (subst (λ (f : List Frame). Reads levels (turn.After in_list') f more rest) same.1
           (subst (λ (p : List Piece). Reads levels (turn.After in_list') fs p rest) (tails first mark x more e) reads)),
@@ -187,45 +204,47 @@ back_close levels angle in_list frames all_frames pieces more mark all ef e is (
 
 pub back_list : (levels : ℕ) (frames : List Frame) (pieces more : List Piece) (mark : Piece) (all : List Step)
     → pieces ≡ mark ∷ more → Stands 91 mark
-    → Reads levels turn.Held frames pieces all → (rest : List Step) × Reads levels turn.First frames more rest
+    → Reads levels turn.Held frames pieces all → Back levels turn.First frames more all (OpenList ∷ [])
 back_list levels frames pieces more mark all e is (AtList fs first x rest is' reads) =
-    to_reads levels turn.First frames x more rest (tails first mark x more e) reads
+    to_reads levels turn.First frames x more all (OpenList ∷ []) rest refl (tails first mark x more e) reads
 back_list levels frames pieces more mark all e is (AtOne fs x rest reads) =
     absurd (no_value_at levels false frames pieces more all mark 91 reads e is (above 91 45 (lit< tt)) (below 91 123 (lit< tt)) (above 91 60 (lit< tt)))
 
 pub back_one : (levels : ℕ) (frames : List Frame) (pieces : List Piece) (all : List Step) → NotFirst (Stands 91) pieces
-    → Reads levels turn.Held frames pieces all → (rest : List Step) × Reads levels (turn.Value false) frames pieces rest
+    → Reads levels turn.Held frames pieces all → Back levels (turn.Value false) frames pieces all []
 back_one levels frames pieces all not (AtList fs first x rest is reads) = absurd (not_first (Stands 91) first pieces x not refl is)
-back_one levels frames pieces all not (AtOne fs x rest reads) = (all, reads)
+back_one levels frames pieces all not (AtOne fs x rest reads) = (all, refl, reads)
 
 pub back_none : (levels : ℕ) (frames : List Frame) (pieces more : List Piece) (mark : Piece) (all : List Step)
     → pieces ≡ mark ∷ more → Stands 93 mark
-    → Reads levels turn.First frames pieces all → (rest : List Step) × Reads levels (turn.After false) frames more rest
+    → Reads levels turn.First frames pieces all → Back levels (turn.After false) frames more all (CloseList ∷ [])
 back_none levels frames pieces more mark all e is (AtNone fs first x rest is' reads) =
-    to_reads levels (turn.After false) frames x more rest (tails first mark x more e) reads
+    to_reads levels (turn.After false) frames x more all (CloseList ∷ []) rest refl (tails first mark x more e) reads
 back_none levels frames pieces more mark all e is (AtFirst fs x rest reads) =
     absurd (no_value_at levels true frames pieces more all mark 93 reads e is (above 93 45 (lit< tt)) (below 93 123 (lit< tt)) (above 93 60 (lit< tt)))
 
 pub back_first : (levels : ℕ) (frames : List Frame) (pieces : List Piece) (all : List Step) → NotFirst (Stands 93) pieces
-    → Reads levels turn.First frames pieces all → (rest : List Step) × Reads levels (turn.Value true) frames pieces rest
+    → Reads levels turn.First frames pieces all → Back levels (turn.Value true) frames pieces all []
 back_first levels frames pieces all not (AtNone fs first x rest is reads) = absurd (not_first (Stands 93) first pieces x not refl is)
-back_first levels frames pieces all not (AtFirst fs x rest reads) = (all, reads)
+back_first levels frames pieces all not (AtFirst fs x rest reads) = (all, refl, reads)
 
 pub back_scalar : (levels : ℕ) (in_list : Bool) (frames : List Frame) (pieces value more : List Piece) (all : List Step)
     → pieces ≡ value ++ more → IsScalar value → (All IsString value → NotFirst IsString more)
     → Reads levels (turn.Value in_list) frames pieces all
-    → (rest : List Step) × Reads levels (turn.After in_list) frames more rest
+    → Back levels (turn.After in_list) frames more all (Scalar value ∷ [])
 back_scalar levels in_list frames pieces value more all cut scalar ends (AtScalar b fs ps value' x rest cut' scalar' reads) =
-    to_reads levels (turn.After in_list) frames x more rest
-    (scalar_same value' value x more scalar' scalar
+    let both = sym cut' ∙ cut in
+    let behind : x ≡ more = scalar_same value' value x more scalar' scalar
     (λ strings. none_first IsString x (λ piece others e is. no_after_string levels in_list frames x others rest piece reads e is))
-    ends (sym cut' ∙ cut)) reads
+    ends both in
+    to_reads levels (turn.After in_list) frames x more all (Scalar value ∷ []) rest
+    (scalar_step value' value rest (value_same value' value x more both behind)) behind reads
 back_scalar levels in_list frames pieces value more all cut scalar ends (AtOpen angle b fs first x rest less opens reads) =
     absurd (no_scalar_at value more x first (open_of angle) scalar (sym cut) opens (open_minus angle))
 
 pub back_open : (levels : ℕ) (angle in_list : Bool) (frames : List Frame) (pieces more : List Piece) (mark : Piece) (all : List Step)
     → pieces ≡ mark ∷ more → Stands (open_of angle) mark → Reads levels (turn.Value in_list) frames pieces all
-    → (length frames < levels) × ((rest : List Step) × Reads levels turn.Field (frame angle in_list ∷ frames) more rest)
+    → (length frames < levels) × Back levels turn.Field (frame angle in_list ∷ frames) more all (Open ∷ [])
 back_open levels angle in_list frames pieces more mark all e is (AtScalar b fs ps value x rest cut scalar reads) =
     absurd (no_scalar_at value x more mark (open_of angle) scalar (sym cut ∙ e) is (open_minus angle))
 back_open levels angle in_list frames pieces more mark all e is (AtOpen angle' b fs first x rest less opens reads) =
@@ -233,6 +252,7 @@ back_open levels angle in_list frames pieces more mark all e is (AtOpen angle' b
       less,
       (
         rest,
+        refl,
         subst (λ (a : Bool). Reads levels turn.Field (frame a in_list ∷ frames) more rest) same
             (subst (λ (p : List Piece). Reads levels turn.Field (frame angle' in_list ∷ frames) p rest) (tails first mark x more e) reads),
       ),
@@ -240,9 +260,9 @@ back_open levels angle in_list frames pieces more mark all e is (AtOpen angle' b
 
 pub back_mark : (levels : ℕ) (frames : List Frame) (pieces more : List Piece) (mark : Piece) (all : List Step)
     → pieces ≡ mark ∷ more → Stands 59 mark ⊎ Stands 44 mark
-    → Reads levels (turn.After false) frames pieces all → (rest : List Step) × Reads levels turn.Field frames more rest
+    → Reads levels (turn.After false) frames pieces all → Back levels turn.Field frames more all []
 back_mark levels frames pieces more mark all e is (AtMark fs first x rest is' reads) =
-    to_reads levels turn.Field frames x more rest (tails first mark x more e) reads
+    to_reads levels turn.Field frames x more all [] rest refl (tails first mark x more e) reads
 back_mark levels frames pieces more mark all e (inl is) (AtNoMark fs x rest reads) =
     absurd (no_field_at levels frames pieces more all mark 59 reads e is (below 59 91 (lit< tt)) (below 59 125 (lit< tt)) (below 59 62 (lit< tt)))
 back_mark levels frames pieces more mark all e (inr is) (AtNoMark fs x rest reads) =
@@ -250,26 +270,26 @@ back_mark levels frames pieces more mark all e (inr is) (AtNoMark fs x rest read
 
 pub back_no_mark : (levels : ℕ) (frames : List Frame) (pieces : List Piece) (all : List Step) → NotFirst (Stands 59) pieces
     → NotFirst (Stands 44) pieces → Reads levels (turn.After false) frames pieces all
-    → (rest : List Step) × Reads levels turn.Field frames pieces rest
+    → Back levels turn.Field frames pieces all []
 back_no_mark levels frames pieces all a b (AtMark fs first x rest (inl is) reads) = absurd (not_first (Stands 59) first pieces x a refl is)
 back_no_mark levels frames pieces all a b (AtMark fs first x rest (inr is) reads) = absurd (not_first (Stands 44) first pieces x b refl is)
-back_no_mark levels frames pieces all a b (AtNoMark fs x rest reads) = (all, reads)
+back_no_mark levels frames pieces all a b (AtNoMark fs x rest reads) = (all, refl, reads)
 
 pub back_comma : (levels : ℕ) (frames : List Frame) (pieces more : List Piece) (mark : Piece) (all : List Step)
     → pieces ≡ mark ∷ more → Stands 44 mark
-    → Reads levels (turn.After true) frames pieces all → (rest : List Step) × Reads levels (turn.Value true) frames more rest
+    → Reads levels (turn.After true) frames pieces all → Back levels (turn.Value true) frames more all []
 back_comma levels frames pieces more mark all e is (AtComma fs first x rest is' reads) =
-    to_reads levels (turn.Value true) frames x more rest (tails first mark x more e) reads
+    to_reads levels (turn.Value true) frames x more all [] rest refl (tails first mark x more e) reads
 back_comma levels frames pieces more mark all e is (AtLast fs first x rest is' reads) =
     absurd (marks_differ mark 44 93 (below 44 93 (lit< tt)) is (same_first (Stands 93) first mark x more e is'))
 
 pub back_last : (levels : ℕ) (frames : List Frame) (pieces more : List Piece) (mark : Piece) (all : List Step)
     → pieces ≡ mark ∷ more → Stands 93 mark
-    → Reads levels (turn.After true) frames pieces all → (rest : List Step) × Reads levels (turn.After false) frames more rest
+    → Reads levels (turn.After true) frames pieces all → Back levels (turn.After false) frames more all (CloseList ∷ [])
 back_last levels frames pieces more mark all e is (AtComma fs first x rest is' reads) =
     absurd (marks_differ mark 93 44 (above 93 44 (lit< tt)) is (same_first (Stands 44) first mark x more e is'))
 back_last levels frames pieces more mark all e is (AtLast fs first x rest is' reads) =
-    to_reads levels (turn.After false) frames x more rest (tails first mark x more e) reads
+    to_reads levels (turn.After false) frames x more all (CloseList ∷ []) rest refl (tails first mark x more e) reads
 
 -- ---- where nothing can be read
 
@@ -323,3 +343,64 @@ number_first levels frames pieces more piece all n e (AtClose angle in_list fs f
 pub no_field_number : (levels : ℕ) (frames : List Frame) (piece : Piece) (more : List Piece) (all : List Step) → IsNumber piece
     → Reads levels turn.Field frames (piece ∷ more) all → ⊥
 no_field_number levels frames piece more all n reads = number_first levels frames (piece ∷ more) more piece all n refl reads
+
+-- ---- one way through a message
+
+nothing_left : (levels : ℕ) (frames : List Frame) (pieces : List Piece) (all : List Step) → frames ≡ [] → pieces ≡ []
+    → Reads levels turn.Field frames pieces all → all ≡ []
+nothing_left levels frames pieces all f e AtEnd = refl
+nothing_left levels frames pieces all f e (AtName fs ps has name colon x rest cut n k reads) =
+    absurd (name_some name (colon ++ x) n (sym e ∙ cut))
+nothing_left levels frames pieces all f e (AtClose angle in_list fs first x rest closes reads) = cc
+
+-- What is read is read in the same steps.
+pub one_way : (levels : ℕ) (t : Turn) (frames : List Frame) (pieces : List Piece) (all others : List Step)
+    → Reads levels t frames pieces all → Reads levels t frames pieces others → others ≡ all
+one_way levels t frames pieces all others AtEnd second = nothing_left levels frames pieces others refl refl second
+one_way levels t frames pieces all others (AtName fs ps has name colon more rest cut n k reads) second =
+    let b = back_name levels frames pieces name colon more has others cut n k
+    (λ h. none_first (Stands 58) more (λ piece left e is. held_no_colon levels frames more left rest piece reads e is)) second in
+    b.1 ∙ ap (λ (r : List Step). Name name has ∷ r) (one_way levels turn.Held frames more rest b.0 reads b.2)
+one_way levels t frames pieces all others (AtClose angle in_list fs mark more rest is reads) second =
+    let b = back_close levels angle in_list fs frames pieces more mark others refl refl is second in
+    b.1 ∙ ap (λ (r : List Step). Close ∷ r) (one_way levels (turn.After in_list) fs more rest b.0 reads b.2)
+one_way levels t frames pieces all others (AtList fs mark more rest is reads) second =
+    let b = back_list levels frames pieces more mark others refl is second in
+    b.1 ∙ ap (λ (r : List Step). OpenList ∷ r) (one_way levels turn.First frames more rest b.0 reads b.2)
+one_way levels t frames pieces all others (AtOne fs more rest reads) second =
+    let b = back_one levels frames pieces others
+    (none_first (Stands 91) pieces (λ piece left e is. no_value_at levels false frames pieces left all piece 91 reads e is
+    (above 91 45 (lit< tt)) (below 91 123 (lit< tt)) (above 91 60 (lit< tt)))) second in
+    b.1 ∙ one_way levels (turn.Value false) frames pieces all b.0 reads b.2
+one_way levels t frames pieces all others (AtNone fs mark more rest is reads) second =
+    let b = back_none levels frames pieces more mark others refl is second in
+    b.1 ∙ ap (λ (r : List Step). CloseList ∷ r) (one_way levels (turn.After false) frames more rest b.0 reads b.2)
+one_way levels t frames pieces all others (AtFirst fs more rest reads) second =
+    let b = back_first levels frames pieces others
+    (none_first (Stands 93) pieces (λ piece left e is. no_value_at levels true frames pieces left all piece 93 reads e is
+    (above 93 45 (lit< tt)) (below 93 123 (lit< tt)) (above 93 60 (lit< tt)))) second in
+    b.1 ∙ one_way levels (turn.Value true) frames pieces all b.0 reads b.2
+one_way levels t frames pieces all others (AtScalar in_list fs ps value more rest cut scalar reads) second =
+    let b = back_scalar levels in_list frames pieces value more others cut scalar
+    (λ strings. none_first IsString more (λ piece left e is. no_after_string levels in_list frames more left rest piece reads e is)) second in
+    b.1 ∙ ap (λ (r : List Step). Scalar value ∷ r) (one_way levels (turn.After in_list) frames more rest b.0 reads b.2)
+one_way levels t frames pieces all others (AtOpen angle in_list fs mark more rest less is reads) second =
+    let opened = back_open levels angle in_list frames pieces more mark others refl is second in
+    let b = opened.1 in
+    b.1 ∙ ap (λ (r : List Step). Open ∷ r) (one_way levels turn.Field (frame angle in_list ∷ frames) more rest b.0 reads b.2)
+one_way levels t frames pieces all others (AtMark fs mark more rest is reads) second =
+    let b = back_mark levels frames pieces more mark others refl is second in
+    b.1 ∙ one_way levels turn.Field frames more rest b.0 reads b.2
+one_way levels t frames pieces all others (AtNoMark fs more rest reads) second =
+    let no_semicolon = none_first (Stands 59) pieces (λ piece left e is. no_field_at levels frames pieces left all piece 59 reads e is
+    (below 59 91 (lit< tt)) (below 59 125 (lit< tt)) (below 59 62 (lit< tt))) in
+    let no_comma = none_first (Stands 44) pieces (λ piece left e is. no_field_at levels frames pieces left all piece 44 reads e is
+    (below 44 91 (lit< tt)) (below 44 125 (lit< tt)) (below 44 62 (lit< tt))) in
+    let b = back_no_mark levels frames pieces others no_semicolon no_comma second in
+    b.1 ∙ one_way levels turn.Field frames pieces all b.0 reads b.2
+one_way levels t frames pieces all others (AtComma fs mark more rest is reads) second =
+    let b = back_comma levels frames pieces more mark others refl is second in
+    b.1 ∙ one_way levels (turn.Value true) frames more rest b.0 reads b.2
+one_way levels t frames pieces all others (AtLast fs mark more rest is reads) second =
+    let b = back_last levels frames pieces more mark others refl is second in
+    b.1 ∙ ap (λ (r : List Step). CloseList ∷ r) (one_way levels (turn.After false) frames more rest b.0 reads b.2)

@@ -30,7 +30,7 @@ abbrev pub IsTrue : TextFaultKind → List Piece → List Piece → Type 0
 IsTrue NoWord before from = GoesOnWith before IsWord × NeverGoesOnWith before IsNumber
 IsTrue (NoMark mark) before from = GoesOnWith before (Stands mark)
 IsTrue NoValue before from = GoesOnWith before IsNumber
-IsTrue TooDeep before from = Begins 101 (before ++ take 1 from)
+IsTrue TooDeep before from = GoesOnWith before IsNumber × Begins 101 (before ++ take 1 from)
 
 -- No message goes on with the first of these pieces; or behind all pieces one has to go on.
 abbrev pub StopsAt : List Piece → List Piece → Type 0

@@ -1,4 +1,5 @@
 pub mod Failure
 pub mod Pieces
 pub mod Spelling
+pub mod Alike
 pub mod inner

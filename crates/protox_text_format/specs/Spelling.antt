@@ -103,3 +103,7 @@ pub data Spells : Form → ℕ → List Piece → List Step → Type 0 where
   InAngles : (n : ℕ) (open_at close_at : Piece) (inside : List Piece) (steps : List Step) → Stands 60 open_at → Spells AMessage n inside steps → Stands 62 close_at → Spells AValue (suc n) (open_at ∷ inside ++ close_at ∷ []) (Open ∷ steps ++ Close ∷ [])
   LastValue : (n : ℕ) (value : List Piece) (close_at : Piece) (steps : List Step) → Spells AValue n value steps → Stands 93 close_at → Spells Values n (value ++ close_at ∷ []) (steps ++ CloseList ∷ [])
   NextValue : (n : ℕ) (value more : List Piece) (comma : Piece) (steps rest : List Step) → Spells AValue n value steps → Stands 44 comma → Spells Values n more rest → Spells Values n (value ++ comma ∷ more) (steps ++ rest)
+
+-- They spell nothing else of this form.
+abbrev pub SpellsOnly : Form → ℕ → List Piece → List Step → Type 0
+SpellsOnly form n pieces steps = (others : List Step) → Spells form n pieces others → others ≡ steps

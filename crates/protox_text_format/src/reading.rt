@@ -2,7 +2,7 @@
 
 ghost use Rattle.std.specs.Prelude.{true, false, ◌≡◌, ◌∷◌, ◌++◌, ◌<◌, ◌≤◌, [], List, length, ◌↔◌, IsTrue, IfErr, IfOk, MatchOption, OnOk, map, reverse};
 ghost use Rattle.protox_text_format.specs.Failure.{IfFault, IsFirst};
-ghost use Rattle.protox_text_format.specs.Spelling.{AMessage, Spells, Stands, seen};
+ghost use Rattle.protox_text_format.specs.Spelling.{AMessage, Spells, SpellsOnly, Stands, seen};
 ghost use Rattle.protox_text_format.specs.inner.Marks.{Begins, NotFirst};
 ghost use Rattle.protox_text_format.specs.inner.Reading.{Advances, ColonThen, GoesOn, IsOver, LeadsOn, StopsFor, close_of, open_of, place, spot};
 ghost use Rattle.protox_text_format.specs.declared.item.Item.{Item};
@@ -420,6 +420,7 @@ pub fn read<'t, 'a>(
     pieces: &'t [Piece<'a>],
 ) -> Result<Vec<Item<'t, 'a>>, TextFailure>
     ensures spelled { IfOk result (λ items. Spells AMessage 100 pieces.now (map seen items.items)) }
+    ensures only { IfOk result (λ items. SpellsOnly AMessage 100 pieces.now (map seen items.items)) }
     ensures first { IfErr result (λ failure. IfFault failure (IsFirst pieces.now)) }
 {
     let mut items = Vec::new(alloc);

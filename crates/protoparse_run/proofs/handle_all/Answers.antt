@@ -1,4 +1,4 @@
-use Rattle.std.proofs.Common.{List, All, sym, subst, ◌∙◌, take_all}
+use Rattle.std.proofs.Common.{List, All, subst, ◌∙◌, take_all}
 use Rattle.std.proofs.lemmas.List.Elements.{All-more}
 use Rattle.protoparse_run.specs.Outcomes.{IsAccepted}
 use Rattle.protoparse_words.specs.declared.Task.{Task}

@@ -1,4 +1,4 @@
-use Rattle.std.proofs.Common.{ℕ, List, All, map, subst, sym, arith}
+use Rattle.std.proofs.Common.{ℕ, List, All, map, subst, arith}
 use Rattle.std.proofs.lemmas.List.{get_or-map, length-map}
 use Rattle.std.proofs.lemmas.List.Elements.{All-map}
 use Rattle.std.specs.String.{string_bytes}

@@ -82,7 +82,7 @@ pub record Goes (here there : Spot) : Type 0 where
   pub steps : there.steps ≡ here.steps ++ added
   pub deep : length here.frames ≤ 100 → length there.frames ≤ 100
   pub on : (levels : ℕ) → 100 ≤ levels → (more : List Piece) (rest : List Step) → Reads levels there.turn there.frames more rest → Reads levels here.turn here.frames (taken ++ more) (added ++ rest)
-  pub back : (more : List Piece) (all : List Step) → Follows there.left more → Reads 100 here.turn here.frames (taken ++ more) all → (rest : List Step) × Reads 100 there.turn there.frames more rest
+  pub back : (more : List Piece) (all : List Step) → Follows there.left more → Reads 100 here.turn here.frames (taken ++ more) all → (rest : List Step) × (all ≡ added ++ rest) × Reads 100 there.turn there.frames more rest
 
 -- 1 where the next step may take no piece
 abbrev pub rank : Turn → ℕ
@@ -133,7 +133,7 @@ abbrev pub Tells : TextFaultKind → Spot → List Piece → List Piece → Type
 Tells NoWord here before wrong = CanGoOn here before IsWord × CanNotGoOn here before IsNumber
 Tells (NoMark mark) here before wrong = CanGoOn here before (Stands mark)
 Tells NoValue here before wrong = CanGoOn here before IsNumber
-Tells TooDeep here before wrong = (more : List Piece) × (steps : List Step) × Reads 101 here.turn here.frames (before ++ (take 1 wrong ++ more)) steps
+Tells TooDeep here before wrong = CanGoOn here before IsNumber × ((more : List Piece) × (steps : List Step) × Reads 101 here.turn here.frames (before ++ (take 1 wrong ++ more)) steps)
 
 -- What is left is wrong from the first of these pieces on.
 pub record Stuck (here : Spot) (wrong : List Piece) (kind : TextFaultKind) : Type 0 where

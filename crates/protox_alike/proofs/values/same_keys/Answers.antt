@@ -1,4 +1,4 @@
-use Rattle.std.proofs.Common.{◌≡◌, map, sym, ap, subst, ◌∙◌}
+use Rattle.std.proofs.Common.{◌≡◌, map, sym, subst, ◌∙◌}
 use Rattle.protox_alike.proofs.Apart.{map_twice, none_if_differ}
 use Rattle.protox_alike.specs.Keys.{value_key}
 use Rattle.protox_alike.specs.inner.Prints.{Differ, print_of}

@@ -1,4 +1,3 @@
-use Rattle.std.proofs.Common.{arith}
 use Rattle.protox_ffi.proofs.Linking.{not_all_texts}
 use Rattle.protox_ffi.proofs.linked.texts_of.Goals as goal
 

@@ -1,4 +1,4 @@
-use Rattle.std.proofs.Common.{◌≡◌, ◌∙◌, ℕ, List, Option, Some, None, Contains, ap, get_or, subst, sym, take, arith}
+use Rattle.std.proofs.Common.{◌∙◌, ℕ, List, Option, Some, None, Contains, ap, subst, sym, arith}
 use Rattle.std.proofs.lemmas.List.{take_all}
 use Rattle.std.proofs.lemmas.Option.{slice_get-get_or}
 use Rattle.protox_imports.specs.Passing.{PassedIn}

@@ -1,4 +1,4 @@
-use Rattle.std.proofs.Common.{◌≡◌, ◌∙◌, ℕ, List, Contains, get_or, subst, take, arith}
+use Rattle.std.proofs.Common.{ℕ, List, Contains, get_or, subst, arith}
 use Rattle.std.proofs.lemmas.List.{take_all}
 use Rattle.std.proofs.lemmas.List.Elements.{Contains-get_or}
 use Rattle.protox_imports.specs.Passing.{PassedIn}

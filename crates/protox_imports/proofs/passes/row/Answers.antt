@@ -1,4 +1,4 @@
-use Rattle.std.proofs.Common.{◌≡◌, ◌∙◌, ℕ, List, [], Bool, false, true, Contains, ap, length, length-set, replicate, set, subst, sym, arith}
+use Rattle.std.proofs.Common.{◌∙◌, ℕ, List, Bool, false, true, Contains, ap, length, length-set, replicate, set, subst, sym, arith}
 use Rattle.std.proofs.lemmas.Bool.Decides.{Decides-eqb}
 use Rattle.std.proofs.lemmas.List.{length-replicate, nil_from_length}
 use Rattle.protox_imports.specs.Rows.{PassesOnIn}

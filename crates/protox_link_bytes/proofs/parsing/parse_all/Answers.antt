@@ -2,7 +2,7 @@ use Rattle.std.proofs.Common.{List, [], arith, length-take, sym, subst, take}
 use Rattle.std.proofs.lemmas.List.{length-map}
 use Rattle.protox_descriptor.specs.declared.descriptor.FileDescriptorProto.{FileDescriptorProto}
 use Rattle.protox_link_bytes.proofs.Sources.{given_more, parsed-none}
-use Rattle.protox_link_bytes.specs.Given.{GivenFile, given, given_file}
+use Rattle.protox_link_bytes.specs.Given.{GivenFile, given}
 use Rattle.protox_link_bytes.specs.Parsed.{AreParsed, IsParsedOf}
 use Rattle.protox_link_bytes.proofs.parsing.parse_all.Goals as goal
 

@@ -1,14 +1,12 @@
-use Rattle.std.proofs.Common.{◌≡◌, ◌≤◌, ◌++◌, ◌^◌, ◌&&◌, ℕ, List, true, false, length, refl, sym, ap, subst, ◌∙◌}
+use Rattle.std.proofs.Common.{◌≡◌, ◌≤◌, ◌++◌, ◌^◌, ◌&&◌, true, false, length, refl, sym, ap, ◌∙◌}
 use Rattle.std.proofs.lemmas.Bool.{ltb-false, ltb-true}
 use Rattle.std.proofs.lemmas.Option.{slice_get_past, slice_get_read}
 use Rattle.std.proofs.lemmas.Result.{on_ok_weaker}
-use Rattle.std.specs.Prelude.{Some, None, slice_get}
 use Rattle.std.specs.List.{list_all}
-use Rattle.protox_descriptor.specs.declared.descriptor.FileDescriptorProto.{FileDescriptorProto}
 use Rattle.protox_encode.specs.Floats.{has_floats}
 use Rattle.protox_encode.specs.declared.fault.EncodeError.TheVariants.{NotAFloat, TooLarge}
 use Rattle.protox_link_bytes.proofs.Errors.{same_error}
-use Rattle.protox_link_bytes.specs.Spelled.{bytes_of, file_at}
+use Rattle.protox_link_bytes.specs.Spelled.{bytes_of}
 use Rattle.protox_link_bytes.proofs.Sets.{nothing_at, of_file}
 use Rattle.protox_link_bytes.proofs.spelling.push_file.Goals as goal
 

@@ -1,7 +1,6 @@
-use Rattle.std.proofs.Common.{◌≡◌, ◌++◌, ℕ, List, take, refl, arith, sym, ap, subst, ◌∙◌}
+use Rattle.std.proofs.Common.{refl, arith, sym, ◌∙◌}
 use Rattle.protox_encode.specs.declared.fault.EncodeError.TheVariants.{NotAFloat, TooLarge}
 use Rattle.protox_link_bytes.proofs.Errors.{same_error}
-use Rattle.protox_link_bytes.specs.Spelled.{bytes_of, file_at, in_order}
 use Rattle.protox_link_bytes.proofs.Sets.{lacks, larger, next, none}
 use Rattle.protox_link_bytes.proofs.spelling.set_bytes.Goals as goal
 

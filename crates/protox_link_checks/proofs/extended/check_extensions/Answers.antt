@@ -1,12 +1,9 @@
-use Rattle.std.proofs.Common.{◌≡◌, ◌∙◌, ◌++◌, Bool, List, OnOk, [], ap, cond, subst}
+use Rattle.std.proofs.Common.{◌≡◌, ◌∙◌, ◌++◌, Bool, List, OnOk, ap, subst}
 use Rattle.std.specs.List.{flat_map}
-use Rattle.protox_descriptor.specs.declared.descriptor.FileDescriptorProto.{FileDescriptorProto}
-use Rattle.protox_link_checks.specs.Extensions.{all_extension_faults, extensions_of, options_faults, range_faults, ranges_numbered, reused_faults}
+use Rattle.protox_link_checks.specs.Extensions.{all_extension_faults, options_faults, range_faults, ranges_numbered, reused_faults}
 use Rattle.protox_link_checks.specs.declared.extensions.Extension.{Extension}
 use Rattle.protox_link_checks.specs.Proto3.{is_proto3}
-use Rattle.protox_link_fault.specs.declared.LinkFault.{LinkFault}
 use Rattle.protox_link_checks.proofs.Extending.{three_told, two_told}
-use Rattle.protox_symbols.specs.Symbols.{Table}
 use Rattle.protox_link_checks.proofs.extended.check_extensions.Goals as goal
 
 pub returns-then-not-is_proto3 : goal.returns-then-not-is_proto3

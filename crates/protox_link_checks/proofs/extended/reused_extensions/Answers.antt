@@ -1,5 +1,4 @@
-use Rattle.std.proofs.Common.{◌≡◌, ◌∙◌, IfOk, ap, map, rules, subst, sym}
-use Rattle.protox_link_checks.specs.Extensions.{reused_extensions}
+use Rattle.std.proofs.Common.{◌≡◌, ◌∙◌, IfOk, ap, map, subst}
 use Rattle.protox_link_checks.specs.Ranges.{number_span}
 use Rattle.protox_link_checks.proofs.Reusing.{reused}
 use Rattle.protox_numbers.specs.Clashes.{with_earlier}

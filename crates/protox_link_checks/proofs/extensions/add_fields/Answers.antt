@@ -1,8 +1,8 @@
-use Rattle.std.proofs.Common.{◌++◌, ◌∷◌, ◌≤◌, [], length, w32, sym, ap, append-nil, ◌∙◌, arith, refl}
+use Rattle.std.proofs.Common.{◌++◌, ◌≤◌, length, w32, sym, ap, append-nil, ◌∙◌, arith, refl}
 use Rattle.std.specs.List.{flat_map}
 use Rattle.std.proofs.lemmas.Int.{to_z-of_z}
 use Rattle.protox_walk.specs.Declarations.{all_in, field_at, siblings_at}
-use Rattle.protox_link_checks.specs.Extensions.{extension_in, extension_of}
+use Rattle.protox_link_checks.specs.Extensions.{extension_of}
 use Rattle.protox_link_checks.proofs.Folding.{sibling_checked, siblings_checked}
 use Rattle.protox_link_checks.proofs.extensions.add_fields.Goals as goal
 

@@ -1,10 +1,9 @@
-use Rattle.std.proofs.Common.{[], List, ℕ, Option, All, None, ap, refl, subst, ◌≡◌, ◌++◌, ◌∙◌}
+use Rattle.std.proofs.Common.{[], List, ℕ, Option, All, None, refl, subst, ◌≡◌, ◌∙◌}
 use Rattle.protox_descriptor.specs.FieldDescriptorProto.{FieldDescriptorProto}
 use Rattle.protox_link_checks.proofs.Without.{file_extends_nothing}
 use Rattle.protox_link_checks.specs.inner.Bare.{ExtendsNothing}
 use Rattle.protox_symbols.specs.Scopes.{IsFoundScope}
 use Rattle.protox_walk.specs.Declarations.{text_of}
-use Rattle.protox_link_checks.specs.declared.extensions.Extension.{Extension}
 use Rattle.protox_link_checks.proofs.InExtensions.{file_extensions}
 use Rattle.protox_link_checks.proofs.extensions.extensions_of.Goals as goal
 

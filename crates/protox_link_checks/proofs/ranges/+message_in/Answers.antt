@@ -1,5 +1,4 @@
-use Rattle.std.proofs.Common.{◌≡◌, ◌∙◌, ◌-◌, ℕ, Some, true, ap, drop, get_or, length, pos, rules, sym, take}
-use Rattle.std.specs.Option.{option_copied}
+use Rattle.std.proofs.Common.{◌≡◌, ◌∙◌, ◌-◌, Some, true, get_or, pos, rules}
 use Rattle.std.specs.Ordering.{int_eq}
 use Rattle.protox_descriptor.specs.declared.descriptor.DescriptorProto.{out-DescriptorProto}
 use Rattle.protox_descriptor.specs.declared.tag.message.TheConstants.{NESTED_TYPE}

@@ -1,4 +1,4 @@
-use Rattle.std.proofs.Common.{◌≡◌, ◌≤◌, ◌∙◌, ap, arith, length, sym}
+use Rattle.std.proofs.Common.{◌≤◌, ◌∙◌, ap, arith, length, sym}
 use Rattle.std.specs.List.{list_any}
 use Rattle.protox_link_checks.specs.Ranges.{moved}
 use Rattle.protox_link_checks.proofs.Ranging.{all_kept, more_kept}

@@ -1,4 +1,4 @@
-use Rattle.std.proofs.Common.{arith, ap, sym, ◌∙◌, ◌++◌, ◌==◌, if◌then◌else◌, [], ◌∷◌, List, ℕ, get_or}
+use Rattle.std.proofs.Common.{arith}
 use Rattle.protox_link_records.proofs.Starts.{starts-next}
 use Rattle.protox_link_records.proofs.lines.starts_of.Goals as goal
 

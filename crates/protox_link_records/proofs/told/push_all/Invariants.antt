@@ -1,4 +1,4 @@
-use Rattle.std.proofs.Common.{◌≤◌, ◌-◌, List, [], length, take}
+use Rattle.std.proofs.Common.{◌≤◌, ◌-◌, [], length, take}
 use Rattle.protox_link_records.specs.LinkRecords.{AreTold}
 use Rattle.protox_link_records.proofs.told.push_all.Given as goal
 

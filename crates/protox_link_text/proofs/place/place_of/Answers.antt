@@ -1,4 +1,4 @@
-use Rattle.std.proofs.Common.{Some, option_map, string_bytes, sym, ap, ◌∙◌}
+use Rattle.std.proofs.Common.{option_map, string_bytes, sym, ap, ◌∙◌}
 use Rattle.protox_link_text.specs.Places.{holder_of, seen}
 use Rattle.protox_link_text.proofs.Placing.{no_step, one_step}
 use Rattle.protox_link_text.proofs.place.place_of.Goals as goal

@@ -1,5 +1,4 @@
 use Rattle.std.proofs.Common.{rules, sym}
-use Rattle.std.proofs.lemmas.Fn.{always_returns_same}
 use Rattle.std.proofs.lemmas.List.Sorted.{answers_always, list_any-IsPermutation}
 use Rattle.std.proofs.lemmas.Result.{on_ok_weaker}
 use Rattle.protox_moved.specs.declared.Move.{Move}

@@ -1,8 +1,6 @@
 use Rattle.std.proofs.Common.{◌≡◌, ap, ◌∙◌, Some}
 use Rattle.std.specs.List.{find}
 use Rattle.protox_descriptor.specs.declared.descriptor.source_code_info.Location.{Location}
-use Rattle.protox_moved.specs.declared.Move.{Move}
-use Rattle.protox_moved.specs.Moved.{moved}
 use Rattle.protox_moved.proofs.Finding.{begins, moved_found, moved_none}
 use Rattle.protox_moved.proofs.steps.give_path.Goals as goal
 use Rattle.protox_moved.proofs.steps.give_path.Goals.{in-InVector-1, in-InPlace-1}

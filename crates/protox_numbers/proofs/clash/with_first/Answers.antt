@@ -1,4 +1,4 @@
-use Rattle.std.proofs.Common.{◌∙◌, ap, sym, arith, Some, None, true}
+use Rattle.std.proofs.Common.{◌∙◌, ap, sym, arith, None, true}
 use Rattle.protox_numbers.proofs.Telling.{append_none, told}
 use Rattle.protox_numbers.proofs.clash.with_first.Goals as goal
 use Rattle.protox_numbers.proofs.clash.with_first.Goals.{in-Some+in_ok-push, in_default}

@@ -1,5 +1,6 @@
 use Rattle.std.proofs.Common.{arith}
 use Rattle.protox_link_records.specs.LinkRecords.{texts}
+use Rattle.protox_option_records.proofs.NoneTold.{none_of_files}
 use Rattle.protox_option_records.proofs.Reading.{all_read, all_right, interpreted_of, one_read}
 use Rattle.protox_set_options.proofs.ReadBack.{all_read_back}
 use Rattle.protox_option_records.proofs.files.read_options.Goals as goal
@@ -24,3 +25,9 @@ pub returns-clause-none : goal.returns-clause-none
 returns-clause-none c none =
     all_right (texts c.args.sources.now) c.args.files.now 0 c.args.files.now c.loop-number.read.files.items c.loop-number.read.records.items
     (all_read (texts c.args.sources.now) c.args.files.now c.loop-number.number c.loop-number.read.files.items c.loop-number.read.records.items (omega arith) c.loop-number.invariant) none
+
+pub returns-clause-only : goal.returns-clause-only
+returns-clause-only c answers are none =
+    none_of_files (texts c.args.sources.now) c.args.files.now 0 c.args.files.now c.loop-number.read.files.items answers c.loop-number.read.records.items
+    (all_read (texts c.args.sources.now) c.args.files.now c.loop-number.number c.loop-number.read.files.items c.loop-number.read.records.items (omega arith) c.loop-number.invariant)
+    are none

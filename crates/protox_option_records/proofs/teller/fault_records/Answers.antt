@@ -1,6 +1,5 @@
 use Rattle.std.proofs.Common.{◌∙◌, ◌++◌, List, ap, map, refl, subst, sym}
 use Rattle.std.specs.List.{FoldsTo}
-use Rattle.protox_descriptor.specs.declared.descriptor.FileDescriptorProto.{FileDescriptorProto}
 use Rattle.protox_file_options.proofs.Each.{all_each}
 use Rattle.protox_file_options.proofs.Paths.{Apart, places_apart}
 use Rattle.protox_file_options.specs.Interpreted.{Taken}

@@ -1,7 +1,8 @@
-use Rattle.std.proofs.Common.{length, reverse, refl, sym, ◌∙◌, ap, arith, slice_range}
+use Rattle.std.proofs.Common.{length, map, reverse, refl, sym, ◌∙◌, ap, arith, slice_range}
+use Rattle.protox_text_format.specs.Spelling.{seen}
 use Rattle.protox_text_format.specs.inner.Reading.{spot}
 use Rattle.protox_text_format.proofs.Firsts.{range_all}
-use Rattle.protox_text_format.proofs.Stops.{is_first, is_spelled, moves_on, starts, turns_less}
+use Rattle.protox_text_format.proofs.Stops.{is_first, is_only, is_spelled, moves_on, starts, turns_less}
 use Rattle.protox_text_format.proofs.reading.read.Goals as goal
 
 pub steps-init : goal.steps-init
@@ -39,3 +40,6 @@ returns-clause-spelled c =
     is_spelled c.args.pieces.now
     (spot c.steps.turn c.steps.frames.items (slice_range c.args.pieces.now c.steps.at (length c.args.pieces.now)) c.steps.items.items)
     c.steps.invariant.goes over.between (ap reverse (sym c.deref.ensures.value) ∙ over.closed) over.end
+
+pub returns-clause-only : goal.returns-clause-only
+returns-clause-only c = is_only c.args.pieces.now (map seen c.steps.items.items) (returns-clause-spelled c)

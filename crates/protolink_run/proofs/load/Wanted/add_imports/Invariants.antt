@@ -1,4 +1,4 @@
-use Rattle.std.proofs.Common.{◌≡◌, []}
+use Rattle.std.proofs.Common.{[]}
 use Rattle.std.specs.Prelude.{◌≢◌}
 use Rattle.protolink_run.proofs.load.Wanted.add_imports.Given as goal
 

@@ -1,6 +1,5 @@
-use Rattle.std.proofs.Common.{◌≡◌, ◌∙◌, ◌<◌, ℕ, List, Option, None, Bool, Contains, ap, get_or, length, replicate, subst, sym, arith}
+use Rattle.std.proofs.Common.{◌∙◌, ◌<◌, List, Option, None, Bool, ap, get_or, length, replicate, subst, sym, arith}
 use Rattle.std.proofs.lemmas.List.Elements.{All-get_or}
-use Rattle.protox_imports.specs.Rows.{PassesOnIn}
 use Rattle.protox_imports.specs.Passing.{IsRow}
 use Rattle.protox_imports.proofs.Passing.{all_made, none_made, one_made, public_made}
 use Rattle.protox_imports.proofs.passes.Passes.of.Goals as goal

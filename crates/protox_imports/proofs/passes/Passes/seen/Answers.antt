@@ -1,7 +1,7 @@
-use Rattle.std.proofs.Common.{◌≡◌, ◌∙◌, ◌<◌, ℕ, List, Option, Some, None, Bool, false, true, Contains, ap, get_or, length, length-set, replicate, set, subst, sym, arith}
+use Rattle.std.proofs.Common.{◌≡◌, ◌∙◌, ℕ, List, Option, Some, Bool, false, true, Contains, ap, length, length-set, replicate, set, subst, sym, arith}
 use Rattle.std.specs.Prelude.{slice_get, ◌↔◌}
 use Rattle.std.proofs.lemmas.List.{length-replicate}
-use Rattle.protox_imports.specs.Passing.{AreRows, IsRow}
+use Rattle.protox_imports.specs.Passing.{AreRows}
 use Rattle.protox_imports.specs.Rows.{ImportsIn, PassesOnIn}
 use Rattle.protox_imports.specs.Sees.{Sees}
 use Rattle.protox_imports.proofs.Passing.{seen_made}

@@ -28,6 +28,7 @@ make_code() {
 }
 
 # The code that nanopb makes: make_nanopb PROGRAM FOLDER FILE.. It makes code of the last file of a set.
+# It warns in the order of Python's sets, which a seed fixes.
 make_nanopb() {
     local linker=$1 folder=$2 file
     shift 2
@@ -35,7 +36,7 @@ make_nanopb() {
     mkdir -p "$folder/nanopb"
     for file in "$@"; do
         "$linker" -I. -o"$folder/set.pb" --include_imports "$file" 2>/dev/null
-        (cd "$folder" && nanopb_generator.py -q -T -D nanopb set.pb) >>"$folder/nanopb.said" 2>&1 ||
+        (cd "$folder" && PYTHONHASHSEED=0 nanopb_generator.py -q -T -D nanopb set.pb) >>"$folder/nanopb.said" 2>&1 ||
             echo "$file: refused" >>"$folder/nanopb.said"
         rm "$folder/set.pb"
     done
@@ -87,7 +88,8 @@ else
     compare two_files "$here/examples/linked" shop/item.proto shop/cart.proto
     /usr/bin/python3 "$here/bench/option_sets.py" protoc "$program" --count 0 --into "$work/.tree"
     cp -r "$root/google" "$work/.tree/"
-    (cd "$work/.tree" && ls shapes/*.proto use/*.proto) >"$work/names"
+    # Some of these files are wrong on purpose, and two declare `google.protobuf.Any` anew.
+    (cd "$work/.tree" && ls shapes/*.proto use/*.proto | grep -v -e /wrong_ -e _any.proto) >"$work/names"
     mapfile -t files <"$work/names"
     compare options "$work/.tree" "${files[@]}"
 fi

@@ -16,7 +16,7 @@ use protox_rows::rows::Unread;
 use std::alloc::{AllocError, Global};
 
 // Whether this is the class of a word that begins a statement. Written out, so that no list is
-// walked. It is no part of its caller: joined with the range there, it made each row dearer.
+// walked. It is no part of the loop over rows, which asks it of few.
 #[inline(never)]
 fn is_statement_word(class: u8) -> bool
     ensures { result ≡ among statement_words class }

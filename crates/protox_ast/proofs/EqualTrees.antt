@@ -3,7 +3,7 @@ use Rattle.std.proofs.Common.{◌≡◌, Bool, true, false, ◌&&◌, ◌==◌, 
 use mathlib.Core.Logic.{inl, inr}
 use Rattle.std.proofs.lemmas.Bool.{false≢true}
 use Rattle.std.specs.Cmp.Lexicographic.{pointwise}
-use Rattle.protox_descriptor.proofs.Sameness.{Tells, same, itself, tells-alike, tells-both, tells-held, tells-if, tells-list, tells-option, tells-parts, tells-text}
+use Rattle.protox_descriptor.proofs.Sameness.{Tells, same, itself, tells-alike, tells-both, tells-held, tells-if, tells-list, tells-option, tells-parts}
 use Rattle.protox_fault.specs.Faults.{Span}
 use Rattle.protox_ast.proofs.Equal.{tells-pair, tells-span, same-Comments, same-Enum, same-Extensions, same-FieldLabel, same-Ident, same-Import, same-Int, same-Option, same-OptionList, same-Package, same-Reserved, same-Service, same-Syntax, same-Ty, same-TypeName}
 use Rattle.protox_ast.specs.contracts.ast.EnumPartialEq.TheImpl as enumeration
@@ -39,7 +39,6 @@ use Rattle.protox_ast.specs.declared.ast.MessageBody.{MessageBody, out-MessageBo
 use Rattle.protox_ast.specs.declared.ast.MessageItem.TheVariants as message_item_variant
 use Rattle.protox_ast.specs.declared.ast.MessageItem.{MessageItem, MessageItem-F, roll-MessageItem, map-MessageItem}
 use Rattle.protox_ast.specs.declared.ast.Oneof.{Oneof, out-Oneof, roll-Oneof, roll-out-Oneof, out-roll-Oneof, Oneof-F, map-Oneof}
-use Rattle.protox_ast.specs.declared.ast.Ty.{Ty}
 use denote.Enum.Compared.{by}
 use denote.Enum.Declared.{Choice}
 

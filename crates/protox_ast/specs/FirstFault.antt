@@ -2,7 +2,7 @@
 -- the lexemes before it are clean, the tokens before it begin a file, and no node before it has a fault.
 -- For each kind of fault. A law says that each is true, as Truth says it.
 use Rattle.std.specs.Prelude.{◌≡◌, ◌<◌, ℕ, suc, true, false, ◌⊎◌, List, [], ◌∷◌, ◌++◌, length, Some}
-use Rattle.protox_fault.specs.Faults.{Span, span_from}
+use Rattle.protox_fault.specs.Faults.{Span}
 use Rattle.protox_lexeme.specs.Lexemes.{Lexeme}
 use Rattle.protox_lexeme.specs.Printed.{printed}
 use Rattle.protox_lexeme.specs.Table.{is_gap, row_faults, rows_of}

@@ -2,7 +2,7 @@
 -- order.
 use Rattle.std.specs.Prelude.{ℕ, List, [], ◌∷◌, ◌++◌, Option, Some, None, codes}
 use Rattle.protox_lexeme.specs.Shapes as shape
-use Rattle.protox_lexeme.specs.Shapes.{Shape, Ident, Str, Mark, Row, Rows}
+use Rattle.protox_lexeme.specs.Shapes.{Shape, Ident, Str, Mark, Rows}
 use Rattle.protox_ast.specs.Tree as t
 
 -- One list after the other, bracketed to the right.

@@ -20,7 +20,7 @@ use Rattle.protox_rows.specs.declared.expected.Expected.{Expected}
 use Rattle.protox_rows.specs.declared.expected.Expected.TheVariants as expected
 use Rattle.protox_rows.specs.inner.Names as names
 use Rattle.protox_rows.specs.inner.Words as rows
-use Rattle.protox_rows.specs.inner.Words.{Words, always, and_then}
+use Rattle.protox_rows.specs.inner.Words.{always, and_then}
 use Rattle.protox_rows.proofs.Exact.{Exact, mapped-exact, seq-exact, under}
 use Rattle.protox_rows.proofs.ExactForms.{choice-exact}
 use Rattle.protox_rows.proofs.ExactLists.{last_more}

@@ -8,7 +8,7 @@ use Rattle.protox_lexeme.specs.Shapes.{Shape, Mark, Row, Rows}
 use Rattle.protox_grammar.specs.Bodies.{deep_read}
 use Rattle.protox_grammar.specs.Class.{Set, among, class, none, only, union}
 use Rattle.protox_grammar.specs.Reader as reader
-use Rattle.protox_grammar.specs.Reader.{Reader, Refusal, Unexpected, Deep, fixed, is_token, seq, too_deep}
+use Rattle.protox_grammar.specs.Reader.{Reader, Refusal, Unexpected, Deep, is_token, too_deep}
 use Rattle.protox_grammar.specs.Token as token
 use Rattle.protox_grammar.proofs.Reading.{err-ok}
 use Rattle.protox_grammar.proofs.Tests.{mark-class}

@@ -1,5 +1,5 @@
 -- The faults of a file lie in each source in which the file stands.
-use Rattle.std.proofs.Common.{◌≡◌, ℕ, Bool, true, false, not, List, [], ◌∷◌, ◌++◌, map, flat_map, Option, Some, None, IfSome, codes, sym, subst, is_none}
+use Rattle.std.proofs.Common.{ℕ, Bool, true, false, not, List, [], ◌∷◌, map, flat_map, Option, Some, None, IfSome, codes, sym, subst, is_none}
 use Rattle.std.specs.Prelude.{◌&&◌}
 use Rattle.protox_fault.specs.Faults.{Span, SpanLiesIn, LiesIn}
 use Rattle.protox_fault.specs.declared.error.ParseErrorKind.{ParseErrorKind}

@@ -1,13 +1,13 @@
 -- The faults of a file are those of its items, one item behind another, and then those of the file
 -- without its items.
-use Rattle.std.proofs.Common.{List, [], ◌∷◌, ◌++◌, flat_map, map, refl, sym, ap, append-nil, ◌∙◌}
+use Rattle.std.proofs.Common.{List, [], ◌∷◌, ◌++◌, flat_map, refl, sym, ap, append-nil, ◌∙◌}
 use Rattle.std.proofs.lemmas.Grind.{flat_map-append}
 use Rattle.std.proofs.lemmas.List.{map-append}
 use Rattle.protox_fault.specs.declared.error.ParseErrorKind.{ParseErrorKind}
 use Rattle.protox_ast.specs.declared.ast.File.{File}
 use Rattle.protox_ast.specs.declared.ast.FileItem.{FileItem}
 use Rattle.protox_ast.specs.declared.ast.Syntax.{Syntax}
-use Rattle.protox_checks.specs.Checks.{AreListed, AreListedOfItem, AreListedOfItems, file_faults, node_faults, nodes_faults}
+use Rattle.protox_checks.specs.Checks.{AreListed, AreListedOfItem, AreListedOfItems, node_faults, nodes_faults}
 use Rattle.protox_checks.specs.Faults.{settled}
 use Rattle.protox_checks.specs.Nodes.{file_nodes, item_nodes}
 

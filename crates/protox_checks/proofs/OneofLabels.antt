@@ -1,5 +1,5 @@
 -- If nothing is wrong with a file, no field of a oneof has a label.
-use Rattle.std.proofs.Common.{◌≡◌, inl, List, Option, Some, None, codes, refl, sym, subst}
+use Rattle.std.proofs.Common.{◌≡◌, inl, Option, Some, None, codes, refl, sym, subst}
 use Rattle.protox_ast.specs.Keywords.{Each}
 use Rattle.protox_ast.specs.declared.ast.FieldLabel.{FieldLabel}
 use Rattle.protox_ast.specs.declared.ast.File.{File}

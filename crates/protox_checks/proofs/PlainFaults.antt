@@ -1,12 +1,12 @@
 -- The faults of a syntax tree are no faults of lexemes and no unexpected tokens. So a list of them
 -- stands in each source.
-use Rattle.std.proofs.Common.{◌≡◌, inl, inr, Bool, true, false, List, [], ◌∷◌, ◌++◌, Option, Some, None, refl, sym, ap, subst, ◌∙◌}
+use Rattle.std.proofs.Common.{◌≡◌, inl, inr, Bool, true, false, List, [], ◌∷◌, ◌++◌, Option, Some, None, refl, ap, subst}
 use Rattle.protox_fault.specs.Faults.{Span}
 use Rattle.protox_fault.specs.declared.error.ParseErrorKind.{ParseErrorKind}
 use Rattle.protox_fault.specs.declared.error.ParseErrorKind.TheVariants as fault
 use Rattle.protox_lexeme.specs.Lexemes.{Lexeme}
 use Rattle.protox_ast.specs.Basics.{Each}
-use Rattle.protox_ast.specs.FaultList.{StandIn, StandOnce, Stands, is_lexical}
+use Rattle.protox_ast.specs.FaultList.{StandIn, Stands, is_lexical}
 use Rattle.protox_ast.specs.Spans.{body_span}
 use Rattle.protox_ast.specs.Values.{Wanted, wanted, a_float, an_integer, a_bool, a_text, some_bytes, anything}
 use Rattle.protox_ast.specs.declared.ast.FieldLabel.{FieldLabel}
@@ -18,7 +18,7 @@ use Rattle.protox_ast.specs.declared.ast.OptionValue.TheVariants as value
 use Rattle.protox_ast.specs.declared.ast.Syntax.{Syntax}
 use Rattle.protox_ast.specs.declared.ast.Syntax.TheVariants.{Proto2, Proto3}
 use Rattle.protox_checks.specs.Faults.{Wrong, WrongNode}
-use Rattle.protox_checks.specs.FieldFaults.{FieldNode, KindNode, Map, Normal, Group, WrongDefault, on_map, on_repeated, on_group, in_proto3, WrongDefaultValue, WrongField, of_label, of_kind, of_default, of_default_value, WrongKey, WrongKind, WrongLabel, WrongMap, WithKind}
+use Rattle.protox_checks.specs.FieldFaults.{FieldNode, KindNode, Map, Normal, Group, WrongDefault, on_map, on_repeated, on_group, in_proto3, WrongDefaultValue, WrongField, of_label, of_kind, of_default, of_default_value, WrongKind, WrongLabel, WrongMap}
 use Rattle.protox_checks.specs.declared.scope.Scope.{Scope}
 use Rattle.protox_checks.specs.declared.scope.Scope.TheVariants.{InMessage, InOneof, InExtend}
 use Rattle.protox_checks.specs.Nodes.{Node, AMessageNumber, AnEnumNumber, AField, AJsonName, AnOption, AnEmptyOneof}

@@ -1,6 +1,6 @@
 -- What may be wrong with a file that the grammar allows, as a relation without order. The checks
 -- that are made while reading are defined in protox_ast.
-use Rattle.std.specs.Prelude.{ℕ, ◌≡◌, ◌≢◌, false, List, [], Any}
+use Rattle.std.specs.Prelude.{◌≡◌, ◌≢◌, false, List, [], Any}
 pub use Rattle.protox_fault.specs.Faults.{placed, settled, IsSame}
 use Rattle.protox_fault.specs.declared.error.ParseErrorKind.{ParseErrorKind}
 use Rattle.protox_fault.specs.declared.error.ParseErrorKind.TheVariants as fault

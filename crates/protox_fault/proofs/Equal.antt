@@ -1,5 +1,5 @@
 -- Two faults are equal exactly when they are of one kind and have the same spans, texts and words.
-use Rattle.std.proofs.Common.{◌≡◌, Bool, true, false, IsTrue, refl, rules, ap, ◌∙◌}
+use Rattle.std.proofs.Common.{◌≡◌, true, false, IsTrue, refl, rules, ap, ◌∙◌}
 use Rattle.std.proofs.lemmas.Bool.{false≢true}
 use Rattle.protox_fault.specs.Faults.{IsSame, settled}
 use Rattle.protox_fault.specs.contracts.error.ParseErrorKindPartialEq.TheImpl.{ghosts}

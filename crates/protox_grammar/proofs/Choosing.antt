@@ -4,7 +4,7 @@ use Rattle.protox_grammar.specs.Reader.{Refusal, Unexpected, Deep}
 use Rattle.protox_lexeme.specs.Shapes.{Shape, Row, Rows}
 use Rattle.protox_grammar.specs.Class.{Set, class, within, in_set}
 use Rattle.protox_grammar.specs.Reader as reader
-use Rattle.protox_grammar.specs.Reader.{◌>>=◌, head_in}
+use Rattle.protox_grammar.specs.Reader.{head_in}
 use Rattle.protox_grammar.specs.Rule.{Rule, Stops, Starts, on_sum, either, unstarted}
 use Rattle.protox_grammar.proofs.Takes.{bind_ok, ok_is}
 use Rattle.protox_grammar.proofs.Laws.{IsSpelled}

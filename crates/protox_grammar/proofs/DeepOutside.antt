@@ -1,9 +1,9 @@
 -- Right after the `{` of a body that is too deep no aggregate is open, and no file that begins with
 -- these tokens can be inside one.
-use Rattle.std.proofs.Common.{◌≡◌, ◌↔◌, ◌≤◌, ◌<◌, ℕ, zero, suc, ◌+◌, Bool, true, false, cond, ◌||◌, List, [], ◌∷◌, ◌++◌, length, take, Option, Some, None, refl, sym, ap, subst, ◌∙◌, arith, inl, inr}
+use Rattle.std.proofs.Common.{◌≡◌, ◌↔◌, ◌≤◌, ℕ, zero, suc, ◌+◌, Bool, true, false, cond, ◌||◌, List, [], ◌∷◌, ◌++◌, length, take, Option, Some, None, refl, sym, ap, subst, ◌∙◌, arith, inl, inr}
 use Rattle.std.proofs.lemmas.List.{append-nil}
 use Rattle.protox_lexeme.specs.Lexemes.{Lexeme}
-use Rattle.protox_lexeme.specs.Shapes.{Row, Rows, Shape}
+use Rattle.protox_lexeme.specs.Shapes.{Row, Rows}
 use Rattle.protox_lexeme.specs.Table.{rows_of}
 use Rattle.protox_ast.specs.inner.AggregateWalk.{Braces}
 use Rattle.protox_ast.specs.Keywords.{Each}
@@ -18,7 +18,7 @@ use Rattle.protox_grammar.proofs.EndsDeep.{stops-ends}
 use Rattle.protox_grammar.proofs.Holding.{Holds, any-holds}
 use Rattle.protox_grammar.proofs.InsideLaws as insides
 use Rattle.protox_grammar.proofs.InsideModes.{mode-inside}
-use Rattle.protox_grammar.proofs.Insides.{Counts, counts, Before, From, IsIn, Comes, In, notes-from, none-in, parts, placed-at, not-true, no-notes, not-sunk, until-on}
+use Rattle.protox_grammar.proofs.Insides.{Counts, counts, Before, From, IsIn, Comes, In, notes-from, none-in, parts, placed-at, not-true, until-on}
 use Rattle.protox_grammar.proofs.Main as main
 use Rattle.protox_grammar.proofs.TagLaws.{same_steps, tokens-map}
 use Rattle.protox_grammar.proofs.Tags.{same-length}
@@ -29,7 +29,7 @@ use Rattle.protox_grammar.proofs.Outside.{Outside, TakesFirst, file-outside}
 use Rattle.protox_grammar.proofs.PassedOver as passed
 use Rattle.protox_grammar.proofs.PlaceLaws.{noted_alike, places_are_looked_up}
 use Rattle.protox_grammar.proofs.Placing.{ArePlaced, IsPlaced, is_run_event, is_string_row, last_row}
-use Rattle.protox_grammar.proofs.StepLists.{EndsDeep, deep-until, deep-whole, take-front, until-at-most, until-note}
+use Rattle.protox_grammar.proofs.StepLists.{deep-until, deep-whole, take-front, until-at-most, until-note}
 
 -- ---- steps that end at a body that is too deep
 

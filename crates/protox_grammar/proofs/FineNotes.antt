@@ -13,7 +13,7 @@ use Rattle.protox_ast.specs.Tree as t
 use Rattle.protox_grammar.specs.Noted.{noted_nodes}
 use Rattle.protox_grammar.specs.Reader.{head_in}
 use Rattle.protox_grammar.specs.Steps.{ANode, APackage, AKeyword, ADeepBody, ADeeperBody, AnOpenBrace, ACloseBrace, Token, Note, Steps}
-use Rattle.protox_grammar.specs.Told.{AreValidTokens, IsFaultless, Notes, behind, brace_notes, is_invalid, node_notes, noted, at_once, told, unless_so}
+use Rattle.protox_grammar.specs.Told.{AreValidTokens, IsFaultless, Notes, behind, is_invalid, node_notes, noted, at_once, told, unless_so}
 use Rattle.protox_grammar.specs.declared.note.Noted.TheVariants.{Fault}
 
 -- ---- notes without a fault

@@ -1,6 +1,6 @@
 -- The modes of the rows up to a fault that is noted. The notes before it tell them, since no brace
 -- of an aggregate is noted after the same row.
-use Rattle.std.proofs.Common.{◌≡◌, ◌≤◌, ◌<◌, ◌+◌, inl, inr, ◌⊎◌, ℕ, zero, suc, Bool, true, false, ◌||◌, cond, List, [], ◌∷◌, ◌++◌, length, Option, Some, None, Result, Ok, Err, refl, sym, ap, subst, ◌∙◌, arith}
+use Rattle.std.proofs.Common.{◌≡◌, ◌≤◌, ◌<◌, ◌+◌, inl, inr, ◌⊎◌, ℕ, zero, suc, Bool, true, false, cond, List, [], ◌∷◌, ◌++◌, length, Option, Some, None, Result, Ok, Err, refl, sym, ap, subst, ◌∙◌, arith}
 use Rattle.std.proofs.lemmas.Bool.{cases_Bool}
 use Rattle.std.proofs.lemmas.List.{length-append}
 use Rattle.protox_lexeme.specs.Lexemes.{Lexeme}
@@ -23,7 +23,7 @@ use Rattle.protox_grammar.proofs.InsideModes.{taken-until}
 use Rattle.protox_grammar.proofs.Main as main
 use Rattle.protox_grammar.proofs.NotedModes.{mode_at, told-mode}
 use Rattle.protox_grammar.proofs.PlaceLaws.{noted_alike}
-use Rattle.protox_grammar.proofs.Placing.{ArePlaced, IsPlaced, is_brace, last_row}
+use Rattle.protox_grammar.proofs.Placing.{ArePlaced, is_brace, last_row}
 use Rattle.protox_grammar.proofs.StepLists.{EndsDeep, deep-whole, tokens-append, until-all, until-at-most, until-long, until-note}
 
 -- ---- the notes after one row

@@ -10,7 +10,7 @@ use Rattle.protox_ast.specs.Tree as t
 use Rattle.protox_grammar.specs.Bodies as rule
 use Rattle.protox_grammar.specs.Class.{Set, in_set, just_word, none, only}
 use Rattle.protox_grammar.specs.Reader as reader
-use Rattle.protox_grammar.specs.Reader.{Reader, Refusal, head_in, mapped}
+use Rattle.protox_grammar.specs.Reader.{Reader, head_in, mapped}
 use Rattle.protox_grammar.specs.Rule.{Rule, optional}
 use Rattle.protox_grammar.specs.Rules as r
 use Rattle.protox_grammar.specs.Steps.{Steps, plain_trace, plainly, rows_before}

@@ -7,7 +7,7 @@ use Rattle.protox_lexeme.specs.Lexemes.{Lexeme}
 use Rattle.protox_lexeme.specs.Shapes.{Row, Rows}
 use Rattle.protox_lexeme.specs.Table.{rows_of}
 use Rattle.protox_ast.proofs.Nothing.{fine-faultless}
-use Rattle.protox_ast.specs.CheckedNodes.{CheckedNode, APackageAgain, ATooDeep}
+use Rattle.protox_ast.specs.CheckedNodes.{CheckedNode}
 use Rattle.protox_ast.specs.Checks.{WrongCheckedNode}
 use Rattle.protox_ast.specs.inner.Fine.{IsFine}
 use Rattle.protox_ast.specs.FirstFault.{NoneIsWrongBefore}

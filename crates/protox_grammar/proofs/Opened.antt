@@ -1,8 +1,7 @@
 -- A body is read and noted after the keyword of its message or group. The fault of a body that is
 -- too deep stands at that keyword.
-use Rattle.std.proofs.Common.{◌≡◌, ℕ, Bool, true, false, cond, List, [], ◌∷◌, ◌++◌, length, Option, Result, Ok, Err, refl, sym, ap, subst, ◌∙◌, append-nil, inl, inr, arith}
+use Rattle.std.proofs.Common.{◌≡◌, ℕ, Bool, true, false, cond, List, [], ◌∷◌, ◌++◌, Option, Result, Ok, Err, refl, sym, ap, subst, ◌∙◌, append-nil, inl, inr, arith}
 use Rattle.protox_fault.specs.Faults.{Span, SpanLiesIn}
-use Rattle.protox_fault.specs.declared.error.ParseErrorKind.TheVariants as fault
 use Rattle.protox_lexeme.specs.Shapes.{Shape, Ident, Mark, Rows}
 use Rattle.protox_ast.proofs.Standing.{Stand, in-order}
 use Rattle.protox_ast.specs.Keywords.{Each}
@@ -11,11 +10,10 @@ use Rattle.protox_ast.specs.Spelling as s
 use Rattle.protox_ast.specs.Tree as t
 use Rattle.protox_grammar.specs.Bodies.{deep_read, deep_trace}
 use Rattle.protox_grammar.specs.Reader as reader
-use Rattle.protox_grammar.specs.Reader.{Reader, Refusal, fixed, seq, mapped, head_in, is_token, ◌>>=◌}
+use Rattle.protox_grammar.specs.Reader.{Reader, Refusal, fixed, seq, mapped, is_token, ◌>>=◌}
 use Rattle.protox_grammar.specs.Rule.{Rule}
 use Rattle.protox_grammar.specs.Steps.{Event, ANode, AKeyword, ADeepBody, AnOpenBrace, ACloseBrace, Token, Note, Steps, plainly, plain_trace, rows_before, then_steps}
-use Rattle.protox_grammar.specs.Told.{Notes, deep_notes, is_invalid, told, past, first_behind, keyword_behind, checked, then_notes}
-use Rattle.protox_grammar.specs.declared.note.Noted.TheVariants.{Fault}
+use Rattle.protox_grammar.specs.Told.{Notes, deep_notes, told, past, first_behind, keyword_behind, checked, then_notes}
 use Rattle.protox_grammar.proofs.Braced.{Braced}
 use Rattle.protox_grammar.proofs.Notes.{notes, notes-append, IsBrace, events-braces}
 use Rattle.protox_grammar.proofs.Reading.{chosen, err-ok}

@@ -5,7 +5,7 @@ use Rattle.protox_grammar.specs.Reader.{Refusal, Unexpected, Deep}
 use Rattle.protox_lexeme.specs.Shapes.{Shape, Row, Rows}
 use Rattle.protox_grammar.specs.Class.{Set, class}
 use Rattle.protox_grammar.specs.Reader as reader
-use Rattle.protox_grammar.specs.Reader.{◌>>=◌, head_in, is_token}
+use Rattle.protox_grammar.specs.Reader.{◌>>=◌, head_in}
 use Rattle.protox_grammar.specs.Rule.{Rule, Stops, Starts, seq, nothing, mapped}
 use Rattle.protox_grammar.proofs.Takes.{bind_ok, ok_is}
 use Rattle.protox_grammar.proofs.Laws.{IsSpelled, head-same, ahead-past}

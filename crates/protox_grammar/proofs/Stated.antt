@@ -1,8 +1,7 @@
 -- What the code reads and notes of the statements of a file. A package statement after another one
 -- is noted, so notes depend on the first one.
-use Rattle.std.proofs.Common.{◌≡◌, ◌<◌, ℕ, zero, suc, Bool, true, false, cond, List, [], ◌∷◌, ◌++◌, length, Option, Some, None, option_map, Result, Ok, Err, inl, inr, ◌⊎◌, refl, sym, ap, subst, ◌∙◌, append-nil, arith}
+use Rattle.std.proofs.Common.{◌≡◌, ◌<◌, ℕ, zero, suc, Bool, true, false, cond, List, [], ◌∷◌, ◌++◌, length, Option, Some, None, Result, Ok, Err, inl, inr, ◌⊎◌, refl, sym, ap, subst, ◌∙◌, append-nil, arith}
 use Rattle.protox_fault.specs.Faults.{Span, SpanLiesIn}
-use Rattle.protox_fault.specs.declared.error.ParseErrorKind.TheVariants.{DuplicatePackage}
 use Rattle.protox_lexeme.specs.Shapes.{Shape, Rows}
 use Rattle.protox_ast.proofs.Standing.{Stand}
 use Rattle.protox_ast.specs.KeywordWalk.{Given}
@@ -13,11 +12,10 @@ use Rattle.protox_ast.specs.Tree as t
 use Rattle.protox_grammar.specs.Class.{Set, in_set}
 use Rattle.protox_grammar.specs.Noted.{noted_nodes}
 use Rattle.protox_grammar.specs.Reader as reader
-use Rattle.protox_grammar.specs.Reader.{Reader, Refusal, head_in, mapped, star, star_at, Consumes, ◌>>=◌}
+use Rattle.protox_grammar.specs.Reader.{Reader, Refusal, head_in, mapped, Consumes, ◌>>=◌}
 use Rattle.protox_grammar.specs.Rule.{on_sum}
 use Rattle.protox_grammar.specs.Steps.{ANode, APackage, AKeyword, ADeepBody, ADeeperBody, AnOpenBrace, ACloseBrace, Token, Note, Steps, star_trace, then_steps}
-use Rattle.protox_grammar.specs.declared.note.Noted.TheVariants.{Fault}
-use Rattle.protox_grammar.specs.Told.{Notes, is_invalid, first_behind, keyword_behind, package_notes, past, place_of, told, checked, span_of}
+use Rattle.protox_grammar.specs.Told.{Notes, first_behind, keyword_behind, package_notes, past, place_of, told, checked, span_of}
 use Rattle.protox_grammar.proofs.Shown.{Shown}
 use Rattle.protox_grammar.proofs.Shows.{Shows, either-shows, left-shows}
 use Rattle.protox_grammar.proofs.Takes.{bind_ok, ok_is}

@@ -8,7 +8,7 @@ use Rattle.protox_ast.specs.Spelling as s
 use Rattle.protox_lexeme.specs.Shapes.{Shape, Ident, Mark, Row, Rows}
 use Rattle.protox_grammar.specs.Class.{Set, byte_place, class, keywords, marks, none, only, place}
 use Rattle.protox_grammar.specs.Reader as reader
-use Rattle.protox_grammar.specs.Reader.{Reader, Refusal, Unexpected, Deep, ◌>>=◌, fixed, mapped, seq}
+use Rattle.protox_grammar.specs.Reader.{Reader, Refusal, Unexpected, Deep, ◌>>=◌, fixed, seq}
 use Rattle.protox_grammar.specs.Rules as r
 use Rattle.protox_grammar.specs.Token as token
 use Rattle.protox_grammar.proofs.Reading.{ok-err, err-ok}

@@ -12,7 +12,7 @@ use Rattle.protox_ast.specs.declared.ast.OptionValue.TheVariants as option_value
 use Rattle.protox_lexeme.specs.Shapes.{Mark, Rows}
 use Rattle.protox_grammar.specs.Class.{Set, among, in_set, none, only, union, within, words}
 use Rattle.protox_grammar.specs.Reader as reader
-use Rattle.protox_grammar.specs.Reader.{Reader, Refusal, ◌>>=◌, folded, fixed, mapped, seq}
+use Rattle.protox_grammar.specs.Reader.{Refusal, ◌>>=◌, folded, fixed, mapped, seq}
 use Rattle.protox_grammar.specs.Rules as r
 use Rattle.protox_grammar.specs.Token as token
 use Rattle.protox_grammar.proofs.Shown.{push}

@@ -1,6 +1,6 @@
 -- Folders that are tried one by one.
-use Rattle.std.proofs.Common.{◌≡◌, ℕ, ◌+◌, ◌<◌, ◌≤◌, List, [], All, length, take, get_or, Bor, sym, subst, arith, take_all}
-use Rattle.std.proofs.lemmas.List.Elements.{All-more, All-same}
+use Rattle.std.proofs.Common.{ℕ, ◌+◌, ◌<◌, ◌≤◌, List, [], All, length, take, get_or, Bor, sym, subst, arith, take_all}
+use Rattle.std.proofs.lemmas.List.Elements.{All-more}
 use Rattle.protox_paths.specs.Names.{IsNameIn, IsNameUnder, IsOutside, texts}
 use Rattle.protox_paths.proofs.Lists.{length_of_texts, text_at}
 

@@ -5,7 +5,7 @@ use Rattle.protox_ast.specs.Places.{Place}
 use Rattle.protox_lexeme.specs.Shapes.{Row, Rows}
 use Rattle.protox_grammar.specs.Class.{Set, class, in_set, none, union, within}
 use Rattle.protox_grammar.specs.Reader as reader
-use Rattle.protox_grammar.specs.Reader.{Consumes, Reader, Refusal, Unexpected, Deep, ◌>>=◌, head_in, star}
+use Rattle.protox_grammar.specs.Reader.{Reader, Refusal, Unexpected, Deep, ◌>>=◌, star}
 use Rattle.protox_grammar.proofs.Loops.{star-turn}
 use Rattle.protox_grammar.proofs.Reading.{bind_err, cut-same, ok-err}
 use Rattle.protox_grammar.proofs.Sets.{within-at, or_false}

@@ -13,7 +13,7 @@ use Rattle.protox_ast.specs.declared.ast.Ty.TheVariants as ty
 use Rattle.protox_lexeme.specs.Shapes.{Shape, Ident, Mark, Rows}
 use Rattle.protox_grammar.specs.Class.{Set, among, byte_place, class, in_set, keywords, marks, none, only, place, union, words}
 use Rattle.protox_grammar.specs.Reader as reader
-use Rattle.protox_grammar.specs.Reader.{Reader, Refusal, Unexpected, ◌>>=◌, fixed, is_token, leaf, seen, see_word, see_integer, see_float, see_text, star}
+use Rattle.protox_grammar.specs.Reader.{Reader, Refusal, ◌>>=◌, fixed, is_token, leaf, seen, see_word, see_integer, see_float, see_text}
 use Rattle.protox_grammar.specs.Rules as r
 use Rattle.protox_grammar.specs.Token as token
 use Rattle.protox_grammar.proofs.Sets.{place-le}
@@ -23,7 +23,7 @@ use Rattle.protox_rows.specs.declared.expected.Expected.TheVariants as expected
 use Rattle.protox_rows.specs.inner.Names as names
 use Rattle.protox_rows.specs.inner.Strings as runs
 use Rattle.protox_rows.specs.inner.Words as said
-use Rattle.protox_rows.specs.inner.Words.{Words, always, and_then, times}
+use Rattle.protox_rows.specs.inner.Words.{Words, always, and_then}
 use Rattle.protox_rows.proofs.Exact.{Exact, mapped-exact, row-exact, seq-exact}
 use Rattle.protox_rows.proofs.ExactForms.{choice-exact}
 use Rattle.protox_rows.proofs.ExactLists.{last_more}

@@ -5,7 +5,7 @@ use Rattle.protox_ast.specs.Places.{Place}
 use Rattle.protox_lexeme.specs.Shapes.{Row, Rows}
 use Rattle.protox_grammar.specs.Class.{Set, class, in_set, union}
 use Rattle.protox_grammar.specs.Reader as reader
-use Rattle.protox_grammar.specs.Reader.{Reader, Refusal, Unexpected, Deep, ◌>>=◌, head_in}
+use Rattle.protox_grammar.specs.Reader.{Reader, Refusal, Unexpected, Deep, ◌>>=◌}
 use Rattle.protox_grammar.proofs.Reading.{bind_err, cut-same, ok-err, err-ok}
 use Rattle.protox_grammar.proofs.Takes.{bind_ok, ok_is}
 use Rattle.protox_rows.specs.declared.expected.Expected.{Expected}

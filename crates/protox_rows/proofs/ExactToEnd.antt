@@ -5,7 +5,7 @@ use Rattle.protox_ast.specs.Places.{Place}
 use Rattle.protox_lexeme.specs.Shapes.{Shape, Row, Rows}
 use Rattle.protox_grammar.specs.Class.{Set, all, class, in_set, none, within}
 use Rattle.protox_grammar.specs.Reader as reader
-use Rattle.protox_grammar.specs.Reader.{Reader, Refusal, Unexpected, Deep, ◌>>=◌, head_in, mapped, star}
+use Rattle.protox_grammar.specs.Reader.{Reader, Refusal, Unexpected, Deep, ◌>>=◌, mapped, star}
 use Rattle.protox_grammar.proofs.Loops.{star-turn}
 use Rattle.protox_grammar.proofs.Reading.{bind_err, cut-same, ok-err}
 use Rattle.protox_grammar.proofs.Sets.{within-at}

@@ -6,7 +6,7 @@ use Rattle.protox_ast.specs.Places.{Place}
 use Rattle.protox_lexeme.specs.Shapes.{Row, Rows}
 use Rattle.protox_grammar.specs.Class.{Set, apart, class, in_set, none, union, within}
 use Rattle.protox_grammar.specs.Reader as reader
-use Rattle.protox_grammar.specs.Reader.{Consumes, Reader, Refusal, Unexpected, Deep, ◌>>=◌, head_in, star}
+use Rattle.protox_grammar.specs.Reader.{Reader, Refusal, ◌>>=◌, head_in, star}
 use Rattle.protox_grammar.proofs.Loops.{star-turn}
 use Rattle.protox_grammar.proofs.Sets.{apart-at, within-at}
 use Rattle.protox_grammar.proofs.Takes.{bind_ok, ok_is}

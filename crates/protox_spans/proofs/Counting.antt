@@ -1,9 +1,8 @@
 -- How many elements of a list pass a test.
 use Rattle.std.proofs.Common.{◌≡◌, ℕ, zero, suc, ◌<◌, ◌≤◌, ◌+◌, Bool, true, false, cond, List, [], ◌∷◌, ◌++◌, length, get_or, take, drop, Some, None, nat_lt, add-one, refl, sym, ◌∙◌, ap, arith}
-use Rattle.std.specs.List.{count_by, position, position_or_len, prefix_len}
+use Rattle.std.specs.List.{count_by, position, position_or_len}
 use Rattle.std.proofs.Math.Seq.{take-add}
 use Rattle.std.proofs.lemmas.List.Sums.{sum_by-append, sum_by-cons}
-use Rattle.std.proofs.lemmas.Grind.{common_steps}
 use Rattle.std.proofs.lemmas.Bool.Decides.{nat_tests}
 
 is_true : (b : Bool) → 0 < cond b 1 0 → b ≡ true

@@ -9,7 +9,6 @@ use Rattle.protox_lexeme.specs.Shapes.{Row, Rows}
 use Rattle.protox_lexeme.specs.Table.{gaps_of, is_gap, rows_of, table_of}
 use Rattle.protox_ast.specs.AstParts.{last_place, rows_span}
 use Rattle.protox_ast.specs.Places.{Place}
-use Rattle.protox_ast.specs.Spelling as s
 use Rattle.protox_ast.specs.declared.ast.File.{File}
 use Rattle.protox_ast.proofs.SpansStand.{each-append, each-front}
 use Rattle.protox_ast.proofs.Standing.{as-many}

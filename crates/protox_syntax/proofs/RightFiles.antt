@@ -7,7 +7,6 @@ use Rattle.protox_ast.specs.inner.Fine.{IsFine}
 use Rattle.protox_ast.specs.KeywordWalk as k
 use Rattle.protox_ast.specs.Keywords.{Each}
 use Rattle.protox_ast.specs.Places.{Place}
-use Rattle.protox_ast.specs.Spelling as s
 use Rattle.protox_ast.specs.Tree as tree
 use Rattle.protox_grammar.specs.Bodies as bodies
 use Rattle.protox_grammar.specs.Noted.{noted_nodes, steps}

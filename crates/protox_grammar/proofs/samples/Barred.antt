@@ -7,7 +7,7 @@ use Rattle.protox_ast.specs.Keywords as k
 use Rattle.protox_grammar.specs.Class.{place, keywords, among}
 use Rattle.protox_grammar.proofs.Begin.{among-none, places}
 use Rattle.protox_grammar.proofs.samples.Build as b
-use Rattle.protox_grammar.proofs.samples.Build.{rows, word}
+use Rattle.protox_grammar.proofs.samples.Build.{rows}
 
 abbrev Breaks : t.File b.NoMark → Type 0
 Breaks f = k.KeepsKeywords f → ⊥

@@ -1,19 +1,19 @@
 -- For small sources: which first faults have no fault before them, which faults stand in the
 -- source, and which are those of its lexemes; and which are not.
-use Rattle.std.proofs.Common.{◌≡◌, ◌<◌, ◌≤◌, inl, inr, ◌⊎◌, ℕ, zero, suc, true, false, List, [], ◌∷◌, ◌++◌, length, Any, Option, Some, codes, refl, sym, ap, subst, ◌∙◌, arith, is_some, slice_index_or, drop}
-use Rattle.protox_fault.specs.Faults.{Span, span_from}
+use Rattle.std.proofs.Common.{◌≡◌, ◌<◌, inl, inr, ℕ, zero, suc, true, false, List, [], ◌∷◌, ◌++◌, length, Any, Option, Some, codes, refl, ap, ◌∙◌, arith, slice_index_or}
+use Rattle.protox_fault.specs.Faults.{span_from}
 use Rattle.protox_lexeme.specs.Lexemes.{Lexeme}
-use Rattle.protox_lexeme.specs.Shapes.{LineComment, Mark}
+use Rattle.protox_lexeme.specs.Shapes.{LineComment}
 use Rattle.protox_lexeme.specs.Table.{row_faults, rows_of}
 use Rattle.protox_fault.specs.declared.error.ParseErrorKind.{ParseErrorKind}
 use Rattle.protox_fault.specs.declared.error.ParseErrorKind.TheVariants as fault
 use Rattle.protox_ast.specs.Basics.{first_of}
-use Rattle.protox_ast.specs.FaultList.{AreFaultsOf, IsOwn, StandIn, is_lexical}
-use Rattle.protox_ast.specs.FirstFault.{IsFirstFault, IsFirstOfLexemes, IsFirstUnexpected}
+use Rattle.protox_ast.specs.FaultList.{AreFaultsOf, StandIn}
+use Rattle.protox_ast.specs.FirstFault.{IsFirstFault}
 use Rattle.protox_ast.specs.Fronts.{AreCleanBehind}
 use Rattle.protox_ast.specs.Spells.{IsUnexpected, shapes}
 use Rattle.protox_ast.specs.Truth.{IsWrongBehind, source_row}
-use Rattle.protox_ast.proofs.Membership.{Somewhere, somewhere-from}
+use Rattle.protox_ast.proofs.Membership.{somewhere-from}
 use Rattle.protox_grammar.specs.Reads.{read}
 use Rattle.protox_grammar.specs.Rules as r
 use Rattle.protox_grammar.specs.Bodies as rule

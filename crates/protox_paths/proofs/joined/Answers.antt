@@ -1,4 +1,4 @@
-use Rattle.std.proofs.Common.{◌∙◌, arith}
+use Rattle.std.proofs.Common.{◌∙◌}
 use Rattle.protox_paths.proofs.Lists.{joined_more}
 use Rattle.protox_paths.proofs.joined.Goals as goal
 

@@ -1,5 +1,5 @@
 -- What blocks of spans know.
-use Rattle.std.specs.Prelude.{ℕ, ◌≡◌, ◌<◌, ◌≤◌, ◌*◌, ◌+◌, ◌-◌, ◌^◌, ◌&&◌, nat_lt, Bool, List, length, count_by, take, drop, slice_index_or, slice_get, Option}
+use Rattle.std.specs.Prelude.{ℕ, ◌≡◌, ◌<◌, ◌≤◌, ◌*◌, ◌+◌, ◌-◌, ◌^◌, ◌&&◌, nat_lt, List, length, count_by, take, drop, slice_index_or, slice_get}
 use Rattle.std.specs.Option.{option_map_or}
 use Rattle.std.specs.List.Sorted.{IsNonDecreasing}
 use Rattle.protox_spans.specs.declared.span.Span.{Span}

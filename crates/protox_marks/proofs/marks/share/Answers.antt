@@ -1,4 +1,4 @@
-use Rattle.std.proofs.Common.{◌≡◌, ◌≢◌, inl, inr, true, not, ap, refl, sym, ◌∙◌, arith}
+use Rattle.std.proofs.Common.{◌≢◌, inl, inr, true, not, ap, sym, ◌∙◌, arith}
 use Rattle.std.proofs.lemmas.Bool.{false≢true}
 use Rattle.std.proofs.lemmas.Bool.Decides.{eqb_tells}
 use Rattle.std.specs.Int.Bits.{bit_and}

@@ -1,4 +1,4 @@
-use Rattle.std.proofs.Common.{arith, length}
+use Rattle.std.proofs.Common.{arith}
 use Rattle.std.proofs.lemmas.Bool.Decides.{nat_tests}
 use Rattle.protox_places.proofs.Counting.{newlines-next, behind-next}
 use Rattle.protox_places.proofs.faults.count_lines.Goals as goal

@@ -1,4 +1,4 @@
-use Rattle.std.proofs.Common.{◌≡◌, ◌≤◌, ◌+◌, take}
+use Rattle.std.proofs.Common.{◌≡◌, ◌≤◌, take}
 use Rattle.protox_places.specs.Lines.{newlines, behind_last}
 use Rattle.protox_places.proofs.faults.count_lines.Given as goal
 

@@ -1,4 +1,4 @@
-use Rattle.std.proofs.Common.{◌≡◌, [], sym, ap, ◌∙◌}
+use Rattle.std.proofs.Common.{[], sym, ap, ◌∙◌}
 use Rattle.std.specs.Prelude.{option_map}
 use Rattle.protox_lexeme.specs.Gaps.{attribution}
 use Rattle.protox_lex.specs.TableView.{shapes_of_lent}

@@ -1,4 +1,4 @@
-use Rattle.std.proofs.Common.{◌≡◌, ◌∙◌, ◌+◌, ◌≤◌, drop, ap, arith, length, sym}
+use Rattle.std.proofs.Common.{◌∙◌, ◌+◌, drop, ap, arith, sym}
 use Rattle.std.proofs.lemmas.List.{drop_all, drop_more}
 use Rattle.protox_marks.specs.Few.{holds}
 use Rattle.protox_marks.specs.Marks.{any_marked}

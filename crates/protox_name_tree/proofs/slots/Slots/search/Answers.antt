@@ -4,7 +4,6 @@ use Rattle.std.proofs.lemmas.Bool.Decides.{leb_tells}
 use Rattle.std.proofs.lemmas.Option.{same_Some}
 use Rattle.protox_name_tree.specs.Slots.{held}
 use Rattle.protox_name_tree.proofs.slots.Slots.search.Goals as goal
-use Rattle.protox_name_tree.proofs.slots.Slots.search.Goals.{In-Some}
 
 -- one more slot does not hold it
 one_more : (is_at : ℕ → Type 0) (slots : List (Option ℕ)) (start upto : ℕ) → ((step n : ℕ) → step < upto → held slots (start + step) ≡ Some n → is_at n → ⊥) → ((n : ℕ) → held slots (start + upto) ≡ Some n → is_at n → ⊥) → (step n : ℕ) → step < upto + 1 → held slots (start + step) ≡ Some n → is_at n → ⊥

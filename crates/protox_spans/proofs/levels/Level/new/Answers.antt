@@ -1,4 +1,3 @@
-use Rattle.std.proofs.Common.{refl}
 use Rattle.protox_spans.proofs.Filling.{level_more}
 use Rattle.protox_spans.proofs.levels.Level.new.Goals as goal
 

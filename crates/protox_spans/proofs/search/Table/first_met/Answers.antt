@@ -1,6 +1,4 @@
 use Rattle.std.proofs.Common.{◌≡◌, ◌≤◌, ◌∙◌, ◌-◌, ◌*◌, ◌^◌, arith, length, sym, subst, rules}
-use Rattle.protox_spans.specs.declared.levels.Level.{Level}
-use Rattle.protox_spans.specs.inner.Blocks.{IsLevel}
 use Rattle.protox_spans.proofs.Pieces.{level_counts, level_sorted}
 use Rattle.protox_spans.proofs.Searching.{empty_meets_none, begins, first_half, found, halves_within, level_at, none_met, second_half}
 use Rattle.protox_spans.proofs.search.Table.first_met.Goals as goal

@@ -1,5 +1,5 @@
 //! Several lists in one vector.
-ghost use Rattle.std.specs.Prelude.{◌≡◌, ◌↔◌, IsTrue, ◌<◌, ◌≤◌, ◌^◌, ◌++◌, ◌∷◌, [], length, map, replicate, slice_get, slice_index, true, OnOk, OnErr};
+ghost use Rattle.std.specs.Prelude.{◌≡◌, ◌↔◌, IsTrue, ◌<◌, ◌≤◌, ◌^◌, ◌++◌, ◌∷◌, [], length, map, replicate, slice_get, slice_index, OnOk, OnErr};
 ghost use Rattle.protox_lexeme.specs.Shapes.{Newline};
 ghost use Rattle.protox_lexeme.specs.Tokens.{shape_of};
 ghost use Rattle.protox_lex.specs.inner.Sharing.{AddsNewlines};
@@ -68,13 +68,6 @@ impl<T> Groups<T> {
     {
         self.items.shrink_to_fit();
         self.ends.shrink_to_fit();
-    }
-
-    /// True only if nothing was ever added, not even an end.
-    pub(crate) fn is_new(&self) -> bool
-        ensures yes { result ≡ true → self.now ≡ record { ended = []; begun = [] } }
-    {
-        self.items.is_empty() && self.ends.is_empty()
     }
 
     #[tactic(auto, using(crate::proofs::Splitting::group_starts, crate::proofs::Splitting::group_ends, crate::proofs::Splitting::group_is, crate::proofs::Splitting::no_group))]

@@ -8,20 +8,24 @@ use std::alloc::{AllocError, Global};
 use std::marker::Model;
 
 /// Groups of lists. The empty lists before the first item are only counted, and take no memory.
+/// `counts` says that lists are still counted, so that this costs one look at each end.
 #[derive(Drop)]
 pub(crate) struct LateGroups<T> {
+    counts: bool,
     empty: usize,
     groups: Groups<T>,
 }
 
 impl<T> Model for LateGroups<T> {
-    ghost use Rattle.protox_lex.specs.inner.Grouping.{Grouped, grouped_code, behind_empty};
+    ghost use Rattle.protox_lex.specs.inner.Grouping.{Grouped, grouped_code, behind_empty, IsCounted};
 
     ghost Value = { Grouped T };
 
     ghost coded = { grouped_code T.code };
 
     ghost view = { λ g. behind_empty g.empty g.groups };
+
+    ghost invariant = { λ g. IsCounted g.counts g.groups };
 }
 
 impl<T> LateGroups<T> {
@@ -30,6 +34,7 @@ impl<T> LateGroups<T> {
         ensures { result ≡ record { ended = []; begun = [] } }
     {
         LateGroups {
+            counts: true,
             empty: 0,
             groups: Groups::new(alloc),
         }
@@ -59,12 +64,13 @@ impl<T> LateGroups<T> {
     pub(crate) fn end(&mut self) -> Result<(), AllocError>
         ensures { OnOk result (self.new ≡ record { ended = self.old.ended ++ self.old.begun ∷ []; begun = [] }) }
     {
-        if self.groups.is_new() {
+        if self.counts {
             if let Some(empty) = self.empty.checked_add(1) {
                 self.empty = empty;
                 return Ok(());
             }
         }
+        self.counts = false;
         self.groups.end()
     }
 }
@@ -74,6 +80,7 @@ impl<T: Drop> LateGroups<T> {
     pub(crate) fn push(&mut self, item: T) -> Result<(), AllocError>
         ensures { OnOk result (self.new ≡ record self.old { begun = self.old.begun ++ item ∷ [] }) }
     {
+        self.counts = false;
         self.groups.push(item)
     }
 
@@ -84,6 +91,7 @@ impl<T: Drop> LateGroups<T> {
         if items.is_empty() {
             return Ok(());
         }
+        self.counts = false;
         self.groups.append(items)
     }
 }

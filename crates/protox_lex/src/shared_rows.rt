@@ -1,5 +1,5 @@
 //! The rows of a table, in little memory.
-ghost use Rattle.std.specs.Prelude.{◌≡◌, ◌<◌, ◌+◌, ◌^◌, ◌++◌, ◌∷◌, [], true, None, length, slice_get, OnOk, OnErr, IfOk, IfSome};
+ghost use Rattle.std.specs.Prelude.{◌≡◌, ◌<◌, ◌≤◌, ◌+◌, ◌^◌, ◌++◌, ◌∷◌, [], true, None, length, slice_get, OnOk, OnErr, IfOk, IfSome};
 ghost use Rattle.std.specs.Option.{option_map};
 ghost use Rattle.protox_fault.specs.Faults.{span_from};
 ghost use Rattle.protox_lexeme.specs.Lexicon.{is_mark};
@@ -12,7 +12,6 @@ ghost use Rattle.protox_lexeme.specs.Tokens.{shape_of, shape_of_result, borrowed
 use crate::laws::tokens_are_equal_by_shape;
 use crate::row_list::{NumberedRow, RowList, with_room};
 use protox_fault::error::Span;
-use protox_lexeme::bytes::byte_at;
 use protox_lexeme::class::class_of_result;
 use protox_lexeme::token::{Token, mark_of};
 use std::alloc::{AllocError, Global};
@@ -57,11 +56,13 @@ impl<'a> Model for SharedRows<'a> {
 /// slot would do, but tokens that share a slot are kept more often.
 #[inline(always)]
 pub(crate) fn slot_of(text: &[u8], len: usize) -> usize
+    requires some { 0 < len }
+    requires within { len ≤ length text.now }
     ensures { result < 1024 }
 {
-    let first = byte_at(text, 0) as usize;
-    let middle = byte_at(text, len / 2) as usize;
-    let last = byte_at(text, len.saturating_sub(1)) as usize;
+    let first = text[0] as usize;
+    let middle = text[len / 2] as usize;
+    let last = text[len - 1] as usize;
     (first * 61 + middle * 197 + last * 7 + len % SLOTS * 389) % SLOTS
 }
 

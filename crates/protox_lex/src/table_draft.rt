@@ -138,6 +138,8 @@ impl<'a> TableDraft<'a> {
         len: usize,
     ) -> Result<usize, AllocError>
         requires fits { start + len < 2 ^ 64 }
+        requires some { 0 < len }
+        requires within { len ≤ length text.now }
         requires row { is_gap (shape_of token) ≡ false }
         requires holds { holds_none (shape_of token) ≡ true }
         ensures value { OnOk result ((xs : List spec.Lexeme) → finished self.new xs ≡ finished self.old (spec.plain (shape_of token.entry) start len ∷ xs)) }
@@ -202,6 +204,24 @@ impl<'a> TableDraft<'a> {
         self.add(start, found)
     }
 
+    // Adds the character at the front of a text, with which no lexeme begins. Answers where it ends.
+    #[inline(never)]
+    fn read_invalid(
+        &mut self,
+        alloc: Global,
+        text: &'a str,
+        start: usize,
+    ) -> Result<usize, AllocError>
+        requires some { 0 < length text.now }
+        requires fits { start + length text.now < 2 ^ 64 }
+        ensures value { OnOk result ((xs : List spec.Lexeme) → finished self.new xs ≡ finished self.old (spec.invalid start text.now ∷ xs)) }
+        ensures stop { IfOk result (λ n. n ≡ (spec.invalid start text.now).stop) }
+        ensures within { IfOk result (λ n. (start ≤ n) × (n ≤ start + length text.now)) }
+        ensures boundary { IfOk result (λ n. IsCharBoundary text.now (n - start)) }
+    {
+        self.add(start, invalid(alloc, text, start))
+    }
+
     // Reads and adds the lexeme at the front of a text that begins at `start`. Answers where it
     // ends. Frequent kinds are handled in the loop that calls this. All others are called, so that
     // the loop stays short.
@@ -222,7 +242,7 @@ impl<'a> TableDraft<'a> {
                 Some(token) => self.add_plain(token, text.as_bytes(), start, len),
                 None => self.read_kind(alloc, text, kind, len, start),
             },
-            None => self.add(start, invalid(alloc, text, start)),
+            None => self.read_invalid(alloc, text, start),
         }
     }
 }

@@ -1,5 +1,5 @@
 -- Several lists that are stored one after another in a single list.
-use Rattle.std.specs.Prelude.{ℕ, zero, suc, ◌≤◌, List, [], ◌∷◌, drop, slice_range, refl}
+use Rattle.std.specs.Prelude.{◌≡◌, ℕ, zero, suc, Bool, true, ◌≤◌, List, [], ◌∷◌, drop, slice_range, refl}
 use Rattle.std.specs.Coded.{Coded, code_by, coded×, coded_list}
 
 -- The lists that have ended, and the list that has begun.
@@ -39,3 +39,7 @@ empty_and (suc n) xss = [] ∷ empty_and n xss
 -- The group, with n empty lists in front.
 abbrev pub behind_empty : {T : Type 0} → ℕ → Grouped T → Grouped T
 behind_empty n g = record g { ended = empty_and n g.ended }
+
+-- While lists are only counted, the group behind them is new: nothing was added, not even an end.
+abbrev pub IsCounted : {T : Type 0} → Bool → Grouped T → Type 0
+IsCounted counts g = counts ≡ true → g ≡ record { ended = []; begun = [] }

@@ -12,6 +12,7 @@ pub mod Aggregates
 pub mod MergeParts
 pub mod MergeFirst
 pub mod Recovering
+pub mod Skipping
 pub mod Refusing
 pub mod LexicalAlone
 pub mod FirstOfMerged

@@ -63,7 +63,7 @@ pub from-last : (rows : Rows Place) → IsLastOf rows (from_statement rows)
 from-last [] = last-self []
 from-last (r ∷ rs) = last-cond (in_set (among statement_words) r.shape) (r ∷ rs) (r ∷ rs) (from_statement rs) (last-self (r ∷ rs)) (last-more r rs (from_statement rs) (from-last rs))
 
-block-last : (depth : ℕ) (rows : Rows Place) → IsLastOf rows (behind_block depth rows)
+pub block-last : (depth : ℕ) (rows : Rows Place) → IsLastOf rows (behind_block depth rows)
 block-last zero [] = last-self []
 block-last (suc depth) [] = last-self []
 block-last zero (r ∷ rs) =

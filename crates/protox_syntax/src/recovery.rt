@@ -1,6 +1,7 @@
 //! Where reading goes on behind a statement that is refused, so that later faults are reported too.
 
-ghost use Rattle.std.specs.Prelude.{◌≡◌, ◌++◌, OnOk};
+ghost use Rattle.std.specs.Prelude.{◌≡◌, ◌++◌, OnOk, drop};
+ghost use Rattle.protox_ast.specs.Places.{placed};
 ghost use Rattle.protox_grammar.specs.Class.{among};
 ghost use Rattle.protox_grammar.specs.Told.{Notes};
 ghost use Rattle.protox_syntax.specs.inner.Recovery.{AreRefusalNotes, at_most, behind_block, from_statement, last_rows, next_rows, plain_note, refusal_notes, statement_words};
@@ -35,21 +36,22 @@ fn begins_statement(class: u8) -> bool
     class <= MESSAGE && is_statement_word(class)
 }
 
-// These rows, less all before the next word that begins a statement. It moves a copy of the place
-// that it keeps to itself: each row that is skipped would else be written down. For the same reason
-// it is no part of its callers.
+// The rows of the table from this number on, less all before the next word that begins a statement.
+// A row that is skipped is only asked its class, by its number: a place that moves would be written
+// down for each. For the same reason it is no part of its callers.
 #[inline(never)]
-fn from_statement<'t, 'a>(rows: Unread<'t, 'a>) -> Unread<'t, 'a>
-    ensures { result ≡ from_statement rows.entry }
+fn from_statement<'t, 'a>(table: &'t TokenTable<'a>, from: usize) -> Unread<'t, 'a>
+    ensures { result ≡ from_statement (drop from (placed table.now)) }
 {
-    let mut left = rows;
-    'rows: while let Some((first, rest)) = left.split() {
-        if begins_statement(first.class()) {
-            return left;
+    let count = table.rows();
+    let mut index = from;
+    'rows: while let Some(class) = table.class(index) {
+        if begins_statement(class) {
+            return Unread::last(table, count - index);
         }
-        left = rest;
+        index += 1;
     }
-    left
+    Unread::last(table, 0)
 }
 
 // Skips the rest of a block, up to and with its `}`. The `{` has been read.
@@ -83,7 +85,7 @@ fn at_most(most: usize, left: usize) -> usize
 fn from_last<'t, 'a>(table: &'t TokenTable<'a>, count: usize) -> Unread<'t, 'a>
     ensures { result ≡ from_statement (last_rows table.now count) }
 {
-    from_statement(Unread::last(table, count))
+    from_statement(table, table.rows().saturating_sub(count))
 }
 
 // The same, after skipping to the end of the block that is open.
@@ -92,7 +94,7 @@ fn behind_last<'t, 'a>(table: &'t TokenTable<'a>, count: usize) -> Unread<'t, 'a
 {
     let mut rows = Unread::last(table, count);
     skip_block(&mut rows);
-    from_statement(rows)
+    from_statement(table, table.rows().saturating_sub(rows.len()))
 }
 
 /// The rows at which reading goes on behind a refused statement; at most `most` of them.

@@ -10,7 +10,7 @@ use Rattle.protox_ffi.specs.declared.linked.Input.{Input}
 use Rattle.protox_link_bytes.specs.Given.{GivenFile, given_file}
 use Rattle.protox_link_bytes.specs.Given as text
 use Rattle.protox_link_records.specs.declared.source.SourceFile.{SourceFile}
-use Rattle.protox_ffi.specs.Answers.{Answered, AnsweredBy, given, short, without, written, too_short}
+use Rattle.protox_ffi.specs.Answers.{Answered, AnsweredBy, IsNotRefused, given, short, status_of, without, written, too_short}
 use Rattle.protox_ffi.specs.declared.outcome.Reason.{Reason}
 use Rattle.protox_ffi.specs.declared.outcome.Reason.TheVariants.{Accepted, Refused, OutOfMemory, NotUtf8, TooLarge, NotAFloat}
 
@@ -20,6 +20,32 @@ answered_by Found Missing done old new len status bytes lent found is (given b e
     written b (subst (λ kind. Found kind b) (sym s) (subst (Found done) (sym (e ∙ is)) found)) fits l n
 answered_by Found Missing done old new len status bytes lent found is (short b e fits l n s) = too_short done b (subst (Found done) (sym (e ∙ is)) found) fits l n s
 answered_by Found Missing done old new len status bytes lent found is (without reason none l n s) = absurd none
+
+-- What is written with a status that is no refusal's is no refusal.
+pub not_refused : (Found : List ℕ → Type 0) (done : ℕ) (old new : List ℕ) (len status : ℕ) → IsNotRefused done → Answered Found (λ reason. ⊥) done old new len status → IsNotRefused status
+not_refused Found done old new len status other (given b e fits l n s) is = other (sym s ∙ is)
+not_refused Found done old new len status other (short b e fits l n s) is = let three = sym s ∙ is in absurd cc
+not_refused Found done old new len status other (without reason none l n s) is = absurd none
+
+pub done_not_refused : IsNotRefused 0
+done_not_refused is = absurd cc
+
+-- Why there is no answer is no refusal.
+pub missing_not_refused : (files : List GivenFile) (reason : Reason) → HasNoAnswer files reason → IsNotRefused (status_of reason)
+missing_not_refused files Accepted none is = absurd none
+missing_not_refused files Refused none is = absurd none
+missing_not_refused files OutOfMemory none is = absurd cc
+missing_not_refused files NotUtf8 none is = absurd cc
+missing_not_refused files TooLarge none is = absurd cc
+missing_not_refused files NotAFloat none is = absurd cc
+
+pub no_options_not_refused : (files : List GivenFile) (reason : Reason) → HasNoOptionAnswer files reason → IsNotRefused (status_of reason)
+no_options_not_refused files Accepted none is = absurd none
+no_options_not_refused files Refused none is = absurd none
+no_options_not_refused files OutOfMemory none is = absurd cc
+no_options_not_refused files NotUtf8 none is = absurd cc
+no_options_not_refused files TooLarge none is = absurd cc
+no_options_not_refused files NotAFloat none is = absurd none
 
 pub not_all_texts : (files : List Input) (i : ℕ) (other : Input) → i < length files → IsNoText (given_input (get_or files i other)) → AreNotAllTexts (linked.given files)
 not_all_texts files i other lt none all =

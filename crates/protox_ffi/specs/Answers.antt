@@ -30,3 +30,7 @@ pub data AnsweredBy (Found : ℕ → List ℕ → Type 0) (Missing : Reason → 
       → AnsweredBy Found Missing old new len status
   nothing : (reason : Reason) → Missing reason → len ≡ 0 → new ≡ old → status ≡ status_of reason
       → AnsweredBy Found Missing old new len status
+
+-- The status doesn't say that something is wrong with the files.
+abbrev pub IsNotRefused : ℕ → Type 0
+IsNotRefused status = status ≡ status_of Refused → ⊥

@@ -26,6 +26,11 @@ abbrev pub IsFound : List GivenFile → Found → Type 0
 IsFound files (Set bytes) = IsLinkedSet files bytes.items
 IsFound files (Records bytes) = AreRefused files bytes.items
 
+-- It is a set, and no records of what is wrong.
+abbrev pub IsSetFound : Found → Type 0
+IsSetFound (Set bytes) = ⊤
+IsSetFound (Records bytes) = ⊥
+
 -- The name or the source is not UTF-8.
 abbrev pub IsNoText : GivenFile → Type 0
 IsNoText file = IsUtf8 file.name × IsUtf8 file.source → ⊥

@@ -3,10 +3,12 @@
 #![tactic(auto)]
 
 ghost use Rattle.std.specs.Prelude.{◌≡◌};
-ghost use Rattle.protox_ffi.specs.Answers.{Answered, AnsweredBy};
+ghost use Rattle.protox_ffi.specs.Answers.{Answered, AnsweredBy, IsNotRefused};
 ghost use Rattle.protox_ffi.specs.Linked.{HasNoAnswer, IsAnswer, given};
 ghost use Rattle.protox_ffi.specs.LinkedOptions.{HasNoOptionAnswer, IsOptionAnswer};
 ghost use Rattle.protox_ffi.specs.Outcomes.{HasNoDescriptor, HasNoReport, IsDescriptor, IsReport};
+ghost use Rattle.protox_link_bytes.specs.Outcomes.{AreLinkable};
+ghost use Rattle.protox_link_options.specs.OptionSets.{AreLinkableWithOptions};
 
 mod found;
 mod linked;
@@ -77,7 +79,9 @@ pub extern "C" fn protox_link(
     out: &mut [u8],
     out_len: &mut usize,
 ) -> u32
-    ensures { AnsweredBy (IsAnswer (given files.now)) (HasNoAnswer (given files.now)) out.old out.new out_len.new result }
+    ensures answered { AnsweredBy (IsAnswer (given files.now)) (HasNoAnswer (given files.now)) out.old out.new out_len.new result }
+    // Files that can be linked are not refused.
+    ensures only { AreLinkable (given files.now) → IsNotRefused result }
 {
     match link(alloc, files) {
         Ok(Found::Set(bytes)) => deliver(bytes.as_slice(), 0, out, out_len),
@@ -99,7 +103,9 @@ pub extern "C" fn protox_link_with_options(
     out: &mut [u8],
     out_len: &mut usize,
 ) -> u32
-    ensures { AnsweredBy (IsOptionAnswer (given files.now)) (HasNoOptionAnswer (given files.now)) out.old out.new out_len.new result }
+    ensures answered { AnsweredBy (IsOptionAnswer (given files.now)) (HasNoOptionAnswer (given files.now)) out.old out.new out_len.new result }
+    // Files that can be linked, and whose options are right, are not refused.
+    ensures only { AreLinkableWithOptions (given files.now) → IsNotRefused result }
 {
     match linked_with_options(alloc, files) {
         Ok(Found::Set(set)) => deliver(set.as_slice(), 0, out, out_len),

@@ -1,8 +1,9 @@
 //! The bytes of a linked set, or the records of what is wrong with files.
 
-ghost use Rattle.std.specs.Prelude.{◌≡◌, ◌≤◌, ◌<◌, ◌^◌, length, MatchOption, MatchResult};
-ghost use Rattle.protox_ffi.specs.Linked.{HasNoAnswer, HasNoTexts, IsFound, IsNoText, given, given_input};
+ghost use Rattle.std.specs.Prelude.{◌≡◌, ◌≤◌, ◌<◌, ◌^◌, length, IfOk, MatchOption, MatchResult};
+ghost use Rattle.protox_ffi.specs.Linked.{HasNoAnswer, HasNoTexts, IsFound, IsNoText, IsSetFound, given, given_input};
 ghost use Rattle.protox_link_bytes.specs.Given.{given as given_texts, given_file};
+ghost use Rattle.protox_link_bytes.specs.Outcomes.{AreLinkable};
 
 use crate::outcome::Reason;
 use protox_link_bytes::{LinkBytesFailure, SourceFile, link_to_bytes};
@@ -71,7 +72,8 @@ pub(crate) fn within(bytes: Vec<u8>) -> Option<Vec<u8>>
 
 // What is found for texts.
 fn found_for(alloc: Global, texts: &[SourceFile<'_>]) -> Result<Found, Reason>
-    ensures { MatchResult result (IsFound (given_texts texts.now)) (HasNoAnswer (given_texts texts.now)) }
+    ensures found { MatchResult result (IsFound (given_texts texts.now)) (HasNoAnswer (given_texts texts.now)) }
+    ensures only { AreLinkable (given_texts texts.now) → IfOk result IsSetFound }
 {
     match link_to_bytes(alloc, texts) {
         Ok(bytes) => Ok(Found::Set(bytes)),
@@ -87,7 +89,8 @@ fn found_for(alloc: Global, texts: &[SourceFile<'_>]) -> Result<Found, Reason>
 
 /// The bytes of the set of files, or the records of what is wrong with them, or why there are none.
 pub fn linked(alloc: Global, files: &[Input<'_>]) -> Result<Found, Reason>
-    ensures { MatchResult result (IsFound (given files.now)) (HasNoAnswer (given files.now)) }
+    ensures found { MatchResult result (IsFound (given files.now)) (HasNoAnswer (given files.now)) }
+    ensures only { AreLinkable (given files.now) → IfOk result IsSetFound }
 {
     match texts_of(alloc, files) {
         Ok(texts) => found_for(alloc, texts.as_slice()),

@@ -4,8 +4,8 @@ use Rattle.protox_link_bytes.specs.Given.{given}
 use Rattle.protox_link_options.specs.OptionSets.{HasNoOptionSet}
 use Rattle.protox_ffi.proofs.linked_options.found_for.Goals as goal
 
-pub returns-in-None : goal.returns-in-None
-returns-in-None c =
+pub returns-in-None-clause-found : goal.returns-in-None-clause-found
+returns-in-None-clause-found c =
     RecordsAre c.in-Err-Refused.records.items
     (subst (HasNoOptionSet (given c.args.texts.now)) c.in-Err-Refused.field-0-is c.in-Err-Refused.ensures.without)
     c.in-None.ensures

@@ -4,7 +4,7 @@
 usage: docs.py        at the top of the repository
 
 A name of a file is a text between backquotes that ends like one, as `Order.antt` or `bench/gate.py`:
-some file of the repository has to end so. A link has to lead to a file. Each edit of the gate has to
+some file of the repository has to end so. A link has to lead to a file, and to a heading in it. Each edit of the gate has to
 stand in docs/WRONG_BODIES.md just once, and no other. README's program has to be that of the gate. Each
 block of Rust in docs/LIBRARY.md has to stand to the letter in a source that the gate builds: of the
 example programs, or of the tests. The last line is 'N passed, M failed'.
@@ -47,9 +47,20 @@ def missing_names(path, text, known):
 
 
 def missing_links(path, text):
-    links = re.findall(r'\]\(([^)#:]+)\)', text)
-    folder = os.path.dirname(path)
-    return [f'{path}: no file {link}' for link in links if not os.path.exists(os.path.join(folder, link))]
+    wrong, folder = [], os.path.dirname(path)
+    for link, part in re.findall(r'\]\(([^)#:]*)(?:#([^)]*))?\)', text):
+        file = os.path.join(folder, link) if link else path
+        if not os.path.exists(file):
+            wrong.append(f'{path}: no file {link}')
+        elif part and part not in headings(file):
+            wrong.append(f'{path}: {link} has no heading {part}')
+    return wrong
+
+
+def headings(path):
+    """The headings of a page, as links name them."""
+    lines = [line.lstrip('#').strip().lower() for line in read(path).split('\n') if line.startswith('#')]
+    return [re.sub(r'[^\w -]', '', line).replace(' ', '-') for line in lines]
 
 
 def wrong_edits():

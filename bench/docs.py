@@ -4,10 +4,10 @@
 usage: docs.py        at the top of the repository
 
 A name of a file is a text between backquotes that ends like one, as `Order.antt` or `bench/gate.py`:
-some file of the repository has to end so. A link has to lead to a file, and to a heading in it. Each edit of the gate has to
-stand in docs/WRONG_BODIES.md just once, and no other. README's program has to be that of the gate. Each
-block of Rust in docs/LIBRARY.md has to stand to the letter in a source that the gate builds: of the
-example programs, or of the tests. The last line is 'N passed, M failed'.
+some file of the repository has to end so. A link has to lead to a file, and to a heading in it. Each
+edit of the gate has to stand in docs/WRONG_BODIES.md just once, and no other. README's program has to be
+that of the gate. Each block of Rust in docs/LIBRARY.md has to stand to the letter in a source that the
+gate builds: of the example programs, or of the tests. The last line is 'N passed, M failed'.
 """
 import glob
 import os

@@ -3,7 +3,7 @@ use Rattle.std.specs.Prelude.{◌≢◌, ℕ, List, [], All, slice_index, string
 use Rattle.std.specs.declared.alloc.Global.{Global}
 use Rattle.std.specs.declared.string.String.{String}
 use Rattle.protox_descriptor.specs.declared.descriptor.FileDescriptorProto.{FileDescriptorProto}
-use Rattle.protox_link.specs.Link.{AreWrong}
+use Rattle.protox_link.specs.Link.{NothingIsWrong}
 use Rattle.protox_parse.specs.Files.{IsTranslation}
 
 -- The word is a file's name: it isn't empty, and begins neither with a hyphen nor with `@`.
@@ -25,9 +25,10 @@ module _ {H : Type 0} (holds : H → List ℕ → List ℕ → Type 0) (host : H
   abbrev pub IsReadFile : FileDescriptorProto → Type 0
   IsReadFile file = (name : List ℕ) × IsRead name file
 
-  -- Files were read, at least one, in which nothing is wrong. So all that they import is among them.
+  -- Files were read, at least one, in which nothing is wrong. So all that they import is among them,
+  -- and they don't import one another in a circle.
   pub record AreRight : Type 0 where
     pub files : List FileDescriptorProto
     pub some : files ≢ []
     pub read : All IsReadFile files
-    pub right : AreWrong files []
+    pub right : NothingIsWrong files

@@ -1,8 +1,8 @@
 //! Linking the files that were read, and writing what is asked for.
 
-ghost use Rattle.std.specs.Prelude.{◌≡◌, [], true, false, IfOk};
+ghost use Rattle.std.specs.Prelude.{◌≡◌, true, false, IfOk};
 ghost use Rattle.protox_link.specs.Known.{IsKnownOf};
-ghost use Rattle.protox_link.specs.Link.{AreWrong, NothingIsWrong};
+ghost use Rattle.protox_link.specs.Link.{NothingIsWrong};
 
 use crate::faults::tell_faults;
 use crate::host::{Host, is_want};
@@ -155,8 +155,7 @@ fn tell_wrong<E: Write>(
     resolver: &Resolver,
 ) -> io::Result<bool>
     requires { IsKnownOf loaded.now.files.items resolver.now }
-    ensures wrong { IfOk result (λ well. well ≡ true → AreWrong loaded.now.files.items []) }
-    ensures right { IfOk result (λ well. well ≡ true → NothingIsWrong loaded.now.files.items) }
+    ensures { IfOk result (λ well. well ≡ true → NothingIsWrong loaded.now.files.items) }
 {
     let faults = resolver.check(alloc, loaded.files.as_slice())?;
     tell_faults(alloc, err, format, loaded, resolver, faults.as_slice())?;
@@ -190,7 +189,7 @@ fn linked_by<H: Host, W: Write, E: Write>(
 ) -> io::Result<bool>
     requires { IsKnownOf loaded.files.items resolver }
     ensures read { IfOk result (λ well. well ≡ true → loaded.failed ≡ false) }
-    ensures right { IfOk result (λ well. well ≡ true → AreWrong loaded.files.items []) }
+    ensures right { IfOk result (λ well. well ≡ true → NothingIsWrong loaded.files.items) }
 {
     match tell_wrong(alloc, err, work.format, &loaded, &resolver) {
         Ok(true) => {}
@@ -220,7 +219,7 @@ pub(crate) fn linked<H: Host, W: Write, E: Write>(
 ) -> io::Result<bool>
     // All is well only if each file could be read, and nothing is wrong with them.
     ensures read { IfOk result (λ well. well ≡ true → loaded.failed ≡ false) }
-    ensures right { IfOk result (λ well. well ≡ true → AreWrong loaded.files.items []) }
+    ensures right { IfOk result (λ well. well ≡ true → NothingIsWrong loaded.files.items) }
 {
     match Resolver::new(alloc, loaded.files.as_slice()) {
         Ok(resolver) => linked_by(alloc, host, work, loaded, resolver, out, err),

@@ -51,6 +51,14 @@ pub record NothingIsWrong (files : List FileDescriptorProto) : Type 0 where
 abbrev pub IsCircleAlone : List FileDescriptorProto → List LinkFault → Type 0
 IsCircleAlone files faults = (fault : LinkFault) × (faults ≡ fault ∷ []) × IsOfCircle files fault
 
+-- The files have an order in which imports come first. So they don't import one another in a circle.
+abbrev pub HaveOrder : List FileDescriptorProto → Type 0
+HaveOrder files = (order : List ℕ) × IsInOrder (Imports files) (length files) order
+
+-- A circle is told, and alone: the one fault is that of a circle, or there is none.
+abbrev pub TellsCircles : List FileDescriptorProto → List LinkFault → Type 0
+TellsCircles files faults = IsCircleAlone files faults ⊎ HaveOrder files
+
 -- There is a circle, or these are all faults.
 abbrev pub AreWrong : List FileDescriptorProto → List LinkFault → Type 0
 AreWrong files faults = IsCircleAlone files faults ⊎ AreFaults files 0 files faults
@@ -62,3 +70,7 @@ AreOfFiles files faults = IsCircleAlone files faults ⊎ ((faults ≢ []) × Are
 abbrev pub IsFailureOf : List FileDescriptorProto → LinkFailure → Type 0
 IsFailureOf files (Refused faults) = AreOfFiles files faults.items
 IsFailureOf files OutOfMemory = ⊤
+
+abbrev pub FailureTellsCircles : List FileDescriptorProto → LinkFailure → Type 0
+FailureTellsCircles files (Refused faults) = TellsCircles files faults.items
+FailureTellsCircles files OutOfMemory = ⊤

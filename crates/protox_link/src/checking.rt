@@ -5,7 +5,7 @@ ghost use Rattle.std.specs.List.{All};
 ghost use Rattle.protox_descriptor.specs.declared.descriptor.FileDescriptorProto.{FileDescriptorProto};
 ghost use Rattle.protox_link.specs.Files.{AreFaults, IsToldOf};
 ghost use Rattle.protox_link.specs.Known.{HasRows, IsKnownOf};
-ghost use Rattle.protox_link.specs.Link.{AreWrong, NothingIsWrong};
+ghost use Rattle.protox_link.specs.Link.{AreWrong, NothingIsWrong, TellsCircles};
 ghost use Rattle.protox_link.specs.Stands.{Stands};
 ghost use Rattle.protox_link_checks.specs.Ranges.{AreRangesOf};
 ghost use Rattle.protox_symbols.specs.Things.{table_of};
@@ -67,6 +67,7 @@ pub(crate) fn check_known(
 ) -> Result<Vec<LinkFault>, AllocError>
     requires { IsKnownOf files.now known.now }
     ensures wrong { IfOk result (λ faults. AreWrong files.now faults.items) }
+    ensures circles { IfOk result (λ faults. TellsCircles files.now faults.items) }
     ensures right { IfOk result (λ faults. faults.items ≡ [] → NothingIsWrong files.now) }
     ensures stands { IfOk result (λ faults. All (Stands files.now) faults.items) }
 {
@@ -85,6 +86,7 @@ pub(crate) fn check_known(
 /// can count them.
 pub fn check(alloc: Global, files: &[FileDescriptorProto]) -> Result<Vec<LinkFault>, AllocError>
     ensures wrong { IfOk result (λ faults. AreWrong files.now faults.items) }
+    ensures circles { IfOk result (λ faults. TellsCircles files.now faults.items) }
     ensures stands { IfOk result (λ faults. All (Stands files.now) faults.items) }
 {
     match prepare(alloc, files)? {

@@ -7,7 +7,7 @@ ghost use Rattle.protox_imports.specs.Order.{IsCycle, IsInOrder};
 ghost use Rattle.protox_link.specs.Closed.{AreClosed};
 ghost use Rattle.protox_link.specs.Files.{AreDone, AreFaults, AreLinked};
 ghost use Rattle.protox_link.specs.Known.{HasRows, IsKnownOf};
-ghost use Rattle.protox_link.specs.Link.{AreKept, IsFailureOf, IsSetOf, NothingIsWrong};
+ghost use Rattle.protox_link.specs.Link.{AreKept, FailureTellsCircles, IsFailureOf, IsSetOf, NothingIsWrong};
 ghost use Rattle.protox_link.specs.Stands.{AllStand};
 
 use crate::LinkedSet;
@@ -53,6 +53,7 @@ fn link_ready(
     ensures closed { IfOk result (λ set. AreClosed files.items set.files.items) }
     ensures kept { IfOk result (λ set. AreKept files.items set.files.items) }
     ensures refused { IfErr result (λ failure. IsFailureOf files.items failure) }
+    ensures circles { IfErr result (λ failure. FailureTellsCircles files.items failure) }
     ensures stands { IfErr result (λ failure. AllStand files.items failure) }
 {
     let mut files = files;
@@ -70,6 +71,8 @@ fn refused_circle(alloc: Global, circle: Vec<usize>) -> LinkFailure
     requires { 0 < length circle.items }
     ensures refused { (files : List FileDescriptorProto) → IsCycle (ImportsOf files) circle.items
         → IsFailureOf files result }
+    ensures circles { (files : List FileDescriptorProto) → IsCycle (ImportsOf files) circle.items
+        → FailureTellsCircles files result }
     ensures stands { (files : List FileDescriptorProto) → IsCycle (ImportsOf files) circle.items
         → AllStand files result }
 {
@@ -90,6 +93,7 @@ pub(crate) fn link_known(
     ensures closed { IfOk result (λ set. AreClosed files.items set.files.items) }
     ensures kept { IfOk result (λ set. AreKept files.items set.files.items) }
     ensures refused { IfErr result (λ failure. IsFailureOf files.items failure) }
+    ensures circles { IfErr result (λ failure. FailureTellsCircles files.items failure) }
     ensures stands { IfErr result (λ failure. AllStand files.items failure) }
 {
     match order_of(alloc, &known.imports) {
@@ -187,6 +191,7 @@ pub fn link(alloc: Global, files: Vec<FileDescriptorProto>) -> Result<LinkedSet,
     ensures closed { IfOk result (λ set. AreClosed files.items set.files.items) }
     ensures kept { IfOk result (λ set. AreKept files.items set.files.items) }
     ensures refused { IfErr result (λ failure. IsFailureOf files.items failure) }
+    ensures circles { IfErr result (λ failure. FailureTellsCircles files.items failure) }
     ensures stands { IfErr result (λ failure. AllStand files.items failure) }
 {
     match prepare(alloc, files.as_slice()) {

@@ -5,7 +5,7 @@ ghost use Rattle.std.specs.List.{All};
 ghost use Rattle.protox_descriptor.specs.declared.descriptor.FileDescriptorProto.{FileDescriptorProto};
 ghost use Rattle.protox_link.specs.Closed.{AreClosed};
 ghost use Rattle.protox_link.specs.Known.{IsKnownOf};
-ghost use Rattle.protox_link.specs.Link.{AreKept, AreWrong, IsFailureOf, IsSetOf, NothingIsWrong};
+ghost use Rattle.protox_link.specs.Link.{AreKept, AreWrong, FailureTellsCircles, IsFailureOf, IsSetOf, NothingIsWrong, TellsCircles};
 ghost use Rattle.protox_link.specs.Resolver.{IsOfFile};
 ghost use Rattle.protox_link.specs.Stands.{AllStand, Stands};
 ghost use Rattle.protox_name_tree.specs.Tree.{kind_at};
@@ -107,6 +107,7 @@ impl Resolver {
     ) -> Result<Vec<LinkFault>, AllocError>
         requires { IsKnownOf files.now self.now }
         ensures wrong { IfOk result (λ faults. AreWrong files.now faults.items) }
+        ensures circles { IfOk result (λ faults. TellsCircles files.now faults.items) }
         ensures right { IfOk result (λ faults. faults.items ≡ [] → NothingIsWrong files.now) }
         ensures stands { IfOk result (λ faults. All (Stands files.now) faults.items) }
     {
@@ -127,6 +128,7 @@ impl Resolver {
         ensures closed { IfOk result (λ set. AreClosed files.items set.files.items) }
         ensures kept { IfOk result (λ set. AreKept files.items set.files.items) }
         ensures refused { IfErr result (λ failure. IsFailureOf files.items failure) }
+        ensures circles { IfErr result (λ failure. FailureTellsCircles files.items failure) }
         ensures stands { IfErr result (λ failure. AllStand files.items failure) }
     {
         link_known(alloc, &self.known, files)

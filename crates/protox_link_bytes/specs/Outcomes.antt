@@ -1,5 +1,5 @@
 -- What linking makes of the names and sources of files: the bytes of a set, or the records of what is wrong.
-use Rattle.std.specs.Prelude.{◌≡◌, ◌≤◌, ◌^◌, ◌⊎◌, ⊤, ℕ, false, List, [], length}
+use Rattle.std.specs.Prelude.{◌≡◌, ◌≢◌, ◌≤◌, ◌^◌, ◌⊎◌, ⊤, ℕ, false, List, [], length}
 use Rattle.std.specs.List.{list_all}
 use Rattle.protox_descriptor.specs.declared.descriptor.FileDescriptorProto.{FileDescriptorProto}
 use Rattle.protox_encode.specs.Floats.{has_floats}
@@ -30,13 +30,14 @@ pub record IsLinkedSet (sources : List GivenFile) (bytes : List ℕ) : Type 0 wh
   pub linking : IsLinking sources set
   pub spelled : bytes ≡ bytes_of (files_of set)
 
--- The sources are files, and these are the faults of linking; the bytes are the records of what is told of them.
+-- The sources are files, and these are the faults of linking; the bytes are the records of what is told of them. There is one at least.
 pub record HaveLinkFaults (sources : List GivenFile) (bytes : List ℕ) : Type 0 where
   pub files : List FileDescriptorProto
   pub translated : AreTranslations sources files
   pub faults : List LinkFault
   pub wrong : AreOfFiles files faults
   pub told : AreTold (texts sources) files faults bytes
+  pub some : bytes ≢ []
 
 -- Something is wrong with the files, and the bytes are its records.
 abbrev pub AreRefused : List GivenFile → List ℕ → Type 0

@@ -2,3 +2,6 @@ pub mod Chains
 pub mod Nearest
 pub mod Starts
 pub mod Telling
+pub mod Leading
+pub mod EachTold
+pub mod SomeRecords

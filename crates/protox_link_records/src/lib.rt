@@ -5,6 +5,7 @@
 #![tactic(auto)]
 
 pub mod kinds;
+pub mod laws;
 mod lines;
 mod parts;
 mod places;

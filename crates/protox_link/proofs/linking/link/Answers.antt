@@ -16,3 +16,9 @@ returns-in-Ok-Circle-clause-stands c =
     c.refused_circle.ensures.stands c.args.files.items
     (subst (λ (files : List FileDescriptorProto). IsCycle (Imports files) c.in-Ok-Circle.circle.items) c.as_slice.ensures.value
     (subst (IsPreparedFor c.as_slice.result.now) c.in-Ok-Circle.field-0-is c.in-Ok-Circle.ensures))
+
+pub returns-in-Ok-Circle-clause-circles : goal.returns-in-Ok-Circle-clause-circles
+returns-in-Ok-Circle-clause-circles c =
+    c.refused_circle.ensures.circles c.args.files.items
+    (subst (λ (files : List FileDescriptorProto). IsCycle (Imports files) c.in-Ok-Circle.circle.items) c.as_slice.ensures.value
+    (subst (IsPreparedFor c.as_slice.result.now) c.in-Ok-Circle.field-0-is c.in-Ok-Circle.ensures))

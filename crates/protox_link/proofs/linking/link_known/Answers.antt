@@ -19,3 +19,9 @@ returns-in-Ok-Cycle-clause-stands c =
     let files = c.args.files.items in
     c.refused_circle.ensures.stands files
     (subst (IsAnswer (Imports files) (length files)) c.in-Ok-Cycle.field-0-is (c.in-Ok-Cycle.ensures files c.requires.rows))
+
+pub returns-in-Ok-Cycle-clause-circles : goal.returns-in-Ok-Cycle-clause-circles
+returns-in-Ok-Cycle-clause-circles c =
+    let files = c.args.files.items in
+    c.refused_circle.ensures.circles files
+    (subst (IsAnswer (Imports files) (length files)) c.in-Ok-Cycle.field-0-is (c.in-Ok-Cycle.ensures files c.requires.rows))

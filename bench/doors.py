@@ -4,13 +4,13 @@
 usage: doors.py [--mend] [CRATE..]     at the top of the repository
 
 A crate hands out its code, the definitions in specs/ but not those in specs/inner, and what stands in
-proofs/Laws.antt: lemmas that other crates need, passed on by `pub use`. These are its doors. What else
+proofs/Lemmas.antt: lemmas that other crates need, passed on by `pub use`. These are its doors. What else
 others import of it can't be moved or renamed without them. For each crate, or for those that are named,
 a line says how many such names there are, and in how many files; with a CRATE the names follow. The last
 line is 'N names past a door'.
 
 With --mend the proofs of these crates get their door: each name that others import is passed on by
-proofs/Laws.antt, and the others import it from there. A name that stands in several modules is told, and
+proofs/Lemmas.antt, and the others import it from there. A name that stands in several modules is told, and
 nothing is changed: it wants a name of its own first.
 """
 import collections
@@ -66,7 +66,7 @@ def past_doors():
     crates = set(os.listdir('crates'))
     for path, own in sources():
         for crate, module, name in imports_of(read(path)):
-            if crate in crates and crate != own and module != 'proofs.Laws':
+            if crate in crates and crate != own and module != 'proofs.Lemmas':
                 names[crate][module].add(name)
                 files[crate].add(path)
     return names, files
@@ -95,7 +95,7 @@ def clashes(modules):
 
 def passed_on(crate):
     """What the door of a crate passes on already, by module."""
-    path, own = f'crates/{crate}/proofs/Laws.antt', collections.defaultdict(set)
+    path, own = f'crates/{crate}/proofs/Lemmas.antt', collections.defaultdict(set)
     if os.path.exists(path):
         for _, module, name in imports_of(read(path)):
             own[module].add(name)
@@ -106,13 +106,13 @@ def make_door(crate, modules):
     """Writes the door of a crate, and puts it into the list of its modules."""
     lib = f'crates/{crate}/proofs/Lib.antt'
     order = [line.split()[-1] for line in read(lib).split('\n') if line.startswith('pub mod ')]
-    if 'Laws' not in order:
-        write(lib, read(lib).rstrip('\n') + '\npub mod Laws\n')
+    if 'Lemmas' not in order:
+        write(lib, read(lib).rstrip('\n') + '\npub mod Lemmas\n')
     place = {name: at for at, name in enumerate(order)}
     lines = []
     for module in sorted(modules, key=lambda it: (place.get(it.split('.')[1], len(place)), it)):
         lines += lines_of(f'pub use Rattle.{crate}.{module}.{{', modules[module])
-    write(f'crates/{crate}/proofs/Laws.antt', HEAD + '\n'.join(lines) + '\n')
+    write(f'crates/{crate}/proofs/Lemmas.antt', HEAD + '\n'.join(lines) + '\n')
 
 
 def through_door(text, own, crates):
@@ -126,7 +126,7 @@ def through_door(text, own, crates):
         front, crate, _, _, names, alias = found.groups()
         end = ';' if line.rstrip().endswith(';') else ''
         if names is None:
-            lines.append(f'{front}use Rattle.{crate}.proofs.Laws as {alias or found[4].split(".")[-1]}{end}')
+            lines.append(f'{front}use Rattle.{crate}.proofs.Lemmas as {alias or found[4].split(".")[-1]}{end}')
             continue
         key = (front, crate, end)
         if key not in at:
@@ -134,9 +134,9 @@ def through_door(text, own, crates):
             lines.append('')
         at[key][1].extend(name.strip() for name in names.split(','))
     for (front, crate, end), (index, names) in at.items():
-        lines[index] = '\n'.join(lines_of(f'{front}use Rattle.{crate}.proofs.Laws.{{', set(names), '}' + end))
+        lines[index] = '\n'.join(lines_of(f'{front}use Rattle.{crate}.proofs.Lemmas.{{', set(names), '}' + end))
     text = '\n'.join(lines)
-    return USING.sub(lambda it: f'{it[1]}::proofs::Laws::{it[3]}' if it[1] in crates and it[1] != own else it[0], text)
+    return USING.sub(lambda it: f'{it[1]}::proofs::Lemmas::{it[3]}' if it[1] in crates and it[1] != own else it[0], text)
 
 
 def mend(names, chosen):

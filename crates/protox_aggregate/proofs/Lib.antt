@@ -1,3 +1,4 @@
 pub mod Outer
 pub mod Whole
 pub mod SameSteps
+pub mod Lemmas

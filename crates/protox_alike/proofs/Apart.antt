@@ -5,7 +5,7 @@ use Rattle.std.proofs.lemmas.List.Quantifiers.{position-Some}
 use Rattle.std.proofs.lemmas.Slice.Eq.{bytes_eq-Decides}
 use Rattle.protox_alike.specs.Alike.{first_same, same_names}
 use Rattle.protox_alike.specs.inner.Prints.{Differ, print_of}
-use Rattle.protox_numbers.proofs.None.{none_earlier, none_from}
+use Rattle.protox_numbers.proofs.Lemmas.{none_earlier, none_from}
 
 is_below : (q n : ℕ) → (q < n) ⊎ (n ≤ q)
 is_below q n = grind arith

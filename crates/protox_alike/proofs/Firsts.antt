@@ -1,5 +1,5 @@
 -- The first index of each name, as a map has it when names are added.
-use Rattle.std.proofs.Common.{◌≡◌, ◌<◌, ◌+◌, ℕ, suc, Bool, true, false, cond, List, [], ◌∷◌, ◌++◌, get_or, length, map, take, Option, Some, None, is_some, bytes_eq, refl, sym, ap, ◌∙◌, arith, zero-add, add-zero, length-take}
+use Rattle.std.proofs.Common.{◌≡◌, ◌<◌, ◌+◌, ℕ, suc, Bool, true, false, cond, List, [], ◌∷◌, ◌++◌, get_or, length, map, take, Option, Some, None, bytes_eq, refl, sym, ap, ◌∙◌, arith, zero-add, add-zero, length-take}
 use Rattle.std.specs.Prelude.{position}
 use Rattle.std.specs.List.{position_from}
 use Rattle.std.specs.Map.{update}
@@ -21,13 +21,6 @@ absent true c (Some g) n same h = let e : Some g ≡ None = h refl in cc
 absent false c None n same h = ap (λ (is_for : Bool). first_of None is_for n) same
 absent false c (Some g) n same h = refl
 
--- what stands is kept
-present : (b : Bool) (o : Option ℕ) (n : ℕ) → (b ≡ true → is_some o ≡ true) → o ≡ first_of o b n
-present true None n h = let e : false ≡ true = h refl in cc
-present true (Some g) n h = refl
-present false None n h = refl
-present false (Some g) n h = refl
-
 turned : (xs ys : List ℕ) (b : Bool) → bytes_eq xs ys ≡ b → bytes_eq ys xs ≡ b
 turned xs ys true h = (bytes_eq-Decides ys xs).1 (sym (same_name xs ys h))
 turned xs ys false h = differs (bytes_eq ys xs) refl where
@@ -40,11 +33,6 @@ pub put_absent : (f : List ℕ → Option ℕ) (name q : List ℕ) (n : ℕ) →
 put_absent f name q n none =
     absent (bytes_eq name q) (bytes_eq q name) (f q) n (sym (turned name q (bytes_eq name q) refl))
     (λ h. ap f (sym (same_name name q h)) ∙ none)
-
-pub kept_present : (f : List ℕ → Option ℕ) (name q : List ℕ) (n : ℕ) → is_some (f name) ≡ true
-    → f q ≡ first_of (f q) (bytes_eq q name) n
-kept_present f name q n some =
-    present (bytes_eq q name) (f q) n (λ h. ap (λ x. is_some (f x)) (same_name q name h) ∙ some)
 
 -- ---- a list with one name more
 

@@ -1,7 +1,9 @@
 -- Two parts of a tree that hold no message are equal exactly when they are the same.
 use Rattle.std.proofs.Common.{◌≡◌, Bool, true, ◌&&◌, ◌==◌, List, ℕ, refl, ap}
 use Rattle.std.proofs.lemmas.Bool.{false≢true}
-use Rattle.protox_descriptor.proofs.Sameness.{Tells, same, itself, tells-bool, tells-both, tells-if, tells-list, tells-option, tells-parts, tells-text, tells-unsigned}
+use Rattle.protox_descriptor.proofs.Lemmas.{Tells, itself, same, tells-bool, tells-both, tells-if}
+use Rattle.protox_descriptor.proofs.Lemmas.{tells-list, tells-option, tells-parts, tells-text}
+use Rattle.protox_descriptor.proofs.Lemmas.{tells-unsigned}
 use Rattle.protox_fault.specs.Faults.{Span}
 use Rattle.protox_ast.specs.contracts.ast.commented.CommentsPartialEq.TheImpl as comments
 use Rattle.protox_ast.specs.contracts.ast.EnumPartialEq.TheImpl as enumeration

@@ -3,7 +3,8 @@ use Rattle.std.proofs.Common.{◌≡◌, Bool, true, false, ◌&&◌, ◌==◌, 
 use mathlib.Core.Logic.{inl, inr}
 use Rattle.std.proofs.lemmas.Bool.{false≢true}
 use Rattle.std.specs.Cmp.Lexicographic.{pointwise}
-use Rattle.protox_descriptor.proofs.Sameness.{Tells, same, itself, tells-alike, tells-both, tells-held, tells-if, tells-list, tells-option, tells-parts}
+use Rattle.protox_descriptor.proofs.Lemmas.{Tells, itself, same, tells-alike, tells-both, tells-held}
+use Rattle.protox_descriptor.proofs.Lemmas.{tells-if, tells-list, tells-option, tells-parts}
 use Rattle.protox_fault.specs.Faults.{Span}
 use Rattle.protox_ast.proofs.Equal.{tells-pair, tells-span, same-Comments, same-Enum, same-Extensions, same-FieldLabel, same-Ident, same-Import, same-Int, same-Option, same-OptionList, same-Package, same-Reserved, same-Service, same-Syntax, same-Ty, same-TypeName}
 use Rattle.protox_ast.specs.contracts.ast.EnumPartialEq.TheImpl as enumeration

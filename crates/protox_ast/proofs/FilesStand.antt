@@ -1,24 +1,21 @@
 -- Where the declarations of a file stand, with all that is in them: in the source, one after
 -- another.
-use Rattle.std.proofs.Common.{◌≡◌, ◌⊎◌, inl, inr, ℕ, ◌≤◌, List, [], ◌∷◌, ◌++◌, length, map, Option, Some, None, sym, refl, subst, arith}
+use Rattle.std.proofs.Common.{◌≡◌, ◌⊎◌, ℕ, ◌≤◌, List, [], ◌∷◌, ◌++◌, length, map, Option, Some, None, subst, arith}
 use Rattle.std.specs.Prelude.{option_map}
 use Rattle.std.specs.List.{filter_map}
 use Rattle.std.specs.Str.{IsUtf8}
-use Rattle.protox_fault.specs.Faults.{Span, SpanLiesIn, span_from}
+use Rattle.protox_fault.specs.Faults.{Span, span_from}
 use Rattle.protox_lexeme.specs.Lexemes.{cut}
-use Rattle.protox_lexeme.specs.Shapes.{Row, Rows}
+use Rattle.protox_lexeme.specs.Shapes.{Rows}
 use Rattle.protox_lexeme.specs.Table.{table_of}
-use Rattle.protox_ast.specs.declared.ast.File.{File}
-use Rattle.protox_ast.specs.Accepted.{IsFileOf}
 use Rattle.protox_ast.specs.Keywords.{Each}
 use Rattle.protox_ast.specs.Tree as t
 use Rattle.protox_ast.specs.Spelling as s
 use Rattle.protox_ast.specs.Places.{Place, placed}
 use Rattle.protox_ast.specs.Ast as ast
-use Rattle.protox_ast.specs.Siblings.{Siblings, SiblingsStand, siblings, ident_spans, place_if_any, option_siblings, import_siblings, package_span, package_siblings, syntax_span, file_node, file_siblings, spans_in, FileStands}
-use Rattle.protox_ast.proofs.Standing.{Stand, tokens-stand, in-order}
+use Rattle.protox_ast.specs.Siblings.{Siblings, SiblingsStand, siblings, ident_spans, place_if_any, option_siblings, import_siblings, package_span, package_siblings, syntax_span, file_node, FileStands}
+use Rattle.protox_ast.proofs.Standing.{Stand, tokens-stand}
 use Rattle.protox_ast.proofs.SpansStand.{each-append, Hold, IsNode, Lists, begin-first, end-last, end-back, none, nothing, one, past, both, before, after, leaf, whole, last-list, more-lists, lists-within, HoldAll, kinds-lists, all-none, all-past, all-before}
-use Rattle.protox_ast.proofs.Siblings.{all-lie}
 use Rattle.protox_ast.proofs.PartsStand.{fullident-hold, strings-node, option-node}
 use Rattle.protox_ast.proofs.BlocksStand.{span_of_some, inside_some, chosen}
 use Rattle.protox_ast.proofs.MessagesStand.{all-both, message-is, extend-is, enum-is, service-is}
@@ -115,45 +112,3 @@ file-stands size x h =
 -- The same for the tree that the tokens of a source spell.
 pub source-stands : (source : List ℕ) → IsUtf8 source → (x : t.File Place) → placed (table_of (cut 0 source)) ≡ s.spell x → FileStands (length source) (ast.file (length source) x)
 source-stands source u x e = file-stands (length source) x (subst (Stand 0 (length source)) e (tokens-stand source u))
-
--- ---- the file's own span
-
-last-reach : (low high : ℕ) (first : Span) (rows : Rows Place) → first.end ≤ low → first.end ≤ high → Stand low high rows
-    → (first.end ≤ (ast.last_place (λ (y : Row Place). y.at.span) first rows).end) × ((ast.last_place (λ (y : Row Place). y.at.span) first rows).end ≤ high)
-last-reach low high first [] l m h = (omega arith, m)
-last-reach low high first (x ∷ a) l m h =
-    let k = last-reach x.at.span.end high x.at.span a (omega arith) (in-order x.at.span.end high a h.2) h.2 in
-    (omega (arith, l, h.0, h.1, k.0), k.1)
-
-rows-lie : (size : ℕ) (rows : Rows Place) → Stand 0 size rows → 1 ≤ length rows → SpanLiesIn size (ast.rows_span size rows)
-rows-lie size [] h l = absurd (omega (arith, l))
-rows-lie size (x ∷ a) h l =
-    let k = last-reach x.at.span.end size x.at.span a (omega arith) (in-order x.at.span.end size a h.2) h.2 in
-    (omega (arith, h.1, k.0), k.1)
-
--- A file with at least one row lies in the source.
-pub file-lies : (size : ℕ) (x : t.File Place) → Stand 0 size (s.spell x) → 1 ≤ length (s.spell x) → SpanLiesIn size (ast.file size x).span
-file-lies size x h l = rows-lie size (s.spell x) h l
-
-rows-own : (size : ℕ) (rows : Rows Place) → Stand 0 size rows → SpanLiesIn size (ast.rows_span size rows) ⊎ (ast.rows_span size rows ≡ span_from size 0)
-rows-own size [] h = inr refl
-rows-own size (x ∷ a) h = inl (rows-lie size (x ∷ a) h (omega arith))
-
--- The span of a file lies in the source. Without a row it goes from the end of the source to 0.
-pub file-own : (size : ℕ) (x : t.File Place) → Stand 0 size (s.spell x) → SpanLiesIn size (ast.file size x).span ⊎ ((ast.file size x).span ≡ span_from size 0)
-file-own size x h = rows-own size (s.spell x) h
-
-rows-reach : (size : ℕ) (rows : Rows Place) → Stand 0 size rows → ((ast.rows_span size rows).start ≤ size) × ((ast.rows_span size rows).end ≤ size)
-rows-reach size [] h = (omega arith, omega arith)
-rows-reach size (x ∷ a) h = let k = rows-lie size (x ∷ a) h (omega arith) in (omega (arith, k.0, k.1), k.1)
-
-pub file-reach : (size : ℕ) (x : t.File Place) → Stand 0 size (s.spell x) → ((ast.file size x).span.start ≤ size) × ((ast.file size x).span.end ≤ size)
-file-reach size x h = rows-reach size (s.spell x) h
-
--- All spans of the tree, except that of the file, lie in the source.
-pub spans-lie : (size : ℕ) (x : t.File Place) → Stand 0 size (s.spell x) → Each (SpanLiesIn size) (spans_in size (ast.file size x))
-spans-lie size x h = all-lie size (file_siblings size (ast.file size x)) (file-stands size x h)
-
--- The same for the file that a source gives.
-pub accepted-stands : (source : List ℕ) → IsUtf8 source → (file : File) → IsFileOf source file → FileStands (length source) file
-accepted-stands source u file h = subst (FileStands (length source)) (sym h.2) (source-stands source u h.0 h.1.spells.0)

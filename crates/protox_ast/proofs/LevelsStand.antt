@@ -1,16 +1,16 @@
 -- What stands in each level of a tree, list by list.
 use Rattle.std.proofs.Common.{ℕ, List, [], ◌∷◌, ◌++◌, map, flat_map, subst}
 use Rattle.protox_fault.specs.Faults.{Span}
-use Rattle.protox_ast.specs.declared.ast.Extend.{Extend, out-Extend}
-use Rattle.protox_ast.specs.declared.ast.Field.{Field, out-Field}
+use Rattle.protox_ast.specs.declared.ast.Extend.{out-Extend}
+use Rattle.protox_ast.specs.declared.ast.Field.{out-Field}
 use Rattle.protox_ast.specs.declared.ast.File.{File}
 use Rattle.protox_ast.specs.declared.ast.Message.{Message, out-Message}
 use Rattle.protox_ast.specs.declared.ast.MessageBody.{MessageBody, out-MessageBody}
-use Rattle.protox_ast.specs.declared.ast.Oneof.{Oneof, out-Oneof}
+use Rattle.protox_ast.specs.declared.ast.Oneof.{out-Oneof}
 use Rattle.protox_ast.specs.Keywords.{Each}
 use Rattle.protox_ast.specs.Siblings.{SpansStand, SiblingsStand, place_if_any, type_name_spans, list_span, list_siblings, option_spans, option_siblings, extension_ranges, extensions_siblings, range_statement, reserved_ranges, name_statement, reserved_names, reserved_siblings, Siblings, inside_body, SiblingKind, AField, AMessage, AnEnum, AOneof, AnExtend, AnExtension, AService, Node, node_spans, inside_all, brought, nodes, syntax_span, package_span, package_siblings, import_siblings, file_node, FileStands}
-use Rattle.protox_ast.specs.Steps.{of_kind, of_item, of_field, of_message, of_body, of_oneof, of_extend}
-use Rattle.protox_ast.proofs.Levels.{body-gives, message-gives, field-gives, oneof-gives, extend-gives}
+use Rattle.protox_ast.specs.Steps.{of_kind, of_item, of_field, of_message, of_body}
+use Rattle.protox_ast.proofs.Levels.{body-gives, message-gives}
 use Rattle.protox_ast.proofs.SpansStand.{each-front, each-back}
 
 abbrev pub body_items : MessageBody → List Node
@@ -74,49 +74,6 @@ pub message-stands : (low high : ℕ) (x : Message) → Each (SiblingsStand low 
 message-stands low high x given =
     let h = subst (λ (n : Node). Each (SiblingsStand low high) n.inside) (message-gives nodes x) given in
     record { name = h.0.parts; body = body-stands low high (out-Message x).span (out-Message x).body h.1 }
-
--- The parts of a field, of its kind and of its options.
-pub record FieldStands (low high : ℕ) (x : Field) : Type 0 where
-  pub parts : SpansStand (out-Field x).span.start (out-Field x).span.end (place_if_any (out-Field x).label ++ ((of_kind nodes (out-Field x).kind).type ∷ ((out-Field x).name.span ∷ ((out-Field x).number.span ∷ list_span (out-Field x).options))))
-  pub in_kind : Each (SiblingsStand low high) ((of_kind nodes (out-Field x).kind).inside (out-Field x).span)
-  pub in_options : Each (SiblingsStand low high) (list_siblings (out-Field x).options)
-
-pub field-stands : (low high : ℕ) (x : Field) → Each (SiblingsStand low high) (of_field nodes x).inside → FieldStands low high x
-field-stands low high x given =
-    let h = subst (λ (n : Node). Each (SiblingsStand low high) n.inside) (field-gives nodes x) given in
-    record {
-      parts = h.0.parts;
-      in_kind = each-front (SiblingsStand low high) ((of_kind nodes (out-Field x).kind).inside (out-Field x).span) (list_siblings (out-Field x).options) h.1;
-      in_options = each-back (SiblingsStand low high) ((of_kind nodes (out-Field x).kind).inside (out-Field x).span) (list_siblings (out-Field x).options) h.1;
-    }
-
-pub record OneofStands (low high : ℕ) (x : Oneof) : Type 0 where
-  pub name : SpansStand (out-Oneof x).span.start (out-Oneof x).span.end ((out-Oneof x).name.span ∷ [])
-  pub options : SpansStand (out-Oneof x).span.start (out-Oneof x).span.end (option_spans (out-Oneof x).options)
-  pub fields : SpansStand (out-Oneof x).span.start (out-Oneof x).span.end (node_spans (map (of_field nodes) (out-Oneof x).fields))
-  pub in_options : Each (SiblingsStand low high) (flat_map option_siblings (out-Oneof x).options)
-  pub in_fields : Each (SiblingsStand low high) (inside_all (map (of_field nodes) (out-Oneof x).fields))
-
-pub oneof-stands : (low high : ℕ) (x : Oneof) → Each (SiblingsStand low high) (of_oneof nodes x).inside → OneofStands low high x
-oneof-stands low high x given =
-    let h = subst (λ (n : Node). Each (SiblingsStand low high) n.inside) (oneof-gives nodes x) given in
-    record {
-      name = h.0.parts;
-      options = h.1.0.parts;
-      fields = h.1.1.0.parts;
-      in_options = each-front (SiblingsStand low high) (flat_map option_siblings (out-Oneof x).options) (inside_all (map (of_field nodes) (out-Oneof x).fields)) h.1.1.1;
-      in_fields = each-back (SiblingsStand low high) (flat_map option_siblings (out-Oneof x).options) (inside_all (map (of_field nodes) (out-Oneof x).fields)) h.1.1.1;
-    }
-
-pub record ExtendStands (low high : ℕ) (x : Extend) : Type 0 where
-  pub extendee : SpansStand (out-Extend x).span.start (out-Extend x).span.end (type_name_spans (out-Extend x).extendee)
-  pub fields : SpansStand (out-Extend x).span.start (out-Extend x).span.end (node_spans (map (of_field nodes) (out-Extend x).fields))
-  pub in_fields : Each (SiblingsStand low high) (inside_all (map (of_field nodes) (out-Extend x).fields))
-
-pub extend-stands : (low high : ℕ) (x : Extend) → Each (SiblingsStand low high) (of_extend nodes x).inside → ExtendStands low high x
-extend-stands low high x given =
-    let h = subst (λ (n : Node). Each (SiblingsStand low high) n.inside) (extend-gives nodes x) given in
-    record { extendee = h.0.parts; fields = h.1.0.parts; in_fields = h.1.1 }
 
 abbrev pub items_of_file : File → List Node
 items_of_file x = map file_node x.items

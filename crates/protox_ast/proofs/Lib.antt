@@ -19,3 +19,4 @@ pub mod SpansStand
 pub mod Standing
 pub mod Texts
 pub mod ValidTexts
+pub mod Lemmas

@@ -39,20 +39,6 @@ contains-from (y ∷ ys) x (inr h) = let r : Contains ys x = contains-from ys x 
 
 -- ---- lists joined
 
-pub somewhere-left : {A : Type 0} (P : A → Type 0) (xs ys : List A) → Somewhere P xs → Somewhere P (xs ++ ys)
-somewhere-left P [] ys h = absurd h
-somewhere-left P (x ∷ xs) ys (inl p) = inl p
-somewhere-left P (x ∷ xs) ys (inr h) = inr (somewhere-left P xs ys h)
-
-pub somewhere-right : {A : Type 0} (P : A → Type 0) (xs ys : List A) → Somewhere P ys → Somewhere P (xs ++ ys)
-somewhere-right P [] ys h = h
-somewhere-right P (x ∷ xs) ys h = inr (somewhere-right P xs ys h)
-
-pub somewhere-cases : {A : Type 0} (P : A → Type 0) (xs ys : List A) → Somewhere P (xs ++ ys) → Somewhere P xs ⊎ Somewhere P ys
-somewhere-cases P [] ys h = inr h
-somewhere-cases P (x ∷ xs) ys (inl p) = inl (inl p)
-somewhere-cases P (x ∷ xs) ys (inr h) = elim (somewhere-cases P xs ys h) as (λ _. Somewhere P (x ∷ xs) ⊎ Somewhere P ys) [ inl a ↦ inl (inr a) | inr b ↦ inr b ]
-
 pub among-left : {A : Type 0} (xs ys : List A) (x : A) → Among xs x → Among (xs ++ ys) x
 among-left [] ys x h = absurd h
 among-left (y ∷ xs) ys x (inl e) = inl e

@@ -10,7 +10,7 @@ use Rattle.protox_ast.specs.Places.{Place}
 use Rattle.protox_ast.specs.Siblings.{SpansStand, Siblings, SiblingsStand, siblings}
 use Rattle.protox_ast.specs.Spans.{part_span, value_span, body_span, parts_span}
 use Rattle.protox_ast.proofs.Standing.{Stand}
-use Rattle.protox_ast.proofs.SpansStand.{IsNode, each-append, spans-order, spans-append, spans-wider}
+use Rattle.protox_ast.proofs.SpansStand.{IsNode, each-append, spans-order}
 
 -- Each starts before those after it.
 abbrev pub StartsRise : List Span → Type 0
@@ -33,23 +33,6 @@ starts-behind n low high (x ∷ xs) l h = (omega (arith, l, h.0), starts-behind 
 pub starts-rise : (low high : ℕ) (xs : List Span) → SpansStand low high xs → StartsRise xs
 starts-rise low high [] h = tt
 starts-rise low high (x ∷ xs) h = (starts-behind x.start x.end high xs h.1 h.2, starts-rise x.end high xs h.2)
-
--- Each has at least one byte, so there are no more parts than bytes.
-pub spans-few : (low high : ℕ) (xs : List Span) → SpansStand low high xs → low + length xs ≤ high
-spans-few low high [] h = omega (arith, h)
-spans-few low high (x ∷ xs) h = omega (arith, h.0, h.1, spans-few x.end high xs h.2)
-
-pub siblings-few : (low high : ℕ) (x : Siblings) → SiblingsStand low high x → low + length x.children ≤ high
-siblings-few low high x h = omega (arith, h.from, h.to, spans-few x.parent.start x.parent.end x.children h.parts)
-
--- If nodes stand one after another, so do all their parts, such as the fields of a message and of
--- its oneofs.
-pub spans-flat : {A : Type 0} (span : A → Span) (parts : A → List Span) (low high : ℕ) (xs : List A)
-    → SpansStand low high (map span xs) → Each (λ x. SpansStand (span x).start (span x).end (parts x)) xs → SpansStand low high (flat_map parts xs)
-spans-flat span parts low high [] h k = h
-spans-flat span parts low high (x ∷ xs) h k =
-    spans-append low (span x).end high (parts x) (flat_map parts xs) (spans-wider (span x).start (span x).end low (span x).end (parts x) h.0 (omega arith) k.0)
-    (spans-flat span parts (span x).end high xs h.2 k.1)
 
 -- A node lies in the source in which its rows stand.
 pub node-lies : {rows : Rows Place} {span : Span} {i : List Siblings} (low high : ℕ) → IsNode rows span i → Stand low high rows → SpanLiesIn high span

@@ -5,7 +5,7 @@ use Rattle.protox_fault.specs.Faults.{Span}
 use Rattle.protox_lexeme.specs.Lexemes.{cut}
 use Rattle.protox_lexeme.specs.Shapes.{Shape, Rows}
 use Rattle.protox_lexeme.specs.Table.{StandBetween, table_of, rows_of, gaps_of}
-use Rattle.protox_lexeme.proofs.Places.{stand}
+use Rattle.protox_lexeme.proofs.Lemmas.{stand}
 use Rattle.protox_ast.specs.Places.{Place, later_gaps, placed_from, placed}
 
 -- rows without the comments around them

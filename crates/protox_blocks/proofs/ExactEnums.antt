@@ -13,14 +13,12 @@ use Rattle.protox_rows.specs.declared.expected.Expected.TheVariants as expected
 use Rattle.protox_rows.specs.inner.Names as names
 use Rattle.protox_rows.specs.inner.Words as rows
 use Rattle.protox_rows.specs.inner.Words.{Words, always, and_then, times}
-use Rattle.protox_rows.proofs.Exact.{Exact, mapped-exact, seq-exact}
-use Rattle.protox_rows.proofs.ExactForms.{choice-exact}
-use Rattle.protox_rows.proofs.ExactNames.{ident-exact, int-exact, mark-exact, or-none, word-exact}
-use Rattle.protox_rows.proofs.ExactSequences.{begun_with, from-exact, front-exact, option-exact}
-use Rattle.protox_rows.proofs.ExactWide.{wide-exact}
+use Rattle.protox_rows.proofs.Lemmas.{Exact, begun_with, choice-exact, from-exact, front-exact}
+use Rattle.protox_rows.proofs.Lemmas.{ident-exact, int-exact, mapped-exact, mark-exact}
+use Rattle.protox_rows.proofs.Lemmas.{option-exact, or-none, seq-exact, wide-exact, word-exact}
 use Rattle.protox_options.specs.inner.Options as options_rule
 use Rattle.protox_options.specs.inner.Words as options
-use Rattle.protox_options.proofs.ExactOptions.{list-exact-of, option-exact-of}
+use Rattle.protox_options.proofs.Lemmas.{list-exact-of, option-exact-of}
 use Rattle.protox_blocks.specs.inner.Enums as rule
 use Rattle.protox_blocks.specs.inner.Words as said
 use Rattle.protox_blocks.proofs.ExactRanges.{reserved-exact}

@@ -14,22 +14,20 @@ use Rattle.protox_grammar.specs.Class.{Set, among, in_set, none, only, union, wi
 use Rattle.protox_grammar.specs.Reader as reader
 use Rattle.protox_grammar.specs.Reader.{Reader, Refusal, ◌>>=◌, folded, fixed, mapped, seq}
 use Rattle.protox_grammar.specs.Token as token
-use Rattle.protox_grammar.proofs.Shown.{push}
+use Rattle.protox_grammar.proofs.Lemmas.{push}
 use Rattle.protox_rows.specs.Expected.{named, allowed}
 use Rattle.protox_rows.specs.declared.expected.Expected.{Expected}
 use Rattle.protox_rows.specs.declared.expected.Expected.TheVariants as expected
 use Rattle.protox_rows.specs.inner.Names as names
 use Rattle.protox_rows.specs.inner.Words as rows
 use Rattle.protox_rows.specs.inner.Words.{always, and_then}
-use Rattle.protox_rows.proofs.Exact.{Exact, mapped-exact, seq-exact, under}
-use Rattle.protox_rows.proofs.ExactForms.{choice-exact}
-use Rattle.protox_rows.proofs.ExactLists.{last_more}
-use Rattle.protox_rows.proofs.ExactTails.{tail-exact, tail_more}
-use Rattle.protox_rows.proofs.ExactNames.{int-exact, mark-exact, strings-exact, word-exact}
-use Rattle.protox_rows.proofs.ExactSequences.{begun_with, list-exact, list_more, option-exact, reread}
+use Rattle.protox_rows.proofs.Lemmas.{Exact, begun_with, choice-exact, int-exact, last_more}
+use Rattle.protox_rows.proofs.Lemmas.{list-exact, list_more, mapped-exact, mark-exact, option-exact}
+use Rattle.protox_rows.proofs.Lemmas.{reread, seq-exact, strings-exact, tail-exact, tail_more}
+use Rattle.protox_rows.proofs.Lemmas.{under, word-exact}
 use Rattle.protox_options.specs.inner.Options as options_rule
 use Rattle.protox_options.specs.inner.Words as options
-use Rattle.protox_options.proofs.ExactOptions.{list-exact-of}
+use Rattle.protox_options.proofs.Lemmas.{list-exact-of}
 use Rattle.protox_blocks.specs.inner.Ranges as rule
 use Rattle.protox_blocks.specs.inner.Words as said
 

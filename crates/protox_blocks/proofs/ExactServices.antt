@@ -10,11 +10,9 @@ use Rattle.protox_grammar.specs.Token as token
 use Rattle.protox_rows.specs.inner.Words.{always}
 use Rattle.protox_rows.specs.declared.expected.Expected.{Expected}
 use Rattle.protox_rows.specs.declared.expected.Expected.TheVariants as expected
-use Rattle.protox_rows.proofs.Exact.{Exact, mapped-exact, seq-exact}
-use Rattle.protox_rows.proofs.ExactForms.{choice-exact}
-use Rattle.protox_rows.proofs.ExactNames.{ident-exact, mark-exact, or-none, typename-exact, word-exact}
-use Rattle.protox_rows.proofs.ExactSequences.{begun_with}
-use Rattle.protox_options.proofs.ExactOptions.{option-exact-of}
+use Rattle.protox_rows.proofs.Lemmas.{Exact, begun_with, choice-exact, ident-exact, mapped-exact}
+use Rattle.protox_rows.proofs.Lemmas.{mark-exact, or-none, seq-exact, typename-exact, word-exact}
+use Rattle.protox_options.proofs.Lemmas.{option-exact-of}
 use Rattle.protox_blocks.specs.inner.Services as rule
 use Rattle.protox_blocks.specs.inner.Words as said
 use Rattle.protox_blocks.proofs.ExactEnums.{elements-exact, open_brace-exact, semicolon-exact}

@@ -10,18 +10,17 @@ use Rattle.protox_grammar.specs.Class.{Set, among, class, none, only, union}
 use Rattle.protox_grammar.specs.Reader as reader
 use Rattle.protox_grammar.specs.Reader.{Reader, Refusal, Unexpected, Deep, is_token, too_deep}
 use Rattle.protox_grammar.specs.Token as token
-use Rattle.protox_grammar.proofs.Reading.{err-ok}
-use Rattle.protox_grammar.proofs.Tests.{mark-class}
+use Rattle.protox_grammar.proofs.Lemmas.{err-ok, mark-class}
 use Rattle.protox_rows.specs.declared.expected.Expected.{Expected}
 use Rattle.protox_rows.specs.declared.expected.Expected.TheVariants as expected
 use Rattle.protox_rows.specs.inner.Words.{always}
-use Rattle.protox_rows.proofs.Exact.{Exact, Took, mapped-exact, seq-exact}
-use Rattle.protox_rows.proofs.ExactForms.{choice-exact}
-use Rattle.protox_rows.proofs.ExactNames.{ident-exact, int-exact, label-exact, mark-exact, or-none, typename-exact, word-exact}
-use Rattle.protox_rows.proofs.ExactSequences.{begun_with, from-exact, option-exact}
+use Rattle.protox_rows.proofs.Lemmas.{Exact, Took, begun_with, choice-exact, from-exact}
+use Rattle.protox_rows.proofs.Lemmas.{ident-exact, int-exact, label-exact, mapped-exact, mark-exact}
+use Rattle.protox_rows.proofs.Lemmas.{option-exact, or-none, seq-exact, typename-exact, word-exact}
 use Rattle.protox_options.specs.inner.Options as options_rule
-use Rattle.protox_options.proofs.ExactOptions.{list-exact-of, option-exact-of}
-use Rattle.protox_blocks.proofs.ExactEnums.{elements-exact, enum-exact, open_brace-exact, semicolon-exact}
+use Rattle.protox_options.proofs.Lemmas.{list-exact-of, option-exact-of}
+use Rattle.protox_blocks.proofs.Lemmas.{elements-exact, enum-exact, open_brace-exact}
+use Rattle.protox_blocks.proofs.Lemmas.{semicolon-exact}
 use Rattle.protox_bodies.specs.inner.Bodies as rule
 use Rattle.protox_bodies.specs.inner.Fields.{field_of}
 use Rattle.protox_bodies.specs.inner.Words as said

@@ -12,12 +12,10 @@ use Rattle.protox_rows.specs.Expected.{named, allowed}
 use Rattle.protox_rows.specs.declared.expected.Expected.{Expected}
 use Rattle.protox_rows.specs.declared.expected.Expected.TheVariants as expected
 use Rattle.protox_rows.specs.inner.Words.{always}
-use Rattle.protox_rows.proofs.Exact.{Exact, mapped-exact, seq-exact}
-use Rattle.protox_rows.proofs.ExactForms.{choice-exact}
-use Rattle.protox_rows.proofs.ExactNames.{field_type-exact, ident-exact, mark-exact, type_more, word-exact}
-use Rattle.protox_options.proofs.ExactOptions.{option-exact-of}
-use Rattle.protox_blocks.proofs.ExactEnums.{numbered-exact}
-use Rattle.protox_blocks.proofs.ExactRanges.{extensions-exact, reserved-exact}
+use Rattle.protox_rows.proofs.Lemmas.{Exact, choice-exact, field_type-exact, ident-exact}
+use Rattle.protox_rows.proofs.Lemmas.{mapped-exact, mark-exact, seq-exact, type_more, word-exact}
+use Rattle.protox_options.proofs.Lemmas.{option-exact-of}
+use Rattle.protox_blocks.proofs.Lemmas.{extensions-exact, numbered-exact, reserved-exact}
 use Rattle.protox_bodies.specs.inner.Bodies as bodies
 use Rattle.protox_bodies.specs.inner.Fields as rule
 use Rattle.protox_bodies.specs.inner.Words as said

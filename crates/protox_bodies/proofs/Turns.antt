@@ -7,12 +7,8 @@ use Rattle.protox_ast.specs.Places.{Place}
 use Rattle.protox_grammar.specs.Bodies as bodies
 use Rattle.protox_grammar.specs.Reader as reader
 use Rattle.protox_grammar.specs.Reader.{Consumes, Refusal, leaf, see_word, ◌>>=◌}
-use Rattle.protox_grammar.proofs.Opened.{sunk_notes}
-use Rattle.protox_grammar.proofs.Reading.{err-ok}
-use Rattle.protox_grammar.proofs.Takes.{bind_ok, ok_is}
-use Rattle.protox_grammar.proofs.Depths as depths
-use Rattle.protox_grammar.proofs.Messages as rules
-use Rattle.protox_grammar.proofs.Shows.{seen, shows-eats}
+use Rattle.protox_grammar.proofs.Lemmas.{bind_ok, err-ok, ok_is, seen_as, shows-eats, sunk_notes}
+use Rattle.protox_grammar.proofs.Lemmas as grammar
 use Rattle.protox_options.specs.inner.Options.{here}
 use Rattle.protox_ast.specs.declared.ast.Ident as ident_type
 use Rattle.protox_rows.specs.inner.Names.{ident}
@@ -24,25 +20,25 @@ use Rattle.protox_bodies.specs.inner.Bodies as messages
 use Rattle.protox_bodies.specs.inner.Words as said
 
 pub element-eats : (n : ℕ) → Consumes (messages.element_at n)
-element-eats n = shows-eats (rules.element-laws here k.KeepsMbody (bodies.FitsMbody n) (bodies.unsealed n).read (bodies.unsealed n).steps (bodies.unsealed n).trace (depths.body-laws here n)) (messages.element n (messages.mbody_at n)).shows
+element-eats n = shows-eats (grammar.element-laws here k.KeepsMbody (bodies.FitsMbody n) (bodies.unsealed n).read (bodies.unsealed n).steps (bodies.unsealed n).trace (grammar.body-laws here n)) (messages.element n (messages.mbody_at n)).shows
 
 pub oneof_element-eats : (n : ℕ) → Consumes (messages.oneof_element_at n)
-oneof_element-eats n = shows-eats (rules.oneof_element-laws here k.KeepsMbody (bodies.FitsMbody n) (bodies.unsealed n).read (bodies.unsealed n).steps (bodies.unsealed n).trace (depths.body-laws here n)) (messages.oneof_element n (messages.mbody_at n)).shows
+oneof_element-eats n = shows-eats (grammar.oneof_element-laws here k.KeepsMbody (bodies.FitsMbody n) (bodies.unsealed n).read (bodies.unsealed n).steps (bodies.unsealed n).trace (grammar.body-laws here n)) (messages.oneof_element n (messages.mbody_at n)).shows
 
 pub extend_element-eats : (n : ℕ) → Consumes (messages.extend_element_at n)
-extend_element-eats n = shows-eats (rules.extend_element-laws here k.KeepsMbody (bodies.FitsMbody n) (bodies.unsealed n).read (bodies.unsealed n).steps (bodies.unsealed n).trace (depths.body-laws here n)) (messages.extend_element n (messages.mbody_at n)).shows
+extend_element-eats n = shows-eats (grammar.extend_element-laws here k.KeepsMbody (bodies.FitsMbody n) (bodies.unsealed n).read (bodies.unsealed n).steps (bodies.unsealed n).trace (grammar.body-laws here n)) (messages.extend_element n (messages.mbody_at n)).shows
 
 -- ---- a declaration that is added to a value as soon as it is read
 
 -- What is read, if the value with it is.
-pub added : {A B : Type 0} (add : A → B) (read : Result (A × Rows Place) Refusal) (new : B) (left : Rows Place) → (read >>= seen add) ≡ Ok (new, left) → (x : A) × (read ≡ Ok (x, left)) × (add x ≡ new)
+pub added : {A B : Type 0} (add : A → B) (read : Result (A × Rows Place) Refusal) (new : B) (left : Rows Place) → (read >>= seen_as add) ≡ Ok (new, left) → (x : A) × (read ≡ Ok (x, left)) × (add x ≡ new)
 added add read new left e =
-    let p = bind_ok read (seen add) (new, left) e in
+    let p = bind_ok read (seen_as add) (new, left) e in
     let same = ok_is (add p.0.0, p.0.1) (new, left) p.2 in
     (p.0.0, p.1 ∙ ap (λ (v : Rows Place). Ok (p.0.0, v)) (ap (λ v. v.1) same), ap (λ v. v.0) same)
 
 -- Nothing is read, if the value with it isn't.
-pub unadded : {A B : Type 0} (e : Refused) (add : A → B) (read : Result (A × Rows Place) Refusal) → Fails e (read >>= seen add) → Fails e read
+pub unadded : {A B : Type 0} (e : Refused) (add : A → B) (read : Result (A × Rows Place) Refusal) → Fails e (read >>= seen_as add) → Fails e read
 unadded OutOfMemory add read h = tt
 unadded (At left expected) add (Ok x) h = absurd cc
 unadded (At left expected) add (Err d) h = cc

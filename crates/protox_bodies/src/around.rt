@@ -2,7 +2,7 @@
 //! statements, and the refusal of a body that is too deep.
 
 ghost use Rattle.std.specs.Prelude.{◌≡◌};
-ghost use Rattle.protox_grammar.proofs.Opened.{sunk_notes};
+ghost use Rattle.protox_grammar.proofs.Lemmas.{sunk_notes};
 ghost use Rattle.protox_grammar.specs.Bodies.{deep_read};
 ghost use Rattle.protox_ast.specs.Places.{Place};
 ghost use Rattle.protox_rows.specs.inner.Outcome.{Fails, Gives};

@@ -18,14 +18,12 @@ use Rattle.protox_ast.specs.declared.ast.OptionValue.{OptionValue}
 use Rattle.protox_ast.specs.declared.ast.OptionValue.TheVariants as value
 use Rattle.protox_ast.specs.declared.ast.Syntax.{Syntax}
 use Rattle.protox_ast.specs.declared.ast.Syntax.TheVariants.{Proto2, Proto3}
-use Rattle.protox_ast.proofs.SpansStand.{each-so}
 use Rattle.protox_checks.specs.Checks.{only_if, value_faults, option_faults, label_faults, map_faults, key_faults, kind_faults, is_proto3, place_faults, group_faults, default_value_faults, at_default, field_faults, node_faults, file_faults, AreListed}
-use Rattle.protox_checks.specs.Faults.{EachIsWrong, Wrong, placed, settled}
+use Rattle.protox_checks.specs.Faults.{placed, settled}
 use Rattle.protox_checks.specs.FieldFaults.{Scope, InMessage, InOneof, InExtend, KindNode, Normal, Group, Map, FieldNode, may_be_key, is_map, is_group, is_repeated}
 use Rattle.protox_checks.specs.Nodes.{Node, AMessageNumber, AnEnumNumber, AField, AJsonName, AnOption, AnEmptyOneof, file_nodes}
 use Rattle.protox_checks.specs.ValueFaults.{invalid_type, out_of_range}
-use Rattle.protox_checks.proofs.FaultLaw.{listed-if-wrong}
-use Rattle.protox_checks.proofs.Membership.{among-from, each-among, each-both}
+use Rattle.protox_checks.proofs.Membership.{each-both}
 use Rattle.protox_checks.proofs.NodesLie.{OptionLies, LabelLies, KindLies, FieldLies, NodeLies, nodes-lie}
 
 module _ (n : ℕ) where
@@ -132,10 +130,3 @@ module _ (n : ℕ) where
   -- The listed faults lie there.
   pub listed-lie : (file : File) (found : List ParseErrorKind) → FileStands n file → AreListed file found → Each (LiesIn n) found
   listed-lie file found h e = all-settled found (subst (Each (LiesIn n)) (sym e) (faults-lie file h))
-
-  -- The faults of the file lie there.
-  pub wrong-lies : (file : File) → FileStands n file → (wrong : ParseErrorKind) → Wrong file wrong → LiesIn n wrong
-  wrong-lies file h wrong w = settled-lies wrong (each-among (LiesIn n) (file_faults file) (faults-lie file h) (settled wrong) (among-from (file_faults file) (settled wrong) (listed-if-wrong file wrong w)))
-
-  pub each-wrong-lies : (file : File) (found : List ParseErrorKind) → FileStands n file → EachIsWrong file found → Each (LiesIn n) found
-  each-wrong-lies file found h w = each-so (Wrong file) (LiesIn n) found (wrong-lies file h) w

@@ -1,5 +1,4 @@
 pub mod Adding
-pub mod DefaultLaw
 pub mod FaultLaw
 pub mod FaultsLie
 pub mod ItemFaults
@@ -10,3 +9,4 @@ pub mod NodeLevels
 pub mod NodesLie
 pub mod OneofLabels
 pub mod PlainFaults
+pub mod Lemmas

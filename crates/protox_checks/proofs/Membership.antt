@@ -3,7 +3,9 @@ use Rattle.std.proofs.Common.{◌≡◌, Bool, true, false, not, inl, inr, List,
 use Rattle.std.specs.Prelude.{◌&&◌}
 pub use Rattle.std.proofs.lemmas.Bool.{and_parts, not-true}
 use Rattle.protox_ast.specs.Keywords.{Each}
-pub use Rattle.protox_ast.proofs.Membership.{Among, Somewhere, somewhere-from, any-from, among-from, contains-from, among-left, among-right, among-cases, among-flat, somewhere-flat}
+pub use Rattle.protox_ast.proofs.Lemmas.{Among, Somewhere, among-cases, among-flat, among-from}
+pub use Rattle.protox_ast.proofs.Lemmas.{among-left, among-right, any-from, contains-from}
+pub use Rattle.protox_ast.proofs.Lemmas.{somewhere-flat, somewhere-from}
 
 -- ---- each element
 

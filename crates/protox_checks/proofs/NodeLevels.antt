@@ -13,7 +13,7 @@ use Rattle.protox_ast.specs.declared.ast.MessageBody.{MessageBody, out-MessageBo
 use Rattle.protox_ast.specs.declared.ast.Oneof.{Oneof, out-Oneof}
 use Rattle.protox_ast.specs.declared.ast.OptionBody.{OptionBody}
 use Rattle.protox_ast.specs.declared.ast.Reserved.{Reserved}
-use Rattle.protox_ast.proofs.Levels.{body-gives, oneof-gives, extend-gives, field-gives}
+use Rattle.protox_ast.proofs.Lemmas.{body-gives, extend-gives, field-gives, oneof-gives}
 use Rattle.protox_checks.specs.FieldFaults.{Scope, InOneof, InExtend}
 use Rattle.protox_checks.specs.Nodes.{Node, AMessageNumber, AField, AnOption, empty_nodes, extensions_nodes, fields_nodes, json_name_nodes, node_steps, option_nodes, range_nodes, reserved_nodes}
 use Rattle.protox_checks.specs.inner.Walk.{field_node}

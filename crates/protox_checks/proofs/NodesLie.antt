@@ -27,12 +27,10 @@ use Rattle.protox_ast.specs.declared.ast.ReservedRange.{ReservedRange}
 use Rattle.protox_ast.specs.declared.ast.ReservedRangeEnd.{ReservedRangeEnd}
 use Rattle.protox_ast.specs.declared.ast.ReservedRangeEnd.TheVariants as range_end
 use Rattle.protox_ast.specs.declared.ast.Service.{Service}
-use Rattle.protox_ast.proofs.LevelsStand.{declarations-stand}
-use Rattle.protox_ast.proofs.Siblings.{each-lies}
-use Rattle.protox_ast.proofs.SpansStand.{each-append, each-back, each-front, spans-order}
+use Rattle.protox_ast.proofs.Lemmas.{Keeps, Pairs, declarations-stand, each-append, each-back}
+use Rattle.protox_ast.proofs.Lemmas.{each-front, each-lies, extend_has, message_has, spans-order}
 use Rattle.protox_checks.specs.FieldFaults.{Scope, InMessage, InOneof, InExtend, KindNode, Map, FieldNode}
 use Rattle.protox_checks.specs.Nodes.{Node, AMessageNumber, AnEnumNumber, AField, AJsonName, AnOption, AnEmptyOneof, option_nodes, json_name_nodes, end_nodes, range_nodes, reserved_nodes, extensions_nodes, enum_value_nodes, enum_nodes, method_nodes, service_nodes, fields_nodes, empty_nodes, node_steps, item_nodes, file_nodes}
-use Rattle.protox_ast.proofs.Keeps.{Keeps, Pairs, message_has, extend_has}
 use Rattle.protox_checks.proofs.NodeLevels.{kind_nodes, reserved-flat}
 
 -- ---- lists

@@ -1,1 +1,2 @@
 pub mod Attributing
+pub mod Lemmas

@@ -3,3 +3,4 @@ pub mod Lists
 pub mod Oneofs
 pub mod Places
 pub mod RealFirst
+pub mod Lemmas

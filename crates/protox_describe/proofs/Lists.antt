@@ -27,9 +27,6 @@ pub flat_map-snoc : {A B : Type 0} (f : A → List B) (xs : List A) (y : A) → 
 flat_map-snoc f [] y = append-nil (f y)
 flat_map-snoc f (x ∷ xs) y = ap (λ l. f x ++ l) (flat_map-snoc f xs y) ∙ sym (append_assoc (f x) (flat_map f xs) (f y))
 
-pub flat_map-take_more : {A B : Type 0} (f : A → List B) (xs : List A) (i : ℕ) (x : A) → i < length xs → x ≡ get_or xs i x → flat_map f (take (i + 1) xs) ≡ flat_map f (take i xs) ++ f x
-flat_map-take_more f xs i x h e = ap (flat_map f) (take_one_more xs i x h e) ∙ flat_map-snoc f (take i xs) x
-
 -- the results of each element, joined
 pub flat-take_more : {A B C : Type 0} (f : B → List C) (g : A → B) (xs : List A) (i : ℕ) (x : A) → i < length xs → x ≡ get_or xs i x
     → flat_map f (map g (take (i + 1) xs)) ≡ flat_map f (map g (take i xs)) ++ f (g x)

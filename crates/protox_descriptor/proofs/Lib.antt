@@ -2,3 +2,4 @@ pub mod Equal
 pub mod Pascal
 pub mod Sameness
 pub mod Written
+pub mod Lemmas

@@ -44,9 +44,6 @@ high_bytes : (raised : Bool) (bytes rest : List ℕ) → 0 < length bytes → Hi
 high_bytes raised [] rest some high = grind arith
 high_bytes raised (byte ∷ bytes) rest some high = high_byte raised byte (bytes ++ rest) high.0 ∙ ap (λ bs. byte ∷ bs) (high_rest bytes rest high.1)
 
-pub pascal_mark : (raised : Bool) (letter : ℕ) (text rest : List ℕ) → letter ≡ 95 → text ≡ encode letter ++ rest → pascal_case_from raised text ≡ pascal_case_from true rest
-pascal_mark raised letter text rest e split = ap (pascal_case_from raised) (split ∙ ap (λ c. encode c ++ rest) e ∙ ap (λ bytes. bytes ++ rest) (encode_ascii 95 (omega arith)))
-
 abbrev spelled : Bool → ℕ → ℕ
 spelled raised letter = if raised then to_ascii_uppercase letter else letter
 

@@ -5,3 +5,4 @@ pub mod Levels
 pub mod OneKind
 pub mod Readings
 pub mod Varint
+pub mod Lemmas

@@ -7,8 +7,7 @@ use Rattle.protox_descriptor.specs.declared.descriptor.DescriptorProto.{Descript
 use Rattle.protox_descriptor.specs.declared.descriptor.DescriptorProto.TheFolds.{fold_out-DescriptorProto}
 use Rattle.protox_descriptor.specs.declared.descriptor.options.MessageOptions.{MessageOptions}
 use Rattle.protox_descriptor.specs.declared.descriptor.options.UninterpretedOption.{UninterpretedOption}
-use Rattle.protox_encode.proofs.Again.{all_at}
-use Rattle.protox_encode.proofs.Levels.{message-holds as plain-holds}
+use Rattle.protox_encode.proofs.Lemmas.{all_at, message-holds as plain-holds}
 use Rattle.protox_encode.specs.Exact.{all}
 use Rattle.protox_encode.specs.Exact as exact
 use Rattle.protox_encode.specs.Floats.{if_there}

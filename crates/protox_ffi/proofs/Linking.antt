@@ -1,15 +1,14 @@
 -- What is said of lent bytes is said of what linking finds. And one file more, as a text.
-use Rattle.std.proofs.Common.{ℕ, ◌≡◌, ◌<◌, ◌+◌, List, [], ◌∷◌, ◌++◌, arith, get_or, length, take, ap, sym, subst, ◌∙◌}
-use Rattle.std.proofs.lemmas.List.{get_or-map, length-map, map-append, take_more}
+use Rattle.std.proofs.Common.{ℕ, ◌≡◌, ◌<◌, ◌+◌, List, [], ◌∷◌, ◌++◌, arith, get_or, length, sym, subst, ◌∙◌}
+use Rattle.std.proofs.lemmas.List.{get_or-map, length-map}
 use Rattle.std.proofs.lemmas.List.Elements.{All-get_or}
 use Rattle.std.specs.Str.{IsUtf8}
 use Rattle.protox_ffi.specs.Linked as linked
 use Rattle.protox_ffi.specs.Linked.{AreNotAllTexts, HasNoAnswer, HasNoTexts, IsNoText, given_input}
 use Rattle.protox_ffi.specs.LinkedOptions.{HasNoOptionAnswer}
 use Rattle.protox_ffi.specs.declared.linked.Input.{Input}
-use Rattle.protox_link_bytes.specs.Given.{GivenFile, given_file}
+use Rattle.protox_link_bytes.specs.Given.{GivenFile}
 use Rattle.protox_link_bytes.specs.Given as text
-use Rattle.protox_link_records.specs.declared.source.SourceFile.{SourceFile}
 use Rattle.protox_ffi.specs.Answers.{Answered, AnsweredBy, IsNotRefused, given, short, status_of, without, written, too_short}
 use Rattle.protox_ffi.specs.declared.outcome.Reason.{Reason}
 use Rattle.protox_ffi.specs.declared.outcome.Reason.TheVariants.{Accepted, Refused, OutOfMemory, NotUtf8, TooLarge, NotAFloat}
@@ -52,13 +51,6 @@ not_all_texts files i other lt none all =
     let within : i < length (linked.given files) = omega (arith, lt, length-map {B = GivenFile} files) in
     none (subst (λ (it : GivenFile). IsUtf8 it.name × IsUtf8 it.source) (get_or-map given_input files i other (given_input (get_or files i other)) lt)
     (All-get_or (λ (it : GivenFile). IsUtf8 it.name × IsUtf8 it.source) (linked.given files) i (given_input (get_or files i other)) within all))
-
-pub text_more : (files : List Input) (i : ℕ) (file : Input) (before after : List SourceFile) (made : SourceFile) → i < length files → file ≡ get_or files i file
-    → given_file made ≡ given_input file → after ≡ before ++ made ∷ [] → text.given before ≡ linked.given (take i files) → text.given after ≡ linked.given (take (i + 1) files)
-text_more files i file before after made lt is same e so_far =
-    ap text.given e ∙ map-append given_file before (made ∷ []) ∙ ap (λ (t : GivenFile). text.given before ++ t ∷ []) same ∙ ap (λ fs. fs ++ given_input file ∷ []) so_far
-    ∙ ap (λ (x : Input). linked.given (take i files) ++ given_input x ∷ []) is ∙ sym (map-append given_input (take i files) (get_or files i file ∷ []))
-    ∙ ap linked.given (sym (take_more files i file lt))
 
 -- Files that aren't taken have no answer.
 pub no_texts : (files : List GivenFile) (reason : Reason) → HasNoTexts files reason → HasNoAnswer files reason

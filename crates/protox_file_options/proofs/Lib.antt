@@ -6,3 +6,4 @@ pub mod Bytes
 pub mod Counting
 pub mod Taking
 pub mod OneOutcome
+pub mod Lemmas

@@ -8,7 +8,7 @@ use Rattle.protox_file_options.specs.Outcomes.{IsOutcome, IsSite, Outcome, Sets,
 use Rattle.protox_file_options.specs.Outcomes.IsOutcome.{AllSet, HasNoType, OneWrong}
 use Rattle.protox_file_options.specs.Places.{Place}
 use Rattle.protox_file_options.specs.declared.answer.InterpretedFile.{InterpretedFile}
-use Rattle.protox_interpret.proofs.OneAnswer.{SeeTheSame, never_both_there}
+use Rattle.protox_interpret.proofs.Lemmas.{SeeTheSame, never_both_there}
 use Rattle.protox_interpret.specs.declared.site.Interpreted.{Interpreted}
 use Rattle.protox_interpret.specs.declared.site.Site.{Site}
 use Rattle.protox_name_tree.specs.Tree.{Names, number_of}

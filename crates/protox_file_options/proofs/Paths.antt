@@ -16,7 +16,8 @@ use Rattle.protox_descriptor.specs.declared.descriptor.options.UninterpretedOpti
 use Rattle.protox_file_options.proofs.Each.{Each, each_all, each_append, each_weaker}
 use Rattle.protox_file_options.specs.Laws.{PathsDiffer}
 use Rattle.protox_file_options.specs.Places.{Place, key_of, place_if_any, place_of_file, place_of_part, place_of_range, places_at, places_of, ranges_from, scope_around, statements_of_range}
-use Rattle.protox_symbols.proofs.Inside.{enums_at, extensions_at, fields_at, inside, message_declares, messages_at, oneofs_at}
+use Rattle.protox_symbols.proofs.Lemmas.{enums_at, extensions_at, fields_at, inside, message_declares}
+use Rattle.protox_symbols.proofs.Lemmas.{messages_at, oneofs_at}
 use Rattle.protox_walk.specs.Declarations.{At, Path, all_in, enum_at, field_at, file_declarations, full_name, message_at, method_at, nth, numbered, oneof_at, service_at, siblings_at, text_of, value_at}
 use Rattle.protox_walk.specs.Parts.{Declared, Message}
 

@@ -6,7 +6,7 @@ use Rattle.protox_descriptor.specs.declared.descriptor.descriptor_proto.Extensio
 use Rattle.protox_descriptor.specs.declared.descriptor.options.UninterpretedOption.{UninterpretedOption}
 use Rattle.protox_file_options.proofs.One.{place, some_place}
 use Rattle.protox_file_options.specs.Places.{Place, place_if_any, place_of_range, ranges_from}
-use Rattle.protox_walk.proofs.Folds.{folds-append}
+use Rattle.protox_walk.proofs.Lemmas.{folds-append}
 use Rattle.protox_walk.specs.Declarations.{Path}
 
 module _ {P : Type 0} (takes : P → Place → P → Type 0) where

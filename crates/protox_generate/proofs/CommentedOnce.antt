@@ -4,10 +4,10 @@ use Rattle.std.proofs.Common.{◌≡◌, ◌≢◌, ℕ, ◌+◌, ◌≤◌, Boo
 use Rattle.std.specs.Str.{IsUtf8}
 use Rattle.std.proofs.lemmas.Bool.Decides.{Decides-eqb}
 use Rattle.std.proofs.lemmas.List.{append-nil}
-use Rattle.protox_lexeme.proofs.Places.{stand}
+use Rattle.protox_lexeme.proofs.Lemmas.{stand}
 use Rattle.protox_lexeme.specs.Lexemes.{Lexeme, cut}
 use Rattle.protox_lexeme.specs.Table.{rows_of, gaps_of, StandBetween}
-use Rattle.protox_ast.proofs.Standing.{Stand, bare-placed}
+use Rattle.protox_ast.proofs.Lemmas.{Stand, bare-placed}
 use Rattle.protox_ast.specs.Accepted.{IsAccepted, IsFileOf}
 use Rattle.protox_ast.specs.Ast as ast
 use Rattle.protox_ast.specs.Basics.{join}

@@ -3,7 +3,7 @@ use Rattle.std.proofs.Common.{ℕ, ◌+◌, ◌≤◌, List, [], ◌∷◌, ◌+
 use Rattle.std.specs.Option.{unwrap_or}
 use Rattle.protox_fault.specs.Faults.{Span}
 use Rattle.protox_lexeme.specs.Shapes.{Rows}
-use Rattle.protox_ast.proofs.Levels.{field-gives, kind-normal, kind-group, kind-map}
+use Rattle.protox_ast.proofs.Lemmas.{field-gives, kind-group, kind-map, kind-normal}
 use Rattle.protox_ast.specs.Ast as ast
 use Rattle.protox_ast.specs.Places.{Place}
 use Rattle.protox_ast.specs.Spelling as s

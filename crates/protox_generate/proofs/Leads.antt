@@ -19,7 +19,7 @@ use Rattle.protox_descriptor.specs.declared.descriptor.source_code_info.Location
 use Rattle.protox_fault.specs.Faults.{Span}
 use Rattle.protox_generate.proofs.Spelled.{TextAt}
 use Rattle.protox_generate.specs.Names.{IsNamed, Lookup, Name, Writes, at}
-use Rattle.protox_ast.proofs.Keeps.{Pairs}
+use Rattle.protox_ast.proofs.Lemmas.{Pairs}
 use Rattle.protox_places.specs.Lines.{span_numbers}
 use Rattle.protox_locate.specs.LocationWords.{Path, Part, part, nth, each_at, numbered, commented, bare, extension_range, extensions_statements, name_statement, option_body, option_list, option_place, option_statement, option_statements, range_locations, range_statement, range_statements, reserved_name, name_statements}
 use Rattle.protox_ast.specs.Spans.{body_span, end_span, range_span, start_span}

@@ -29,3 +29,4 @@ pub mod RowsAround
 pub mod Ordered
 pub mod CommentedOnce
 pub mod Repeating
+pub mod Lemmas

@@ -2,7 +2,8 @@
 use Rattle.std.proofs.Common.{◌≡◌, ◌+◌, ◌≤◌, List, [], ◌∷◌, ◌++◌, map, flat_map, Some, None, ℤ, refl, sym, subst, arith}
 use Rattle.protox_fault.specs.Faults.{Span}
 use Rattle.protox_lexeme.specs.Shapes.{Rows}
-use Rattle.protox_ast.proofs.Levels.{body-gives, message-gives, item-field, item-enum, item-message, item-extend, item-oneof}
+use Rattle.protox_ast.proofs.Lemmas.{body-gives, item-enum, item-extend, item-field, item-message}
+use Rattle.protox_ast.proofs.Lemmas.{item-oneof, message-gives}
 use Rattle.protox_ast.specs.Ast as ast
 use Rattle.protox_ast.specs.Places.{Place}
 use Rattle.protox_ast.specs.Spelling as s

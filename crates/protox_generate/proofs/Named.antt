@@ -21,7 +21,7 @@ use Rattle.protox_fault.specs.Faults.{Span}
 use Rattle.protox_generate.proofs.Leads.{Fits, Fronts, Leads, a-name, all-fronts, alone, apart, each-both, extensions-start, fronts, leaf, names-start, options-start, ranges-start, siblings}
 use Rattle.protox_generate.proofs.NamedParts.{Spelled}
 use Rattle.protox_generate.specs.Names.{Lookup, Written, in_enum, in_field, in_message, in_oneof as oneof_lookup, message_step}
-use Rattle.protox_ast.proofs.Keeps.{Pairs}
+use Rattle.protox_ast.proofs.Lemmas.{Pairs}
 use Rattle.protox_locate.specs.FieldLocations.{OfField, group_locations}
 use Rattle.protox_places.specs.Lines.{span_numbers}
 use Rattle.protox_locate.specs.LocationWords.{Path, Part, part, each_at}

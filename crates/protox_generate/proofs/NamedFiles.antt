@@ -3,7 +3,7 @@ use Rattle.std.proofs.Common.{◌≡◌, ℕ, List, [], ◌∷◌, flat_map, Opt
 use Rattle.std.specs.Prelude.{ℤ, pos}
 use Rattle.std.specs.List.{filter_map}
 use Rattle.std.specs.Str.{IsUtf8}
-use Rattle.protox_ast.proofs.SpansStand.{each-back, each-front}
+use Rattle.protox_ast.proofs.Lemmas.{Pairs, each-back, each-front}
 use Rattle.protox_ast.specs.Accepted.{IsFileOf}
 use Rattle.protox_ast.specs.Ast as ast
 use Rattle.protox_ast.specs.Basics.{Each}
@@ -31,7 +31,6 @@ use Rattle.protox_generate.proofs.NamedTrees.{extend-has, message-has}
 use Rattle.protox_generate.proofs.Spelled.{RowSpelled, rows-spelled}
 use Rattle.protox_generate.specs.File.{file_descriptor}
 use Rattle.protox_generate.specs.Names.{HasNames, IsNamed, Lookup, in_enum, in_field, in_file, in_message, in_service}
-use Rattle.protox_ast.proofs.Keeps.{Pairs}
 use Rattle.protox_places.specs.Lines.{span_numbers}
 use Rattle.protox_locate.specs.LocationWords.{Path, part}
 use Rattle.protox_locate.specs.Locations as l

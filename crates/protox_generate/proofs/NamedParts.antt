@@ -3,7 +3,7 @@ use Rattle.std.proofs.Common.{◌≡◌, ℕ, false, List, [], ◌∷◌, ◌++�
 use Rattle.std.specs.Prelude.{ℤ, pos, if◌then◌else◌}
 use Rattle.std.specs.List.{filter_map}
 use Rattle.std.specs.Ordering.{int_eq}
-use Rattle.protox_ast.proofs.SpansStand.{each-front, each-back}
+use Rattle.protox_ast.proofs.Lemmas.{Pairs, each-back, each-front}
 use Rattle.protox_ast.specs.Ast as ast
 use Rattle.protox_ast.specs.Basics.{Each}
 use Rattle.protox_ast.specs.FieldNumbers.{scalar_number}
@@ -34,7 +34,6 @@ use Rattle.protox_fault.specs.Faults.{Span}
 use Rattle.protox_generate.proofs.Leads.{Fits, Leads, a-name, all-fronts, alone, apart, each-both, leaf, list-start, names-start, options-start, ranges-start, siblings}
 use Rattle.protox_generate.proofs.Spelled.{RowSpelled, TextAt}
 use Rattle.protox_generate.specs.Names.{Lookup, Name, Written, Writes, at, in_enum, in_method, in_service, in_value, is_group, own, written}
-use Rattle.protox_ast.proofs.Keeps.{Pairs}
 use Rattle.protox_locate.specs.EnumLocations.{enum_locations, enum_value_locations}
 use Rattle.protox_locate.specs.FieldLocations.{OfKind, Normal, Group, Map, defaulted, extended, from_number, itself, json_named, label_locations, labelled, type_tag_of, typed}
 use Rattle.protox_places.specs.Lines.{span_numbers}

@@ -2,8 +2,9 @@
 use Rattle.std.proofs.Common.{◌≡◌, ℕ, List, [], ◌∷◌, ◌++◌, map, flat_map, Option, Some, None, refl, sym, ap, ◌∙◌, subst}
 use Rattle.std.specs.Prelude.{pos, if◌then◌else◌, option_map}
 use Rattle.std.specs.Str.{str_to_ascii_lowercase}
-use Rattle.protox_ast.proofs.Levels.{body-gives, field-gives, item-enum, item-extend, item-field, item-message, item-oneof, kind-group, kind-map, kind-normal, message-gives}
-use Rattle.protox_ast.proofs.SpansStand.{each-front, each-back}
+use Rattle.protox_ast.proofs.Lemmas.{Pairs, body-gives, each-back, each-front, field-gives}
+use Rattle.protox_ast.proofs.Lemmas.{item-enum, item-extend, item-field, item-message, item-oneof}
+use Rattle.protox_ast.proofs.Lemmas.{kind-group, kind-map, kind-normal, message-gives}
 use Rattle.protox_ast.specs.Ast as ast
 use Rattle.protox_ast.specs.Basics.{Each}
 use Rattle.protox_ast.specs.Places.{Place}
@@ -30,7 +31,6 @@ use Rattle.protox_generate.proofs.NamedParts.{Spelled, enum-fits, field-fits, no
 use Rattle.protox_generate.proofs.Spelled.{RowSpelled}
 use Rattle.protox_generate.specs.Names.{InSmallLetters, Written, own}
 use Rattle.protox_lexeme.specs.Shapes.{Rows}
-use Rattle.protox_ast.proofs.Keeps.{Pairs}
 use Rattle.protox_locate.specs.FieldLocations as kinds
 use Rattle.protox_locate.specs.FieldLocations.{OfField, OfKind}
 use Rattle.protox_places.specs.Lines.{span_numbers}

@@ -8,7 +8,7 @@ use Rattle.std.proofs.lemmas.Slice.Eq.{bytes_eq-Decides}
 use Rattle.protox_lexeme.specs.Lexemes.{Lexeme}
 use Rattle.protox_lexeme.specs.Shapes.{Row, Rows}
 use Rattle.protox_lexeme.specs.Table.{table_of, rows_of, gaps_of}
-use Rattle.protox_ast.proofs.Standing.{Stand}
+use Rattle.protox_ast.proofs.Lemmas.{Stand}
 use Rattle.protox_ast.specs.Keywords.{Each}
 use Rattle.protox_ast.specs.Places.{Place, placed, placed_from}
 use Rattle.protox_generate.proofs.Taking.{Weights, weigh, behind-zero}

@@ -3,7 +3,7 @@ use Rattle.std.proofs.Common.{◌≡◌, ℕ, ◌+◌, ◌-◌, ◌≤◌, Bool,
 use Rattle.std.proofs.lemmas.Bool.{eqb-true}
 use Rattle.protox_lexeme.specs.Lexemes.{Lexeme}
 use Rattle.protox_lexeme.specs.Shapes.{Shape, Mark, Row, Rows}
-use Rattle.protox_ast.proofs.Standing.{Stand}
+use Rattle.protox_ast.proofs.Lemmas.{Stand}
 use Rattle.protox_ast.specs.Keywords.{Each}
 use Rattle.protox_ast.specs.Places.{Place}
 use Rattle.protox_generate.proofs.Once.{IsFound, make, row_at, with_numbers}

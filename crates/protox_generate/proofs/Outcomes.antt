@@ -2,7 +2,7 @@
 use Rattle.std.proofs.Common.{◌≡◌, Bool, true, false, nat_eq, List, [], ◌∷◌, map, length, refl, sym, ap, ◌∙◌, arith}
 use Rattle.std.proofs.lemmas.Bool.{eqb-true, eqb-false}
 use Rattle.protox_ast.specs.declared.ast.File.{File}
-use Rattle.protox_checks.proofs.ListedFaults.{none-listed}
+use Rattle.protox_checks.proofs.Lemmas.{none-listed}
 use Rattle.protox_checks.specs.Checks.{AreListed}
 use Rattle.protox_checks.specs.Faults.{IsFaultless, settled}
 use Rattle.protox_fault.specs.declared.error.ParseErrorKind.{ParseErrorKind}

@@ -3,14 +3,14 @@
 use Rattle.std.proofs.Common.{◌≡◌, ℕ, zero, suc, ◌+◌, ◌<◌, ◌≤◌, Bool, true, false, List, [], ◌∷◌, ◌++◌, length, map, take, drop, refl, sym, ap, ◌∙◌, subst, arith, append_assoc, append-nil, length-append}
 use Rattle.std.specs.Prelude.{ℤ, pos, nat_abs, unwrap_or, slice_get, if◌then◌else◌}
 use Rattle.std.specs.Cmp.Rules.{signed_items}
-use Rattle.protox_ast.proofs.Keeps.{Pairs}
+use Rattle.protox_ast.proofs.Lemmas.{Pairs}
 use Rattle.protox_ast.specs.Basics.{Each}
 use Rattle.protox_describe.specs.Siblings.{count}
 use Rattle.protox_descriptor.specs.declared.descriptor.source_code_info.Location.{Location}
 use Rattle.protox_fault.specs.Faults.{Span}
 use Rattle.protox_generate.proofs.Leads.{From, each-both, each-so, here}
 use Rattle.protox_generate.specs.NamePaths.{behind, in_places, in_list}
-use Rattle.protox_locate.proofs.Order.{Below}
+use Rattle.protox_locate.proofs.Lemmas.{Below}
 use Rattle.protox_locate.specs.LocationWords.{Path, Part, part, nth, bare, numbered}
 use Rattle.protox_places.specs.First.{is_at}
 

@@ -1,7 +1,7 @@
 -- The names of a file have their locations.
 use Rattle.std.proofs.Common.{◌≡◌, ℕ, List, [], ◌∷◌, ◌++◌, length, map, flat_map, Option, Some, None, refl, sym, subst, arith, append_assoc}
 use Rattle.std.specs.Prelude.{ℤ, pos}
-use Rattle.protox_ast.proofs.Keeps.{Pairs}
+use Rattle.protox_ast.proofs.Lemmas.{Pairs}
 use Rattle.protox_ast.specs.Basics.{Each}
 use Rattle.protox_ast.specs.declared.ast.Comments.{Comments}
 use Rattle.protox_ast.specs.declared.ast.File.{File}
@@ -24,7 +24,7 @@ use Rattle.protox_generate.proofs.PlacedParts.{enum-placed, options-below, servi
 use Rattle.protox_generate.proofs.PlacedTrees.{FieldAt, MessageAt, blocks-at, extend-has, message-has}
 use Rattle.protox_generate.specs.File.{file_descriptor}
 use Rattle.protox_generate.specs.NamePaths.{HasPlaces, enum_paths, field_paths, in_list, in_places, message_paths, name_paths, service_paths}
-use Rattle.protox_locate.proofs.Order.{Below}
+use Rattle.protox_locate.proofs.Lemmas.{Below}
 use Rattle.protox_locate.specs.LocationWords.{Path, part, bare, each_at, numbered, option_statements}
 use Rattle.protox_locate.specs.Locations as l
 use Rattle.protox_locate.specs.Locations.{file_at, import_locations, package_locations, public_words, syntax_locations, weak_words}

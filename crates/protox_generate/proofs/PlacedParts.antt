@@ -1,7 +1,7 @@
 -- Fields, oneofs, enums and services: their names have their locations.
 use Rattle.std.proofs.Common.{◌≡◌, ℕ, ◌≤◌, ◌<◌, List, [], ◌∷◌, ◌++◌, map, Option, Some, None, refl, arith}
 use Rattle.std.specs.Prelude.{ℤ, pos}
-use Rattle.protox_ast.proofs.Keeps.{Pairs}
+use Rattle.protox_ast.proofs.Lemmas.{Pairs}
 use Rattle.protox_ast.specs.Basics.{Each}
 use Rattle.protox_ast.specs.Names.{type_name_span}
 use Rattle.protox_ast.specs.Options.{OptionStatement, default_of, json_name_of, listed, options_left}
@@ -26,7 +26,7 @@ use Rattle.protox_fault.specs.Faults.{Span}
 use Rattle.protox_generate.proofs.Leads.{each-both, list-start, names-start, options-start, ranges-start}
 use Rattle.protox_generate.proofs.Placed.{Placed, all-at, below-tag, named-leaf, named-node, one-below, then-quiet}
 use Rattle.protox_generate.specs.NamePaths.{enum_paths, in_list, method_paths, service_paths, value_paths}
-use Rattle.protox_locate.proofs.Order.{Below}
+use Rattle.protox_locate.proofs.Lemmas.{Below}
 use Rattle.protox_locate.specs.EnumLocations.{enum_locations, enum_value_locations}
 use Rattle.protox_locate.specs.FieldLocations.{OfKind, Normal, Group, Map, defaulted, extended, from_number, itself, json_named, label_locations, labelled, type_tag_of, typed}
 use Rattle.protox_locate.specs.LocationWords.{Path, part, bare, commented, numbered, option_list, option_statements, range_statements, name_statements}

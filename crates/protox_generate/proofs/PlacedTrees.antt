@@ -1,7 +1,7 @@
 -- The names of messages and of the parts in them have their locations.
 use Rattle.std.proofs.Common.{◌≡◌, ℕ, ◌+◌, ◌-◌, ◌≤◌, Bool, true, false, List, [], ◌∷◌, ◌++◌, length, map, flat_map, Option, Some, None, refl, sym, ap, ◌∙◌, subst, arith, append_assoc, length-append}
 use Rattle.std.specs.Prelude.{ℤ, pos, if◌then◌else◌}
-use Rattle.protox_ast.proofs.Keeps.{Keeps, Pairs, extend_has, message_has}
+use Rattle.protox_ast.proofs.Lemmas.{Keeps, Pairs, extend_has, message_has}
 use Rattle.protox_ast.specs.Basics.{Each}
 use Rattle.protox_ast.specs.Options.{OptionStatement, bodies_of, options_message}
 use Rattle.protox_ast.specs.Steps.{of_extend, of_message}
@@ -29,7 +29,7 @@ use Rattle.protox_generate.proofs.Named.{BlockAt, pairs-both, pairs-flat, pairs-
 use Rattle.protox_generate.proofs.Placed.{Placed, Row, all-at, below-tag, first-at, joined, named-node, quiet-then, siblings, statements, then-quiet}
 use Rattle.protox_generate.proofs.PlacedParts.{enum-placed, field-placed, oneof-placed, options-below}
 use Rattle.protox_generate.specs.NamePaths.{enum_paths, field_paths, in_list, in_places, is_alone, is_map_entry, message_paths, oneof_paths, paths_step, written_oneofs}
-use Rattle.protox_locate.proofs.Order.{Below}
+use Rattle.protox_locate.proofs.Lemmas.{Below}
 use Rattle.protox_locate.specs.FieldLocations.{OfField, OfKind, brought, group_locations}
 use Rattle.protox_locate.specs.LocationWords.{Path, Part, part, commented, each_at, extensions_statements, name_statements, numbered, option_statements, range_statements}
 use Rattle.protox_locate.specs.Locations.{OfExtend, OfItem, OfOneof, location_steps, messages_of}

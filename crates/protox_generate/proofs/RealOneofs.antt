@@ -3,7 +3,7 @@
 use Rattle.std.proofs.Common.{◌≡◌, ℕ, Bool, true, false, List, [], ◌∷◌, ◌++◌, map, Option, None, refl, ap, sym, ◌∙◌, subst}
 use Rattle.std.specs.Prelude.{if◌then◌else◌}
 use Rattle.std.specs.List.{flat_map}
-use Rattle.protox_ast.proofs.SpansStand.{each-front, each-back}
+use Rattle.protox_ast.proofs.Lemmas.{Keeps, Pairs, each-back, each-front, extend_has, message_has}
 use Rattle.protox_ast.specs.Basics.{Each}
 use Rattle.protox_ast.specs.Options.{bodies_of, json_name_of, options_left}
 use Rattle.protox_ast.specs.Steps.{of_extend}
@@ -17,14 +17,13 @@ use Rattle.protox_ast.specs.declared.ast.Syntax.TheVariants.{Proto2, Proto3}
 use Rattle.protox_ast.specs.declared.ast.Ty.{Ty}
 use Rattle.protox_ast.specs.declared.ast.TypeName.{TypeName}
 use Rattle.protox_fault.specs.Faults.{Span}
-use Rattle.protox_ast.proofs.Keeps.{Keeps, Pairs, message_has, extend_has}
-use Rattle.protox_checks.proofs.Membership.{each-both}
-use Rattle.protox_checks.proofs.OneofLabels.{Fine, Holder, a_message, a_oneof, all-fine, an_extend}
+use Rattle.protox_checks.proofs.Lemmas.{Fine, Holder, a_message, a_oneof, all-fine, an_extend}
+use Rattle.protox_checks.proofs.Lemmas.{each-both}
 use Rattle.protox_checks.specs.FieldFaults.{KindNode}
 use Rattle.protox_checks.specs.Faults.{IsFaultless}
 use Rattle.protox_checks.specs.Nodes.{Node, empty_nodes, fields_nodes, item_nodes, json_name_nodes, node_steps, option_nodes}
-use Rattle.protox_describe.proofs.Oneofs.{extending-nested}
-use Rattle.protox_describe.proofs.RealFirst.{IsApart, IsPlain, ItemMade, Made, apart-fields, items-first, message-own, none, one}
+use Rattle.protox_describe.proofs.Lemmas.{IsApart, IsPlain, ItemMade, Made, apart-fields}
+use Rattle.protox_describe.proofs.Lemmas.{extending-nested, items-first, message-own, none, one}
 use Rattle.protox_describe.specs.Descriptor.{Gives, Item, OneofGives, descriptor_steps, extending, nested_of}
 use Rattle.protox_describe.specs.Fields.{Kind, Parts, entry_name, entry_parts, is_proto3_optional, message_proto, messages_of, optional_flag}
 use Rattle.protox_describe.specs.File.{file_proto, item_extensions, item_messages}

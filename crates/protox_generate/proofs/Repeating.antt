@@ -7,7 +7,7 @@ use Rattle.protox_ast.specs.Steps.{of_item, of_extend, of_field, of_body, of_one
 use Rattle.protox_ast.specs.declared.ast.Extend.{Extend, out-Extend}
 use Rattle.protox_ast.specs.declared.ast.MessageBody.{MessageBody, out-MessageBody}
 use Rattle.protox_ast.specs.declared.ast.Oneof.{Oneof, out-Oneof}
-use Rattle.protox_ast.proofs.Levels.{body-gives, oneof-gives, extend-gives}
+use Rattle.protox_ast.proofs.Lemmas.{body-gives, extend-gives, oneof-gives}
 use Rattle.protox_generate.specs.Repeats.{repeat_steps, repeats_extendee, repeats_options, some}
 
 -- Some part repeats much if it does before it is replaced by that.

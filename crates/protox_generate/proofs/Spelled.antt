@@ -6,10 +6,7 @@ use Rattle.std.specs.Str.{IsUtf8}
 use Rattle.protox_ast.specs.Basics.{Each}
 use Rattle.protox_ast.specs.Places.{Place, later_gaps, placed, placed_from}
 use Rattle.protox_fault.specs.Faults.{Span, span_from}
-use Rattle.protox_lexeme.proofs.Boundaries.{blanks_boundary}
-use Rattle.protox_lexeme.proofs.Cut.{cut_is_cut}
-use Rattle.protox_lexeme.proofs.Extents.{lexeme_stands}
-use Rattle.protox_lexeme.proofs.Fitting.{fits_within}
+use Rattle.protox_lexeme.proofs.Lemmas.{blanks_boundary, cut_is_cut, fits_within, lexeme_stands}
 use Rattle.protox_lexeme.specs.declared.scan.Kind.{Kind}
 use Rattle.protox_lexeme.specs.declared.scan.Kind.TheVariants as kind
 use Rattle.protox_lexeme.specs.Lexemes.{Lexeme, IsCut, IsLexeme, blanks, cut, lexeme}

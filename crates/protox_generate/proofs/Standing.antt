@@ -1,7 +1,7 @@
 -- The syntax tree of a source stands in it.
 use Rattle.std.proofs.Common.{ℕ, List, length, sym, subst}
 use Rattle.std.specs.Str.{IsUtf8}
-use Rattle.protox_ast.proofs.FilesStand.{source-stands}
+use Rattle.protox_ast.proofs.Lemmas.{source-stands}
 use Rattle.protox_ast.specs.Accepted.{IsFileOf}
 use Rattle.protox_ast.specs.Siblings.{FileStands}
 use Rattle.protox_ast.specs.declared.ast.File.{File}

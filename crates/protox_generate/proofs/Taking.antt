@@ -6,7 +6,7 @@ use Rattle.protox_lexeme.specs.Shapes.{Shape, Mark, Rows}
 use Rattle.protox_ast.specs.Basics.{join}
 use Rattle.protox_ast.specs.Places.{Place}
 use Rattle.protox_descriptor.specs.declared.descriptor.source_code_info.Location.{Location}
-use Rattle.protox_locate.proofs.Numbered.{numbered_append}
+use Rattle.protox_locate.proofs.Lemmas.{numbered_append}
 use Rattle.protox_locate.specs.LocationWords.{Path, Part, nth, numbered, each_at}
 
 -- A location has no comments, or it has those before its first row and the one behind its last row

@@ -5,11 +5,11 @@ use Rattle.protox_lexeme.specs.Shapes.{Shape, Row, Rows}
 use Rattle.protox_grammar.specs.Class.{Set, class, within, in_set}
 use Rattle.protox_grammar.specs.Reader as reader
 use Rattle.protox_grammar.specs.Reader.{head_in}
-use Rattle.protox_grammar.specs.Rule.{Rule, Stops, Starts, on_sum, either, unstarted}
+use Rattle.protox_grammar.specs.Rule.{Rule, Stops, Starts, on_sum, either}
 use Rattle.protox_grammar.proofs.Takes.{bind_ok, ok_is}
 use Rattle.protox_grammar.proofs.Laws.{IsSpelled}
 use Rattle.protox_grammar.proofs.Sets.{stops-front, starts-within}
-use Rattle.protox_grammar.proofs.Reading.{left_of, Concerns, Viable, Took, IsRead, failed, err-ok, map_err, stops-head, head-stops, head-starts, chosen, true-false, same-head}
+use Rattle.protox_grammar.proofs.Reading.{left_of, Concerns, Viable, Took, IsRead, map_err, stops-head, head-stops, head-starts, chosen, true-false, same-head}
 
 -- ---- one or the other
 
@@ -87,46 +87,3 @@ module _ {M A B : Type 0} (p : Shape → Bool) (P : Set) (a : Rule M A) (b : Rul
 module _ {M B : Type 0} (P : Set) (b : Rule M B) (eb : Bool) (fb gb : Set) (lb : IsSpelled b eb fb gb) (rb : IsRead b) (some : B) (some_may : b.may some) (some_stops : Stops P (b.spell some)) where
   abbrev test : Shape → Bool
   test = in_set P
-
-  unstarted-took : (xs : Rows M) (x : B × Rows M) → head_in test xs ≡ false → Took b xs x → Took (unstarted P b) xs x
-  unstarted-took xs x closed k =
-      let s : Stops P (b.spell x.0 ++ x.1) = subst (Stops P) k.parts (stops-head test P (λ s. refl) xs closed) in
-      record { parts = k.parts; fits = (k.fits, stops-front P (b.spell x.0) x.1 s); ends = (k.ends, s) }
-
-  unstarted-takes : (xs : Rows M) (x : B × Rows M) → reader.unstarted test b.read xs ≡ Ok x → Took (unstarted P b) xs x
-  unstarted-takes xs x e = elim (chosen (head_in test xs) (failed (B × Rows M) (Unexpected (length xs))) (b.read xs) (Ok x) e) [
-    | inl h ↦ absurd (err-ok x _ h.1)
-    | inr h ↦ unstarted-took xs x h.0 (rb.takes xs x h.1)
-  ]
-
-  unstarted-again : (t : B) (z : Rows M) → b.fits t → b.ends t z → Stops P (b.spell t ++ z) → reader.unstarted test b.read (b.spell t ++ z) ≡ Ok (t, z)
-  unstarted-again t z f e s = rw (head-stops test P (λ s. refl) (b.spell t ++ z) s, rb.again t z f e) refl
-
-  unstarted-concerned : (e : Refusal) (t : B) → Concerns (unstarted P b) e t → Concerns b e t
-  unstarted-concerned (Unexpected n) t c = tt
-  unstarted-concerned (Deep n) t c = c.0
-
-  unstarted-tight : (d : Refusal) (front : Rows M) (s : Row M) (rest : Rows M) → left_of d ≡ suc (length rest) → reader.unstarted test b.read (front ++ (s ∷ rest)) ≡ Err d
-      → (t : B) (z more : Rows M) → Concerns (unstarted P b) d t → b.ends t z × Stops P (b.spell t ++ z) → b.spell t ++ z ≡ front ++ (s ∷ more) → ⊥
-  unstarted-tight d front s rest l h t z more g k e = elim (chosen (head_in test (front ++ (s ∷ rest))) (failed (B × Rows M) (Unexpected (length (front ++ (s ∷ rest))))) (b.read (front ++ (s ∷ rest))) _ h) [
-    | inl c ↦ true-false _ (ap (head_in test) e ∙ same-head test front s more rest ∙ c.0) (head-stops test P (λ s. refl) (b.spell t ++ z) k.1)
-    | inr c ↦ rb.tight d front s rest l c.1 t z more (unstarted-concerned d t g) k.0 e
-  ]
-
-  unstarted-short : (xs : Rows M) → reader.unstarted test b.read xs ≡ Err (Unexpected 0) → (t : B) (z : Rows M) → b.ends t z × Stops P (b.spell t ++ z) → b.spell t ++ z ≡ xs → ⊥
-  unstarted-short xs h t z k e = elim (chosen (head_in test xs) (failed (B × Rows M) (Unexpected (length xs))) (b.read xs) _ h) [
-    | inl c ↦ true-false _ (ap (head_in test) e ∙ c.0) (head-stops test P (λ s. refl) (b.spell t ++ z) k.1)
-    | inr c ↦ rb.short xs c.1 t z k.0 e
-  ]
-
-  pub unstarted-read : Viable (unstarted P b) → IsRead (unstarted P b)
-  unstarted-read viable = record {
-    some = some;
-    some_may = (some_may, some_stops);
-    within = λ t h. (rb.within t h.0, h.1);
-    takes = unstarted-takes;
-    again = λ t z f k. unstarted-again t z f.0 k.0 k.1;
-    viable = viable;
-    tight = unstarted-tight;
-    short = unstarted-short;
-  }

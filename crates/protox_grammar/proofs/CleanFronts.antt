@@ -305,10 +305,6 @@ valid-at b (suc j) (x ∷ xs) l e is = elim (cases_Bool (is_gap x.shape)) [
       valid-at b j xs (omega arith) (ap (faults_in b) (sym (token-later x xs j token)) ∙ e) (subst (λ rs. (source_row rs (suc j)).shape ≡ Invalid) rows is)
 ]
 
--- A row whose entry has no fault in its mode is valid.
-pub row-clear : (lexemes : List Lexeme) (on : ℕ → Bool) (n : ℕ) → n < length (rows_of lexemes) → AreClearTo lexemes on (suc n) → (source_row (rows_of lexemes) n).shape ≡ Invalid → ⊥
-row-clear lexemes on n l h = valid-at (on n) n lexemes l (h n (omega arith))
-
 pub row-there : (rows : Rows Span) (n : ℕ) (r : Row Span) → slice_get rows n ≡ Some r → (n < length rows) × (source_row rows n ≡ r)
 row-there [] n r e = absurd cc
 row-there (x ∷ rows) zero r e = let same : x ≡ r = cc in (omega arith, same)
@@ -319,7 +315,3 @@ pub row-valid : (b : Bool) (xs : List Lexeme) (n : ℕ) (r : Row Span) → slice
 row-valid b xs n r e none is =
     let h = row-there (rows_of xs) n r e in
     valid-at b n xs h.0 none (ap (λ (v : Row Span). v.shape) h.1 ∙ is)
-
--- The same for a row that is looked up, if the first entries have no fault in their modes.
-pub row-clear-there : (lexemes : List Lexeme) (on : ℕ → Bool) (n : ℕ) (r : Row Span) → slice_get (rows_of lexemes) n ≡ Some r → AreClearTo lexemes on (suc n) → r.shape ≡ Invalid → ⊥
-row-clear-there lexemes on n r e h = row-valid (on n) lexemes n r e (h n (omega arith))

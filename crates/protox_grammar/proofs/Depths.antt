@@ -40,11 +40,6 @@ module _ {M : Type 0} (m : M) where
   abbrev some_body : t.Mbody M
   some_body = t.mbody_of m t.no_elements m
 
-  at-empty : (n : ℕ) (o c : M) → At n (t.mbody_of o t.no_elements c)
-  unfolding At
-  at-empty zero o c = refl
-  at-empty (suc n) o c = tt
-
   abbrev level : ℕ → Rule M (t.Mbody M)
   level n = rule.sealed (At n) (λ x. ⊥) rule.deep_read (rule.deep_steps ADeeperBody 0) (rule.deep_trace ADeeperBody)
 

@@ -25,11 +25,6 @@ fall-wider : (b c : ℕ) (ns : Notes) → b ≤ c → Fall b ns → Fall c ns
 fall-wider b c [] le h = tt
 fall-wider b c (n ∷ ns) le h = (omega (arith, le, h.0), h.1)
 
--- One more note, for which no more rows are left than for any other.
-pub fall-more : (b : ℕ) (ns : Notes) (n : note_type.Note) → n.left ≤ b → Fall b ns → AreAbove n.left ns → Fall b (ns ++ (n ∷ []))
-fall-more b [] n le h a = (le, tt)
-fall-more b (m ∷ ns) n le h a = (h.0, fall-more m.left ns n a.0 h.1 a.1)
-
 behind-fewer : (xs : Rows Place) → length (behind xs) ≤ length xs
 behind-fewer [] = omega arith
 behind-fewer (x ∷ xs) = omega arith

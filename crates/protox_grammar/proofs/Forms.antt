@@ -6,19 +6,19 @@ use Rattle.protox_lexeme.specs.Shapes.{Shape, Ident, Mark, Rows}
 use Rattle.protox_grammar.specs.Class.{Set, class, apart, within, union, none, only, just_word, just_mark, in_set}
 use Rattle.protox_ast.specs.Spelling.{maybe}
 use Rattle.protox_ast.specs.KeywordWalk.{Given}
-use Rattle.protox_grammar.specs.Rule.{Rule, Stops, Starts, fixed, seq, on_sum, nothing, mapped, unless, choice, Closes, to_option, optional, times, named, named_fits, unstarted, noting}
+use Rattle.protox_grammar.specs.Rule.{Rule, Stops, Starts, fixed, seq, on_sum, nothing, mapped, unless, choice, Closes, to_option, optional, times, named, named_fits, noting}
 use Rattle.protox_grammar.proofs.Words.{word-exact, word-back, mark-exact, mark-back}
 use Rattle.protox_grammar.proofs.Sets.{gated, apart-at}
-use Rattle.protox_grammar.proofs.Laws.{IsSpelled, fixed-spelled, seq-spelled, either-spelled, nothing-spelled, mapped-spelled, star-spelled, unstarted-spelled, wider}
+use Rattle.protox_grammar.proofs.Laws.{IsSpelled, fixed-spelled, seq-spelled, either-spelled, nothing-spelled, mapped-spelled, star-spelled, wider}
 use Rattle.protox_grammar.proofs.Reading.{Concerns, IsRead, Took, seq-read, mapped-read, nothing-read}
 use Rattle.protox_grammar.proofs.ReadingTokens.{fixed-read, fixed-deep}
-use Rattle.protox_grammar.proofs.Choosing.{either-read, unstarted-read}
+use Rattle.protox_grammar.proofs.Choosing.{either-read}
 use Rattle.protox_grammar.proofs.Repeat.{star-read}
 use Rattle.protox_grammar.specs.Steps.{Event, Steps, is_too_deep, tokens, until, steps_of_option}
 use Rattle.protox_grammar.proofs.StepLists.{Quiet}
 use Rattle.protox_grammar.proofs.Tracing.{Alike, IsTraced, viable-of}
 use Rattle.protox_grammar.proofs.TracingPairs.{seq-traced, mapped-traced, nothing-traced}
-use Rattle.protox_grammar.proofs.TracingChoices.{either-traced, unstarted-traced}
+use Rattle.protox_grammar.proofs.TracingChoices.{either-traced}
 use Rattle.protox_grammar.proofs.TracingNotes.{noting-traced, plain-traced}
 use Rattle.protox_grammar.proofs.TracingRepeat.{star-traced}
 use Rattle.protox_grammar.proofs.Placing.{last_row, IsPlaced, ArePlaced}
@@ -235,17 +235,6 @@ wide {r = r} {e = e} {f = f} {g = g} f' g' l wf wg = record { spelled = wider r 
 pub stops-none : {M : Type 0} (z : Rows M) → Stops none z
 stops-none [] = tt
 stops-none (z ∷ zs) = refl
-
--- A rule that doesn't begin with a token of a set. Some tree doesn't.
-pub unstarted-laws : {M B : Type 0} {b : Rule M B} {eb : Bool} {fb gb : Set} (P : Set) → Lawful b eb fb gb → (some : B) → b.may some → Stops P (b.spell some) → Lawful (unstarted P b) eb fb (union gb (gated eb P))
-unstarted-laws {b = b} {eb = eb} {fb = fb} {gb = gb} P l some m s = record {
-  spelled = unstarted-spelled P b eb fb gb l.spelled;
-  read = unstarted-read P b eb fb gb l.spelled l.read some m s (viable-of (unstarted P b) traced);
-  traced = traced;
-}
-  where
-    traced : IsTraced (unstarted P b)
-    traced = unstarted-traced P b eb fb gb l.spelled l.read l.traced some m s
 
 -- What is noted after a rule all of whose trees can be read.
 pub noting-laws : {M A : Type 0} {a : Rule M A} {f g : Set} (note : A → Event M) → Lawful a false f g → ((t : A) → a.may t → a.fits t)

@@ -118,7 +118,7 @@ module _ {M : Type 0} (m : M) where
 
   pub unexpected : TightUnexpected M
   unexpected levels left rows h =
-      let u = main.unexpected m levels left rows h in
+      let u = main.unexpected_row m levels left rows h in
       let parts : length rows ≡ length (u.front ++ (u.here ∷ u.rest)) = ap length u.parts in (
         length u.front,
         omega (arith, parts, length-append u.front (u.here ∷ u.rest), u.left_is),

@@ -130,16 +130,6 @@ mapped-spelled to from b e f g back l = record {
   once = λ t u y z p q h. let k = l.once (from t) (from u) y z p q h in (sym (back t) ∙ ap to k.0 ∙ back u, k.1);
 }
 
-pub unstarted-spelled : {M B : Type 0} (P : Set) (b : Rule M B) (eb : Bool) (fb gb : Set) → IsSpelled b eb fb gb → IsSpelled (unstarted P b) eb fb (union gb (gated eb P))
-unstarted-spelled P b eb fb gb lb = record {
-  starts = λ t z e. lb.starts t z e.0;
-  follow = λ t z m s.
-      let e = lb.follow t z m.0 (stops-left gb (gated eb P) z s) in
-      (e, stops-both eb fb P (b.spell t) z (lb.starts t z e) m.1 (stops-right gb (gated eb P) z s));
-  ahead = λ t s y z e. (lb.ahead t s y z e.0, stops-ahead P (b.spell t) s y z e.1);
-  once = λ t u y z p q e. lb.once t u y z p.0 q.0 e;
-}
-
 -- the same with larger sets
 pub wider : {M A : Type 0} (r : Rule M A) (e : Bool) (f g f' g' : Set) → within f f' ≡ true → within g g' ≡ true → IsSpelled r e f g → IsSpelled r e f' g'
 wider r e f g f' g' wf wg l = record {

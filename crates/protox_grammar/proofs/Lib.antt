@@ -78,3 +78,4 @@ pub mod FrontModes
 pub mod Outside
 pub mod DeepOutside
 pub mod TokenNames
+pub mod Lemmas

@@ -11,8 +11,7 @@ use Rattle.protox_ast.specs.Spelling as s
 use Rattle.protox_ast.specs.KeywordWalk as k
 use Rattle.protox_ast.specs.DepthWalk as d
 use Rattle.protox_ast.specs.Spells.{Spells}
-use Rattle.protox_ast.proofs.NodesDeep.{nodes-deep}
-use Rattle.protox_ast.proofs.NodesKeep.{nodes-keep}
+use Rattle.protox_ast.proofs.Lemmas.{nodes-deep, nodes-keep}
 use Rattle.protox_grammar.specs.Bodies as rule
 use Rattle.protox_grammar.specs.Reads.{read}
 use Rattle.protox_grammar.specs.Grammar.{OneTree, AcceptsIff}
@@ -122,8 +121,8 @@ module _ {M : Type 0} (m : M) where
             (append-nil ((file_at n).spell b.0) ∙ spelling n b.0 ∙ sym b.2.0 ∙ append_assoc v.front (x ∷ []) b.1);
       }
 
-  pub unexpected : (n left : ℕ) (rows : Rows M) → read n rows ≡ Err (Unexpected (suc left)) → UnexpectedRow rows (suc left)
-  unexpected n left rows h = let e = failed-so n rows _ h in let v = (laws n).read.viable rows _ e in unexpected-at n left rows e v v.rest refl
+  pub unexpected_row : (n left : ℕ) (rows : Rows M) → read n rows ≡ Err (Unexpected (suc left)) → UnexpectedRow rows (suc left)
+  unexpected_row n left rows h = let e = failed-so n rows _ h in let v = (laws n).read.viable rows _ e in unexpected-at n left rows e v v.rest refl
 
   pub deep : (n left : ℕ) (rows : Rows M) → read n rows ≡ Err (Deep (suc left)) → TooDeepRow n rows (suc left)
   deep n left rows h =

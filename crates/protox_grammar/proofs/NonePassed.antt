@@ -6,7 +6,7 @@ use Rattle.protox_fault.specs.declared.error.ParseErrorKind.{ParseErrorKind}
 use Rattle.protox_lexeme.specs.Lexemes.{Lexeme}
 use Rattle.protox_lexeme.specs.Shapes.{Row, Rows}
 use Rattle.protox_lexeme.specs.Table.{rows_of}
-use Rattle.protox_ast.proofs.Nothing.{fine-faultless}
+use Rattle.protox_ast.proofs.Lemmas.{fine-faultless}
 use Rattle.protox_ast.specs.CheckedNodes.{CheckedNode}
 use Rattle.protox_ast.specs.Checks.{WrongCheckedNode}
 use Rattle.protox_ast.specs.inner.Fine.{IsFine}

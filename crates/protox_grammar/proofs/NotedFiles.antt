@@ -7,8 +7,7 @@ use Rattle.protox_ast.specs.inner.AggregateWalk as a
 use Rattle.protox_ast.specs.Fronts.{aggregates}
 use Rattle.protox_ast.specs.inner.CheckWalk as c
 use Rattle.protox_ast.specs.CheckedNodes.{CheckedNode, APackageAgain}
-use Rattle.protox_ast.proofs.NodesBraced.{nodes-braced}
-use Rattle.protox_ast.proofs.NodesChecked.{nodes-checked}
+use Rattle.protox_ast.proofs.Lemmas.{nodes-braced, nodes-checked}
 use Rattle.protox_grammar.specs.Rule.{Rule}
 use Rattle.protox_grammar.specs.Rules as r
 use Rattle.protox_grammar.specs.Bodies as rule

@@ -1,7 +1,7 @@
 -- If a file is read, no fault is noted exactly when no node of it has a fault.
-use Rattle.std.proofs.Common.{◌≡◌, ◌↔◌, ℕ, List, [], ◌∷◌, None, Ok, refl, sym, ap, subst, ◌∙◌, inl, inr}
+use Rattle.std.proofs.Common.{◌≡◌, ◌↔◌, ℕ, List, [], ◌∷◌, None, refl, sym, subst, ◌∙◌, inl, inr}
 use Rattle.protox_lexeme.specs.Shapes.{Rows}
-use Rattle.protox_ast.proofs.Nothing.{nothing-wrong}
+use Rattle.protox_ast.proofs.Lemmas.{nothing-wrong}
 use Rattle.protox_ast.specs.CheckedNodes.{checked_nodes}
 use Rattle.protox_ast.specs.Checks.{NothingWrong}
 use Rattle.protox_ast.specs.inner.Fine.{IsFine}
@@ -15,9 +15,7 @@ use Rattle.protox_grammar.specs.Reads.{read}
 use Rattle.protox_grammar.specs.Told.{told, AreValidTokens, IsFaultless}
 use Rattle.protox_grammar.proofs.FineNotes.{told-fine, fine-told}
 use Rattle.protox_grammar.proofs.Holding.{Holds}
-use Rattle.protox_grammar.proofs.Main.{laws}
 use Rattle.protox_grammar.proofs.NotedFiles.{file-noted}
-use Rattle.protox_grammar.proofs.Takes.{bind_ok, ok_is}
 
 each-in : {A : Type 0} (P : A → Type 0) (xs : List A) (x : A) → Each P xs → Holds (λ y. y ≡ x) xs → P x
 each-in P [] x h e = absurd e
@@ -41,10 +39,3 @@ noted-wrong w xs f a h e = (
   λ g. (nothing-wrong f).1 ((each-noted w f h).0 (subst (λ l. Each IsFine (noted_nodes None w l)) e (fine-told None w (trace 31 xs) xs a g))),
   λ g. told-fine None w (trace 31 xs) xs (subst (λ l. Each IsFine (noted_nodes None w l)) (sym e) ((each-noted w f h).1 ((nothing-wrong f).0 g))),
 )
-
--- the steps of reading a file are the file's
-pub read-traced : (m : Place) (n : ℕ) (xs : Rows Place) (f : t.File Place) → read n xs ≡ Ok f → trace n xs ≡ steps n f
-unfolding read
-read-traced m n xs f e =
-    let p = bind_ok ((rule.file (rule.mbody_at n)).read xs) (λ x. Ok x.0) f e in
-    (laws m n).traced.ok xs p.0 p.1 ∙ ap (steps n) (ok_is p.0.0 f p.2)

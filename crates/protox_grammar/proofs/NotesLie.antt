@@ -4,7 +4,7 @@ use Rattle.protox_fault.specs.Faults.{Span, SpanLiesIn, LiesIn}
 use Rattle.protox_fault.specs.declared.error.ParseErrorKind.{ParseErrorKind}
 use Rattle.protox_fault.specs.declared.error.ParseErrorKind.TheVariants as fault
 use Rattle.protox_lexeme.specs.Shapes.{Rows}
-use Rattle.protox_ast.proofs.Standing.{Stand, in-order, stand-after, stand-front}
+use Rattle.protox_ast.proofs.Lemmas.{Stand, in-order, stand-after, stand-front}
 use Rattle.protox_ast.specs.AstParts.{join, last_place, strings_span, text_of}
 use Rattle.protox_ast.specs.Checks.{is_group_name, is_ident, is_known_syntax, is_text, is_import_path}
 use Rattle.protox_ast.specs.Keywords.{Each}

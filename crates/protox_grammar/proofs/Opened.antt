@@ -3,7 +3,7 @@
 use Rattle.std.proofs.Common.{◌≡◌, ℕ, Bool, true, false, cond, List, [], ◌∷◌, ◌++◌, Option, Result, Ok, Err, refl, sym, ap, subst, ◌∙◌, append-nil, inl, inr, arith}
 use Rattle.protox_fault.specs.Faults.{Span, SpanLiesIn}
 use Rattle.protox_lexeme.specs.Shapes.{Shape, Ident, Mark, Rows}
-use Rattle.protox_ast.proofs.Standing.{Stand, in-order}
+use Rattle.protox_ast.proofs.Lemmas.{Stand, in-order}
 use Rattle.protox_ast.specs.Keywords.{Each}
 use Rattle.protox_ast.specs.Places.{Place}
 use Rattle.protox_ast.specs.Spelling as s

@@ -123,9 +123,9 @@ module _ {M : Type 0} (m : M) where
       value-obeys value-allows (λ x h. h)
       (choice-laws (union words (among (an_integer ∷ a_float ∷ mark s.minus ∷ []))) (seq-laws (optional-laws (just_mark s.minus) (mark-laws m s.minus) refl) constant-laws refl) refl (choice-laws (only a_string) (parts.strings-laws m) refl (seq-laws opened-laws noted_closed-laws refl) refl) refl)) refl refl
 
-  pub body-laws : Lawful {M = M} r.body false (union words (just_mark s.open_paren)) (only a_string)
+  pub option_body-laws : Lawful {M = M} r.body false (union words (just_mark s.open_paren)) (only a_string)
   unfolding r.body r.part r.value
-  body-laws = wide _ _ (named-laws s.body k.KeepsBody _ _ (λ x. refl) (λ x. refl) (λ x. refl)
+  option_body-laws = wide _ _ (named-laws s.body k.KeepsBody _ _ (λ x. refl) (λ x. refl) (λ x. refl)
       (λ x h. (tt, (parts.each-all _ (λ y. (tt, tt)) x.others, (tt, h)))) (λ x h. h.1.1.1) (λ x h. h)
       (seq-laws part-laws (seq-laws (times-laws (just_mark s.dot) (seq-laws (mark-laws m s.dot) part-laws refl) refl refl) (seq-laws (mark-laws m s.equals) value-laws refl) refl) refl)) refl refl
 
@@ -133,10 +133,10 @@ module _ {M : Type 0} (m : M) where
   unfolding r.option r.body
   option-laws = wide _ _ (named-laws s.option k.KeepsOption _ _ (λ x. refl) (λ x. refl) (λ x. refl)
       (λ x h. (tt, (h, tt))) (λ x h. h.1.0) (λ x h. h)
-      (seq-laws (word-laws m (codes "option")) (seq-laws body-laws (mark-laws m s.semicolon) refl) refl)) refl refl
+      (seq-laws (word-laws m (codes "option")) (seq-laws option_body-laws (mark-laws m s.semicolon) refl) refl)) refl refl
 
   pub list-laws : Lawful {M = M} r.list false (just_mark s.open_bracket) none
   unfolding r.list r.body
   list-laws = wide _ _ (named-laws s.list k.KeepsList _ _ (λ x. refl) (λ x. refl) (λ x. refl)
       (λ x h. (tt, (h.0, (parts.each-map _ _ (λ y h. (tt, h)) x.others h.1, tt)))) (λ x h. (h.1.0, parts.each-map _ _ (λ y h. h.1) x.others h.1.1.0)) (λ x h. h)
-      (seq-laws (mark-laws m s.open_bracket) (seq-laws body-laws (seq-laws (times-laws (just_mark s.comma) (seq-laws (mark-laws m s.comma) body-laws refl) refl refl) (mark-laws m s.close_bracket) refl) refl) refl)) refl refl
+      (seq-laws (mark-laws m s.open_bracket) (seq-laws option_body-laws (seq-laws (times-laws (just_mark s.comma) (seq-laws (mark-laws m s.comma) option_body-laws refl) refl refl) (mark-laws m s.close_bracket) refl) refl) refl)) refl refl

@@ -2,7 +2,7 @@
 -- for each rule.
 use Rattle.std.proofs.Common.{◌≡◌, ℕ, suc, List, [], ◌∷◌, ◌++◌, map, length, Option, option_map, Result, Ok, Err, inl, inr, refl, sym, ap, subst, ◌∙◌, append-nil, append_assoc}
 use Rattle.protox_lexeme.specs.Shapes.{Shape, Ident, Mark, Rows}
-use Rattle.protox_ast.proofs.Standing.{Stand}
+use Rattle.protox_ast.proofs.Lemmas.{Stand}
 use Rattle.protox_ast.specs.Places.{Place}
 use Rattle.protox_ast.specs.Tree as t
 use Rattle.protox_grammar.specs.Class.{Set, in_set}
@@ -83,9 +83,9 @@ see to xs x = Ok (to xs x.0, x.1)
 
 shown : {A B C D : Type 0} (rule : Rule Place B) (law : IsRead rule) (f : A → C) (a : Reader Place A) (to : A → B) (to' : Rows Place → C → D) (h : B → D)
     → ((x : A) (rest : Rows Place) → to' (rule.spell (to x) ++ rest) (f x) ≡ h (to x)) → ((xs : Rows Place) → rule.read xs ≡ mapped to a xs)
-    → (xs : Rows Place) (r : Result (A × Rows Place) Refusal) → a xs ≡ r → ((r >>= by_shows.seen f) >>= see to' xs) ≡ ((r >>= by_shows.seen to) >>= by_shows.seen h)
+    → (xs : Rows Place) (r : Result (A × Rows Place) Refusal) → a xs ≡ r → ((r >>= by_shows.seen_as f) >>= see to' xs) ≡ ((r >>= by_shows.seen_as to) >>= by_shows.seen_as h)
 shown rule law f a to to' h e same xs (Ok x) g =
-    let k = (law.takes xs (to x.0, x.1) (same xs ∙ ap (λ v. v >>= by_shows.seen to) g)).parts in
+    let k = (law.takes xs (to x.0, x.1) (same xs ∙ ap (λ v. v >>= by_shows.seen_as to) g)).parts in
     ap (λ v. Ok (v, x.1)) (subst (λ ys. to' ys (f x.0) ≡ h (to x.0)) (sym k) (e x.0 x.1))
 shown rule law f a to to' h e same xs (Err d) g = refl
 
@@ -169,16 +169,16 @@ module _ {A B C : Type 0} (a : Reader Place A) (b : Reader Place B) (c : Reader 
   abbrev rounded : {D : Type 0} → ((A × B) × C → D) → A × (B × C) → D
   rounded f x = f ((x.0, x.1.0), x.1.1)
 
-  third-same : {D : Type 0} (f : (A × B) × C → D) (x : A) (y : B) (r : Result (C × Rows Place) Refusal) → ((r >>= by_shows.paired (x, y)) >>= by_shows.seen f) ≡ (((r >>= by_shows.paired y) >>= by_shows.paired x) >>= by_shows.seen (rounded f))
+  third-same : {D : Type 0} (f : (A × B) × C → D) (x : A) (y : B) (r : Result (C × Rows Place) Refusal) → ((r >>= by_shows.paired (x, y)) >>= by_shows.seen_as f) ≡ (((r >>= by_shows.paired y) >>= by_shows.paired x) >>= by_shows.seen_as (rounded f))
   third-same f x y (Ok z) = refl
   third-same f x y (Err e) = refl
 
-  second-same : {D : Type 0} (f : (A × B) × C → D) (x : A) (r : Result (B × Rows Place) Refusal) → (((r >>= by_shows.paired x) >>= by_shows.then c) >>= by_shows.seen f) ≡ (((r >>= by_shows.then c) >>= by_shows.paired x) >>= by_shows.seen (rounded f))
+  second-same : {D : Type 0} (f : (A × B) × C → D) (x : A) (r : Result (B × Rows Place) Refusal) → (((r >>= by_shows.paired x) >>= by_shows.then c) >>= by_shows.seen_as f) ≡ (((r >>= by_shows.then c) >>= by_shows.paired x) >>= by_shows.seen_as (rounded f))
   second-same f x (Ok y) = third-same f x y.0 (c y.1)
   second-same f x (Err e) = refl
 
   pub first-same : {D : Type 0} (f : (A × B) × C → D) (r : Result (A × Rows Place) Refusal)
-      → (((r >>= by_shows.then b) >>= by_shows.then c) >>= by_shows.seen f) ≡ ((r >>= by_shows.then (seq b c)) >>= by_shows.seen (rounded f))
+      → (((r >>= by_shows.then b) >>= by_shows.then c) >>= by_shows.seen_as f) ≡ ((r >>= by_shows.then (seq b c)) >>= by_shows.seen_as (rounded f))
   first-same f (Ok x) = second-same f x.0 (b x.1)
   first-same f (Err e) = refl
 
@@ -197,12 +197,12 @@ module _ {A B C : Type 0} (a : Reader Place A) (b : Reader Place B) (c : Reader 
       says = λ first k xs. ap (λ l. told first k l xs) (sym (steps-first (s xs) (a xs))) ∙ h.says first k xs;
       left = λ xs x e.
           let same : seq (seq a b) c xs ≡ Ok (((x.0.0, x.0.1.0), x.0.1.1), x.1) =
-          kept (seq (seq a b) c xs) ∙ first-same (λ t. t) (a xs) ∙ ap (λ v. v >>= by_shows.seen (rounded (λ t. t))) e in
+          kept (seq (seq a b) c xs) ∙ first-same (λ t. t) (a xs) ∙ ap (λ v. v >>= by_shows.seen_as (rounded (λ t. t))) e in
           ap (λ l. past l xs) (sym (steps-first (s xs) (a xs))) ∙ h.left xs _ same;
       lies = h.lies;
     }
       where
-        kept : {X : Type 0} (r : Result (X × Rows Place) Refusal) → r ≡ (r >>= by_shows.seen (λ t. t))
+        kept : {X : Type 0} (r : Result (X × Rows Place) Refusal) → r ≡ (r >>= by_shows.seen_as (λ t. t))
         kept (Ok x) = refl
         kept (Err e) = refl
 

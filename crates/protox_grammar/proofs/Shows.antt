@@ -3,15 +3,15 @@
 use Rattle.std.proofs.Common.{◌≡◌, ℕ, zero, suc, Bool, true, false, cond, List, [], ◌∷◌, map, length, Some, None, option_map, Result, Ok, Err, refl, sym, ap, ◌∙◌, inl, inr, ◌⊎◌, arith}
 use Rattle.std.proofs.lemmas.List.{length-append}
 use Rattle.protox_lexeme.specs.Shapes.{Shape, Rows}
-use Rattle.protox_grammar.specs.Reader.{Refusal, Reader, ◌>>=◌, Consumes, refuse, head_in, seq, mapped, either, optional, unstarted, nothing, star, star_at}
+use Rattle.protox_grammar.specs.Reader.{Refusal, Reader, ◌>>=◌, Consumes, head_in, seq, mapped, either, optional, nothing, star, star_at}
 use Rattle.protox_grammar.specs.Class.{Set}
 use Rattle.protox_grammar.specs.Rule.{Rule, on_sum, to_option}
 use Rattle.protox_grammar.proofs.Takes.{bind_ok, ok_is}
 use Rattle.protox_grammar.proofs.Repeat.{some-rows}
 use Rattle.protox_grammar.proofs.Forms.{Lawful}
 
-abbrev pub seen : {M A B : Type 0} → (A → B) → A × Rows M → Result (B × Rows M) Refusal
-seen f x = Ok (f x.0, x.1)
+abbrev pub seen_as : {M A B : Type 0} → (A → B) → A × Rows M → Result (B × Rows M) Refusal
+seen_as f x = Ok (f x.0, x.1)
 
 abbrev pub paired : {M A B : Type 0} → A → B × Rows M → Result ((A × B) × Rows M) Refusal
 paired a y = Ok ((a, y.0), y.1)
@@ -23,32 +23,32 @@ then b x = b x.1 >>= paired x.0
 pub record Shows {M A B : Type 0} (f : A → B) (a : Reader M A) (b : Reader M B) : Type 0 where
   pub same : (xs : Rows M) → b xs ≡ mapped f a xs
 
-seen-own : {M A : Type 0} (r : Result (A × Rows M) Refusal) → r ≡ (r >>= seen (λ x. x))
+seen-own : {M A : Type 0} (r : Result (A × Rows M) Refusal) → r ≡ (r >>= seen_as (λ x. x))
 seen-own (Ok x) = refl
 seen-own (Err e) = refl
 
 pub as_is : {M A : Type 0} (a : Reader M A) → Shows (λ x. x) a a
 as_is a = record { same = λ xs. seen-own (a xs) }
 
-seen-paired : {M A B C D : Type 0} (f : A → C) (g : B → D) (x : A) (r : Result (B × Rows M) Refusal) → ((r >>= seen g) >>= paired (f x)) ≡ ((r >>= paired x) >>= seen (λ (t : A × B). (f t.0, g t.1)))
+seen-paired : {M A B C D : Type 0} (f : A → C) (g : B → D) (x : A) (r : Result (B × Rows M) Refusal) → ((r >>= seen_as g) >>= paired (f x)) ≡ ((r >>= paired x) >>= seen_as (λ (t : A × B). (f t.0, g t.1)))
 seen-paired f g x (Ok y) = refl
 seen-paired f g x (Err e) = refl
 
-seen-then : {M A B C D : Type 0} (f : A → C) (g : B → D) (b : Reader M B) (d : Reader M D) → Shows g b d → (r : Result (A × Rows M) Refusal) → ((r >>= seen f) >>= then d) ≡ ((r >>= then b) >>= seen (λ (t : A × B). (f t.0, g t.1)))
+seen-then : {M A B C D : Type 0} (f : A → C) (g : B → D) (b : Reader M B) (d : Reader M D) → Shows g b d → (r : Result (A × Rows M) Refusal) → ((r >>= seen_as f) >>= then d) ≡ ((r >>= then b) >>= seen_as (λ (t : A × B). (f t.0, g t.1)))
 seen-then f g b d h (Ok x) = ap (λ v. v >>= paired (f x.0)) (h.same x.1) ∙ seen-paired f g x.0 (b x.1)
 seen-then f g b d h (Err e) = refl
 
 pub seq-shows : {M A B C D : Type 0} {f : A → C} {g : B → D} {a : Reader M A} {c : Reader M C} {b : Reader M B} {d : Reader M D} → Shows f a c → Shows g b d → Shows (λ t. (f t.0, g t.1)) (seq a b) (seq c d)
 seq-shows {f = f} {g = g} {a = a} {b = b} {d = d} h k = record { same = λ xs. ap (λ v. v >>= then d) (h.same xs) ∙ seen-then f g b d k (a xs) }
 
-seen-twice : {M A B C D : Type 0} (f : A → C) (to : A → B) (to' : C → D) (h : B → D) → ((x : A) → to' (f x) ≡ h (to x)) → (r : Result (A × Rows M) Refusal) → ((r >>= seen f) >>= seen to') ≡ ((r >>= seen to) >>= seen h)
+seen-twice : {M A B C D : Type 0} (f : A → C) (to : A → B) (to' : C → D) (h : B → D) → ((x : A) → to' (f x) ≡ h (to x)) → (r : Result (A × Rows M) Refusal) → ((r >>= seen_as f) >>= seen_as to') ≡ ((r >>= seen_as to) >>= seen_as h)
 seen-twice f to to' h e (Ok x) = ap (λ v. Ok (v, x.1)) (e x.0)
 seen-twice f to to' h e (Err d) = refl
 
 pub mapped-shows : {M A B C D : Type 0} {f : A → C} {a : Reader M A} {c : Reader M C} (to : A → B) (to' : C → D) (h : B → D) → ((x : A) → to' (f x) ≡ h (to x)) → Shows f a c → Shows h (mapped to a) (mapped to' c)
-mapped-shows {f = f} {a = a} to to' h e k = record { same = λ xs. ap (λ v. v >>= seen to') (k.same xs) ∙ seen-twice f to to' h e (a xs) }
+mapped-shows {f = f} {a = a} to to' h e k = record { same = λ xs. ap (λ v. v >>= seen_as to') (k.same xs) ∙ seen-twice f to to' h e (a xs) }
 
-seen-inl : {M A B C : Type 0} (i : A → B) (f : A → C) (g : B → C) → ((x : A) → f x ≡ g (i x)) → (r : Result (A × Rows M) Refusal) → (r >>= seen f) ≡ ((r >>= seen i) >>= seen g)
+seen-inl : {M A B C : Type 0} (i : A → B) (f : A → C) (g : B → C) → ((x : A) → f x ≡ g (i x)) → (r : Result (A × Rows M) Refusal) → (r >>= seen_as f) ≡ ((r >>= seen_as i) >>= seen_as g)
 seen-inl i f g e (Ok x) = ap (λ v. Ok (v, x.1)) (e x.0)
 seen-inl i f g e (Err d) = refl
 
@@ -56,7 +56,7 @@ choose : {X : Type 0} (b : Bool) (x y x' y' : X) (z : X → X) → x ≡ x' → 
 choose true x y x' y' z p q = p
 choose false x y x' y' z p q = q
 
-split : {M A B : Type 0} (b : Bool) (f : A → B) (x y : Result (A × Rows M) Refusal) → cond b (x >>= seen f) (y >>= seen f) ≡ (cond b x y >>= seen f)
+split : {M A B : Type 0} (b : Bool) (f : A → B) (x y : Result (A × Rows M) Refusal) → cond b (x >>= seen_as f) (y >>= seen_as f) ≡ (cond b x y >>= seen_as f)
 split true f x y = refl
 split false f x y = refl
 
@@ -73,15 +73,7 @@ either-shows {f = f} {g = g} {a = a} {b = b} {c = c} {d = d} p q same h k = reco
       ∙ split (head_in q xs) (on_sum f g) (mapped inl a xs) (mapped inr b xs);
 }
 
-pub unstarted-shows : {M A B : Type 0} {f : A → B} {a : Reader M A} {b : Reader M B} (p q : Shape → Bool) → ((s : Shape) → p s ≡ q s) → Shows f a b → Shows f (unstarted q a) (unstarted p b)
-unstarted-shows {f = f} {a = a} {b = b} p q same h = record {
-  same = λ xs.
-      ap (λ t. cond t (refuse xs) (b xs)) (head-tests p q same xs)
-      ∙ choose (head_in q xs) (refuse xs) (b xs) (refuse xs >>= seen f) (a xs >>= seen f) (λ v. v) refl (h.same xs)
-      ∙ split (head_in q xs) f (refuse xs) (a xs);
-}
-
-seen-other : {M A B : Type 0} (f g : A → B) → ((x : A) → f x ≡ g x) → (r : Result (A × Rows M) Refusal) → (r >>= seen f) ≡ (r >>= seen g)
+seen-other : {M A B : Type 0} (f g : A → B) → ((x : A) → f x ≡ g x) → (r : Result (A × Rows M) Refusal) → (r >>= seen_as f) ≡ (r >>= seen_as g)
 seen-other f g e (Ok x) = ap (λ v. Ok (v, x.1)) (e x.0)
 seen-other f g e (Err d) = refl
 
@@ -95,28 +87,24 @@ left-shows {f = f} {a = a} to h e k = record { same = λ xs. k.same xs ∙ seen-
 
 -- If the second is renamed.
 pub right-shows : {M A B C : Type 0} {f : A → B} {a : Reader M A} {b : Reader M B} (to : B → C) → Shows f a b → Shows (λ x. to (f x)) a (mapped to b)
-right-shows {M = M} {A = A} {f = f} {a = a} to k = record { same = λ xs. ap (λ v. v >>= seen to) (k.same xs) ∙ twice (a xs) }
+right-shows {M = M} {A = A} {f = f} {a = a} to k = record { same = λ xs. ap (λ v. v >>= seen_as to) (k.same xs) ∙ twice (a xs) }
   where
-    twice : (r : Result (A × Rows M) Refusal) → ((r >>= seen f) >>= seen to) ≡ (r >>= seen (λ x. to (f x)))
+    twice : (r : Result (A × Rows M) Refusal) → ((r >>= seen_as f) >>= seen_as to) ≡ (r >>= seen_as (λ x. to (f x)))
     twice (Ok x) = refl
     twice (Err e) = refl
-
--- The same reader, written in another way.
-pub shows-as : {M A B : Type 0} {f : A → B} {a : Reader M A} {b c : Reader M B} → ((xs : Rows M) → c xs ≡ b xs) → Shows f a b → Shows f a c
-shows-as e h = record { same = λ xs. e xs ∙ h.same xs }
 
 abbrev again : {M A : Type 0} → (Rows M → Result (List A × Rows M) Refusal) → A × Rows M → Result (List A × Rows M) Refusal
 again rest x = rest x.1 >>= λ y. Ok (x.0 ∷ y.0, y.1)
 
-seen-cons : {M A B : Type 0} (f : A → B) (x : A) (r : Result (List A × Rows M) Refusal) → ((r >>= seen (map f)) >>= λ y. Ok (f x ∷ y.0, y.1)) ≡ ((r >>= λ y. Ok (x ∷ y.0, y.1)) >>= seen (map f))
+seen-cons : {M A B : Type 0} (f : A → B) (x : A) (r : Result (List A × Rows M) Refusal) → ((r >>= seen_as (map f)) >>= λ y. Ok (f x ∷ y.0, y.1)) ≡ ((r >>= λ y. Ok (x ∷ y.0, y.1)) >>= seen_as (map f))
 seen-cons f x (Ok y) = refl
 seen-cons f x (Err e) = refl
 
-seen-again : {M A B : Type 0} (f : A → B) (s : Rows M → Result (List A × Rows M) Refusal) (t : Rows M → Result (List B × Rows M) Refusal) → ((xs : Rows M) → t xs ≡ (s xs >>= seen (map f))) → (r : Result (A × Rows M) Refusal) → ((r >>= seen f) >>= again t) ≡ ((r >>= again s) >>= seen (map f))
+seen-again : {M A B : Type 0} (f : A → B) (s : Rows M → Result (List A × Rows M) Refusal) (t : Rows M → Result (List B × Rows M) Refusal) → ((xs : Rows M) → t xs ≡ (s xs >>= seen_as (map f))) → (r : Result (A × Rows M) Refusal) → ((r >>= seen_as f) >>= again t) ≡ ((r >>= again s) >>= seen_as (map f))
 seen-again f s t h (Ok x) = ap (λ v. v >>= λ y. Ok (f x.0 ∷ y.0, y.1)) (h x.1) ∙ seen-cons f x.0 (s x.1)
 seen-again f s t h (Err e) = refl
 
-star_at-shows : {M A B : Type 0} (f : A → B) (a : Reader M A) (b : Reader M B) (p q : Shape → Bool) → ((s : Shape) → p s ≡ q s) → Shows f a b → (n : ℕ) (xs : Rows M) → star_at p b n xs ≡ (star_at q a n xs >>= seen (map f))
+star_at-shows : {M A B : Type 0} (f : A → B) (a : Reader M A) (b : Reader M B) (p q : Shape → Bool) → ((s : Shape) → p s ≡ q s) → Shows f a b → (n : ℕ) (xs : Rows M) → star_at p b n xs ≡ (star_at q a n xs >>= seen_as (map f))
 unfolding star_at
 star_at-shows f a b p q same h zero xs = refl
 star_at-shows f a b p q same h (suc n) xs =
@@ -144,7 +132,7 @@ optional-shows {f = f} p q same h = left-shows to_option (option_map f) (two _ _
 -- A view of a rule that is never empty takes a row.
 pub shows-eats : {M A B : Type 0} {r : Rule M A} {f g : Set} {h : A → B} {b : Reader M B} → Lawful r false f g → Shows h r.read b → Consumes b
 shows-eats {r = r} {f = f} {h = h} l k xs x e =
-    let y = bind_ok (r.read xs) (seen h) x (sym (k.same xs) ∙ e) in
+    let y = bind_ok (r.read xs) (seen_as h) x (sym (k.same xs) ∙ e) in
     let took = l.read.takes xs y.0 y.1 in
     let same : (h y.0.0, y.0.1) ≡ x = ok_is (h y.0.0, y.0.1) x y.2 in
     omega (arith, some-rows f (r.spell y.0.0) (l.spelled.starts y.0.0 y.0.1 took.ends), ap length took.parts, length-append (r.spell y.0.0) y.0.1, ap (λ v. length v.1) same)

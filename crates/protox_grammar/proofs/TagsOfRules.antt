@@ -298,7 +298,3 @@ module _ {M N : Type 0} (f : M → N) where
   -- so files whose bodies are read at most n deep are read alike, and the same is noted
   pub file_at-alike : (n : ℕ) → IsAlike f (b.file (b.mbody_at n)) (b.file (b.mbody_at n)) Unnoted
   file_at-alike n = file-alike (sealed-alike _ _ _ _ (unsealed-alike n))
-
-  -- so are statements
-  pub statement_at-alike : (n : ℕ) → IsAlike f (b.statement (b.mbody_at n)) (b.statement (b.mbody_at n)) Unnoted
-  statement_at-alike n = statement-alike (sealed-alike _ _ _ _ (unsealed-alike n))

@@ -4,7 +4,7 @@ use Rattle.std.proofs.Common.{◌≡◌, ◌<◌, ℕ, zero, suc, ◌-◌, Bool,
 use Rattle.std.proofs.lemmas.List.{length-append}
 use Rattle.protox_fault.specs.Faults.{LiesIn}
 use Rattle.protox_lexeme.specs.Shapes.{Shape, Row, Rows}
-use Rattle.protox_ast.proofs.Standing.{Stand}
+use Rattle.protox_ast.proofs.Lemmas.{Stand}
 use Rattle.protox_ast.specs.Keywords.{Each}
 use Rattle.protox_ast.specs.Places.{Place}
 use Rattle.protox_ast.specs.Tree as t
@@ -20,9 +20,6 @@ use Rattle.protox_grammar.proofs.Takes.{bind_ok, ok_is}
 use Rattle.protox_grammar.proofs.Reading.{chosen, err-ok}
 use Rattle.protox_grammar.proofs.StepLists.{take-front}
 use Rattle.protox_grammar.proofs.Shows.{Shows}
-
-abbrev Rows_ : Type 0
-Rows_ = Rows Place
 
 -- ---- steps one after another
 

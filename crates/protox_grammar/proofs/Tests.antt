@@ -5,8 +5,8 @@ use Rattle.std.proofs.lemmas.Bool.{eqb-true, eq-eqb, ne_eqb, ltb-true}
 use Rattle.std.specs.Prelude.{nat_lt}
 use Rattle.std.specs.Str.{bytes_eq}
 use Rattle.protox_lexeme.specs.Shapes.{Shape, Ident, Int, Float, Str, Mark, LineComment, BlockComment, Newline, Invalid}
-use Rattle.protox_grammar.specs.Class.{class, place, keywords, marks, byte_place, only, among, a_string}
-use Rattle.protox_grammar.specs.Reader.{is_token, any_word, is_word_of, is_string}
+use Rattle.protox_grammar.specs.Class.{class, place, keywords, marks, byte_place, only, among}
+use Rattle.protox_grammar.specs.Reader.{is_token, any_word}
 use Rattle.protox_grammar.specs.Rules.{find_scalar, all_scalars, see_scalar, scalar_set}
 use Rattle.protox_ast.specs.Tree as t
 use Rattle.protox_ast.specs.Spelling.{scalar_word}
@@ -73,17 +73,6 @@ any-class (w ∷ ws) h t =
     let both = and_true (nat_lt (place keywords w) 38) (known ws) h in
     or-same _ _ _ _ (word-class w (place keywords w) refl (ltb-true (place keywords w) 38 both.0) (Ident t)) (any-class ws both.1 t)
 
-pub words-class : (ws : List (List ℕ)) → known ws ≡ true → (s : Shape) → is_word_of ws s ≡ among (places ws) (class s)
-words-class ws h (Ident t) = any-class ws h t
-words-class ws h (Int n) = sym (none-past ws h 39 (omega arith))
-words-class ws h (Float n) = sym (none-past ws h 40 (omega arith))
-words-class ws h (Str n) = sym (none-past ws h 41 (omega arith))
-words-class ws h (Mark n) = sym (none-past ws h (42 + byte_place marks n) (omega arith))
-words-class ws h (LineComment n) = sym (none-past ws h 59 (omega arith))
-words-class ws h (BlockComment n) = sym (none-past ws h 59 (omega arith))
-words-class ws h Newline = sym (none-past ws h 59 (omega arith))
-words-class ws h Invalid = sym (none-past ws h 59 (omega arith))
-
 found-by : (x : t.Scalar) (r : Option t.Scalar) (b c : Bool) → is_some r ≡ c → is_some (cond b (Some x) r) ≡ b || c
 found-by x r true c e = refl
 found-by x r false c e = e
@@ -96,9 +85,3 @@ pub scalar-class : (s : Shape) → is_some (see_scalar s) ≡ scalar_set (class 
 scalar-class (Ident w) = found-any all_scalars w ∙ any-class scalars refl w
 scalar-class (Mark n) = sym (none-past scalars refl (42 + byte_place marks n) (omega arith))
 scalar-class _ = refl
-
-pub string-class : (s : Shape) → is_string s ≡ only a_string (class s)
-string-class (Str t) = refl
-string-class (Ident t) = sym (ne_eqb (place keywords t) 41 (λ h. omega (arith, h, place-le keywords t)))
-string-class (Mark b) = sym (ne_eqb (42 + byte_place marks b) 41 (λ h. omega (arith, h)))
-string-class _ = refl

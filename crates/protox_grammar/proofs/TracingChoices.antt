@@ -1,7 +1,7 @@
 -- The laws of steps for rules between which the next row decides.
 use Rattle.std.proofs.Common.{◌≡◌, ℕ, Bool, true, false, cond, [], ◌∷◌, ◌++◌, length, None, Ok, Err, refl, sym, ap, subst, ◌∙◌, inl, inr, ◌⊎◌}
 use Rattle.protox_lexeme.specs.Shapes.{Shape, Rows}
-use Rattle.protox_grammar.specs.Class.{Set, class, within, in_set}
+use Rattle.protox_grammar.specs.Class.{Set, class, within}
 use Rattle.protox_grammar.specs.Reader as reader
 use Rattle.protox_grammar.specs.Reader.{Refusal, Unexpected, Deep, head_in}
 use Rattle.protox_grammar.specs.Rule.{Rule, Stops, either, unstarted}
@@ -9,14 +9,11 @@ use Rattle.protox_grammar.specs.Steps.{Token, Note, Steps, tokens, until, has_de
 use Rattle.protox_grammar.proofs.Takes.{bind_ok, ok_is}
 use Rattle.protox_grammar.proofs.Sets.{starts-within}
 use Rattle.protox_grammar.proofs.Laws.{IsSpelled}
-use Rattle.protox_grammar.proofs.Reading.{IsRead, err-ok, failed, chosen, map_err, head-starts, head-stops}
+use Rattle.protox_grammar.proofs.Reading.{IsRead, chosen, map_err, head-starts, head-stops}
 use Rattle.protox_grammar.proofs.StepLists.{Quiet, until-quiet}
-use Rattle.protox_grammar.proofs.Tracing.{Alike, IsLeft, Halts, IsTraced, silent}
+use Rattle.protox_grammar.proofs.Tracing.{Alike, Halts, IsTraced, silent}
 use Rattle.protox_grammar.proofs.EndsDeep.{StopsDeep, stops-if, stops-mapped}
 use Rattle.protox_grammar.proofs.Placing.{ArePlaced}
-
-same-refusal : (A : Type 0) (d e : Refusal) → failed A d ≡ failed A e → d ≡ e
-same-refusal A d e h = cc
 
 never-both : (n d : ℕ) → Unexpected n ≡ Deep d → ⊥
 never-both n d k = absurd cc
@@ -127,73 +124,3 @@ module _ {M A B : Type 0} (p : Shape → Bool) (P : Set) (a : Rule M A) (b : Rul
 module _ {M B : Type 0} (P : Set) (b : Rule M B) (eb : Bool) (fb gb : Set) (lb : IsSpelled b eb fb gb) (rb : IsRead b) (tb : IsTraced b) (some : B) (some_may : b.may some) (some_stops : Stops P (b.spell some)) where
   abbrev barred : Rule M B
   barred = unstarted P b
-
-  on-other : (xs : Rows M) → head_in (in_set P) xs ≡ false → barred.trace xs ≡ b.trace xs
-  on-other xs h = ap (λ v. cond v [] (b.trace xs)) h
-
-  on-barred : (xs : Rows M) → head_in (in_set P) xs ≡ true → barred.trace xs ≡ []
-  on-barred xs h = ap (λ v. cond v [] (b.trace xs)) h
-
-  pub unstarted-traced : IsTraced (unstarted P b)
-  unstarted-traced = record {
-    rows = tb.rows;
-    quiet = tb.quiet;
-    placed = λ t z h. tb.placed t z h.0;
-    ok = λ xs x h. elim (chosen (head_in (in_set P) xs) (failed (B × Rows M) (Unexpected (length xs))) (b.read xs) (Ok x) h) [
-      | inl c ↦ absurd (err-ok x _ c.1)
-      | inr c ↦ on-other xs c.0 ∙ tb.ok xs x c.1
-    ];
-    halts = λ xs e h. elim (chosen (head_in (in_set P) xs) (failed (B × Rows M) (Unexpected (length xs))) (b.read xs) (Err e) h) [
-      | inl c ↦
-          let g = on-barred xs c.0 in
-          let same = same-refusal (B × Rows M) (Unexpected (length xs)) e c.1 in
-          record {
-            rest = xs;
-            parts = ap (λ u. tokens u ++ xs) (sym g);
-            left_is = subst (λ u. IsLeft u (length xs)) same refl;
-            placed = subst (λ u. ArePlaced None u xs) (sym g) tt;
-            tree = some;
-            tree_may = (some_may, some_stops);
-            later = b.steps some;
-            goes_on = ap (λ u. u ++ b.steps some) (sym g);
-            deep = λ n k. absurd (never-both (length xs) n (same ∙ k));
-          }
-      | inr c ↦
-          let g = on-other xs c.0 in
-          let v = tb.halts xs e c.1 in
-          let u = begun-other xs v.rest (b.trace xs) (silent b eb fb gb lb rb tb xs) v.parts c.0 v.tree v.tree_may v.later v.goes_on in
-          record {
-            rest = v.rest;
-            parts = v.parts ∙ ap (λ u. tokens u ++ v.rest) (sym g);
-            left_is = v.left_is;
-            placed = subst (λ u. ArePlaced None u v.rest) (sym g) v.placed;
-            tree = u.0;
-            tree_may = u.1;
-            later = u.2;
-            goes_on = u.3 ∙ ap (λ y. y ++ u.2) (sym g);
-            deep = λ n k. ap has_deep g ∙ v.deep n k;
-          }
-    ];
-    agrees = barred-agrees;
-    stops = λ xs. stops-if (head_in (in_set P) xs) (failed (B × Rows M) (Unexpected (length xs))) (b.read xs) [] (b.trace xs) tt (tb.stops xs);
-  }
-    where
-      begun-other : (xs : Rows M) (rest : Rows M) (l : Steps M) → Quiet l → xs ≡ tokens l ++ rest → head_in (in_set P) xs ≡ false → (tree : B) → b.may tree → (later : Steps M) → b.steps tree ≡ l ++ later
-          → (u : B) × (b.may u × Stops P (b.spell u)) × (on : Steps M) × (b.steps u ≡ l ++ on)
-      begun-other xs rest [] quiet parts c tree m later on = (some, (some_may, some_stops), b.steps some, refl)
-      begun-other xs rest (Token r ∷ l) quiet parts c tree m later on =
-          let spelled : b.spell tree ≡ r ∷ tokens (l ++ later) = sym (tb.rows tree) ∙ ap tokens on in
-          let no : P (class r.shape) ≡ false = ap (head_in (in_set P)) (sym parts) ∙ c in
-          (tree, (m, subst (Stops P) (sym spelled) no), later, on)
-      begun-other xs rest (Note d ∷ l) quiet parts c tree m later on = absurd quiet
-
-      barred-silent : (xs : Rows M) (v : Bool) → Quiet (cond v [] (b.trace xs))
-      barred-silent xs true = tt
-      barred-silent xs false = silent b eb fb gb lb rb tb xs
-
-      barred-agrees : (front rest : Rows M) (t : B) (z more : Rows M) → b.ends t z × Stops P (b.spell t ++ z) → b.spell t ++ z ≡ front ++ more → Alike front rest more
-          → until (length front) ((unstarted P b).trace (front ++ rest)) ≡ until (length front) (b.steps t)
-      barred-agrees [] rest t z more h q alike = until-quiet _ (barred-silent rest (head_in (in_set P) rest)) ∙ sym (until-quiet (b.steps t) (tb.quiet t))
-      barred-agrees (f ∷ fs) rest t z more h q alike =
-          let c : head_in (in_set P) (f ∷ (fs ++ rest)) ≡ false = ap (head_in (in_set P)) (sym q) ∙ head-stops (in_set P) P (λ s. refl) (b.spell t ++ z) h.1 in
-          ap (λ u. until (length (f ∷ fs)) u) (on-other (f ∷ (fs ++ rest)) c) ∙ tb.agrees (f ∷ fs) rest t z more h.0 q alike

@@ -1,5 +1,5 @@
 -- Elements of lists by their index, as `slice_get` gives them.
-use Rattle.std.proofs.Common.{◌≡◌, ◌≢◌, ◌⊎◌, inl, inr, ℕ, zero, suc, ◌<◌, ◌+◌, List, [], ◌∷◌, ◌++◌, length, get_or, set, map, Option, Some, None, refl, sym, ◌∙◌, ap, arith, drop, zero-add, ◌≤◌, length-append}
+use Rattle.std.proofs.Common.{◌≡◌, ◌≢◌, ◌⊎◌, inl, inr, ℕ, zero, suc, ◌<◌, ◌+◌, List, [], ◌∷◌, ◌++◌, length, get_or, set, map, Option, Some, None, refl, sym, ◌∙◌, ap, arith, drop, zero-add, ◌≤◌}
 use Rattle.std.specs.Prelude.{slice_get, Contains}
 use Rattle.std.specs.List.{filter_map, cons_option}
 use Rattle.std.specs.Option.{option_map}
@@ -125,10 +125,3 @@ get_drop (suc d) [] k = get_none k (suc d + k)
 get_drop (suc d) (x ∷ xs) k =
     let e : suc (d + k) ≡ suc d + k = omega arith in
     get_drop d xs k ∙ ap (slice_get (x ∷ xs)) e
-
--- an element before a front of a list ends
-pub push_within : {X : Type 0} (xs : List X) (y : X) (k : ℕ) (x : X)
-    → slice_get (xs ++ y ∷ []) k ≡ Some x → k ≤ length xs
-push_within xs y k x e =
-    let h = slice_get_within (xs ++ y ∷ []) k x e in
-    omega (arith, h, length-append xs (y ∷ []))

@@ -10,3 +10,4 @@ pub mod NamesAgree
 pub mod Visiting
 pub mod OneOrder
 pub mod Passing
+pub mod Lemmas

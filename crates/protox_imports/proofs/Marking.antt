@@ -8,20 +8,6 @@ use Rattle.std.proofs.lemmas.Option.{slice_get-get_or}
 use Rattle.protox_imports.specs.inner.Marks.{IsMarked, unmarked, Marks}
 use Rattle.protox_imports.proofs.Elements.{get_set_same, get_set_cases}
 
--- Nothing is wanted yet.
-pub Marks-none : (marks : List Bool) (list : List ℕ) (wanted : ℕ → Type 0)
-    → ((h : ℕ) → wanted h → ⊥) → Marks marks list wanted marks list
-Marks-none marks list wanted none = record {
-  count = refl;
-  kept = λ h m. m;
-  marked = λ h w. absurd (none h w);
-  only = λ h m. inl m;
-  new_listed = λ h m. inl m;
-  stays = λ h m. m;
-  listed = λ h m. inl m;
-  size = refl;
-}
-
 pub IsMarked-set : (marks : List Bool) (file h : ℕ) → IsMarked marks h
     → IsMarked (set marks file true) h
 IsMarked-set [] file h m = cc

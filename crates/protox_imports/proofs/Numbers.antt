@@ -1,6 +1,6 @@
 -- The number of the first file with a name, as files are added and as a map has it.
 use Rattle.std.proofs.Common.{◌≡◌, ℕ, suc, ◌+◌, List, [], ◌∷◌, ◌++◌, length, Option, Some, None, Bool, true, false, cond, refl, sym, ◌∙◌, ap, bytes_eq, arith, zero-add, add-zero, ◌<◌, take, get_or, length-take}
-use Rattle.std.specs.Prelude.{position, is_some}
+use Rattle.std.specs.Prelude.{position}
 use Rattle.std.specs.List.{position_from}
 use Rattle.std.specs.Map.{update}
 use Rattle.std.specs.Option.{option_map_or}
@@ -22,22 +22,10 @@ absent true (Some g) n h = let e : Some g ≡ None = h refl in cc
 absent false None n h = refl
 absent false (Some g) n h = refl
 
--- what stands is kept
-present : (b : Bool) (o : Option ℕ) (n : ℕ) → (b ≡ true → is_some o ≡ true) → o ≡ first_of o b n
-present true None n h = let e : false ≡ true = h refl in cc
-present true (Some g) n h = refl
-present false None n h = refl
-present false (Some g) n h = refl
-
 pub put_absent : (f : List ℕ → Option ℕ) (name q : List ℕ) (n : ℕ) → f name ≡ None
     → update bytes_eq f name (Some n) q ≡ first_of (f q) (bytes_eq name q) n
 put_absent f name q n none =
     absent (bytes_eq name q) (f q) n (λ h. ap f (sym (same_name name q h)) ∙ none)
-
-pub kept_present : (f : List ℕ → Option ℕ) (name q : List ℕ) (n : ℕ) → is_some (f name) ≡ true
-    → f q ≡ first_of (f q) (bytes_eq name q) n
-kept_present f name q n some =
-    present (bytes_eq name q) (f q) n (λ h. ap (λ x. is_some (f x)) (sym (same_name name q h)) ∙ some)
 
 pub first_of-no : (o : Option ℕ) (n : ℕ) → first_of o false n ≡ o
 first_of-no None n = refl

@@ -7,7 +7,7 @@ use Rattle.std.proofs.lemmas.Bool.{false≢true}
 use Rattle.std.proofs.lemmas.Bool.Decides.{Decides-eqb, eqb_tells}
 use Rattle.std.proofs.lemmas.List.{get_or-set_same, get_or-set_other, length-replicate, take_all, take_more}
 use Rattle.std.proofs.lemmas.List.Elements.{Contains-append_left, Contains-push, Contains-push_cases}
-use Rattle.std.proofs.lemmas.Option.{get_or_from_slice_get, same_Some, slice_get-get_or}
+use Rattle.std.proofs.lemmas.Option.{same_Some, slice_get-get_or}
 use Rattle.protox_imports.specs.Order.{IsInOrder}
 use Rattle.protox_imports.specs.Passing.{AreRows, IsRow, PassedIn}
 use Rattle.protox_imports.specs.Rows.{ImportsIn, PassesOnIn, AreAmongImports, named_of, public_of}
@@ -20,14 +20,6 @@ use Rattle.protox_imports.proofs.Elements.{at_contains, contains_at, get_set_cas
 use Rattle.protox_imports.proofs.Marking.{IsMarked-set, set_marked}
 
 -- ---- marks
-
-marked_at : (marks : List Bool) (h : ℕ) → IsMarked marks h → get_or marks h false ≡ true
-marked_at marks h marked = get_or_from_slice_get marks h true false marked
-
-at_marked : (marks : List Bool) (h : ℕ) → get_or marks h false ≡ true → IsMarked marks h
-at_marked [] h is = cc
-at_marked (mark ∷ marks) zero is = ap Some is
-at_marked (mark ∷ marks) (suc h) is = at_marked marks h is
 
 either_true : (a b : Bool) → (a || b) ≡ true → (a ≡ true) ⊎ (b ≡ true)
 either_true true b is = inl refl
@@ -54,18 +46,6 @@ marks_itself marks g below = record {
   only = λ h m. elim (get_set_cases marks g h true true m) [
     | inl this ↦ inr (sym (this.0))
     | inr other ↦ inl (other.1)
-  ];
-}
-
--- the marks of a row are added
-pub marks_row : (marks row after : List Bool) → length after ≡ length marks → ((n : ℕ) → get_or after n false ≡ (get_or marks n false || get_or row n false)) → Adds marks (IsMarked row) after
-marks_row marks row after count both = record {
-  count = count;
-  kept = λ h m. at_marked after h (both h ∙ or_left (get_or marks h false) (get_or row h false) (marked_at marks h m));
-  added = λ h m. at_marked after h (both h ∙ or_right (get_or marks h false) (get_or row h false) (marked_at row h m));
-  only = λ h m. elim (either_true (get_or marks h false) (get_or row h false) (sym (both h) ∙ marked_at after h m)) [
-    | inl old ↦ inl (at_marked marks h old)
-    | inr new ↦ inr (at_marked row h new)
   ];
 }
 

@@ -5,7 +5,7 @@ use Rattle.std.proofs.lemmas.List.{drop_more}
 use Rattle.protox_interpret.specs.Settings.{paths_from}
 use Rattle.protox_message_bytes.specs.declared.entry.Entry.{Entry}
 use Rattle.protox_message_bytes.specs.declared.entry.Entry.TheVariants as entry
-use Rattle.protox_set_paths.proofs.Places.{begins_on, goes_on}
+use Rattle.protox_set_paths.proofs.Lemmas.{begins_on, goes_on}
 use Rattle.protox_set_paths.specs.Paths.{begins_with, is_set, path_of}
 
 -- ---- one path

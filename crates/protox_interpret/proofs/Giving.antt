@@ -23,7 +23,7 @@ use Rattle.protox_message_bytes.specs.Parts.{Parts}
 use Rattle.protox_message_bytes.specs.Parts.{steps as told}
 use Rattle.protox_message_bytes.specs.declared.entry.Entry.{Entry}
 use Rattle.protox_interpret.proofs.Named.{EndsDeclared, last_declared}
-use Rattle.protox_set_paths.proofs.Places.{same_ends}
+use Rattle.protox_set_paths.proofs.Lemmas.{same_ends}
 use Rattle.protox_set_paths.specs.Paths.{is_set}
 use Rattle.protox_setting_bytes.specs.Bytes.{around_all, setting_bytes}
 use Rattle.protox_settings.specs.Fields.{field_numbered, is_repeated}

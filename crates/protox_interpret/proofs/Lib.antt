@@ -3,3 +3,4 @@ pub mod Kept
 pub mod Named
 pub mod Giving
 pub mod OneAnswer
+pub mod Lemmas

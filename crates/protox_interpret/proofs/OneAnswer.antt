@@ -7,7 +7,7 @@ use Rattle.std.proofs.lemmas.Grind.{flat_map-append}
 use Rattle.std.proofs.lemmas.List.{take-append-le}
 use Rattle.std.proofs.lemmas.List.Elements.{All-head, All-tail}
 use Rattle.std.proofs.lemmas.Option.{slice_get_within}
-use Rattle.protox_aggregate.proofs.SameSteps.{entries_alike}
+use Rattle.protox_aggregate.proofs.Lemmas.{entries_alike}
 use Rattle.protox_descriptor.specs.FieldDescriptorProto.{FieldDescriptorProto}
 use Rattle.protox_descriptor.specs.declared.descriptor.FileDescriptorProto.{FileDescriptorProto}
 use Rattle.protox_descriptor.specs.declared.descriptor.options.UninterpretedOption.{UninterpretedOption}
@@ -32,15 +32,15 @@ use Rattle.protox_lexeme.specs.Tokens.{shape_of}
 use Rattle.protox_message_bytes.specs.Parts.{Parts}
 use Rattle.protox_message_bytes.specs.Parts.{steps as told}
 use Rattle.protox_message_bytes.specs.declared.entry.Entry.{Entry}
-use Rattle.protox_name_tree.proofs.Numbering.{slice_get-push}
-use Rattle.protox_set_paths.proofs.Places.{same_ends}
+use Rattle.protox_name_tree.proofs.Lemmas.{slice_get-push}
+use Rattle.protox_set_paths.proofs.Lemmas.{same_ends}
 use Rattle.protox_set_paths.specs.Paths.{is_set}
 use Rattle.protox_setting_bytes.specs.declared.step.Step.{Step}
 use Rattle.protox_settings.specs.Fields.{field_numbered, is_repeated}
 use Rattle.protox_settings.specs.declared.setting.Said.{Said}
 use Rattle.protox_settings.specs.declared.setting.Said.TheVariants as said
 use Rattle.protox_symbols.specs.Symbols.{Table}
-use Rattle.protox_text_format.proofs.SameShapes.{spelled_alike, spelled_or_first}
+use Rattle.protox_text_format.proofs.Lemmas.{spelled_alike, spelled_or_first}
 use Rattle.protox_text_format.specs.Alike.{shapes}
 use Rattle.protox_text_format.specs.Pieces.{IsFaultless, row_of}
 use Rattle.protox_text_format.specs.declared.item.Piece.{Piece}

@@ -11,9 +11,8 @@ use Rattle.protox_lexeme.specs.Lexicon.{pattern, is_letter, is_word, is_mark, is
 use Rattle.protox_lexeme.specs.Scanning.{scan}
 use Rattle.protox_lexeme.specs.Shapes.{Shape, Ident, Mark}
 use Rattle.protox_lex.specs.Words.{IsWordOf}
-use Rattle.protox_lexeme.proofs.Margins.{AllPass, head_passes}
-use Rattle.protox_lexeme.proofs.OneKind.{mark_apart}
-use Rattle.protox_lexeme.proofs.ScanMatch as scanned
+use Rattle.protox_lexeme.proofs.Lemmas.{AllPass, head_passes, mark_apart}
+use Rattle.protox_lexeme.proofs.Lemmas as scanned
 
 -- ---- what follows a shape
 

@@ -17,14 +17,10 @@ use Rattle.protox_lexeme.specs.Pattern.{Pattern, one, many, ◌⋅◌, maybe, Fi
 use Rattle.protox_lexeme.specs.Scanning.{first, digits_len, exponent_len, zero_number, number, fraction_len, scan}
 use Rattle.protox_lexeme.specs.Shapes.{Int, Float}
 use Rattle.protox_lex.specs.Words.{IsWordOf}
-use Rattle.protox_lexeme.proofs.Cut.{fits_some}
-use Rattle.protox_lexeme.proofs.Fitting.{first_passes, no_run, In, OnlyIn, only_bound}
+use Rattle.protox_lexeme.proofs.Lemmas.{AllPass, In, OnlyIn, first_passes, fits_some, head_passes}
+use Rattle.protox_lexeme.proofs.Lemmas.{no_exponent, no_run, one_kind, only_bound}
 use Rattle.protox_lex.proofs.LexesBack.{AtEnd, LexesAs, ends_run, run_to, front_is, rest_is, at_rest, by_scan}
-use Rattle.protox_lexeme.proofs.Margins.{AllPass, head_passes}
-use Rattle.protox_lexeme.proofs.NumberMatch as numbers
-use Rattle.protox_lexeme.proofs.Numbers.{no_exponent}
-use Rattle.protox_lexeme.proofs.OneKind.{one_kind}
-use Rattle.protox_lexeme.proofs.ScanMatch as scanned
+use Rattle.protox_lexeme.proofs.Lemmas as shared
 use Rattle.protox_lex.proofs.WordsOf.{word_fits}
 
 pass_more : (p : ℕ → Bool) (xs ys : List ℕ) → AllPass p xs → AllPass p ys → AllPass p (xs ++ ys)
@@ -72,7 +68,7 @@ zero_alone rest end =
     let size : digits_len text ≡ 1 = omega arith in
     let point : eqb (get_or text (digits_len text) 0) 46 ≡ false = ap (λ k. eqb (get_or text k 0) 46) size ∙ ends_run (λ c. c == 46) rest refl refl end in
     let exp : exponent_len (drop (digits_len text) text) ≡ 0 = ap (λ k. exponent_len (drop k text)) size ∙ no_exponent rest (ends_run is_e rest refl refl end) in
-    numbers.number_zero text point exp refl ∙ unfold_zero rest end
+    shared.number_zero text point exp refl ∙ unfold_zero rest end
 
 -- Digits at the end of the text are an integer.
 digits_number : (s rest : List ℕ) → AllPass is_ascii_digit s → 0 < length s → (eqb (get_or s 0 0) 48 ≡ false) ⊎ (s ≡ 48 ∷ []) → AtEnd rest → number (s ++ rest) ≡ (kind.Integer, length s)
@@ -85,7 +81,7 @@ digits_number s rest all some (inl other) end =
     let exp : exponent_len (drop (digits_len text) text) ≡ 0 = ap exponent_len past ∙ no_exponent rest (ends_run is_e rest refl refl end) in
     let nonzero : eqb (first text) 48 ≡ false = ap (λ c. eqb c 48) (first_of s rest some) ∙ other in
     let suffix : is_f (get_or text (digits_len text) 0) ≡ false = ap is_f behind ∙ ends_run is_f rest refl refl end in
-    numbers.number_plain text point exp nonzero suffix ∙ ap (λ k. (kind.Integer, k)) size
+    shared.number_plain text point exp nonzero suffix ∙ ap (λ k. (kind.Integer, k)) size
 digits_number s rest all some (inr zero_byte) end =
     let P : List ℕ → Type 0 = λ t. number (t ++ rest) ≡ (kind.Integer, length t) in
     subst P (sym zero_byte) (zero_alone rest end)
@@ -106,7 +102,7 @@ int_lexes at n rest h end =
     let begin = first_digit n h in
     let size = run_to is_ascii_digit s rest all refl (ends_run is_ascii_digit rest refl refl end) in
     let digit = first_passes is_ascii_digit text (omega arith) in
-    let found : scan text ≡ Some (kind.Integer, m) = scanned.scan_digit text digit ∙ ap Some (digits_number s rest all some begin end) in
+    let found : scan text ≡ Some (kind.Integer, m) = shared.scan_digit text digit ∙ ap Some (digits_number s rest all some begin end) in
     let is = by_scan at text kind.Integer m found in
     let word = front_is s rest in
     let prefix = no_prefix s begin in
@@ -197,19 +193,19 @@ zero_kind text = elim (cases_Bool (is_x (get_or text 1 0) && is_ascii_hexdigit (
 number_kind : (text : List ℕ) → IsNumber (number text).0
 number_kind text =
     let P : Kind × ℕ → Type 0 = λ p. IsNumber p.0 in
-    elim (numbers.number_case text) [
-      | numbers.at_point p e ↦ subst P (sym e) (inr refl)
-      | numbers.at_exponent o x e ↦ subst P (sym e) (inr refl)
-      | numbers.at_zero o x z e ↦ subst P (sym e) (zero_kind text)
-      | numbers.at_suffix o z f e ↦ subst P (sym e) (inr refl)
-      | numbers.at_plain o x z f e ↦ subst P (sym e) (inl refl)
+    elim (shared.number_case text) [
+      | shared.at_point p e ↦ subst P (sym e) (inr refl)
+      | shared.at_exponent o x e ↦ subst P (sym e) (inr refl)
+      | shared.at_zero o x z e ↦ subst P (sym e) (zero_kind text)
+      | shared.at_suffix o z f e ↦ subst P (sym e) (inr refl)
+      | shared.at_plain o x z f e ↦ subst P (sym e) (inl refl)
     ]
 
 -- If a float fits, the scan finds a number.
 number_found : (text : List ℕ) (n : ℕ) → Fits (pattern kind.Float) text n → (p : Kind × ℕ) × (scan text ≡ Some p) × IsNumber p.0
-number_found text n f = elim (numbers.float_bound text n f) [
-  | inl h ↦ (number text, scanned.scan_digit text h.0, number_kind text)
-  | inr h ↦ ((kind.Float, 1 + fraction_len (drop 1 text)), scanned.scan_fraction text h.0 h.1, inr refl)
+number_found text n f = elim (shared.float_bound text n f) [
+  | inl h ↦ (number text, shared.scan_digit text h.0, number_kind text)
+  | inr h ↦ ((kind.Float, 1 + fraction_len (drop 1 text)), shared.scan_fraction text h.0 h.1, inr refl)
 ]
 
 numeric_not_blank : (b : ℕ) → is_numeric b ≡ true → is_blank b ≡ false
@@ -228,7 +224,7 @@ float_found s rest word end =
     let size = run_to is_numeric s rest all refl (ends_run is_numeric rest refl refl end) in
     let (p, e, numeric) = number_found text (length s) fits in
     let Q : Option (Kind × ℕ) → Type 0 = λ r. MatchOption r ((k : Kind) (m : ℕ) → Fits (pattern k) text m → ⊥) (λ q. IsLongest pattern q.0 text q.1) in
-    let longest : IsLongest pattern p.0 text p.1 = subst Q e (scanned.scan_longest text) in
+    let longest : IsLongest pattern p.0 text p.1 = subst Q e (shared.scan_longest text) in
     let low = longest.longest kind.Float (length s) fits in
     let high = number_bound p.0 text p.1 numeric longest.fits in
     let same : p.1 ≡ length s = omega arith in

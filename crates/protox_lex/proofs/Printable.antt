@@ -20,11 +20,9 @@ use Rattle.protox_lexeme.specs.Shapes.{Shape, Float, Invalid, Row}
 use Rattle.protox_lexeme.specs.Strings as spec
 use Rattle.protox_lexeme.specs.Table.{is_gap, rows_of}
 use Rattle.protox_lex.specs.Words.{IsWordOf}
-use Rattle.protox_lexeme.proofs.Cut.{cut_is_cut}
-use Rattle.protox_lexeme.proofs.Each.{Every, all_every}
-use Rattle.protox_lexeme.proofs.Fitting.{first_passes, In, OnlyIn}
+use Rattle.protox_lexeme.proofs.Lemmas.{AllPass, Every, In, OnlyIn, all_every, cut_is_cut}
+use Rattle.protox_lexeme.proofs.Lemmas.{first_passes, head_passes, rest_passes}
 use Rattle.protox_lex.proofs.LexesBack.{front_is, at_rest}
-use Rattle.protox_lexeme.proofs.Margins.{AllPass, head_passes, rest_passes}
 use Rattle.protox_lex.proofs.NumbersBack.{digits_word, word_passes}
 use Rattle.protox_lex.proofs.WordsOf.{fits_word}
 

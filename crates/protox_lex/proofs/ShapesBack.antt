@@ -6,8 +6,7 @@ use Rattle.protox_lexeme.specs.Lexemes.{Lexeme, first_lexeme, blanks, cut}
 use Rattle.protox_lexeme.specs.Lexicon.{is_blank}
 use Rattle.protox_lexeme.specs.Printed.{printed, printed_byte}
 use Rattle.protox_lexeme.specs.Shapes.{Shape, Ident, Int, Float, Str, Mark, LineComment, BlockComment, Newline, Invalid}
-use Rattle.protox_lexeme.proofs.Cut.{cut_none, cut_some, first_moves, first_start}
-use Rattle.protox_lexeme.proofs.Fitting.{no_run}
+use Rattle.protox_lexeme.proofs.Lemmas.{cut_none, cut_some, first_moves, first_start, no_run}
 use Rattle.protox_lex.proofs.LexesBack.{AtEnd, LexesAs, ident_lexes, mark_lexes, rest_is}
 use Rattle.protox_lex.proofs.NumbersBack.{int_lexes, float_lexes}
 use Rattle.protox_lex.proofs.StringsBack.{Spells, printed_spells, spelled_lexes}

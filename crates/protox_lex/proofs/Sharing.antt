@@ -5,9 +5,8 @@ use Rattle.std.proofs.Math.Seq.{get_or-append_seam}
 use Rattle.std.proofs.lemmas.Bool.{cases_Bool, eqb-true, eqb-false, ltb-false, le-ltb, lt-ltb}
 use Rattle.std.proofs.lemmas.Grind.{get_or-set_at}
 use Rattle.std.proofs.lemmas.List.{map-append, get_or-set_other, length-set, length-replicate, take-map, take-replicate}
-use Rattle.std.proofs.lemmas.Option.{slice_get-map, slice_get-get_or, slice_get_within, get_or_from_slice_get}
-use Rattle.std.specs.Borrow.{Bor}
-use Rattle.std.specs.Option.{option_map, option_copied, unwrap_or}
+use Rattle.std.proofs.lemmas.Option.{slice_get-map, slice_get-get_or}
+use Rattle.std.specs.Option.{option_map, unwrap_or}
 use Rattle.std.proofs.lemmas.List.Elements.{All-push}
 use Rattle.std.specs.Prelude.{slice_get, slice_index_or}
 use Rattle.protox_lex.specs.declared.shared_rows.KeptToken.{KeptToken}
@@ -17,7 +16,6 @@ use Rattle.protox_lexeme.specs.declared.token.Token.TheVariants as variant
 use Rattle.protox_fault.specs.Faults.{Span, span_from}
 use Rattle.protox_lexeme.specs.Shapes.{Shape, Mark, Newline, Row}
 use Rattle.protox_lex.specs.inner.Sharing.{kept_at, shape_at, borrowed_at, borrowed_by, rows_seen, and_row, kept_len, own_len, len_by, row_by, rows_by, IsKept, AreKept, AreMarks, AreClassed, AreShared, AddsNewlines, AreLines, AreThere, gap_at}
-use Rattle.protox_lex.specs.TableView.{shapes_of_lent}
 use Rattle.protox_lex.specs.inner.Grouping.{EndWithin, grouped}
 use Rattle.protox_lex.proofs.Splitting.{append_within, grouped_append}
 use Rattle.protox_lexeme.specs.TokenClass.{class, no_token}
@@ -56,12 +54,6 @@ own_or_kept len = elim (cases_Bool (nat_lt len (2 ^ 32))) [
   | inl fits ↦ rw fits refl
   | inr large ↦ rw large refl
 ]
-
--- What holds for each row of the table.
-pub row_is_kept : (tokens : List KeptToken) (rows : List NumberedRow) (index : ℕ) (row : NumberedRow) → AreKept tokens rows → slice_get rows index ≡ Some row → IsKept tokens row
-row_is_kept tokens rows index row h e =
-    let P : NumberedRow → Type 0 = λ r. IsKept tokens r in
-    subst P (get_or_from_slice_get rows index row row e) (h index row (slice_get_within rows index row e))
 
 -- A row with a token that is kept.
 rows_known : (tokens : List KeptToken) (rows : List NumberedRow) (row : NumberedRow) (shape : Shape) (len : ℕ) → shape_at tokens row.token ≡ shape → len_by tokens row ≡ len
@@ -212,18 +204,6 @@ pub few_found : (lines : List Token) (kept : List (List Token)) (numbers : List 
 few_found lines kept numbers k number e is l =
     let at : gap_at kept number ≡ replicate number Newline = rw (lt-ltb number 8 l) refl in
     ap Some (lines_lent lines number e (omega (arith, l)) ∙ sym at) ∙ sym (gap_found kept numbers k number is)
-
-pub many_found : (kept : List (List Token)) (numbers : List ℕ) (k number : ℕ) (lent : Option (Bor (List Token))) → AreThere numbers kept → slice_get numbers k ≡ Some number → 8 ≤ number
-    → option_copied lent ≡ slice_get kept (number - 8) → option_map shapes_of_lent lent ≡ slice_get (map (gap_at kept) numbers) k
-many_found kept numbers k number lent there is l e =
-    let below = there k 0 (slice_get_within numbers k number is) in
-    let some = slice_get-get_or kept (number - 8) [] (omega (arith, l, below, get_or_from_slice_get numbers k number 0 is)) in
-    let at : gap_at kept number ≡ map shape_of (slice_index_or kept (number - 8) []) = rw (le-ltb number 8 l) refl in
-    lent_is lent (slice_index_or kept (number - 8) []) (e ∙ some) ∙ ap Some (sym at) ∙ sym (gap_found kept numbers k number is)
-  where
-    lent_is : (lent : Option (Bor (List Token))) (gap : List Token) → option_copied lent ≡ Some gap → option_map shapes_of_lent lent ≡ Some (map shape_of gap)
-    lent_is None gap e = absurd (cc)
-    lent_is (Some g) gap e = let same : g.now ≡ gap = cc in ap (λ ts. Some (map shape_of ts)) same
 
 -- More kept gaps don't change the others.
 gaps_kept : (kept : List (List Token)) (gap : List Token) (numbers : List ℕ) → AreThere numbers kept → map (gap_at (kept ++ gap ∷ [])) numbers ≡ map (gap_at kept) numbers

@@ -14,8 +14,9 @@ use Rattle.protox_lexeme.specs.Strings as spec
 use Rattle.std.specs.Option.{is_some}
 use Rattle.protox_fault.specs.Faults.{span_from}
 use Rattle.protox_fault.specs.declared.error.ParseErrorKind.TheVariants.{InvalidStringEscape, InvalidStringCharacters}
-use Rattle.protox_lexeme.proofs.Literal.{piece_some, pieces_end, pieces_turn, pieces_last, pieces_more}
-use Rattle.protox_lexeme.proofs.Fitting.{first_passes, passes_first, some_bounds, some_fits, one_then, one_then_rest, then_one_rest, run_more}
+use Rattle.protox_lexeme.proofs.Lemmas.{first_passes, one_then, one_then_rest, passes_first}
+use Rattle.protox_lexeme.proofs.Lemmas.{piece_some, pieces_end, pieces_last, pieces_more, pieces_turn}
+use Rattle.protox_lexeme.proofs.Lemmas.{run_more, some_bounds, some_fits, then_one_rest}
 
 not_true : (b : Bool) → not b ≡ true → b ≡ false
 not_true true h = absurd (false≢true h)
@@ -31,10 +32,6 @@ front_passes p (b ∷ text) some h = rw h (omega arith)
 none_pass : (text : List ℕ) → prefix_len (λ b. false) text ≡ 0
 none_pass [] = refl
 none_pass (b ∷ text) = refl
-
-run_rest : (p : ℕ → Bool) (text : List ℕ) → p (get_or text 0 0) ≡ true → 1 ≤ length text → prefix_len p text ≡ suc (prefix_len p (drop 1 text))
-run_rest p [] h l = absurd (omega arith)
-run_rest p (b ∷ text) h l = run_more p b text h
 
 times_bound : (p : ℕ → Bool) (n : ℕ) (text : List ℕ) (m : ℕ) → Fits (times n (one p)) text m → (m ≡ n) × (n ≤ prefix_len p text)
 times_bound p zero text m f = (omega (arith, none_pass text), omega arith)

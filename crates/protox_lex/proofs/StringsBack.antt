@@ -14,10 +14,9 @@ use Rattle.protox_lexeme.specs.Printed.{hex_pair, printed_byte}
 use Rattle.protox_lexeme.specs.Scanning.{scan}
 use Rattle.protox_lexeme.specs.Shapes.{Str}
 use Rattle.protox_lexeme.specs.Strings as spec
-use Rattle.protox_lexeme.proofs.Fitting.{no_run, run_more}
+use Rattle.protox_lexeme.proofs.Lemmas.{no_run, pieces_last, pieces_more, run_more}
 use Rattle.protox_lex.proofs.LexesBack.{LexesAs, rest_is, by_scan}
-use Rattle.protox_lexeme.proofs.Literal.{pieces_last, pieces_more}
-use Rattle.protox_lexeme.proofs.ScanMatch as scanned
+use Rattle.protox_lexeme.proofs.Lemmas as scanned
 
 -- The pieces of a literal in double quotes: their value, their length, and no fault.
 record Reads (text bytes : List ℕ) (n : ℕ) : Type 0 where
@@ -143,10 +142,6 @@ byte_hex b small rest =
 
 pub plain_byte : (b : ℕ) → is_in_range 32 126 b ≡ true → eqb b 39 ≡ false → eqb b 34 ≡ false → eqb b 92 ≡ false → spec.is_plain b ≡ true
 plain_byte b h q d s = grind (arith, nat_tests)
-
--- a backslash and a letter
-simple_byte : (c b : ℕ) (rest : List ℕ) → spec.piece 34 (92 ∷ (c ∷ rest)) ≡ spec.adds (b ∷ []) 2 → spec.piece 34 ((92 ∷ (c ∷ [])) ++ rest) ≡ spec.adds (b ∷ []) 2
-simple_byte c b rest h = h
 
 module _ (rest : List ℕ) where
   pub tab_piece : spec.piece 34 (92 ∷ (116 ∷ rest)) ≡ spec.adds (9 ∷ []) 2

@@ -16,7 +16,7 @@ use Rattle.protox_lexeme.specs.Lexemes.{Lexeme}
 use Rattle.protox_lexeme.specs.Shapes.{Shape}
 use Rattle.protox_lexeme.specs.Table.{Table, is_gap, in_front, rows_of, gaps_of, faults_of, table_of}
 use Rattle.protox_lexeme.specs.Lexemes.{cut}
-use Rattle.protox_lexeme.proofs.Cut.{cut_none}
+use Rattle.protox_lexeme.proofs.Lemmas.{cut_none}
 use Rattle.protox_lex.specs.Parts.{EndsAt, IsPart, end_of}
 use Rattle.protox_lex.specs.TableView.{finished, shapes_of_lent}
 

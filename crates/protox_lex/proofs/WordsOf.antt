@@ -5,7 +5,7 @@ use Rattle.std.proofs.lemmas.List.{drop_at}
 use Rattle.std.specs.List.{prefix_len, list_all}
 use Rattle.protox_lexeme.specs.Pattern.{Pattern, one, many, ◌⋅◌, ◌∣◌, maybe, Fits}
 use Rattle.protox_lex.specs.Words.{IsWordOf}
-use Rattle.protox_lexeme.proofs.Fitting.{first_passes}
+use Rattle.protox_lexeme.proofs.Lemmas.{first_passes}
 
 nothing : (n : ℕ) → take {A = ℕ} n [] ≡ []
 nothing zero = refl

@@ -24,7 +24,7 @@ use crate::lex::*;
 use std::alloc::Global;
 
 /// Each text can be cut into lexemes in one way only, and `cut` gives this cut.
-#[tactic(auto, using(protox_lexeme::proofs::Cut::cut_is_cut, protox_lexeme::proofs::Cut::only_cut))]
+#[tactic(auto, using(protox_lexeme::proofs::Lemmas::cut_is_cut, protox_lexeme::proofs::Lemmas::only_cut))]
 pub fn one_cut()
     ensures is { (source : List ℕ) → spec.IsCut 0 source (spec.cut 0 source) }
     ensures only { (source : List ℕ) (lexemes : List spec.Lexeme) → spec.IsCut 0 source lexemes → lexemes ≡ spec.cut 0 source }
@@ -38,13 +38,13 @@ pub fn fits_is_word()
 {}
 
 /// The rows of a source stand in it, each after the one before, and each has at least one byte.
-#[tactic(auto, using(protox_lexeme::proofs::Places::stand))]
+#[tactic(auto, using(protox_lexeme::proofs::Lemmas::stand))]
 pub fn rows_stand_in_source()
     ensures { (source : List ℕ) → IsUtf8 source → StandBetween 0 (length source) (rows_of (spec.cut 0 source)) }
 {}
 
 /// Each fault in the table of a source lies in the source.
-#[tactic(auto, using(protox_lexeme::proofs::Places::lie))]
+#[tactic(auto, using(protox_lexeme::proofs::Lemmas::lie))]
 pub fn faults_lie_in_source()
     ensures { (source : List ℕ) → IsUtf8 source → All (All (LiesIn (length source))) (faults_of (spec.cut 0 source)) }
 {}

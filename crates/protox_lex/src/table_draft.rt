@@ -226,7 +226,7 @@ impl<'a> TableDraft<'a> {
     // ends. Frequent kinds are handled in the loop that calls this. All others are called, so that
     // the loop stays short.
     #[inline(always)]
-    #[tactic(auto, using(protox_lexeme::proofs::Boundaries::scan_boundary, protox_lexeme::proofs::Boundaries::scan_mark, protox_lexeme::proofs::Boundaries::scan_quote, protox_lexeme::proofs::Boundaries::scan_line, protox_lexeme::proofs::Boundaries::scan_block), unfolding(protox_lexeme::specs::Lexemes::first_lexeme))]
+    #[tactic(auto, using(protox_lexeme::proofs::Lemmas::scan_boundary, protox_lexeme::proofs::Lemmas::scanned_mark, protox_lexeme::proofs::Lemmas::scanned_quote, protox_lexeme::proofs::Lemmas::scan_line, protox_lexeme::proofs::Lemmas::scan_block), unfolding(protox_lexeme::specs::Lexemes::first_lexeme))]
     fn read(&mut self, alloc: Global, text: &'a str, start: usize) -> Result<usize, AllocError>
         requires some { 0 < length text.now }
         requires fits { start + length text.now < 2 ^ 64 }

@@ -158,17 +158,3 @@ module _ (start mark blanks : ℕ) (text value content : List ℕ) (borrowed : B
         let size : start + mark + 2 + blanks ≡ start + (e.at + 2 + prefix_len is_blank (drop (e.at + 2) text)) = omega arith in
         let content_same : content ≡ content_to (faults_to start (marks_of text) (Some e)) text (Some e) = inside ∙ content_is faults mark text e here ∙ ap (λ fs. content_to fs text (Some e)) same in
         rw (size, text_is, one_line, content_same, same) refl
-
-no_content : (start : ℕ) (text : List ℕ) (fs : List ParseErrorKind)
-    → comment_of start (start + length text) (comment_text []) (is_one_line []) fs ≡ comment_of start (start + length text) (comment_text (content_to fs text None)) (is_one_line (content_to fs text None)) fs
-no_content start text [] = refl
-no_content start text (f ∷ fs) = refl
-
--- The lexeme without an end.
-pub found_none : (start : ℕ) (text value : List ℕ) (borrowed : Bool) (faults : List ParseErrorKind) → None ≡ option_map (λ e. e.at) (ending (marks_of text))
-    → faults ≡ faults_to start (marks_of text) (ending (marks_of text)) → value ≡ comment_text [] → borrowed ≡ is_one_line []
-    → comment_of start (start + length text) value borrowed faults ≡ block_comment start text
-found_none start text value borrowed faults place same text_is one_line = go (ending (marks_of text)) place same where
-  go : (end : Option Ending) → None ≡ option_map (λ e. e.at) end → faults ≡ faults_to start (marks_of text) end → comment_of start (start + length text) value borrowed faults ≡ comment_to start text end
-  go (Some e) place same = absurd (cc)
-  go None place same = rw (text_is, one_line, same) (no_content start text (faults_to start (marks_of text) None))

@@ -182,8 +182,8 @@ char_boundary text rest next c n u same parts size =
     let b = IsCharBoundary-past_char text next 0 c (omega arith) u (sym same ∙ parts) in
     subst P (zero-add (len_utf8 c) ∙ sym size) b
 
-pub scan_mark : (text : List ℕ) (kind : Kind) (n : ℕ) → scan text ≡ Some (kind, n) → kind ≡ Mark → is_mark (first text) ≡ true
-scan_mark text kind n e mark =
+pub scanned_mark : (text : List ℕ) (kind : Kind) (n : ℕ) → scan text ≡ Some (kind, n) → kind ≡ Mark → is_mark (first text) ≡ true
+scanned_mark text kind n e mark =
     let P : Option (Kind × ℕ) → Type 0 = λ r. MatchOption r ((k : Kind) (m : ℕ) → Fits (pattern k) text m → ⊥) (λ p. IsLongest pattern p.0 text p.1) in
     let Q : Kind → Type 0 = λ k. Fits (pattern k) text n in
     let fits : Fits (pattern kind) text n = (subst P e (scan_longest text)).fits in
@@ -213,8 +213,8 @@ last_boundary text start stop u moves within ascii =
           subst P back (IsCharBoundary-end text)
     ]
 
-pub scan_quote : (text : List ℕ) (kind : Kind) (n : ℕ) → scan text ≡ Some (kind, n) → kind ≡ String → is_quote (first text) ≡ true
-scan_quote text kind n e quote =
+pub scanned_quote : (text : List ℕ) (kind : Kind) (n : ℕ) → scan text ≡ Some (kind, n) → kind ≡ String → is_quote (first text) ≡ true
+scanned_quote text kind n e quote =
     let P : Option (Kind × ℕ) → Type 0 = λ r. MatchOption r ((k : Kind) (m : ℕ) → Fits (pattern k) text m → ⊥) (λ p. IsLongest pattern p.0 text p.1) in
     let Q : Kind → Type 0 = λ k. Fits (pattern k) text n in
     let fits : Fits (pattern kind) text n = (subst P e (scan_longest text)).fits in

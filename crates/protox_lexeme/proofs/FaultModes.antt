@@ -51,10 +51,6 @@ bare_kind LineComment at text n e = absurd (cc)
 bare_kind BlockComment at text n e = absurd (cc)
 bare_kind Newline at text n e = absurd (cc)
 
--- An invalid character has no other fault.
-pub invalid-alone : (source : List ℕ) → Each (λ x. x.shape ≡ Invalid → x.faults ≡ []) (cut 0 source)
-invalid-alone source = each_of_cut IsBare (by_kind IsBare bare_kind (λ start stop e. refl)) source
-
 -- ---- the kinds of faults
 
 -- A fault that a lexeme has by itself.
@@ -118,10 +114,6 @@ kind_own Newline at text n = tt
 abbrev HasOwn : Lexeme → Type 0
 HasOwn x = Each IsOwnKind x.faults
 
--- Each fault of a lexeme is of one of these kinds.
-pub own-kinds : (source : List ℕ) → Each (λ x. Each IsOwnKind x.faults) (cut 0 source)
-own-kinds source = each_of_cut HasOwn (by_kind HasOwn kind_own (λ start stop. tt)) source
-
 own_row : (x : Lexeme) (f : ParseErrorKind) → IsOwnKind f → IsRowKind x f
 own_row x (InvalidToken span) h = absurd h
 own_row x _ h = h
@@ -177,10 +169,6 @@ row_alike_by _ span fs bare h = subst IsAlike (sym (append-nil fs)) h
 
 row_alike : (at : ℕ) (text : List ℕ) (x : Lexeme) → IsLexeme at text x → IsAlike (row_faults x)
 row_alike at text x h = row_alike_by x.shape (span_from x.start x.stop) x.faults (by_kind IsBare bare_kind (λ start stop e. refl) at text x h) (by_kind IsAlikeOwn kind_alike (λ start stop. inl refl) at text x h)
-
--- Such a fault is the only one of its lexeme.
-pub alike-in-mode : (source : List ℕ) → Each (λ x. IsAlike (row_faults x)) (cut 0 source)
-alike-in-mode source = let P : Lexeme → Type 0 = λ x. IsAlike (row_faults x) in each_of_cut P row_alike source
 
 alike_first : (fs : List ParseErrorKind) → IsAlike fs → (b : Bool) (f : ParseErrorKind) (rest : List ParseErrorKind) → faults_in b fs ≡ f ∷ rest → (more : List ParseErrorKind) × (fs ≡ f ∷ more)
 alike_first fs h false f rest e = (rest, e)

@@ -22,3 +22,4 @@ pub mod FaultOrder
 pub mod FaultsOnce
 pub mod TableOrder
 pub mod Keywords
+pub mod Lemmas

@@ -34,11 +34,6 @@ pub finished_run : (start at : ℕ) (old new : Reading) (bytes : List ℕ) (ps :
 finished_run start at old new bytes ps some_bytes value borrowed bad faults =
     rw (value, borrowed, bad, faults, longer old.value bytes some_bytes, add_assoc, append_assoc old.value bytes (spec.value_of ps), append_assoc old.faults (spec.closed old.bad at) (spec.faults_of None (at + length bytes) ps), and_assoc) refl
 
-pub finished_wrong : (start at : ℕ) (old new : Reading) (is_escape : Bool) (n : ℕ) (ps : List spec.Piece)
-    → new.value ≡ old.value → new.borrowed ≡ old.borrowed → new.bad ≡ spec.opened old.bad is_escape at → new.faults ≡ old.faults
-    → finished start new (at + n) ps ≡ finished start old at (spec.wrong is_escape n ∷ ps)
-finished_wrong start at old new is_escape n ps value borrowed bad faults = rw (value, borrowed, bad, faults, add_assoc) refl
-
 -- Each piece has at least one byte.
 
 byte_some : (v n : ℕ) → 1 ≤ n → 1 ≤ spec.piece_len (spec.byte_piece v n)
@@ -108,11 +103,6 @@ piece_some quote text l =
         ]
       ]
     ]
-
--- what follows a piece
-abbrev pub following : ℕ → ℕ → List ℕ → List spec.Piece
-following count quote text =
-    let p = spec.piece quote text in if spec.is_last p then [] else spec.pieces_from count quote (drop (spec.piece_len p) text)
 
 pieces_same : (n m quote : ℕ) (text : List ℕ) → length text ≤ n → length text ≤ m → spec.pieces_from n quote text ≡ spec.pieces_from m quote text
 unfolding spec.pieces_from

@@ -12,9 +12,6 @@ use Rattle.protox_lexeme.proofs.Fitting.{first_passes, passes_first, some_bounds
 pub digits_begin : (text : List ℕ) (n : ℕ) → Fits digits text n → is_ascii_digit (first text) ≡ true
 digits_begin text n f = first_passes is_ascii_digit text (let b = some_bounds is_ascii_digit text n f in omega arith)
 
-pub sign_not_digit : (b : ℕ) → is_sign b ≡ true → is_ascii_digit b ≡ false
-sign_not_digit b h = grind (arith, nat_tests)
-
 abbrev signed : Pattern
 signed = maybe (one is_sign) ⋅ digits
 
@@ -76,10 +73,6 @@ unfolding suffix_len
 suffix_bounds text n (inl none) = (omega arith, λ h. absurd (omega arith))
 suffix_bounds text n (inr (is_one, starts)) =
     let f = first_passes is_f text starts in (rw f (omega arith), λ _. f)
-
-pub suffix_is : (text : List ℕ) → is_f (first text) ≡ true → suffix_len text ≡ 1
-unfolding suffix_len
-suffix_is text f = rw f
 
 f_not_e : (b : ℕ) → is_f b ≡ true → is_e b ≡ false
 f_not_e b h = grind (arith, nat_tests)

@@ -137,7 +137,7 @@ pub fn read_kind(
 }
 
 /// Reads the lexeme at the front of the text.
-#[tactic(auto, using(crate::proofs::Boundaries::scan_boundary, crate::proofs::Boundaries::scan_mark, crate::proofs::Boundaries::scan_quote, crate::proofs::Boundaries::scan_line, crate::proofs::Boundaries::scan_block), unfolding(crate::specs::Lexemes::first_lexeme))]
+#[tactic(auto, using(crate::proofs::Boundaries::scan_boundary, crate::proofs::Boundaries::scanned_mark, crate::proofs::Boundaries::scanned_quote, crate::proofs::Boundaries::scan_line, crate::proofs::Boundaries::scan_block), unfolding(crate::specs::Lexemes::first_lexeme))]
 pub(crate) fn read_lexeme(
     alloc: Global,
     text: &str,

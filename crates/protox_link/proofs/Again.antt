@@ -22,17 +22,17 @@ use Rattle.protox_link.proofs.Standing.{same_text}
 use Rattle.protox_link.specs.Files.{AreLinked, linked_in}
 use Rattle.protox_link.specs.Laws.{KnownAgain, LinkedAgain}
 use Rattle.protox_link.specs.Seen.{IsSeenBy, packages_of}
-use Rattle.protox_linked.proofs.Twice.{file_twice}
+use Rattle.protox_linked.proofs.Lemmas.{file_twice}
 use Rattle.protox_linked.specs.Linked.{linked_field, linked_file, linked_message, linked_method, linked_name, linked_service}
 use Rattle.protox_linked.specs.Linked as linked
 use Rattle.protox_linked.specs.declared.target.Target.{Target}
-use Rattle.protox_name_tree.proofs.FullNames.{all_at, found_name}
+use Rattle.protox_name_tree.proofs.Lemmas.{all_at, found_name}
 use Rattle.protox_name_tree.specs.Tree.{can_stand, dotted, kind_at, name_at, number_of, with_name}
 use Rattle.protox_names.specs.Names.{within}
 use Rattle.protox_scopes.specs.Scopes.{resolve}
 use Rattle.protox_scopes.specs.declared.kind.Kind.{Kind}
 use Rattle.protox_scopes.specs.declared.kind.Wanted.{Wanted}
-use Rattle.protox_symbols.proofs.Inside.{inside, message_declares}
+use Rattle.protox_symbols.proofs.Lemmas.{inside, message_declares}
 use Rattle.protox_symbols.specs.Symbols.{Table}
 use Rattle.protox_symbols.specs.Things.{Entry, entries, entries_from, entry_of, file_entries, no_things, package_entries, table_of, with_entry}
 use Rattle.protox_views.specs.FilesOf.{AreFilesOf}

@@ -11,8 +11,7 @@ use Rattle.std.proofs.lemmas.Slice.Eq.{bytes_eq-Decides}
 use Rattle.std.proofs.lemmas.Iterator.Adapters.{position_from-zero}
 use Rattle.protox_descriptor.specs.declared.descriptor.FileDescriptorProto.{FileDescriptorProto}
 use Rattle.protox_descriptor.specs.declared.tag.file.TheConstants.{DEPENDENCY}
-use Rattle.protox_imports.proofs.ByName.{rows_among, rows_within}
-use Rattle.protox_imports.proofs.Elements.{get_append_left}
+use Rattle.protox_imports.proofs.Lemmas.{get_append_left, rows_among, rows_within}
 use Rattle.protox_imports.specs.Names.{is_named, number_of as number_of_file}
 use Rattle.protox_imports.specs.Rows.{ImportsIn, PassesOnIn, named_at, named_of, public_of, row_by, rows_of}
 use Rattle.protox_imports.specs.Sees.{Passes, Sees}
@@ -29,10 +28,11 @@ use Rattle.protox_link_checks.specs.Imports.{import_faults, import_faults_from, 
 use Rattle.protox_link_checks.specs.Uses.{faults_at}
 use Rattle.protox_linked.specs.Linked.{linked_file}
 use Rattle.protox_linked.specs.declared.target.Target.{Target}
-use Rattle.protox_name_tree.proofs.FullNames.{all_at, contains_at, found_known, found_name, found_some, known_name, no_empty_name}
+use Rattle.protox_name_tree.proofs.Lemmas.{all_at, contains_at, found_known, found_name, found_some}
+use Rattle.protox_name_tree.proofs.Lemmas.{known_name, no_empty_name}
 use Rattle.protox_name_tree.specs.Tree.{AreTreeNames, Names, dotted, kind_at, name_at, number_of, place_of_name}
 use Rattle.protox_names.specs.Names.{scopes, within}
-use Rattle.protox_scopes.proofs.Renumbered.{numbers_dont_matter}
+use Rattle.protox_scopes.proofs.Lemmas.{numbers_dont_matter}
 use Rattle.protox_scopes.specs.Scopes.{resolve}
 use Rattle.protox_scopes.specs.declared.kind.Kind.{Kind}
 use Rattle.protox_scopes.specs.declared.kind.Kind.TheVariants as kind

@@ -32,23 +32,22 @@ use Rattle.protox_link_checks.specs.Numbers.{implementation_faults}
 use Rattle.protox_link_checks.specs.Uses.{default_faults, enum_itself, faults_at, message_faults, type_faults, wrong_message, wrong_type}
 use Rattle.protox_link_fault.specs.declared.LinkFault.{LinkFault}
 use Rattle.protox_link_fault.specs.declared.LinkFaultKind.TheVariants.{NotAType}
-use Rattle.protox_linked.proofs.Nesting.{message-linked, name_of_message}
+use Rattle.protox_linked.proofs.Lemmas.{message-linked, name_of_message}
 use Rattle.protox_linked.specs.Linked.{linked_field, linked_file, linked_message, linked_method, linked_name, linked_service, type_of_kind}
 use Rattle.protox_linked.specs.Linked as linked
 use Rattle.protox_linked.specs.declared.target.Target.{Target}
-use Rattle.protox_name_tree.proofs.FullNames.{found_known}
+use Rattle.protox_name_tree.proofs.Lemmas.{found_known}
 use Rattle.protox_name_tree.specs.Tree.{kind_at, number_of}
 use Rattle.protox_names.specs.Names.{is_absolute, is_one_part, scopes, within}
-use Rattle.protox_scopes.proofs.Meaning.{meaning_of_found}
-use Rattle.protox_scopes.proofs.TreeSearch.{by_user}
+use Rattle.protox_scopes.proofs.Lemmas.{by_user, meaning_of_found}
 use Rattle.protox_scopes.specs.Scopes.{first_end, is_type, resolve, step}
 use Rattle.protox_scopes.specs.StandsFor.{AtTop, FullName, InScope, StandsFor}
 use Rattle.protox_scopes.specs.declared.kind.Kind.{Kind}
 use Rattle.protox_scopes.specs.declared.kind.Kind.TheVariants as kind
 use Rattle.protox_scopes.specs.declared.kind.Wanted.{Wanted}
 use Rattle.protox_scopes.specs.declared.kind.Wanted.TheVariants.{AType, Anything}
-use Rattle.protox_symbols.proofs.Inside.{enums_at, extensions_at, fields_at, inside, message_declares, messages_at, oneofs_at}
-use Rattle.protox_symbols.proofs.Standing.{full_is_within}
+use Rattle.protox_symbols.proofs.Lemmas.{enums_at, extensions_at, fields_at, full_is_within, inside}
+use Rattle.protox_symbols.proofs.Lemmas.{message_declares, messages_at, oneofs_at}
 use Rattle.protox_symbols.specs.Symbols.{Table}
 use Rattle.protox_symbols.specs.Things.{table_of}
 use Rattle.protox_symbols.specs.declared.thing.Thing.{Thing}

@@ -1,5 +1,5 @@
 -- One file of a list after another.
-use Rattle.std.proofs.Common.{◌≡◌, ◌<◌, ◌≤◌, ◌+◌, ℕ, Bool, List, Option, [], ◌∷◌, ◌++◌, add-one, append-nil, append_assoc, arith, drop, get_or, length, take, OnOk, Result, refl, sym, ap, subst, ◌∙◌}
+use Rattle.std.proofs.Common.{◌≡◌, ◌<◌, ◌≤◌, ◌+◌, ℕ, Bool, List, Option, [], ◌∷◌, ◌++◌, add-one, append-nil, append_assoc, arith, drop, get_or, length, take, OnOk, Result, sym, ap, subst, ◌∙◌}
 use Rattle.std.proofs.Math.ListN.{set}
 use Rattle.std.proofs.Math.Seq.{take-suc-set}
 use Rattle.std.proofs.lemmas.Grind.{drop_more_same}
@@ -71,14 +71,6 @@ module _ (all : List FileDescriptorProto) where
     pub left : drop n files ≡ drop n all
     pub told : (rest : List LinkFault) → AreFaults all n (drop n all) rest → AreFaults all 0 all (faults ++ rest)
     pub linked : faults ≡ [] → (more : List FileDescriptorProto) → AreLinked all n (drop n all) more → AreLinked all 0 all (take n files ++ more)
-
-  pub none_done : AreDoneTo 0 all []
-  none_done = record {
-    as_many = refl;
-    left = refl;
-    told = λ rest h. h;
-    linked = λ none more h. h;
-  }
 
   pub one_done : (n : ℕ) (files : List FileDescriptorProto) (file made : FileDescriptorProto) (before after : List LinkFault) → n < length files → file ≡ get_or files n file
       → AreDoneTo n files before → IsDone all n file made before after → AreDoneTo (n + 1) (set files n made) after

@@ -10,10 +10,11 @@ use Rattle.std.proofs.lemmas.List.Elements.{All-append, All-cons, All-head, All-
 use Rattle.std.proofs.lemmas.List.Sums.{fold-append}
 use Rattle.std.proofs.lemmas.Option.{slice_get-get_or}
 use Rattle.protox_descriptor.specs.declared.descriptor.FileDescriptorProto.{FileDescriptorProto}
-use Rattle.protox_name_tree.proofs.FullNames.{all_contained, contains_at, found_name, no_empty_name}
-use Rattle.protox_name_tree.proofs.Growing.{tree_pushed}
+use Rattle.protox_name_tree.proofs.Lemmas.{all_contained, contains_at, found_name, no_empty_name}
+use Rattle.protox_name_tree.proofs.Lemmas.{tree_pushed}
 use Rattle.protox_name_tree.specs.Tree.{AreTreeNames, Names, can_stand, has_innermost, number_of, own_name, place_of_name}
-use Rattle.protox_names.proofs.Joining.{identifiers_are_one_part, parts_of_joined, parts_within, scopes_at_dot}
+use Rattle.protox_names.proofs.Lemmas.{identifiers_are_one_part, parts_of_joined, parts_within}
+use Rattle.protox_names.proofs.Lemmas.{scopes_at_dot}
 use Rattle.protox_names.specs.Names.{is_dot, is_identifier, is_one_part, parts, scopes}
 use Rattle.protox_scopes.specs.declared.kind.Kind.{Kind}
 use Rattle.protox_symbols.specs.Symbols.{Table}

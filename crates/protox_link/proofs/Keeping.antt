@@ -4,7 +4,7 @@ use Rattle.protox_descriptor.specs.declared.descriptor.FileDescriptorProto.{File
 use Rattle.protox_link.proofs.Seeing.{split_linked}
 use Rattle.protox_link.specs.Files.{AreLinked}
 use Rattle.protox_link.specs.Link.{AreKept}
-use Rattle.protox_linked.proofs.Keeping.{file_is_kept}
+use Rattle.protox_linked.proofs.Lemmas.{file_is_kept}
 use Rattle.protox_linked.specs.Kept.{file_kept}
 use Rattle.protox_symbols.specs.Things.{table_of}
 use Rattle.protox_views.specs.Views.{meaning}

@@ -16,3 +16,4 @@ pub mod WrongImports
 pub mod WrongNames
 pub mod WrongTold
 pub mod WrongListed
+pub mod Lemmas

@@ -3,7 +3,7 @@ use Rattle.std.proofs.Common.{◌≡◌, inl, inr, Bool, true, false, cond, List
 use Rattle.std.specs.Prelude.{All, filter}
 use Rattle.std.proofs.lemmas.Bool.{false≢true}
 use Rattle.std.proofs.lemmas.List.Elements.{All-cons, All-head, All-nil, All-tail}
-use Rattle.protox_ast.proofs.Membership.{Among}
+use Rattle.protox_ast.proofs.Lemmas.{Among}
 
 module _ {X : Type 0} (p : X → Bool) where
   all_pass : (P : X → Type 0) (b : Bool) (x : X) (kept : List X) → p x ≡ b → P x → All (λ x. P x × (p x ≡ true)) kept → All (λ x. P x × (p x ≡ true)) (cond b (x ∷ kept) kept)

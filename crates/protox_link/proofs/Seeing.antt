@@ -8,7 +8,7 @@ use Rattle.std.proofs.lemmas.Option.{get_or_from_slice_get, slice_get-get_or}
 use Rattle.protox_descriptor.specs.declared.descriptor.FileDescriptorProto.{FileDescriptorProto}
 use Rattle.protox_descriptor.specs.declared.tag.field.TheConstants as field_tag
 use Rattle.protox_descriptor.specs.declared.tag.method.TheConstants as method_tag
-use Rattle.protox_imports.proofs.NamesAgree.{ordered_has_no_cycle}
+use Rattle.protox_imports.proofs.Lemmas.{ordered_has_no_cycle}
 use Rattle.protox_imports.specs.Imports.{Imports}
 use Rattle.protox_imports.specs.Order.{IsInOrder}
 use Rattle.protox_imports.specs.Rows.{named_of, rows_of}
@@ -30,7 +30,7 @@ use Rattle.protox_link_fault.specs.declared.LinkFailure.TheVariants.{OutOfMemory
 use Rattle.protox_link_fault.specs.declared.LinkFault.{LinkFault}
 use Rattle.protox_linked.specs.Linked.{linked_file}
 use Rattle.protox_linked.specs.declared.target.Target.{Target}
-use Rattle.protox_name_tree.proofs.FullNames.{found_known}
+use Rattle.protox_name_tree.proofs.Lemmas.{found_known}
 use Rattle.protox_name_tree.specs.Tree.{kind_at, number_of}
 use Rattle.protox_names.specs.Names.{within}
 use Rattle.protox_scopes.specs.Scopes.{resolve}

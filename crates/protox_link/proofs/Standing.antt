@@ -27,16 +27,16 @@ use Rattle.protox_link_checks.specs.Uses as uses
 use Rattle.protox_link_checks.specs.Uses.{fault_at, faults_at}
 use Rattle.protox_link_fault.specs.declared.LinkFault.{LinkFault}
 use Rattle.protox_link_fault.specs.declared.LinkFaultKind.TheVariants.{AlreadyDefined}
-use Rattle.protox_linked.proofs.Nesting.{message-stands}
+use Rattle.protox_linked.proofs.Lemmas.{message-stands}
 use Rattle.protox_linked.specs.Linked.{file_stands, message_stands, service_stands}
 use Rattle.protox_linked.specs.Linked as linked
-use Rattle.protox_name_tree.proofs.FullNames.{found_name}
+use Rattle.protox_name_tree.proofs.Lemmas.{found_name}
 use Rattle.protox_name_tree.specs.Tree.{has_innermost, name_at, name_in, number_of}
-use Rattle.protox_names.proofs.Joining.{identifiers_are_one_part, scopes_of_one_part, scopes_within}
+use Rattle.protox_names.proofs.Lemmas.{identifiers_are_one_part, scopes_of_one_part, scopes_within}
 use Rattle.protox_names.specs.Names.{is_identifier, is_one_part, scopes, within}
 use Rattle.protox_names.specs.Tree.{name_of_place}
-use Rattle.protox_symbols.proofs.Inside.{enums_at, extensions_at, fields_at, inside, message_declares, messages_at, oneofs_at}
-use Rattle.protox_symbols.proofs.Standing.{full_is_within}
+use Rattle.protox_symbols.proofs.Lemmas.{enums_at, extensions_at, fields_at, full_is_within, inside}
+use Rattle.protox_symbols.proofs.Lemmas.{message_declares, messages_at, oneofs_at}
 use Rattle.protox_symbols.specs.Symbols.{Table}
 use Rattle.protox_symbols.specs.declared.thing.Thing.{Thing}
 use Rattle.protox_views.specs.Views.{stands}

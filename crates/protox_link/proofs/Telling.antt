@@ -4,7 +4,7 @@ use Rattle.std.specs.Prelude.{All, Contains}
 use Rattle.std.specs.List.{flat_map}
 use Rattle.std.proofs.lemmas.List.Elements.{All-append, All-cons, All-head, All-nil, All-tail}
 use Rattle.std.proofs.lemmas.Option.{same_Some}
-use Rattle.protox_ast.proofs.Membership.{Among, among-flat, somewhere-at}
+use Rattle.protox_ast.proofs.Lemmas.{Among, among-flat, somewhere-at}
 use Rattle.protox_descriptor.specs.declared.descriptor.FileDescriptorProto.{FileDescriptorProto}
 use Rattle.protox_link.specs.Stands.{LeadsInto}
 use Rattle.protox_link_fault.specs.declared.LinkFault.{LinkFault}

@@ -8,7 +8,7 @@ use Rattle.std.proofs.lemmas.Iterator.Adapters.{position_from-zero}
 use Rattle.std.proofs.lemmas.List.Elements.{All-append, All-nil, All-weaker}
 use Rattle.std.proofs.lemmas.List.Quantifiers.{position-Some}
 use Rattle.std.proofs.lemmas.Option.{get_or_from_slice_get, same_Some, slice_get-get_or}
-use Rattle.protox_ast.proofs.Membership.{Among, among-left, among-right}
+use Rattle.protox_ast.proofs.Lemmas.{Among, among-left, among-right}
 use Rattle.protox_link.proofs.Telling.{one}
 use Rattle.protox_link.specs.Wrong.{MeetsEarlier, MeetsFirst}
 use Rattle.protox_numbers.specs.Clashes.{clash_of, clashes_from, with_earlier, with_first}

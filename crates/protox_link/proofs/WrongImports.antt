@@ -9,11 +9,10 @@ use Rattle.std.proofs.lemmas.Iterator.Adapters.{position_from-zero}
 use Rattle.std.proofs.lemmas.List.Elements.{All-append, All-cons, All-map, All-nil, All-weaker}
 use Rattle.std.proofs.lemmas.Option.{same_Some}
 use Rattle.std.proofs.lemmas.Slice.Eq.{bytes_eq-Decides}
-use Rattle.protox_ast.proofs.Membership.{Among, among-left, among-right}
+use Rattle.protox_ast.proofs.Lemmas.{Among, among-left, among-right}
 use Rattle.protox_descriptor.specs.declared.descriptor.FileDescriptorProto.{FileDescriptorProto}
 use Rattle.protox_descriptor.specs.declared.tag.file.TheConstants.{DEPENDENCY}
-use Rattle.protox_imports.proofs.ByName.{first_found}
-use Rattle.protox_imports.proofs.Elements.{get_map, map_at}
+use Rattle.protox_imports.proofs.Lemmas.{first_found, get_map, map_at}
 use Rattle.protox_imports.specs.Imports.{name_at}
 use Rattle.protox_imports.specs.Names.{is_named, number_of}
 use Rattle.protox_imports.specs.Rows.{named_of, row_by, rows_of}

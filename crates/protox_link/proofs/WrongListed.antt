@@ -9,7 +9,7 @@ use Rattle.std.specs.List.{flat_map}
 use Rattle.std.proofs.lemmas.Option.{same_Some}
 use Rattle.protox_alike.specs.Alike.{fields_alike, is_of_two, values_alike}
 use Rattle.protox_alike.specs.Keys.{key_of_field, key_of_value}
-use Rattle.protox_ast.proofs.Membership.{Among, among-from, among-left, among-right, contains-from}
+use Rattle.protox_ast.proofs.Lemmas.{Among, among-from, among-left, among-right, contains-from}
 use Rattle.protox_descriptor.specs.declared.descriptor.DescriptorProto.{DescriptorProto, out-DescriptorProto}
 use Rattle.protox_descriptor.specs.declared.descriptor.EnumDescriptorProto.{EnumDescriptorProto}
 use Rattle.protox_descriptor.specs.declared.descriptor.EnumValueDescriptorProto.{EnumValueDescriptorProto}

@@ -6,7 +6,7 @@ use Rattle.std.proofs.lemmas.List.{append_assoc, append-nil}
 use Rattle.std.proofs.lemmas.List.Elements.{All-append, All-cons, All-nil}
 use Rattle.std.proofs.lemmas.Option.{same_Some}
 use Rattle.std.proofs.lemmas.Slice.Eq.{bytes_eq-Decides}
-use Rattle.protox_ast.proofs.Membership.{Among, among-from, among-left, among-right, contains-from}
+use Rattle.protox_ast.proofs.Lemmas.{Among, among-from, among-left, among-right, contains-from}
 use Rattle.protox_link.proofs.Standing.{true_or_false}
 use Rattle.protox_link_checks.specs.Reserved.{again_fault, again_faults, is_among, reserved_fault, reserved_faults}
 use Rattle.protox_link_fault.specs.declared.LinkFault.{LinkFault}

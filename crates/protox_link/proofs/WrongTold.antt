@@ -12,7 +12,7 @@ use Rattle.std.proofs.lemmas.List.{append_assoc}
 use Rattle.std.proofs.lemmas.List.Elements.{All-append, All-contains, All-contains_itself, All-map, All-nil, All-weaker}
 use Rattle.protox_alike.specs.Alike.{fields_alike, is_of_two, values_alike}
 use Rattle.protox_alike.specs.Keys.{key_of_field, key_of_value}
-use Rattle.protox_ast.proofs.Membership.{Among, contains-from}
+use Rattle.protox_ast.proofs.Lemmas.{Among, contains-from}
 use Rattle.protox_descriptor.specs.FieldDescriptorProto.{FieldDescriptorProto}
 use Rattle.protox_descriptor.specs.declared.descriptor.DescriptorProto.{DescriptorProto, out-DescriptorProto}
 use Rattle.protox_descriptor.specs.declared.descriptor.EnumDescriptorProto.{EnumDescriptorProto}

@@ -3,3 +3,4 @@ pub mod Keeping
 pub mod Refusing
 pub mod Sets
 pub mod Sources
+pub mod Lemmas

@@ -1,7 +1,7 @@
 -- Files that can be linked are not refused.
 use Rattle.std.proofs.Common.{ℕ, List, [], Result, Ok, Err, IfErr, inl, inr, subst}
-use Rattle.protox_imports.proofs.NamesAgree.{ordered_has_no_cycle}
-use Rattle.protox_link.proofs.Seeing.{one_list}
+use Rattle.protox_imports.proofs.Lemmas.{ordered_has_no_cycle}
+use Rattle.protox_link.proofs.Lemmas.{one_list}
 use Rattle.protox_link.specs.Link.{AreOfFiles}
 use Rattle.protox_link_bytes.proofs.Sources as sources_of
 use Rattle.protox_link_bytes.specs.Given.{GivenFile}

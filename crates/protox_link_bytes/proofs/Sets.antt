@@ -5,7 +5,7 @@ use Rattle.std.proofs.lemmas.List.Folds.{list_all-append}
 use Rattle.std.specs.List.{list_all}
 use Rattle.std.specs.Prelude.{Option, Some, None, slice_get}
 use Rattle.protox_descriptor.specs.declared.descriptor.FileDescriptorProto.{FileDescriptorProto}
-use Rattle.protox_encode.proofs.OneKind.{sets_join}
+use Rattle.protox_encode.proofs.Lemmas.{sets_join}
 use Rattle.protox_encode.specs.Floats.{has_floats}
 use Rattle.protox_encode.specs.Messages.{file_set}
 use Rattle.protox_link_bytes.specs.Spelled.{bytes_of, file_at, in_order}

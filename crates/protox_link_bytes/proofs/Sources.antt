@@ -1,5 +1,5 @@
 -- One file more is parsed.
-use Rattle.std.proofs.Common.{◌≡◌, ◌<◌, ◌+◌, ℕ, List, [], ◌∷◌, ◌++◌, get_or, length, take, refl, ap, sym, subst, ◌∙◌}
+use Rattle.std.proofs.Common.{◌≡◌, ◌≢◌, ◌<◌, ◌+◌, ◌⊎◌, inl, inr, ℕ, List, [], ◌∷◌, ◌++◌, get_or, length, take, refl, ap, sym, subst, ◌∙◌}
 use Rattle.std.proofs.lemmas.List.{map-append, take_more}
 use Rattle.std.specs.Prelude.{All, MatchOption, ⊤, Option, Some, None}
 use Rattle.std.proofs.lemmas.Option.{slice_get_within}
@@ -10,18 +10,23 @@ use Rattle.protox_ast.specs.Places.{Place}
 use Rattle.protox_ast.specs.Tree as tree
 use Rattle.protox_descriptor.specs.declared.descriptor.FileDescriptorProto.{FileDescriptorProto}
 use Rattle.protox_descriptor.specs.declared.descriptor.SourceCodeInfo.{SourceCodeInfo}
+use Rattle.protox_fault.specs.declared.error.ParseErrorKind.{ParseErrorKind}
+use Rattle.protox_fault.specs.declared.error.ParseErrorKind.TheVariants.{FileTooLarge}
 use Rattle.protox_generate.specs.File.{AreSorted}
 use Rattle.protox_link.specs.Stands.{Stands}
 use Rattle.protox_link_fault.specs.declared.LinkFault.{LinkFault}
+use Rattle.protox_link.proofs.Lemmas.{none_of_second}
+use Rattle.protox_link_records.proofs.Lemmas.{more_than_none, some_bytes, some_of_some}
 use Rattle.protox_link_records.specs.LinkPlaces.{IsSorted}
 use Rattle.protox_link_records.specs.LinkRecords as records
 use Rattle.protox_link_records.specs.declared.source.SourceFile.{SourceFile}
 use Rattle.protox_places.specs.Order.{AreByPath}
+use Rattle.protox_records.specs.Records.{number, record_of}
 use Rattle.protox_link_bytes.specs.Given.{GivenFile, given, given_file, texts}
 use Rattle.protox_link_bytes.specs.Parsed.{AreFiles, AreParsed, AreSyntaxRecords, AreTranslations, HaveSyntaxFaults, IsRefusal, NoFile, RightFile, WrongFile}
-use Rattle.protox_link_records.specs.LinkRecords.{syntax_records}
-use Rattle.protox_parse.proofs.AnswerLaws.{one_translation}
-use Rattle.protox_parse.specs.Failures.{IsOutOfMemory, IsRefusalOf}
+use Rattle.protox_link_records.specs.LinkRecords.{syntax_record, syntax_records}
+use Rattle.protox_parse.proofs.Lemmas.{one_translation}
+use Rattle.protox_parse.specs.Failures.{IsOfSource, IsOutOfMemory, IsRefusalOf}
 use Rattle.protox_parse.specs.FaultLists.{AreAllFound, AreLexicalAlone, AreListedOf, AreStanding, ExpectsTruly, NoCheckIsLost}
 use Rattle.protox_parse.specs.Files.{IsFile, IsTranslation}
 use Rattle.protox_parse.specs.FirstFault.{BeginsWithFirst}
@@ -67,6 +72,25 @@ are_files [] (d ∷ files) h = absurd h
 are_files (s ∷ sources) [] h = absurd h
 are_files (s ∷ sources) (d ∷ files) h = All-cons (λ (file : GivenFile). IsFile file.source) s sources (is_file s.name s.source d h.0) (are_files sources files h.1)
 
+-- ---- records of a refusal
+
+too_large_is_one : (errors : List ParseErrorKind) → errors ≡ FileTooLarge ∷ [] → errors ≢ []
+too_large_is_one errors is = λ none. cc
+
+-- A refusal has a fault.
+some_errors : (source : List ℕ) (r : Refusal) → IsOfSource source r → r.errors ≢ []
+some_errors source r (inl fits) = fits.2
+some_errors source r (inr large) = too_large_is_one r.errors large.2
+
+-- The record of a fault begins with the number of its file.
+some_record : (file : ℕ) (source : List ℕ) (fault : ParseErrorKind) → syntax_record file source fault ≢ []
+some_record file source fault = more_than_none (number file) (record_of source fault) (some_bytes file)
+
+-- So a refusal has a record.
+some_syntax : (file : ℕ) (name source : List ℕ) (r : Refusal) → IsRefusal name source r → syntax_records file r.source r.errors ≢ []
+some_syntax file name source r is =
+    some_of_some (syntax_record file r.source) (some_record file r.source) r.errors (some_errors source r is.of_source.1)
+
 -- ---- one source more
 
 pub parsed-right : (before : List GivenFile) (files : List FileDescriptorProto) (source : GivenFile) (file : FileDescriptorProto) → AreParsed before files
@@ -84,6 +108,7 @@ faults-right before bytes source file h is =
     record {
       wrong = λ all. h.wrong (all_front (λ (it : GivenFile). IsFile it.source) before (source ∷ []) all);
       told = RightFile before bytes source h.told (is_file source.name source.source file is);
+      some = h.some;
     }
 
 refused-more : (before : List GivenFile) (bytes : List ℕ) (source : GivenFile) (refusal : Refusal) → AreSyntaxRecords before bytes
@@ -92,6 +117,8 @@ refused-more before bytes source refusal told is =
     record {
       wrong = λ all. is.wrong (all_last (λ (it : GivenFile). IsFile it.source) before source all);
       told = WrongFile before bytes source refusal told is;
+      some = λ none. some_syntax (length before) source.name source.source refusal is
+          (none_of_second bytes (syntax_records (length before) refusal.source refusal.errors) none);
     }
 
 pub refused : (before : List GivenFile) (bytes after : List ℕ) (number : ℕ) (source : GivenFile) (refusal : Refusal) → length before ≡ number

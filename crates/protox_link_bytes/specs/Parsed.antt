@@ -1,5 +1,5 @@
 -- What parsing makes of the files of a list.
-use Rattle.std.specs.Prelude.{⊤, ℕ, List, [], ◌∷◌, ◌++◌, All, length}
+use Rattle.std.specs.Prelude.{⊤, ℕ, List, [], ◌∷◌, ◌++◌, ◌≢◌, All, length}
 use Rattle.protox_ast.specs.Accepted.{IsAccepted}
 use Rattle.protox_ast.specs.Ast as ast_of
 use Rattle.protox_ast.specs.Places.{Place}
@@ -49,10 +49,11 @@ pub data AreSyntaxRecords : List GivenFile → List ℕ → Type 0 where
       → IsRefusal file.name file.source refusal
       → AreSyntaxRecords (sources ++ file ∷ []) (bytes ++ syntax_records (length sources) refusal.source refusal.errors)
 
--- Some source is no file, and the bytes are the records of all faults of syntax.
+-- Some source is no file, and the bytes are the records of all faults of syntax. There is one at least.
 pub record HaveSyntaxFaults (sources : List GivenFile) (bytes : List ℕ) : Type 0 where
   pub wrong : AreFiles sources → ⊥
   pub told : AreSyntaxRecords sources bytes
+  pub some : bytes ≢ []
 
 -- All sources are files, of which these are the descriptors. The locations of each are sorted by path.
 pub record AreParsed (sources : List GivenFile) (files : List FileDescriptorProto) : Type 0 where

@@ -10,8 +10,8 @@ use Rattle.protox_link_checks.specs.Checked.{IsChecked, MayUse}
 use Rattle.protox_link_checks.specs.Faults.{declared_faults, faults_named}
 use Rattle.protox_link_fault.specs.declared.LinkFault.{LinkFault}
 use Rattle.protox_names.specs.Names.{within}
-use Rattle.protox_symbols.proofs.Inside.{enums_at, extensions_at, fields_at, inside, message_declares, messages_at, oneofs_at}
-use Rattle.protox_symbols.proofs.Standing.{full_is_within}
+use Rattle.protox_symbols.proofs.Lemmas.{enums_at, extensions_at, fields_at, full_is_within, inside}
+use Rattle.protox_symbols.proofs.Lemmas.{message_declares, messages_at, oneofs_at}
 use Rattle.protox_symbols.specs.Scopes.{scope_name}
 use Rattle.protox_symbols.specs.Symbols.{Table}
 use Rattle.protox_walk.specs.Declarations.{Path, all_in, declared, enum_at, field_at, file_declarations, full_name, message_at, service_at, siblings_at, text_of}

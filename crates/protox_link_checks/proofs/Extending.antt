@@ -9,7 +9,7 @@ use Rattle.protox_link_checks.specs.Extensions.{extension_in, message_named, num
 use Rattle.protox_link_checks.specs.declared.extensions.Extension.{Extension}
 use Rattle.protox_name_tree.specs.Tree.{name_in, number_of}
 use Rattle.protox_names.specs.Names.{is_identifier}
-use Rattle.protox_symbols.proofs.Standing.{no_inner_scope}
+use Rattle.protox_symbols.proofs.Lemmas.{no_inner_scope}
 use Rattle.protox_symbols.specs.Scopes.{IsFoundScope, IsMissing}
 use Rattle.protox_symbols.specs.Symbols.{Table}
 use Rattle.protox_walk.specs.Declarations.{Path, full_name, text_of}

@@ -16,7 +16,8 @@ use Rattle.protox_descriptor.specs.declared.tag.message.TheConstants as message_
 use Rattle.protox_descriptor.specs.declared.tag.service.TheConstants as service_tag
 use Rattle.protox_link_checks.specs.Extensions.{extension_of, extensions_of}
 use Rattle.protox_link_checks.specs.declared.extensions.Extension.{Extension}
-use Rattle.protox_symbols.proofs.Inside.{enums_at, extensions_at, fields_at, message_declares, messages_at, oneofs_at}
+use Rattle.protox_symbols.proofs.Lemmas.{enums_at, extensions_at, fields_at, message_declares}
+use Rattle.protox_symbols.proofs.Lemmas.{messages_at, oneofs_at}
 use Rattle.protox_symbols.specs.Symbols.{Table}
 use Rattle.protox_walk.specs.Declarations.{Path, all_in, enum_at, field_at, full_name, message_at, method_at, numbered, oneof_at, service_at, siblings_at, text_of, value_at}
 use Rattle.protox_walk.specs.Parts.{Declared}

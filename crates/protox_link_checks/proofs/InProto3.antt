@@ -19,7 +19,8 @@ use Rattle.protox_descriptor.specs.declared.tag.service.TheConstants as service_
 use Rattle.protox_link_checks.proofs.Folding.{then_checked}
 use Rattle.protox_link_checks.specs.Proto3.{enum_in_proto3, faults_of_proto3, message_in_proto3}
 use Rattle.protox_link_fault.specs.declared.LinkFault.{LinkFault}
-use Rattle.protox_symbols.proofs.Inside.{enums_at, extensions_at, fields_at, inside, message_declares, messages_at, oneofs_at}
+use Rattle.protox_symbols.proofs.Lemmas.{enums_at, extensions_at, fields_at, inside, message_declares}
+use Rattle.protox_symbols.proofs.Lemmas.{messages_at, oneofs_at}
 use Rattle.protox_walk.specs.Declarations.{Path, all_in, enum_at, field_at, file_declarations, full_name, message_at, method_at, numbered, oneof_at, service_at, siblings_at, text_of, value_at}
 use Rattle.protox_walk.specs.Parts.{Declared}
 

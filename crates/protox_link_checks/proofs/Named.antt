@@ -7,13 +7,12 @@ use Rattle.protox_descriptor.specs.declared.tag.message.TheConstants.{NAME}
 use Rattle.protox_link_checks.specs.Checked.{MayUse}
 use Rattle.protox_link_checks.specs.Faults.{bad_name, clash_faults, faults_named, is_declared_at}
 use Rattle.protox_link_checks.specs.Uses.{fault_at}
-use Rattle.protox_name_tree.proofs.FullNames.{known_name, known_some}
+use Rattle.protox_name_tree.proofs.Lemmas.{known_name, known_some}
 use Rattle.protox_name_tree.specs.Tree.{IsNameTree, has_innermost, name_at, name_in, number_of}
-use Rattle.protox_names.proofs.Joining.{identifiers_are_one_part, scopes_of_one_part, scopes_within}
+use Rattle.protox_names.proofs.Lemmas.{identifiers_are_one_part, scopes_of_one_part, scopes_within}
 use Rattle.protox_names.specs.Names.{is_identifier, scopes, within}
-use Rattle.protox_symbols.proofs.Found.{no_scope_in, no_scope_of, with_number}
-use Rattle.protox_symbols.proofs.Growing.{IsKept}
-use Rattle.protox_symbols.proofs.Standing.{full_is_within, no_inner_scope}
+use Rattle.protox_symbols.proofs.Lemmas.{IsKept, full_is_within, no_inner_scope, no_scope_in}
+use Rattle.protox_symbols.proofs.Lemmas.{no_scope_of, with_number}
 use Rattle.protox_symbols.specs.Scopes.{IsFoundScope, IsMissing, IsScopeOf, scope_name}
 use Rattle.protox_symbols.specs.Symbols.{Table}
 use Rattle.protox_walk.specs.Declarations.{Path, full_name, text_of}

@@ -11,14 +11,13 @@ use Rattle.protox_link_checks.specs.Imports.{if_found, if_no_package, no_package
 use Rattle.protox_link_checks.specs.Uses.{fault_at, faults_at}
 use Rattle.protox_link_fault.specs.declared.LinkFault.{LinkFault}
 use Rattle.protox_link_fault.specs.declared.LinkFaultKind.TheVariants.{NotAPackage}
-use Rattle.protox_name_tree.proofs.FullNames.{all_at, known_name, no_empty_name}
-use Rattle.protox_name_tree.proofs.Outwards.{name_of_found}
+use Rattle.protox_name_tree.proofs.Lemmas.{all_at, known_name, name_of_found, no_empty_name}
 use Rattle.protox_name_tree.specs.Tree.{IsKnown, IsNameTree, kind_at, name_at, number_of}
 use Rattle.protox_names.specs.Names.{scopes}
 use Rattle.protox_scopes.specs.Scopes.{IsOuter}
 use Rattle.protox_scopes.specs.declared.kind.Kind.{Kind}
 use Rattle.protox_symbols.specs.Symbols.{Table}
-use Rattle.protox_views.proofs.Ways.{is_below, past_name}
+use Rattle.protox_views.proofs.Lemmas.{is_below, past_name}
 
 -- the scope of what is in the table is in the table
 pub outer_known : (t : Table) (tree : IsNameTree t.names) (q : ℕ) (outer : Option ℕ) → q < length t.names.full_names → IsOuter (name_at t.names) q outer → IsKnown t.names.full_names outer

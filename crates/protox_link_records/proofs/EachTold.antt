@@ -7,7 +7,7 @@ use Rattle.protox_descriptor.specs.declared.tag.enum_value.TheConstants as value
 use Rattle.protox_descriptor.specs.declared.tag.field.TheConstants as field_tag
 use Rattle.protox_descriptor.specs.declared.tag.file.TheConstants as file_tag
 use Rattle.protox_descriptor.specs.declared.tag.message.TheConstants as message_tag
-use Rattle.protox_link.proofs.Paths.{cycle_stands}
+use Rattle.protox_link.proofs.Lemmas.{cycle_stands}
 use Rattle.protox_link.specs.Link.{IsOfCircle, NamesCircle}
 use Rattle.protox_link.specs.Wrong.{BeginsOtherwise, Clashes, Clashing, DefaultIsNoValue, DefaultIsNoWord, EnumReservesAgain, FieldIsReserved, FieldsAreAlike, HasBadName, HasExtensions, HasNameOfOther, HasNoName, HasNoNumber, HasNoNumbers, HasNoValue, IsBackward, IsInNoRange, IsNoPackage, IsNotOfOptions, IsNotThere, IsReused, IsTaken, IsTooDeep, IsTooLong, MessageHasDefault, MessageReservesAgain, NamesItAgain, NamesNoFile, OfExtension, OfExtensions, OfExtensionsReserved, OfExtensionsTwice, OfImport, OfName, OfNumber, OfPackage, OfProto3, OfReserved, OfReservedName, OfReservedTwice, OfReused, OfUse, OfValues, OfValuesTwice, StandsForNoMessage, StandsForNoType, StandsForNothing, ValueIsReserved, ValuesAreAlike, WrongExtension, WrongImport, WrongInProto3, WrongLink, WrongName, WrongNumber, WrongPackage, WrongReserved, WrongUse}
 use Rattle.protox_link_fault.specs.declared.LinkFault.{LinkFault}

@@ -18,8 +18,9 @@ use Rattle.protox_descriptor.specs.declared.tag.service.TheConstants as service_
 use Rattle.protox_link_text.specs.Places.{Holder, OfEnum, OfFile, OfMessage, Place, into_enum, into_message, place_from, step}
 use Rattle.protox_link_text.specs.Places as places
 use Rattle.protox_names.specs.Names.{within}
-use Rattle.protox_symbols.proofs.Inside.{enums_at, extensions_at, fields_at, inside, message_declares, messages_at, oneofs_at}
-use Rattle.protox_walk.proofs.Levels.{size-nested}
+use Rattle.protox_symbols.proofs.Lemmas.{enums_at, extensions_at, fields_at, inside, message_declares}
+use Rattle.protox_symbols.proofs.Lemmas.{messages_at, oneofs_at}
+use Rattle.protox_walk.proofs.Lemmas.{size-nested}
 use Rattle.protox_walk.specs.Declarations.{At, Path, all_in, enum_at, field_at, file_declarations, full_name, message_at, method_at, nth, numbered, oneof_at, service_at, siblings_at, text_of, value_at}
 use Rattle.protox_walk.specs.Parts.{Declared, Described, Enum, Field, Message, Method, Oneof, Service, Value}
 

@@ -5,3 +5,4 @@ pub mod Telling
 pub mod Leading
 pub mod EachTold
 pub mod SomeRecords
+pub mod Lemmas

@@ -9,9 +9,3 @@ pub nearest-none : (path : List ℤ) (locations : List Location) (m n : ℕ) →
 nearest-none path locations m n e none =
     subst (λ (k : ℕ). first_at (take k path) locations ≡ None → nearest path k locations ≡ nearest path n locations) (sym e)
     (λ h. ap (λ (found : Option Location). elim found as (λ _. Option Location) [ None ↦ nearest path n locations | Some location ↦ Some location ]) h) none
-
-pub nearest-some : (path : List ℤ) (locations : List Location) (m n : ℕ) (location : Location) → m ≡ suc n → first_at (take m path) locations ≡ Some location
-    → nearest path m locations ≡ Some location
-nearest-some path locations m n location e some =
-    subst (λ (k : ℕ). first_at (take k path) locations ≡ Some location → nearest path k locations ≡ Some location) (sym e)
-    (λ h. ap (λ (found : Option Location). elim found as (λ _. Option Location) [ None ↦ nearest path n locations | Some it ↦ Some it ]) h) some

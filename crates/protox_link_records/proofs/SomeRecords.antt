@@ -4,8 +4,7 @@ use Rattle.std.specs.List.{flat_map}
 use Rattle.std.specs.Prelude.{Contains}
 use Rattle.std.proofs.lemmas.List.Elements.{All-cons, All-contains, All-nil, Contains-push}
 use Rattle.protox_descriptor.specs.declared.descriptor.FileDescriptorProto.{FileDescriptorProto}
-use Rattle.protox_link.proofs.Standing.{none_of_first, none_of_second}
-use Rattle.protox_link.proofs.WrongTold.{told_is_wrong}
+use Rattle.protox_link.proofs.Lemmas.{none_of_first, none_of_second, told_is_wrong}
 use Rattle.protox_link.specs.Link.{AreOfFiles, IsOfCircle}
 use Rattle.protox_link.specs.Wrong.{WrongLink}
 use Rattle.protox_link_fault.specs.declared.LinkFault.{LinkFault}
@@ -18,14 +17,14 @@ use Rattle.protox_link_records.specs.declared.places.Place.{Place}
 use Rattle.protox_records.specs.Records.{number}
 use Rattle.protox_symbols.specs.Things.{table_of}
 
-some_bytes : (n : ℕ) → number n ≢ []
+pub some_bytes : (n : ℕ) → number n ≢ []
 unfolding number
 some_bytes n = λ none. cc
 
-more_than_none : {X : Type 0} (xs ys : List X) → xs ≢ [] → xs ++ ys ≢ []
+pub more_than_none : {X : Type 0} (xs ys : List X) → xs ≢ [] → xs ++ ys ≢ []
 more_than_none xs ys some = λ none. some (none_of_first xs ys none)
 
-some_of_some : {A B : Type 0} (f : A → List B) → ((x : A) → f x ≢ []) → (xs : List A) → xs ≢ [] → flat_map f xs ≢ []
+pub some_of_some : {A B : Type 0} (f : A → List B) → ((x : A) → f x ≢ []) → (xs : List A) → xs ≢ [] → flat_map f xs ≢ []
 some_of_some f each [] some = λ none. some refl
 some_of_some f each (x ∷ xs) some = more_than_none (f x) (flat_map f xs) (each x)
 

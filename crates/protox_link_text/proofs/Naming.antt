@@ -4,9 +4,9 @@ use Rattle.std.proofs.lemmas.Bool.{true≢false}
 use Rattle.std.proofs.Math.Seq.{drop-append-add}
 use Rattle.protox_link_text.specs.Told.{defined_in}
 use Rattle.protox_link_text.specs.declared.error.LinkError.TheVariants.{AlreadyDefined, AlreadyDefinedIn}
-use Rattle.protox_name_tree.proofs.Standing.{IsCutAtLast}
+use Rattle.protox_name_tree.proofs.Lemmas.{IsCutAtLast}
 use Rattle.protox_name_tree.specs.Tree.{dotted}
-use Rattle.protox_names.proofs.Joining.{scopes_at_dot}
+use Rattle.protox_names.proofs.Lemmas.{scopes_at_dot}
 use Rattle.protox_names.specs.Names.{is_absolute, scopes}
 
 -- only the empty name has no dot in front

@@ -1,3 +1,4 @@
 pub mod Nesting
 pub mod Keeping
 pub mod Twice
+pub mod Lemmas

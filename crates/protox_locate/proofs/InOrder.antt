@@ -8,7 +8,7 @@ use Rattle.std.proofs.lemmas.Cmp.{tied_itself, int_cmp_total}
 use Rattle.protox_fault.specs.Faults.{Span}
 use Rattle.protox_ast.specs.Basics.{Each}
 use Rattle.protox_ast.specs.Siblings.{FileStands, SiblingsStand}
-use Rattle.protox_ast.proofs.Siblings.{StartsRise, starts-rise}
+use Rattle.protox_ast.proofs.Lemmas.{StartsRise, starts-rise}
 use Rattle.protox_ast.specs.declared.ast.File.{File}
 use Rattle.protox_descriptor.specs.declared.descriptor.source_code_info.Location.{Location}
 use Rattle.protox_places.specs.Lines.{newlines, behind_last, line, column, span_numbers}

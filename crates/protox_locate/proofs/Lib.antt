@@ -6,3 +6,4 @@ pub mod Numbered
 pub mod Order
 pub mod OrderLaw
 pub mod Rows
+pub mod Lemmas

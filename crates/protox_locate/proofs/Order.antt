@@ -9,7 +9,7 @@ use Rattle.std.proofs.lemmas.Int.{ints}
 use Rattle.protox_ast.specs.Basics.{Each}
 use Rattle.protox_descriptor.specs.declared.descriptor.source_code_info.Location.{Location}
 use Rattle.protox_locate.specs.LocationWords.{Path, Part, nth, numbered}
-use Rattle.protox_places.proofs.SortedPaths.{each_so}
+use Rattle.protox_places.proofs.Lemmas.{each_so}
 use Rattle.protox_places.specs.Order.{ComesBefore, Ahead, by_path, by_start, InOrder}
 
 pub each_both : {A : Type 0} (P : A → Type 0) (xs ys : List A) → Each P xs → Each P ys → Each P (xs ++ ys)

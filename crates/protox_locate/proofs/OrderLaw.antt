@@ -33,7 +33,7 @@ use Rattle.protox_descriptor.specs.declared.descriptor.source_code_info.Location
 use Rattle.protox_locate.specs.FieldLocations.{OfField, OfKind, Normal, Group, Map, defaulted, extended, from_number, group_locations, itself, json_named, label_locations, labelled, type_tag_of, typed, brought}
 use Rattle.protox_locate.specs.LocationWords.{Path, Part, part, each_at, numbered, siblings_at, commented, bare, option_list, option_statements, range_statements, name_statements, extensions_statements}
 use Rattle.protox_locate.specs.Locations.{OfExtend, OfItem, OfOneof, file_at, file_from_blocks, from_blocks, import_locations, item_blocks, item_enums, item_extensions, item_messages, item_services, location_steps, package_locations, public_words, weak_words, syntax_locations}
-use Rattle.protox_ast.proofs.Keeps.{Keeps, Pairs, message_has, extend_has}
+use Rattle.protox_ast.proofs.Lemmas.{Keeps, Pairs, extend_has, message_has}
 use Rattle.protox_locate.proofs.Order.{Run, Good, each_both, none, joined, leaf, statements, and_siblings, all_at, node}
 use Rattle.protox_locate.proofs.Rows.{RiseBy, Standing, AllStood, stood_both, commented_stood, at_one, one, commented_good, bare_good, list_row, options_row, ranges_row, names_row, extensions_row, each_flat, each_map, skip, rises, each_stands, enum_good, service_good, json_at}
 

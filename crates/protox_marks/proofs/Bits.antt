@@ -120,9 +120,6 @@ both_marked words old more count number both = elim (leb_tells count number) [
 
 -- ---- no bit for other numbers
 
-pub none_set : (size number : ℕ) → is_set (replicate size 0) number ≡ false
-none_set size number = ap (λ word. bit_at word (number % 64) == 1) (alike size (number / 64) 0) ∙ ap (λ bit. bit == 1) (bit_at-zero (number % 64))
-
 pub neither_set : (words old more : List ℕ) (number : ℕ) → ((index : ℕ) → slice_index_or words index 0 ≡ bit_or (slice_index_or old index 0) (slice_index_or more index 0)) → is_set old number ≡ false → is_set more number ≡ false → is_set words number ≡ false
 neither_set words old more number both one other =
     let bit = number % 64 in

@@ -171,10 +171,3 @@ module _ (fields : List Field) (given : List ℕ) (i : ℕ) (out : List ℕ) (be
   } where
     split : drop (i - 1) fields ≡ f ∷ drop (suc (i - 1)) fields
     split = drop-cons fields (i - 1) f below ∙ ap (λ g. g ∷ drop (suc (i - 1)) fields) (sym is)
-
-written_all : (fields : List Field) → written false fields ≡ flat_map field_bytes fields
-written_all [] = refl
-written_all (f ∷ more) = refl
-
-pub all_put : (fields : List Field) (given out : List ℕ) (behind : ℕ) → Progress fields given 0 out behind → out ≡ flat_map field_bytes (joined fields) ++ given
-all_put fields given out behind done = done.put.bytes_are ∙ ap (λ o. o ++ given) (written_all (joined fields))

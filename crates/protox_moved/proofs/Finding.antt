@@ -1,12 +1,11 @@
 -- The first move that begins at a path, in moves that are sorted by where they begin.
 use Rattle.std.proofs.Common.{◌≡◌, ℕ, zero, suc, ◌<◌, ◌≤◌, Bool, true, false, cond, List, [], ◌∷◌, length, get_or, slice_get, Option, Some, None, refl, sym, ap, ◌∙◌, arith, inl, inr}
 use Rattle.std.specs.Prelude.{ℤ, ◌||◌, if◌then◌else◌}
-use denote.Ref.{Bor}
 use Rattle.std.specs.Cmp.Lexicographic.{pointwise}
 use Rattle.std.specs.Cmp.Rules.{signed_items}
 use Rattle.std.specs.List.{AllWithin, filter, find, list_any}
 use Rattle.std.specs.List.Sorted.{IsPartitionedBy, IsSortedBy, IsStableBy, ties}
-use Rattle.std.specs.Option.{is_some, option_copied, option_map, unwrap_or}
+use Rattle.std.specs.Option.{is_some, option_map, unwrap_or}
 use Rattle.std.specs.Ordering.{int_eq}
 use Rattle.std.proofs.lemmas.Bool.{cases_Bool, false≢true}
 use Rattle.protox_descriptor.specs.declared.descriptor.source_code_info.Location.{Location}
@@ -167,9 +166,3 @@ pub moved_none : (moves : List Move) (l : Location) → None ≡ find (begins l.
 moved_none moves l e =
     ap (λ o. record l { path = unwrap_or o l.path })
     (ap (option_map (λ (m : Move). m.to)) e ∙ sym (new_path_found moves l.path))
-
--- ---- references
-
-pub some_copied : (o : Option (Bor Move)) → is_some o ≡ is_some (option_copied o)
-some_copied None = refl
-some_copied (Some x) = refl

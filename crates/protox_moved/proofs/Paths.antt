@@ -9,7 +9,7 @@ use Rattle.std.specs.Ordering.{int_cmp, int_eq, is_gt, is_lt, ordering_reverse}
 use Rattle.std.proofs.lemmas.Bool.{false≢true}
 use Rattle.std.proofs.lemmas.Cmp.{int_cmp_total, lists_total}
 use Rattle.std.proofs.lemmas.List.Sorted.{ranks_by}
-use Rattle.protox_places.proofs.SortedPaths.{not-before-nor-behind}
+use Rattle.protox_places.proofs.Lemmas.{not-before-nor-behind}
 use Rattle.protox_moved.specs.inner.Sorting.{is_before}
 use Rattle.protox_moved.proofs.Ties.{self_tie, ties_parts}
 

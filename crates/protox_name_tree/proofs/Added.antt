@@ -9,7 +9,7 @@ use Rattle.protox_name_tree.specs.declared.nodes.Node.{Node}
 use Rattle.protox_name_tree.specs.Keys.{key_of, kinds_of, names_of}
 use Rattle.protox_name_tree.specs.Sound.{IsSound}
 use Rattle.protox_name_tree.specs.Tree.{IsKnown, Names, name_at_place, name_in, number_of, place_of_name, with_name}
-use Rattle.protox_names.proofs.Joining.{identifiers_are_one_part}
+use Rattle.protox_names.proofs.Lemmas.{identifiers_are_one_part}
 use Rattle.protox_name_tree.proofs.Children.{child_some}
 use Rattle.protox_name_tree.proofs.Growing.{names_kept, names_pushed, no_such_key, sound_kept, sound_pushed}
 use Rattle.protox_name_tree.proofs.Numbering.{slice_get-last}

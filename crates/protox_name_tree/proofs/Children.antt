@@ -4,7 +4,7 @@ use Rattle.std.specs.List.{slice_get}
 use Rattle.std.proofs.lemmas.Option.{same_Some, slice_get-get_or, slice_get_within}
 use Rattle.protox_names.specs.Names.{is_one_part, within}
 use Rattle.protox_names.specs.Tree.{name_of_place}
-use Rattle.protox_names.proofs.Joining.{full_names_differ, identifiers_are_one_part}
+use Rattle.protox_names.proofs.Lemmas.{full_names_differ, identifiers_are_one_part}
 use Rattle.protox_name_tree.specs.Sound.{IsSound}
 use Rattle.protox_name_tree.specs.Tree.{IsKnown, name_at_place, place_of_name}
 use Rattle.protox_name_tree.proofs.FullNames.{found_name, same_place}

@@ -10,7 +10,7 @@ use Rattle.std.proofs.lemmas.Option.{get_or_from_slice_get, slice_get-get_or, sl
 use Rattle.std.proofs.lemmas.Slice.Eq.{bytes_eq-Decides}
 use Rattle.protox_names.specs.Names.{is_identifier, is_one_part, parts, scopes, within}
 use Rattle.protox_names.specs.Tree.{IsPlace, IsTree, name_of_place}
-use Rattle.protox_names.proofs.Joining.{scopes_of_one_part, scopes_within}
+use Rattle.protox_names.proofs.Lemmas.{scopes_of_one_part, scopes_within}
 use Rattle.protox_name_tree.specs.Tree.{AreTreeNames, IsKnown, name_at_place, place_of_name}
 
 -- ---- elements

@@ -7,7 +7,8 @@ use Rattle.std.proofs.lemmas.List.Sums.{fold-append}
 use Rattle.std.proofs.lemmas.Option.{get_or_from_slice_get, none-some, same_Some, slice_get_within}
 use Rattle.protox_names.specs.Names.{is_identifier, is_one_part, parts, scopes, within}
 use Rattle.protox_names.specs.Tree.{name_of_place}
-use Rattle.protox_names.proofs.Joining.{identifiers_are_one_part, parts_of_joined, parts_within, scopes_of_one_part, scopes_within}
+use Rattle.protox_names.proofs.Lemmas.{identifiers_are_one_part, parts_of_joined, parts_within}
+use Rattle.protox_names.proofs.Lemmas.{scopes_of_one_part, scopes_within}
 use Rattle.protox_name_tree.specs.Keys.{name_of_key, names_of}
 use Rattle.protox_name_tree.specs.Sound.{IsNode, IsSound}
 use Rattle.protox_name_tree.specs.Tree.{AreTreeNames, IsKnown, name_at_place, place_of_name}

@@ -10,3 +10,4 @@ pub mod Missing
 pub mod Standing
 pub mod Parts
 pub mod Mixing
+pub mod Lemmas

@@ -5,7 +5,7 @@ use Rattle.std.proofs.lemmas.Bool.{false≢true}
 use Rattle.std.proofs.lemmas.List.{append_assoc, map-append}
 use Rattle.std.proofs.lemmas.List.Splits.{slice_split_none}
 use Rattle.protox_names.specs.Names.{is_dot, is_identifier, is_one_part, parts, scopes}
-use Rattle.protox_names.proofs.Joining.{no_dots, parts_within}
+use Rattle.protox_names.proofs.Lemmas.{no_dots, parts_within}
 use Rattle.protox_name_tree.specs.Tree.{AreTreeNames, Names, can_stand, has_innermost, number_of, own_name, place_of_name}
 use Rattle.protox_name_tree.proofs.FullNames.{all_at, all_contained, found_name, found_some, is_tree, scope_at_dot}
 use Rattle.protox_name_tree.proofs.Numbering.{none_if_never, slice_get-last}

@@ -1,8 +1,7 @@
 -- How texts are mixed to numbers, four bytes at a time.
-use Rattle.std.proofs.Common.{◌≡◌, ℕ, ◌+◌, ◌*◌, ◌^◌, ◌<◌, ◌≤◌, List, [], ◌∷◌, length, drop, refl, ap, ◌∙◌, sym, arith}
+use Rattle.std.proofs.Common.{◌≡◌, ℕ, ◌+◌, ◌*◌, ◌^◌, ◌<◌, ◌≤◌, List, [], ◌∷◌, length, drop, ap, ◌∙◌, sym, arith}
 use Rattle.std.proofs.lemmas.List.{drop_more}
 use Rattle.std.proofs.lemmas.Nat.{mul-le}
-use Rattle.std.specs.List.{fold}
 use Rattle.std.specs.Prelude.{slice_index}
 use Rattle.protox_name_tree.specs.Slots.{mixed, mixed_on, word}
 
@@ -24,14 +23,6 @@ pub words_mixed : (bytes : List ℕ) (at so_far : ℕ) → at + 4 ≤ length byt
     → mixed_on (mixed so_far (word (slice_index bytes at) (slice_index bytes (at + 1)) (slice_index bytes (at + 2)) (slice_index bytes (at + 3)))) (drop (at + 4) bytes)
     ≡ mixed_on so_far (drop at bytes)
 words_mixed bytes at so_far fits = sym (ap (mixed_on so_far) (four_left bytes at fits))
-
--- Fewer than four bytes are mixed one by one.
-pub few_mixed : (so_far : ℕ) (left : List ℕ) → length left < 4 → mixed_on so_far left ≡ fold mixed so_far left
-few_mixed so_far [] few = refl
-few_mixed so_far (a ∷ []) few = refl
-few_mixed so_far (a ∷ b ∷ []) few = refl
-few_mixed so_far (a ∷ b ∷ c ∷ []) few = refl
-few_mixed so_far (a ∷ b ∷ c ∷ d ∷ more) few = absurd (omega arith)
 
 -- The product of two numbers of 32 bits has 64 bits.
 pub product_fits : (x count : ℕ) → x < 4294967296 → count ≤ 4294967295 → x * count < 2 ^ 64

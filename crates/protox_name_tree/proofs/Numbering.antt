@@ -42,13 +42,6 @@ module _ {X : Type 0} where
 -- ---- keys in windows
 
 module _ {K : Type 0} (mixed : K → ℕ) (slots : List (Option ℕ)) (elsewhere : K → Option ℕ) (inside keys : List K) (key : K) (index : IsIndexed mixed slots elsewhere inside) (is : inside ≡ keys) where
-  -- what a search says that found a number in the window
-  pub says_found : (number : ℕ) → slice_get inside number ≡ Some key → (n : ℕ) → (Some number ≡ Some n → slice_get keys n ≡ Some key) × (slice_get keys n ≡ Some key → Some number ≡ Some n)
-  says_found number at n = (
-    λ h. sym (ap (λ l. slice_get l n) is) ∙ ap (slice_get inside) (sym (same_Some number n h)) ∙ at,
-    λ h. ap (λ m. Some m) (index.once number n key at (ap (λ l. slice_get l n) is ∙ h)),
-  )
-
   -- what one says that found none there
   pub says_elsewhere : (found : Option ℕ) → ((n : ℕ) → IsInWindow slots (mixed key) n → slice_get inside n ≡ Some key → ⊥) → found ≡ elsewhere key → (n : ℕ) → (found ≡ Some n → slice_get keys n ≡ Some key) × (slice_get keys n ≡ Some key → found ≡ Some n)
   says_elsewhere found none by n = (

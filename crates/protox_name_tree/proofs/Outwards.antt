@@ -7,7 +7,7 @@ use Rattle.std.proofs.lemmas.Bool.Decides.{Decides-eqb}
 use Rattle.std.proofs.lemmas.List.{length-map}
 use Rattle.std.proofs.lemmas.Option.{get_or_from_slice_get, none-some, slice_get-map, slice_get_cases, slice_get_past, unwrap_or-slice_get}
 use Rattle.protox_names.specs.Names.{scopes, within}
-use Rattle.protox_names.proofs.Joining.{identifiers_are_one_part}
+use Rattle.protox_names.proofs.Lemmas.{identifiers_are_one_part}
 use Rattle.protox_scopes.specs.Scopes.{IsOuter}
 use Rattle.protox_scopes.specs.declared.kind.Kind.TheVariants.{Member}
 use Rattle.protox_name_tree.specs.declared.nodes.Node.{Node}

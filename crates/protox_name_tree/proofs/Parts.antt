@@ -1,12 +1,11 @@
 -- What a node stands in, and its own name; and full names from their parts.
-use Rattle.std.proofs.Common.{◌≡◌, ◌≢◌, ◌≤◌, ◌<◌, ℕ, true, List, [], ◌∷◌, ◌++◌, length, map, Option, Some, None, Bor, refl, sym, ap, subst, ◌∙◌, arith, append-nil, append_assoc, eqb, unwrap_or}
+use Rattle.std.proofs.Common.{◌≡◌, ◌≢◌, ◌≤◌, ◌<◌, ℕ, true, List, [], ◌∷◌, ◌++◌, map, Option, Some, None, Bor, refl, sym, ap, subst, ◌∙◌, append-nil, append_assoc, eqb}
 use Rattle.std.specs.List.{slice_get}
 use Rattle.std.specs.Option.{option_copied, option_eq, option_map}
 use Rattle.std.proofs.lemmas.Bool.{eqb-true, false≢true}
 use Rattle.std.proofs.lemmas.Bool.Decides.{Decides-eqb}
-use Rattle.std.proofs.lemmas.List.{length-append, length-map}
-use Rattle.std.proofs.lemmas.Option.{get_or_from_slice_get, none-some, same_Some, slice_get-map, slice_get_past, slice_get_within, unwrap_or-slice_get}
-use Rattle.protox_names.proofs.Joining.{full_names_differ, identifiers_are_one_part}
+use Rattle.std.proofs.lemmas.Option.{get_or_from_slice_get, none-some, same_Some, slice_get-map, slice_get_within}
+use Rattle.protox_names.proofs.Lemmas.{full_names_differ, identifiers_are_one_part}
 use Rattle.protox_names.specs.Names.{is_identifier, within}
 use Rattle.protox_names.specs.Tree.{name_of_place}
 use Rattle.protox_name_tree.specs.declared.nodes.Node.{Node}
@@ -14,7 +13,6 @@ use Rattle.protox_name_tree.specs.Keys.{key_of, kinds_of, names_of}
 use Rattle.protox_name_tree.specs.Sound.{IsNode, IsSound}
 use Rattle.protox_name_tree.specs.Tree.{AreTreeNames, IsPart, Names, dotted, name_at, name_at_place, name_in, number_of, outwards}
 use Rattle.protox_name_tree.proofs.FullNames.{known_name, same_place}
-use Rattle.protox_name_tree.proofs.Outwards.{past_if_none}
 
 module _ (texts : List (List ℕ)) (nodes : List Node) (sound : IsSound texts (map key_of nodes) (names_of texts (map key_of nodes))) (n : ℕ) where
   abbrev names : List (List ℕ)
@@ -22,10 +20,6 @@ module _ (texts : List (List ℕ)) (nodes : List Node) (sound : IsSound texts (m
 
   here : (node : Node) → slice_get nodes n ≡ Some node → IsNode texts names n (key_of node)
   here node at = sound.node n (key_of node) (slice_get-map key_of nodes n ∙ ap (option_map key_of) at)
-
-  -- a number that no node has
-  pub none_past : slice_get nodes n ≡ None → length names ≤ n
-  none_past none = omega (arith, past_if_none nodes n none, sound.as_many, length-map nodes key_of)
 
   -- the name of a node is among the texts
   pub has_text : {A : Type 0} (node : Node) (found : Option (Bor (List ℕ))) → slice_get nodes n ≡ Some node → option_copied found ≡ slice_get texts node.name → found ≡ None → A
@@ -60,15 +54,6 @@ pub outwards_push : (parts : List (List ℕ)) (own : List ℕ) → outwards (par
 outwards_push [] own = sym (append-nil (46 ∷ own))
 outwards_push (part ∷ parts) own = ap (λ front. front ++ 46 ∷ part) (outwards_push parts own) ∙ append_assoc (46 ∷ own) (outwards parts) (46 ∷ part)
 
-pub longer_within : (scope own : List ℕ) → own ≢ [] → length scope < length (within scope own)
-longer_within [] [] some = absurd (some refl)
-longer_within [] (byte ∷ own) some = omega arith
-longer_within (byte ∷ scope) own some = omega (arith, length-append (byte ∷ scope) (46 ∷ own))
-
--- an unknown number has the name of the top
-pub name_past : (tree : Names) (n : ℕ) → length tree.full_names ≤ n → name_at tree n ≡ []
-name_past tree n past = sym (unwrap_or-slice_get tree.full_names n []) ∙ ap (λ name. unwrap_or name []) (slice_get_past tree.full_names n past)
-
 -- one part further outwards
 pub one_part_more : (tree : Names) (n : ℕ) (place : Option ℕ) (own : List ℕ) (parts : List (List ℕ)) → IsPart tree n place own → dotted (name_at tree n) ++ outwards parts ≡ dotted (name_of_place (name_at tree) place) ++ outwards (parts ++ own ∷ [])
 one_part_more tree n place own parts part =
@@ -76,15 +61,6 @@ one_part_more tree n place own parts part =
     ∙ ap (λ front. front ++ outwards parts) (dotted_within (name_of_place (name_at tree) place) own (some_identifier own part.identifier))
     ∙ append_assoc (dotted (name_of_place (name_at tree) place)) (46 ∷ own) (outwards parts)
     ∙ ap (λ back. dotted (name_of_place (name_at tree) place) ++ back) (sym (outwards_push parts own))
-
-pub falls_outwards : (tree : Names) (n : ℕ) (place : Option ℕ) (own : List ℕ) → IsPart tree n place own → length (name_of_place (name_at tree) place) < length (name_at tree n)
-falls_outwards tree n place own part =
-    subst (λ name. length (name_of_place (name_at tree) place) < length name) (sym part.full_name)
-    (longer_within (name_of_place (name_at tree) place) own (some_identifier own part.identifier))
-
--- a part that can't be had, as nothing has the number
-pub no_part : (tree : Names) (n : ℕ) (parts : List (List ℕ)) → length tree.full_names ≤ n → dotted (name_at tree n) ++ outwards parts ≡ outwards parts
-no_part tree n parts past = ap (λ name. dotted name ++ outwards parts) (name_past tree n past)
 
 -- a dot and the outermost name that is left, behind what was written
 pub one_part_written : (made with_dot with_name whole : List ℕ) (parts rest : List (List ℕ)) (own : List ℕ) → parts ≡ rest ++ own ∷ [] → with_dot ≡ made ++ 46 ∷ [] → with_name ≡ with_dot ++ own → made ++ outwards parts ≡ whole → with_name ++ outwards rest ≡ whole

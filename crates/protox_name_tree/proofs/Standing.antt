@@ -6,8 +6,7 @@ use Rattle.std.proofs.lemmas.List.{append_assoc, take-append-drop}
 use Rattle.std.proofs.lemmas.Str.Pattern.{NoCharPasses-char, drop_at_char}
 use Rattle.std.proofs.Math.Seq.{drop-append-add}
 use Rattle.protox_names.specs.Names.{is_identifier, is_one_part, scopes, within}
-use Rattle.protox_names.proofs.Found.{one_part}
-use Rattle.protox_names.proofs.Joining.{scopes_at_dot, scopes_of_one_part}
+use Rattle.protox_names.proofs.Lemmas.{one_part, scopes_at_dot, scopes_of_one_part}
 use Rattle.protox_name_tree.specs.Tree.{AreTreeNames, IsKnown, Names, can_stand, has_innermost, name_at, name_in, number_of, own_name}
 use Rattle.protox_name_tree.proofs.FullNames.{found_known, known_name, known_some}
 use Rattle.protox_name_tree.proofs.Missing.{no_odd_end, no_odd_name, none_behind}

@@ -5,8 +5,7 @@ use Rattle.std.proofs.lemmas.List.{length-append}
 use Rattle.std.proofs.lemmas.List.Splits.{slice_split_at}
 use Rattle.protox_names.specs.Names.{is_dot, is_one_part, parts, within}
 use Rattle.protox_names.specs.Tree.{name_of_place, walk}
-use Rattle.protox_names.proofs.Joining.{no_dots}
-use Rattle.protox_names.proofs.Walking.{parts_find_full_names}
+use Rattle.protox_names.proofs.Lemmas.{no_dots, parts_find_full_names}
 use Rattle.protox_name_tree.specs.Tree.{AreTreeNames, IsKnown, name_at_place, place_of_name}
 use Rattle.protox_name_tree.proofs.FullNames.{is_place, is_tree}
 

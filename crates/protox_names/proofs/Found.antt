@@ -1,14 +1,14 @@
 -- Dots that are found in a name, or not.
-use Rattle.std.proofs.Common.{◌≡◌, ◌≢◌, ◌<◌, ◌≤◌, ◌+◌, ◌==◌, ℕ, Bool, true, false, not, List, [], ◌∷◌, ◌++◌, length, take, drop, get_or, Option, Some, None, MatchBool, MatchOption, Bor, lit<, refl, sym, ap, ◌∙◌, arith}
+use Rattle.std.proofs.Common.{◌≡◌, ◌≢◌, ◌<◌, ◌≤◌, ◌+◌, ◌==◌, ℕ, Bool, true, false, not, List, [], ◌∷◌, ◌++◌, length, take, drop, get_or, Option, Some, None, MatchOption, Bor, lit<, refl, sym, ap, ◌∙◌, arith}
 use Rattle.std.specs.List.{before_first, position_or_len}
-use Rattle.std.specs.Str.Pattern.{FindsChar, RFindsChar}
+use Rattle.std.specs.Str.Pattern.{RFindsChar}
 use Rattle.std.specs.Str.{NoCharPasses}
 use Rattle.std.proofs.lemmas.Bool.{true≢false}
 use Rattle.std.proofs.lemmas.Bool.Decides.{Decides-eqb}
 use Rattle.std.proofs.lemmas.List.{length-drop, take-append-drop, take_all}
 use Rattle.std.proofs.lemmas.List.Elements.{All-from_get_or}
-use Rattle.std.proofs.lemmas.List.Folds.{list_any_at, list_any_none}
-use Rattle.std.proofs.lemmas.Str.Pattern.{NoCharPasses-char, contains_char, drop_at_char}
+use Rattle.std.proofs.lemmas.List.Folds.{list_any_none}
+use Rattle.std.proofs.lemmas.Str.Pattern.{NoCharPasses-char, drop_at_char}
 use Rattle.protox_names.specs.Names.{is_dot, is_one_part, scopes}
 use Rattle.protox_names.proofs.Joining.{scopes_at_dot, scopes_of_one_part}
 
@@ -23,14 +23,6 @@ is_no_dot byte other = not_true (is_dot byte) (λ same. absurd (other ((Decides-
 pub one_part : (name : List ℕ) → ((i : ℕ) → i < length name → get_or name i 0 ≢ 46) → is_one_part name ≡ true
 one_part name other =
     ap not (list_any_none is_dot name (All-from_get_or (λ byte. is_dot byte ≡ false) name 0 (λ i below. is_no_dot (get_or name i 0) (other i below))))
-
--- what `contains` says
-pub contains_dot : (name : List ℕ) (r : Bool) → MatchBool r ((i : ℕ) × (j : ℕ) × FindsChar 46 name (Some (i, j)) × (i ≤ j) × (j ≤ length name)) (FindsChar 46 name None) → not r ≡ is_one_part name
-contains_dot name true found =
-    let at = (contains_char 46 name true found (lit< tt)).0 refl in
-    sym (ap not (list_any_at is_dot name at.0 0 at.1 (ap (λ byte. is_dot byte) at.2)))
-contains_dot name false found =
-    sym (one_part name (λ i below same. true≢false (sym ((contains_char 46 name false found (lit< tt)).1 i below same))))
 
 no_char : (name : List ℕ) → NoCharPasses (λ d. d == 46) name → is_one_part name ≡ true
 no_char name none = one_part name (λ i below. NoCharPasses-char 46 name i none (lit< tt) below)

@@ -4,3 +4,4 @@ pub mod Found
 pub mod Named
 pub mod Pieces
 pub mod Walking
+pub mod Lemmas

@@ -1,3 +1,4 @@
 pub mod Telling
 pub mod None
 pub mod Rising
+pub mod Lemmas

@@ -3,3 +3,4 @@ pub mod Reading
 pub mod Records
 pub mod Telling
 pub mod NoneTold
+pub mod Lemmas

@@ -3,14 +3,14 @@ use Rattle.std.proofs.Common.{◌≡◌, ℕ, ◌+◌, List, [], ◌∷◌, ◌+
 use Rattle.std.specs.Prelude.{All}
 use Rattle.std.proofs.lemmas.List.Elements.{All-head, All-tail}
 use Rattle.protox_descriptor.specs.declared.descriptor.FileDescriptorProto.{FileDescriptorProto}
-use Rattle.protox_file_options.proofs.OneOutcome.{IsRight, others_right}
+use Rattle.protox_file_options.proofs.Lemmas.{IsRight, others_right}
 use Rattle.protox_file_options.specs.Interpreted.{Taken}
 use Rattle.protox_file_options.specs.Outcomes.{Outcome, Sets, Wrong}
 use Rattle.protox_file_options.specs.declared.answer.InterpretedFile.{InterpretedFile}
 use Rattle.protox_file_options.specs.declared.answer.PlaceFault.{PlaceFault}
 use Rattle.protox_interpret.specs.declared.site.Interpreted.{Interpreted}
 use Rattle.protox_option_records.specs.OptionRecords.{AreReadFrom, AreRecordsAt, FileAt, IsFileRead, NoPlace, RightPlace, WrongPlace, file_at}
-use Rattle.protox_set_options.proofs.SameViews.{same_views}
+use Rattle.protox_set_options.proofs.Lemmas.{same_views}
 use Rattle.protox_set_options.specs.Read.{AreFrom, IsInterpretedIn}
 
 not_both : (outcome : Outcome) (set : Interpreted) (wrong : PlaceFault) → outcome ≡ Sets set → outcome ≡ Wrong wrong → ⊥

@@ -46,9 +46,6 @@ module _ (sources : List (List ℕ)) (files : List FileDescriptorProto) where
   Completes i answers bytes =
       (rest : List InterpretedFile) (more : List ℕ) → AreReadFrom sources files i (drop i files) rest more → AreRead sources files (answers ++ rest) (bytes ++ more)
 
-  pub none_read : Completes 0 [] []
-  none_read rest more behind = behind
-
   pub one_read : (i : ℕ) (file : FileDescriptorProto) (answers after : List InterpretedFile) (answer : InterpretedFile) (bytes told behind : List ℕ)
       → i < length files → file ≡ get_or files i file → IsFileRead sources files i file answer told → after ≡ answers ++ answer ∷ [] → behind ≡ bytes ++ told
       → Completes i answers bytes → Completes (i + 1) after behind

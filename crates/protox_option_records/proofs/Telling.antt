@@ -1,8 +1,7 @@
 -- What a teller tells at places one behind another.
 use Rattle.std.proofs.Common.{◌≡◌, ◌≢◌, ◌∙◌, ℕ, ◌+◌, List, [], ◌∷◌, ◌++◌, ap, append-nil, append_assoc, drop, map, refl, subst, sym, unsigned_abs}
 use Rattle.std.specs.List.{FoldsTo}
-use Rattle.protox_file_options.proofs.Each.{Each}
-use Rattle.protox_file_options.proofs.Paths.{Apart}
+use Rattle.protox_file_options.proofs.Lemmas.{Apart, Each}
 use Rattle.protox_file_options.specs.Interpreted.{Taken, faults_at, faults_of}
 use Rattle.protox_file_options.specs.Outcomes.{IsOutcome, Outcome, Sets, Wrong, names_of}
 use Rattle.protox_file_options.specs.Places.{Place, key_of}

@@ -11,13 +11,11 @@ use Rattle.protox_grammar.specs.Reader as reader
 use Rattle.protox_grammar.specs.Reader.{Reader, Refusal, Unexpected, Deep, ◌>>=◌, fixed, seq}
 use Rattle.protox_grammar.specs.Rules as r
 use Rattle.protox_grammar.specs.Token as token
-use Rattle.protox_grammar.proofs.Reading.{ok-err, err-ok}
-use Rattle.protox_grammar.proofs.Sets.{place-le, byte_place-le}
-use Rattle.protox_grammar.proofs.Takes.{ok_is}
+use Rattle.protox_grammar.proofs.Lemmas.{byte_place-le, err-ok, ok-err, ok_is, place-le}
 use Rattle.protox_rows.specs.Expected.{allowed}
 use Rattle.protox_rows.specs.declared.expected.Expected.TheVariants as expected
 use Rattle.protox_rows.specs.inner.Words.{always}
-use Rattle.protox_rows.proofs.Exact.{Exact, Took}
+use Rattle.protox_rows.proofs.Lemmas.{Exact, Took}
 
 -- The rows of an aggregate with its `}`, where this many braces are open.
 abbrev pub closed_at : ℕ → Reader Place (Rows Place × Place)

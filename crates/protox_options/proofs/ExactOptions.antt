@@ -15,16 +15,16 @@ use Rattle.protox_grammar.specs.Reader as reader
 use Rattle.protox_grammar.specs.Reader.{Refusal, ◌>>=◌, folded, fixed, mapped, seq}
 use Rattle.protox_grammar.specs.Rules as r
 use Rattle.protox_grammar.specs.Token as token
-use Rattle.protox_grammar.proofs.Shown.{push}
+use Rattle.protox_grammar.proofs.Lemmas.{push}
 use Rattle.protox_rows.specs.Expected.{named, allowed}
 use Rattle.protox_rows.specs.declared.expected.Expected.{Expected}
 use Rattle.protox_rows.specs.declared.expected.Expected.TheVariants as expected
 use Rattle.protox_rows.specs.inner.Words.{always, and_then}
-use Rattle.protox_rows.proofs.Exact.{Exact, mapped-exact, seq-exact, under}
-use Rattle.protox_rows.proofs.ExactForms.{choice-exact}
-use Rattle.protox_rows.proofs.ExactLists.{last_more}
-use Rattle.protox_rows.proofs.ExactNames.{dot-exact, float-exact, ident-exact, integer-exact, list-more, mark-exact, minus-exact, renamed-words, strings-exact, typename-exact, word-exact}
-use Rattle.protox_rows.proofs.ExactSequences.{begun_with, list-exact, list_more, option-exact, reread, reworded}
+use Rattle.protox_rows.proofs.Lemmas.{Exact, begun_with, choice-exact, dot-exact, float-exact}
+use Rattle.protox_rows.proofs.Lemmas.{ident-exact, integer-exact, last_more, list-exact, list-more}
+use Rattle.protox_rows.proofs.Lemmas.{list_more, mapped-exact, mark-exact, minus-exact}
+use Rattle.protox_rows.proofs.Lemmas.{option-exact, renamed-words, reread, reworded, seq-exact}
+use Rattle.protox_rows.proofs.Lemmas.{strings-exact, typename-exact, under, word-exact}
 use Rattle.protox_options.specs.inner.Options as rule
 use Rattle.protox_options.specs.inner.Words as said
 use Rattle.protox_options.specs.declared.values.Unsigned as unsigned_type

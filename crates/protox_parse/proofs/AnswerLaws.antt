@@ -4,7 +4,7 @@ use Rattle.protox_ast.specs.Ast as ast
 use Rattle.protox_ast.specs.Places.{Place}
 use Rattle.protox_ast.specs.Tree as t
 use Rattle.protox_ast.specs.declared.ast.File.{File}
-use Rattle.protox_checks.proofs.ListedFaults.{found-all, found-wrong}
+use Rattle.protox_checks.proofs.Lemmas.{found-all, found-wrong}
 use Rattle.protox_descriptor.specs.declared.descriptor.FileDescriptorProto.{FileDescriptorProto}
 use Rattle.protox_fault.specs.declared.error.ParseErrorKind.{ParseErrorKind}
 use Rattle.protox_generate.specs.File.{file_descriptor}
@@ -15,8 +15,8 @@ use Rattle.protox_parse.specs.FirstFault.{IsFirstOfSource}
 use Rattle.protox_parse.specs.Truth.{IsTrueOfSource}
 use Rattle.protox_parse.specs.declared.failure.ParseFailure.{ParseFailure}
 use Rattle.protox_parse.specs.declared.failure.ParseFailure.TheVariants.{Refused, OutOfMemory}
-use Rattle.protox_syntax.proofs.Accepts.{one-accepted}
-use Rattle.protox_syntax.proofs.FirstIsTrue as syntax
+use Rattle.protox_syntax.proofs.Lemmas.{one-accepted}
+use Rattle.protox_syntax.proofs.Lemmas as syntax
 
 pub one_translation : (name source : List ℕ) (d e : FileDescriptorProto) → IsTranslation name source d → IsTranslation name source e → d ≡ e
 one_translation name source d e a b =

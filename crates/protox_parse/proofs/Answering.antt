@@ -6,18 +6,15 @@ use Rattle.protox_ast.specs.declared.ast.File.{File}
 use Rattle.protox_checks.specs.Faults.{IsFaultless}
 use Rattle.protox_descriptor.specs.declared.descriptor.FileDescriptorProto.{FileDescriptorProto}
 use Rattle.protox_describe.specs.Oneofs.{HasRealFirst}
-use Rattle.protox_generate.proofs.CommentedOnce.{answer-commented}
-use Rattle.protox_generate.proofs.NamedFiles.{answer-named}
-use Rattle.protox_generate.proofs.PlacedFiles.{answer-placed}
-use Rattle.protox_generate.proofs.RealOneofs.{answer-first}
-use Rattle.protox_generate.proofs.Standing.{file-stands}
+use Rattle.protox_generate.proofs.Lemmas.{answer-commented, answer-first, answer-named}
+use Rattle.protox_generate.proofs.Lemmas.{answer-placed, file-stands}
 use Rattle.protox_generate.specs.Commented.{AreCommentedOnce}
 use Rattle.protox_generate.specs.File.{AreLocated, AreSorted, file_descriptor}
 use Rattle.protox_generate.specs.NamePaths.{HasPlaces}
 use Rattle.protox_generate.specs.Names.{HasNames}
-use Rattle.protox_locate.proofs.InOrder.{in-order}
+use Rattle.protox_locate.proofs.Lemmas.{in-order}
 use Rattle.protox_locate.specs.Locations.{file_locations}
-use Rattle.protox_places.proofs.SortedPaths.{sorted-by-path}
+use Rattle.protox_places.proofs.Lemmas.{sorted-by-path}
 use Rattle.protox_places.specs.Lines.{span_numbers}
 use Rattle.protox_places.specs.Order.{StartsBefore}
 

@@ -3,3 +3,4 @@ pub mod Truths
 pub mod AnswerLaws
 pub mod Making
 pub mod Answering
+pub mod Lemmas

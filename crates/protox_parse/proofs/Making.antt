@@ -6,13 +6,13 @@ use Rattle.std.specs.List.{FoldsTo}
 use Rattle.protox_ast.specs.declared.ast.File.{File}
 use Rattle.protox_ast.specs.declared.ast.FileItem.{FileItem}
 use Rattle.protox_ast.specs.declared.ast.Syntax.{Syntax}
-use Rattle.protox_checks.proofs.ItemFaults.{none_of_none, one_more_item, with_the_rest}
-use Rattle.protox_checks.proofs.ListedFaults.{found-wrong, none-listed}
+use Rattle.protox_checks.proofs.Lemmas.{found-wrong, none-listed, none_of_none, one_more_item}
+use Rattle.protox_checks.proofs.Lemmas.{with_the_rest}
 use Rattle.protox_checks.specs.Checks.{AreListed, AreListedOfItem, AreListedOfItems}
 use Rattle.protox_checks.specs.Faults.{EachIsWrong, IsFaultless, settled}
 use Rattle.protox_descriptor.specs.declared.descriptor.FileDescriptorProto.{FileDescriptorProto}
 use Rattle.protox_fault.specs.declared.error.ParseErrorKind.{ParseErrorKind}
-use Rattle.protox_generate.proofs.Items.{Reached}
+use Rattle.protox_generate.proofs.Lemmas.{Reached}
 use Rattle.protox_generate.specs.File.{file_descriptor}
 use Rattle.protox_generate.specs.declared.draft.FileDraft.{FileDraft}
 use Rattle.protox_generate.specs.inner.Taken.{IsTaken}

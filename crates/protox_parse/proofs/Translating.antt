@@ -19,7 +19,7 @@ use Rattle.protox_parse.specs.FaultLists.{AreListedOf, HasFaultsOf}
 use Rattle.protox_parse.specs.Files.{IsTranslation}
 use Rattle.protox_parse.specs.declared.failure.ParseFailure.{ParseFailure}
 use Rattle.protox_parse.specs.declared.failure.ParseFailure.TheVariants.{Refused, OutOfMemory}
-use Rattle.protox_syntax.proofs.Accepts.{one-accepted}
+use Rattle.protox_syntax.proofs.Lemmas.{one-accepted}
 
 -- the file of a source is that of each tree with which it is accepted
 pub same_file : (source : List ℕ) (file : File) (f : t.File Place) → IsFileOf source file → IsAccepted source f → file ≡ ast.file (length source) f

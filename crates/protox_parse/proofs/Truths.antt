@@ -13,10 +13,9 @@ use Rattle.protox_ast.specs.FirstFault.{IsFirstFault}
 use Rattle.protox_ast.specs.declared.ast.File.{File}
 use Rattle.protox_checks.specs.Faults.{Wrong}
 use Rattle.protox_descriptor.specs.declared.descriptor.FileDescriptorProto.{FileDescriptorProto}
-use Rattle.protox_checks.proofs.PlainFaults.{all-plain, plain-stand}
+use Rattle.protox_checks.proofs.Lemmas.{all-plain, plain-stand}
 use Rattle.protox_parse.specs.Failures.{AreWrongOf, IsOutOfMemory, IsRefusalOf}
 use Rattle.protox_parse.specs.FaultLists.{AreAllFound, AreLexicalAlone, AreListedOf, AreStanding, ExpectsTruly, HasFaultsOf, NoCheckIsLost}
-use Rattle.protox_parse.specs.Files.{IsFile}
 use Rattle.protox_parse.specs.FirstFault.{BeginsWithFirst, IsFirstOfSource}
 use Rattle.protox_parse.specs.Refusal.{Refusal}
 use Rattle.protox_parse.specs.declared.failure.ParseFailure.{ParseFailure}
@@ -147,9 +146,6 @@ module _ (source : List ℕ) where
 
     pub large-stand : (r : ParseFailure) → IsRefusalOf name source r → AreStanding source r
     large-stand r h = alone r h (StandIn (cut 0 source)) (plain-stand (cut 0 source) (FileTooLarge ∷ []) (refl, tt)) (AreStanding source) tt (λ e p. p)
-
-    pub large-only : (r : ParseFailure) → IsFile source → IsOutOfMemory r
-    large-only r is = absurd (large is.1.fits)
 
     pub large-lexical : (r : ParseFailure) → AreLexicalAlone source r
     large-lexical OutOfMemory = tt

@@ -1,17 +1,8 @@
 -- Folders that are tried one by one.
 use Rattle.std.proofs.Common.{ℕ, ◌+◌, ◌<◌, ◌≤◌, List, [], All, length, take, get_or, Bor, sym, subst, arith, take_all}
 use Rattle.std.proofs.lemmas.List.Elements.{All-more}
-use Rattle.protox_paths.specs.Names.{IsNameIn, IsNameUnder, IsOutside, texts}
+use Rattle.protox_paths.specs.Names.{IsOutside, texts}
 use Rattle.protox_paths.proofs.Lists.{length_of_texts, text_at}
-
--- the path has its name in this folder, and none in those before it
-pub in_this : (path : List ℕ) (folders : List (Bor (List ℕ))) (i : ℕ) (d : Bor (List ℕ)) (name : List ℕ) → i < length folders → All (IsOutside path) (take i (texts folders)) → IsNameUnder path (get_or folders i d).now name → IsNameIn path (texts folders) name
-in_this path folders i d name below before named = record {
-  index = i;
-  within = omega (arith, length_of_texts folders);
-  named = subst (λ folder. IsNameUnder path folder name) (sym (text_at folders i d [] below)) named;
-  first = before;
-}
 
 -- it has none in this one either
 pub not_in_this : (path : List ℕ) (folders : List (Bor (List ℕ))) (i : ℕ) (d : Bor (List ℕ)) → i < length folders → All (IsOutside path) (take i (texts folders)) → IsOutside path (get_or folders i d).now → All (IsOutside path) (take (i + 1) (texts folders))

@@ -4,3 +4,4 @@ pub mod Nearest
 pub mod Newlines
 pub mod SortedPaths
 pub mod Counting
+pub mod Lemmas

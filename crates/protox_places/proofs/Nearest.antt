@@ -7,7 +7,7 @@ use Rattle.std.specs.Borrow.{Bor}
 use Rattle.std.specs.Option.{option_copied}
 use Rattle.std.specs.Ordering.{is_lt, is_le, is_gt, ordering_reverse}
 use Rattle.std.proofs.lemmas.Bool.{false≢true}
-use Rattle.std.proofs.lemmas.Cmp.{int_cmp_total, tied_itself, upto}
+use Rattle.std.proofs.lemmas.Cmp.{int_cmp_total, upto}
 use Rattle.protox_ast.specs.Basics.{Each}
 use Rattle.protox_descriptor.specs.Spans.{start_of, end_of, place_cmp, is_within}
 use Rattle.protox_descriptor.specs.declared.descriptor.source_code_info.Location.{Location}
@@ -46,9 +46,6 @@ not_le-reversed Greater e = refl
 
 near-trans : (l m o : Location) → is_le (nearness l m) ≡ true → is_le (nearness m o) ≡ true → is_le (nearness l o) ≡ true
 near-trans l m o e f = gt-le _ (upto near_total l m o (le-gt _ e) (le-gt _ f))
-
-near-itself : (l : Location) → is_le (nearness l l) ≡ true
-near-itself l = gt-le _ (ap is_gt (tied_itself near_total l))
 
 pub nearer-turned : (l m : Location) → is_le (nearness l m) ≡ false → is_lt (nearness m l) ≡ true
 nearer-turned l m e = ap is_lt (near_total.antisymm m l) ∙ not_le-reversed (nearness l m) e

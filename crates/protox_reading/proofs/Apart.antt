@@ -1,7 +1,6 @@
 -- Bytes are read as one list of fields at most.
 use Rattle.std.proofs.Common.{◌≡◌, ℕ, List, [], ◌∷◌, ◌++◌, length, refl, sym, ap, subst, ◌∙◌, arith, append_assoc}
-use Rattle.protox_encode.proofs.Apart.{numbers_are_apart_law}
-use Rattle.protox_encode.proofs.Readings.{number_some}
+use Rattle.protox_encode.proofs.Lemmas.{number_some, numbers_are_apart_law}
 use Rattle.protox_encode.specs.Wire.{header, varint}
 use Rattle.protox_reading.proofs.Written.{all_written, are_written, first_apart, held, header_apart, kind, no_end, written}
 use Rattle.protox_reading.specs.Fields.{AreRead, NoField, ANumber, EightBytes, LongBytes, AGroup, FourBytes, Payload, Number, Eight, Bytes, Group, Four}

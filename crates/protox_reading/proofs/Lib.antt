@@ -8,3 +8,4 @@ pub mod Taken
 pub mod Chains
 pub mod Named
 pub mod Options
+pub mod Lemmas

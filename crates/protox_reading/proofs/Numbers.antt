@@ -1,6 +1,6 @@
 -- Numbers are read by the rule of the wire format.
 use Rattle.std.proofs.Common.{◌≡◌, ℕ, zero, suc, ◌+◌, ◌*◌, ◌/◌, ◌%◌, ◌^◌, ◌<◌, ◌≤◌, List, [], ◌∷◌, refl, sym, subst, arith}
-use Rattle.protox_encode.proofs.Varint.{either, less, within_one, within_split}
+use Rattle.protox_encode.proofs.Lemmas.{either, less, within_one, within_split}
 use Rattle.protox_encode.specs.Wire.{varint, varint_within}
 use Rattle.protox_reading.specs.Fields.{IsNumber}
 use Rattle.protox_reading.specs.Laws.{NumbersAreRead}

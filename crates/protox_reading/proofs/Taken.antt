@@ -3,8 +3,7 @@ use Rattle.std.proofs.Common.{◌≡◌, ℕ, suc, Bool, true, false, List, [], 
 use Rattle.std.specs.Prelude.{◌==◌, if◌then◌else◌}
 use Rattle.std.specs.Int.{w32, w64, to_le_bytes}
 use Rattle.std.proofs.lemmas.Bool.{eqb-true, false≢true}
-use Rattle.protox_encode.proofs.Apart.{numbers_are_apart_law}
-use Rattle.protox_encode.proofs.Readings.{number_some}
+use Rattle.protox_encode.proofs.Lemmas.{number_some, numbers_are_apart_law}
 use Rattle.protox_encode.specs.Wire.{varint}
 use Rattle.protox_message_bytes.specs.Bytes.{message_bytes}
 use Rattle.protox_message_bytes.specs.Parts.{Parts, NoMore, Value, Message}

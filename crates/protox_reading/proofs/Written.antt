@@ -1,7 +1,7 @@
 -- The bytes of fields.
 use Rattle.std.proofs.Common.{◌≡◌, ℕ, ◌+◌, ◌*◌, ◌<◌, List, ◌++◌, length, refl, sym, ap, ◌∙◌, arith, append_assoc}
 use Rattle.std.specs.List.{flat_map}
-use Rattle.protox_encode.proofs.Apart.{numbers_are_apart_law}
+use Rattle.protox_encode.proofs.Lemmas.{numbers_are_apart_law}
 use Rattle.protox_encode.specs.Wire.{header, varint}
 use Rattle.protox_reading.specs.Fields.{AreRead, NoField, ANumber, EightBytes, LongBytes, AGroup, FourBytes, Payload, Number, Eight, Bytes, Group, Four}
 

@@ -7,10 +7,8 @@ use Rattle.protox_lexeme.specs.Shapes.{Row, Rows}
 use Rattle.protox_grammar.specs.Class.{Set, class, none, union, within}
 use Rattle.protox_grammar.specs.Reader as reader
 use Rattle.protox_grammar.specs.Reader.{Reader, Refusal, Unexpected, Deep, ◌>>=◌}
-use Rattle.protox_grammar.proofs.Laws.{head-same}
-use Rattle.protox_grammar.proofs.Reading.{bind_err, cut-same, ok-err, err-ok}
-use Rattle.protox_grammar.proofs.Sets.{within-at, or_false}
-use Rattle.protox_grammar.proofs.Takes.{bind_ok, ok_is}
+use Rattle.protox_grammar.proofs.Lemmas.{bind_err, bind_ok, cut-same, err-ok, head-same, ok-err}
+use Rattle.protox_grammar.proofs.Lemmas.{ok_is, or_false, within-at}
 use Rattle.protox_rows.specs.Expected.{named, allowed}
 use Rattle.protox_rows.specs.declared.expected.Expected.{Expected}
 use Rattle.protox_rows.specs.inner.Words.{Words, always, and_then, behind}
@@ -89,9 +87,6 @@ module _ {A : Type 0} {a : Reader Place A} {w : Words} {e : Expected} {first : S
   -- What is read is taken from the rows.
   pub took : (xs : Rows Place) → Took (length xs) (a xs)
   took xs = took_of xs (a xs) refl
-
-not-refused : {X : Type 0} (n m : ℕ) (read : Result (X × Rows Place) Refusal) → Took n read → read ≡ Err (Unexpected m) → m ≤ n
-not-refused n m read t e = subst (Took n) e t
 
 -- ---- one after another
 

@@ -6,10 +6,8 @@ use Rattle.protox_lexeme.specs.Shapes.{Row, Rows}
 use Rattle.protox_grammar.specs.Class.{Set, class, in_set, none, union, within}
 use Rattle.protox_grammar.specs.Reader as reader
 use Rattle.protox_grammar.specs.Reader.{Reader, Refusal, Unexpected, Deep, ◌>>=◌, star}
-use Rattle.protox_grammar.proofs.Loops.{star-turn}
-use Rattle.protox_grammar.proofs.Reading.{bind_err, cut-same, ok-err}
-use Rattle.protox_grammar.proofs.Sets.{within-at, or_false}
-use Rattle.protox_grammar.proofs.Takes.{bind_ok, ok_is}
+use Rattle.protox_grammar.proofs.Lemmas.{bind_err, bind_ok, cut-same, ok-err, ok_is, or_false}
+use Rattle.protox_grammar.proofs.Lemmas.{star-turn, within-at}
 use Rattle.protox_rows.specs.Expected.{named, allowed}
 use Rattle.protox_rows.specs.declared.expected.Expected.{Expected}
 use Rattle.protox_rows.specs.inner.Words.{Words, and_then, behind, times}

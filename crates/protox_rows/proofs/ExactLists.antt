@@ -5,9 +5,7 @@ use Rattle.protox_ast.specs.Places.{Place}
 use Rattle.protox_lexeme.specs.Shapes.{Row, Rows}
 use Rattle.protox_grammar.specs.Class.{Set, class, in_set, none}
 use Rattle.protox_grammar.specs.Reader.{Consumes, Reader, Refusal, Unexpected, Deep, ◌>>=◌, star}
-use Rattle.protox_grammar.proofs.Loops.{star-turn}
-use Rattle.protox_grammar.proofs.Reading.{bind_err, ok-err}
-use Rattle.protox_grammar.proofs.Takes.{bind_ok, ok_is}
+use Rattle.protox_grammar.proofs.Lemmas.{bind_err, bind_ok, ok-err, ok_is, star-turn}
 use Rattle.protox_rows.specs.declared.expected.Expected.{Expected}
 use Rattle.protox_rows.specs.inner.Words.{Words, behind, times}
 use Rattle.protox_rows.proofs.Exact.{Exact, Fits, Took, parted, took_more}

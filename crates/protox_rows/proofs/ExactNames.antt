@@ -16,8 +16,7 @@ use Rattle.protox_grammar.specs.Reader as reader
 use Rattle.protox_grammar.specs.Reader.{Reader, Refusal, ◌>>=◌, fixed, is_token, leaf, seen, see_word, see_integer, see_float, see_text}
 use Rattle.protox_grammar.specs.Rules as r
 use Rattle.protox_grammar.specs.Token as token
-use Rattle.protox_grammar.proofs.Sets.{place-le}
-use Rattle.protox_grammar.proofs.Tests.{mark-class, scalar-class, word-class}
+use Rattle.protox_grammar.proofs.Lemmas.{mark-class, place-le, scalar-class, word-class}
 use Rattle.protox_rows.specs.declared.expected.Expected.{Expected}
 use Rattle.protox_rows.specs.declared.expected.Expected.TheVariants as expected
 use Rattle.protox_rows.specs.inner.Names as names
@@ -104,10 +103,6 @@ float-exact e = mapped-exact (λ x. none) _ (λ x. refl) (leaf-exact see_float (
 pub string-exact : (e : Expected) → Exact (runs.string).code (always e) e (only token.a_string) (λ x. none)
 unfolding runs.string
 string-exact e = mapped-exact (λ x. none) _ (λ x. refl) (leaf-exact see_text (only token.a_string) text-test e)
-
-pub scalar-exact : (e : Expected) → Exact (names.scalar).code (always e) e r.scalar_set (λ x. none)
-unfolding names.scalar
-scalar-exact e = mapped-exact (λ x. none) _ (λ x. refl) (leaf-exact r.see_scalar r.scalar_set scalar-class e)
 
 -- ---- lists of parts without more of their own
 

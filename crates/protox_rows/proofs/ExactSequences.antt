@@ -6,9 +6,7 @@ use Rattle.protox_lexeme.specs.Shapes.{Row, Rows}
 use Rattle.protox_grammar.specs.Class.{Set, class, in_set, union, within}
 use Rattle.protox_grammar.specs.Reader as reader
 use Rattle.protox_grammar.specs.Reader.{Reader, Refusal, Unexpected, Deep, ◌>>=◌, head_in, star}
-use Rattle.protox_grammar.proofs.Reading.{bind_err, ok-err, err-ok}
-use Rattle.protox_grammar.proofs.Sets.{or_false}
-use Rattle.protox_grammar.proofs.Takes.{bind_ok, ok_is}
+use Rattle.protox_grammar.proofs.Lemmas.{bind_err, bind_ok, err-ok, ok-err, ok_is, or_false}
 use Rattle.protox_rows.specs.Expected.{named, allowed}
 use Rattle.protox_rows.specs.declared.expected.Expected.{Expected}
 use Rattle.protox_rows.specs.inner.Words.{Words, and_then, behind, times}

@@ -6,8 +6,7 @@ use Rattle.protox_lexeme.specs.Shapes.{Row, Rows}
 use Rattle.protox_grammar.specs.Class.{Set, class, in_set, union}
 use Rattle.protox_grammar.specs.Reader as reader
 use Rattle.protox_grammar.specs.Reader.{Reader, Refusal, Unexpected, Deep, ◌>>=◌}
-use Rattle.protox_grammar.proofs.Reading.{bind_err, cut-same, ok-err, err-ok}
-use Rattle.protox_grammar.proofs.Takes.{bind_ok, ok_is}
+use Rattle.protox_grammar.proofs.Lemmas.{bind_err, bind_ok, cut-same, err-ok, ok-err, ok_is}
 use Rattle.protox_rows.specs.declared.expected.Expected.{Expected}
 use Rattle.protox_rows.specs.inner.Words.{Words, and_then, behind}
 use Rattle.protox_rows.proofs.Exact.{Exact, Fits, Took, parted, took, took_more, under}

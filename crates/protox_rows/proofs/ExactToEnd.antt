@@ -6,9 +6,7 @@ use Rattle.protox_lexeme.specs.Shapes.{Shape, Row, Rows}
 use Rattle.protox_grammar.specs.Class.{Set, all, class, in_set, none, within}
 use Rattle.protox_grammar.specs.Reader as reader
 use Rattle.protox_grammar.specs.Reader.{Reader, Refusal, Unexpected, Deep, ◌>>=◌, mapped, star}
-use Rattle.protox_grammar.proofs.Loops.{star-turn}
-use Rattle.protox_grammar.proofs.Reading.{bind_err, cut-same, ok-err}
-use Rattle.protox_grammar.proofs.Sets.{within-at}
+use Rattle.protox_grammar.proofs.Lemmas.{bind_err, cut-same, ok-err, star-turn, within-at}
 use Rattle.protox_rows.specs.Expected.{named, allowed}
 use Rattle.protox_rows.specs.declared.expected.Expected.{Expected}
 use Rattle.protox_rows.specs.inner.Words.{Words, and_then, behind, times}

@@ -7,9 +7,7 @@ use Rattle.protox_lexeme.specs.Shapes.{Row, Rows}
 use Rattle.protox_grammar.specs.Class.{Set, apart, class, in_set, none, union, within}
 use Rattle.protox_grammar.specs.Reader as reader
 use Rattle.protox_grammar.specs.Reader.{Reader, Refusal, ◌>>=◌, head_in, star}
-use Rattle.protox_grammar.proofs.Loops.{star-turn}
-use Rattle.protox_grammar.proofs.Sets.{apart-at, within-at}
-use Rattle.protox_grammar.proofs.Takes.{bind_ok, ok_is}
+use Rattle.protox_grammar.proofs.Lemmas.{apart-at, bind_ok, ok_is, star-turn, within-at}
 use Rattle.protox_rows.specs.Expected.{named, allowed}
 use Rattle.protox_rows.specs.declared.expected.Expected.{Expected}
 use Rattle.protox_rows.specs.inner.Words.{Words, and_then, behind, times}
@@ -56,10 +54,6 @@ module _ {B : Type 0} {b : Reader Place B} {wb : Words} {e : Expected} {fb : Set
 
   broad-stops : (r : Row Place) (zs : Rows Place) → P (class r.shape) ≡ false → broad (r ∷ zs) ≡ Ok ([], r ∷ zs)
   broad-stops r zs p = star-turn (in_set P) b (eats hb) (r ∷ zs) ∙ ap (λ v. cond v (b (r ∷ zs) >>= λ x. broad x.1 >>= cons x.0) (Ok ([], r ∷ zs))) p
-
-  cut-at : (r : Row Place) (zs : Rows Place) (c : Bool) → P (class r.shape) ≡ c → broad (r ∷ zs) ≡ cond c (b (r ∷ zs) >>= λ x. broad x.1 >>= cons x.0) (Ok ([], r ∷ zs))
-  cut-at r zs true p = broad-goes r zs p
-  cut-at r zs false p = broad-stops r zs p
 
   -- None begins here.
   barred-at : (r : Row Place) (zs : Rows Place) (c : Bool) → P (class r.shape) ≡ c → fb (class r.shape) ≡ false → broad (r ∷ zs) ≡ cond c (reader.refuse (r ∷ zs)) (Ok ([], r ∷ zs))

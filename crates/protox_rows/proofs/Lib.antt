@@ -10,3 +10,4 @@ pub mod ExactWide
 pub mod ExactTails
 pub mod ExactNames
 pub mod ExactToEnd
+pub mod Lemmas

@@ -3,10 +3,10 @@ use Rattle.std.proofs.Common.{◌≡◌, ◌<◌, ◌≤◌, ◌+◌, ◌-◌, �
 use Rattle.std.proofs.lemmas.Bool.{ne_eqb}
 use Rattle.std.specs.Prelude.{slice_get, slice_index_or, option_map, Result, Ok, Err, IfOk}
 use Rattle.protox_fault.specs.Faults.{Span}
-use Rattle.protox_lexeme.specs.Gaps.{may_lead, Attribution, attribution}
-use Rattle.protox_lexeme.specs.Shapes.{Shape, Ident, Int, Float, Str, Mark, LineComment, BlockComment, Newline, Invalid, Row, Rows}
+use Rattle.protox_lexeme.specs.Gaps.{Attribution, attribution}
+use Rattle.protox_lexeme.specs.Shapes.{Shape, Row, Rows}
 use Rattle.protox_lexeme.specs.Table.{Table}
-use Rattle.protox_ast.proofs.Standing.{as-many}
+use Rattle.protox_ast.proofs.Lemmas.{as-many}
 use Rattle.protox_grammar.specs.Class.{Set, class, in_set}
 use Rattle.protox_grammar.specs.Reader.{head_in}
 use Rattle.protox_rows.specs.Rows.{no_row, bare_row, shape_of_row, IsFirst}
@@ -70,30 +70,6 @@ pub dropped : (xs : Rows Place) (k : ℕ) → length (drop k xs) ≡ length xs -
 dropped xs zero = omega arith
 dropped [] (suc k) = omega arith
 dropped (x ∷ xs) (suc k) = let more = dropped xs k in let same : length xs - k ≡ length (x ∷ xs) - suc k = omega arith in more ∙ same
-
--- ---- the comments before one token, and before another that comments may lead alike
-
-pub led-alike : (gap : List Shape) (first : Bool) (a b : Option Shape) → may_lead a ≡ may_lead b → attribution gap first a ≡ attribution gap first b
-led-alike gap true a b e = rw e refl
-led-alike [] false a b e = refl
-led-alike (LineComment t ∷ gap) false a b e = rw e refl
-led-alike (Newline ∷ gap) false a b e = rw e refl
-led-alike (BlockComment t ∷ []) false a b e = refl
-led-alike (BlockComment t ∷ (Newline ∷ gap)) false a b e = rw e refl
-led-alike (BlockComment t ∷ (Ident u ∷ gap)) false a b e = refl
-led-alike (BlockComment t ∷ (Int u ∷ gap)) false a b e = refl
-led-alike (BlockComment t ∷ (Float u ∷ gap)) false a b e = refl
-led-alike (BlockComment t ∷ (Str u ∷ gap)) false a b e = refl
-led-alike (BlockComment t ∷ (Mark u ∷ gap)) false a b e = refl
-led-alike (BlockComment t ∷ (LineComment u ∷ gap)) false a b e = refl
-led-alike (BlockComment t ∷ (BlockComment u ∷ gap)) false a b e = refl
-led-alike (BlockComment t ∷ (Invalid ∷ gap)) false a b e = refl
-led-alike (Ident t ∷ gap) false a b e = refl
-led-alike (Int t ∷ gap) false a b e = refl
-led-alike (Float t ∷ gap) false a b e = refl
-led-alike (Str t ∷ gap) false a b e = refl
-led-alike (Mark t ∷ gap) false a b e = refl
-led-alike (Invalid ∷ gap) false a b e = refl
 
 -- ---- what a row, and the rows that are left, stand for
 

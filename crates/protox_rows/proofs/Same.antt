@@ -3,9 +3,8 @@ use Rattle.std.proofs.Common.{[], None, refl}
 use Rattle.protox_ast.specs.Spelling as s
 use Rattle.protox_ast.specs.Places.{Place}
 use Rattle.protox_grammar.specs.Reader.{Consumes}
-use Rattle.protox_grammar.proofs.Shows.{shows-eats}
-use Rattle.protox_grammar.proofs.Forms.{mark-laws, seq-laws}
-use Rattle.protox_grammar.proofs.Parts as parts
+use Rattle.protox_grammar.proofs.Lemmas.{mark-laws, seq-laws, shows-eats}
+use Rattle.protox_grammar.proofs.Lemmas as parts
 use Rattle.protox_rows.specs.inner.Names as names
 pub use Rattle.protox_rows.specs.inner.Names.{name_and_span}
 use Rattle.protox_rows.specs.inner.Strings as runs

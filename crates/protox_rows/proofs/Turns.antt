@@ -4,14 +4,13 @@ use Rattle.std.proofs.lemmas.Bool.{eqb-true}
 use Rattle.protox_ast.specs.Places.{Place}
 use Rattle.protox_lexeme.specs.Shapes.{Shape, Rows}
 use Rattle.protox_grammar.specs.Reader.{Reader, Refusal, head_in, star, gathered, ◌>>=◌, Consumes}
-use Rattle.protox_grammar.proofs.Loops.{goes_on, stops, is_done}
+use Rattle.protox_grammar.proofs.Lemmas.{goes_on, is_done, notes-done, notes-turn, star_notes, stops}
 use Rattle.protox_rows.specs.declared.expected.Expected.{Expected}
 use Rattle.protox_rows.specs.declared.refused.Refused.{Refused}
 use Rattle.protox_rows.specs.declared.refused.Refused.TheVariants.{OutOfMemory, At, TooDeep}
 use Rattle.protox_grammar.specs.Class.{Set, in_set}
 use Rattle.protox_grammar.specs.Told as told
 use Rattle.protox_grammar.specs.Told.{then_notes}
-use Rattle.protox_grammar.proofs.Telling.{star_notes, notes-turn, notes-done}
 use Rattle.protox_rows.specs.inner.Notes.{AddsTo}
 use Rattle.protox_rows.specs.inner.Outcome.{Fails}
 use Rattle.protox_rows.specs.inner.Reads.{anything}

@@ -3,7 +3,7 @@ use Rattle.std.proofs.Common.{◌≡◌, ℕ, Bool, true, false, cond, List, [],
 use Rattle.std.proofs.lemmas.Bool.{false≢true, true≢false}
 use Rattle.std.proofs.lemmas.List.Elements.{All-cons, All-head, All-nil, All-tail}
 use Rattle.protox_names.specs.Names.{front, is_absolute, is_one_part, scopes, within}
-use Rattle.protox_names.proofs.Joining.{front_of_one_part}
+use Rattle.protox_names.proofs.Lemmas.{front_of_one_part}
 use Rattle.protox_scopes.specs.declared.kind.Kind.{Kind}
 use Rattle.protox_scopes.specs.declared.kind.Wanted.{Wanted}
 use Rattle.protox_scopes.specs.declared.step.Step.{Step}

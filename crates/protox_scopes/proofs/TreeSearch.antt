@@ -3,7 +3,7 @@ use Rattle.std.proofs.Common.{◌≡◌, ◌<◌, ◌+◌, ℕ, true, false, Lis
 use Rattle.std.proofs.lemmas.List.Elements.{All-head, All-same}
 use Rattle.protox_names.specs.Names.{is_absolute, is_one_part, scopes, within}
 use Rattle.protox_names.specs.Tree.{name_of_place}
-use Rattle.protox_names.proofs.Joining.{scopes_are_shorter, scopes_at_dot, scopes_of_one_part}
+use Rattle.protox_names.proofs.Lemmas.{scopes_are_shorter, scopes_at_dot, scopes_of_one_part}
 use Rattle.protox_scopes.specs.declared.kind.Kind.{Kind}
 use Rattle.protox_scopes.specs.declared.kind.Wanted.{Wanted}
 use Rattle.protox_scopes.specs.declared.step.Step.TheVariants.{Ends}
@@ -19,10 +19,6 @@ scopes_from name_of (Some scope) = name_of scope ∷ scopes (name_of scope)
 abbrev pub way_from : (ℕ → List ℕ) → Option ℕ → ℕ
 way_from name_of None = 0
 way_from name_of (Some scope) = length (name_of scope) + 1
-
-around_outer : (name_of : ℕ → List ℕ) (scope : ℕ) (outer : Option ℕ) → IsOuter name_of scope outer → scopes (name_of scope) ≡ scopes_from name_of outer
-around_outer name_of scope None h = h
-around_outer name_of scope (Some o) h = h
 
 nearer : (name_of : ℕ → List ℕ) (scope : ℕ) (outer : Option ℕ) → IsOuter name_of scope outer → way_from name_of outer < way_from name_of (Some scope)
 nearer name_of scope None h = omega arith

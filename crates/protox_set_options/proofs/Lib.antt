@@ -1,3 +1,4 @@
 pub mod Files
 pub mod ReadBack
 pub mod SameViews
+pub mod Lemmas

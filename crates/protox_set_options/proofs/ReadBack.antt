@@ -9,7 +9,7 @@ use Rattle.protox_file_options.specs.Outcomes.{IsOutcome, Outcome, AllSet, HasNo
 use Rattle.protox_file_options.specs.Places.{Place, key_of}
 use Rattle.protox_file_options.specs.declared.answer.InterpretedFile.{InterpretedFile}
 use Rattle.protox_name_tree.specs.Tree.{Names}
-use Rattle.protox_reading.proofs.Options.{options_read_back}
+use Rattle.protox_reading.proofs.Lemmas.{options_read_back}
 use Rattle.protox_reading.specs.Statements.{IsReadBack}
 use Rattle.protox_set_options.specs.Read.{AreFrom, IsInterpretedIn}
 use Rattle.protox_set_options.specs.ReadBack.{AreReadBackFrom, IsFileReadBack, IsPlaceReadBack}

@@ -1,8 +1,8 @@
 -- Two views of what a file sees show the same.
 use Rattle.std.proofs.Common.{◌≡◌, ℕ, Bool, List, ◌∙◌, subst, sym}
 use Rattle.protox_descriptor.specs.declared.descriptor.FileDescriptorProto.{FileDescriptorProto}
-use Rattle.protox_file_options.proofs.OneOutcome.{ShowTheSame}
-use Rattle.protox_link.proofs.Seeing.{same_marks, same_packages}
+use Rattle.protox_file_options.proofs.Lemmas.{ShowTheSame}
+use Rattle.protox_link.proofs.Lemmas.{same_marks, same_packages}
 use Rattle.protox_link.specs.Seen.{IsSeenBy}
 use Rattle.protox_set_options.specs.Read.{IsViewOf}
 use Rattle.protox_views.specs.FilesOf.{seen_packages}

@@ -3,3 +3,4 @@ pub mod Searching
 pub mod Adding
 pub mod Places
 pub mod Stepping
+pub mod Lemmas

@@ -32,17 +32,6 @@ one_step_more steps step path at =
     fold-append (λ before step. before ++ path_behind before step ∷ []) [] steps (step ∷ [])
     ∙ ap (λ found. paths_of steps ++ (unwrap_or found [] ++ step.1 ∷ []) ∷ []) at
 
-pub no_tree : IsTree (λ _. None) []
-no_tree = record {
-  leads = λ from number to h. absurd (none-some to h);
-  reached = λ to path number h. none_at to path number h;
-  none_empty = λ k h. absurd (none-some [] h);
-} where
-  none_at : (to : ℕ) (path : List ℕ) (number : ℕ) → path_of [] to ≡ Some (path ++ number ∷ [])
-      → (from : ℕ) × (path_of [] from ≡ Some path) × (◌≡◌ {A = Option ℕ} None (Some to))
-  none_at zero path number h = absurd (not_empty path number (same_Some [] (path ++ number ∷ []) h))
-  none_at (suc k) path number h = absurd (none-some (path ++ number ∷ []) h)
-
 -- ---- the order of the steps
 
 is_step : (step other : ℕ × ℕ) → is_at (step_cmp step) other ≡ true → step ≡ other

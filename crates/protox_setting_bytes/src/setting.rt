@@ -48,7 +48,7 @@ fn prepend_value(
 }
 
 // How many bytes the groups of a number take.
-#[tactic(auto, using(protox_encode::proofs::Varint::one_group, protox_encode::proofs::Varint::more_groups))]
+#[tactic(auto, using(protox_encode::proofs::Lemmas::one_group, protox_encode::proofs::Lemmas::more_groups))]
 fn varint_len(n: u64) -> usize
     ensures value { result ≡ length (varint n) }
     ensures within { result ≤ n + 1 }

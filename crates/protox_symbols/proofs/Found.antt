@@ -2,8 +2,8 @@
 use Rattle.std.proofs.Common.{◌≡◌, ◌≢◌, ◌==◌, ℕ, true, false, List, [], ◌∷◌, length, Option, Some, None, is_some, refl, sym, subst, ◌∙◌}
 use Rattle.std.proofs.lemmas.Bool.{false≢true}
 use Rattle.protox_name_tree.specs.Tree.{AreTreeNames, number_of}
-use Rattle.protox_name_tree.proofs.FullNames.{found_known, known_some}
-use Rattle.protox_name_tree.proofs.Outwards.{empty_scope, name_of_found, some_scope}
+use Rattle.protox_name_tree.proofs.Lemmas.{empty_scope, found_known, known_some, name_of_found}
+use Rattle.protox_name_tree.proofs.Lemmas.{some_scope}
 use Rattle.protox_walk.specs.Declarations.{full_name, text_of}
 use Rattle.protox_symbols.specs.Symbols.{Table}
 use Rattle.protox_symbols.specs.Scopes.{IsFoundScope, IsMissing, IsScopeOf, scope_name}

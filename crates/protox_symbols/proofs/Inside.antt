@@ -14,7 +14,7 @@ use Rattle.protox_descriptor.specs.declared.tag.message.TheConstants as message_
 use Rattle.protox_descriptor.specs.declared.tag.service.TheConstants as service_tag
 use Rattle.protox_walk.specs.Declarations.{At, OfMessage, Path, all_in, declared, each_told, enum_at, field_at, file_declarations, full_name, message_at, message_step, method_at, oneof_at, service_at, siblings_at, text_of, value_at}
 use Rattle.protox_walk.specs.Parts.{Declared, Enum, Field, Message, Method, Oneof, Service, Value}
-use Rattle.protox_walk.proofs.Levels.{size-nested}
+use Rattle.protox_walk.proofs.Lemmas.{size-nested}
 use Rattle.protox_symbols.specs.Symbols.{Table}
 use Rattle.protox_symbols.specs.Scopes.{IsMissing, scope_name, with_declarations}
 use Rattle.protox_symbols.specs.Things.{entry_of, file_entries, package_entries, with_entry}

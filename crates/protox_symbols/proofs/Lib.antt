@@ -5,3 +5,4 @@ pub mod Found
 pub mod Inside
 pub mod Packages
 pub mod Siblings
+pub mod Lemmas

@@ -4,10 +4,10 @@ use Rattle.std.specs.Prelude.{ℤ}
 use Rattle.std.proofs.lemmas.Grind.{reverse_onto}
 use Rattle.std.proofs.lemmas.List.{map-append, reverse-append}
 use Rattle.protox_names.specs.Names.{is_one_part, scopes, within}
-use Rattle.protox_names.proofs.Joining.{scopes_of_one_part}
+use Rattle.protox_names.proofs.Lemmas.{scopes_of_one_part}
 use Rattle.protox_scopes.specs.declared.kind.Kind.TheVariants as kind
 use Rattle.protox_name_tree.specs.Tree.{AreTreeNames, number_of}
-use Rattle.protox_name_tree.proofs.Missing.{map-map, none_behind, none_stands_behind, scopes_behind}
+use Rattle.protox_name_tree.proofs.Lemmas.{map-map, none_behind, none_stands_behind, scopes_behind}
 use Rattle.protox_symbols.specs.Symbols.{Table, with_thing}
 use Rattle.protox_symbols.specs.Things.{Entry, package_entries, package_entry, packages, with_entry}
 use Rattle.protox_symbols.specs.Scopes.{IsMissing}

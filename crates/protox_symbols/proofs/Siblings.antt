@@ -1,5 +1,5 @@
 -- Paths of like siblings, one after another.
-use Rattle.std.proofs.Common.{◌≡◌, ◌+◌, ℕ, [], ◌∷◌, ◌++◌, length, take, sym, ap, ◌∙◌, append-nil, append_assoc}
+use Rattle.std.proofs.Common.{◌≡◌, ◌+◌, ℕ, [], ◌∷◌, ◌++◌, length, take, sym, ap, ◌∙◌, append_assoc}
 use Rattle.std.specs.Prelude.{ℤ, pos}
 use Rattle.std.proofs.Math.Seq.{take-append_seam}
 use Rattle.std.proofs.lemmas.List.{length-append}
@@ -8,11 +8,6 @@ use Rattle.protox_walk.specs.Declarations.{Path, nth}
 module _ (path : Path) (tag : ℤ) where
   seam : (more : Path) → take (length path + 1) ((path ++ tag ∷ []) ++ more) ≡ path ++ tag ∷ []
   seam more = ap (λ n. take n ((path ++ tag ∷ []) ++ more)) (sym (length-append path (tag ∷ []))) ∙ take-append_seam (path ++ tag ∷ []) more
-
-  -- the path of the siblings, as it is made
-  pub place_begun : (made : Path) → made ≡ path ++ tag ∷ [] → take (length path + 1) made ≡ path ++ tag ∷ []
-  place_begun made is =
-      ap (take (length path + 1)) (is ∙ sym (append-nil (path ++ tag ∷ []))) ∙ seam []
 
   -- an index behind it
   pub place_of : (before after : Path) (n i : ℕ) → n ≡ length path + 1 → take (length path + 1) before ≡ path ++ tag ∷ [] → after ≡ take n before ++ pos i ∷ [] → after ≡ nth path tag i

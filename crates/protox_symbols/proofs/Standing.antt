@@ -4,7 +4,7 @@ use Rattle.std.specs.Prelude.{ℤ}
 use Rattle.protox_names.specs.Names.{within}
 use Rattle.protox_scopes.specs.declared.kind.Kind.{Kind}
 use Rattle.protox_name_tree.specs.Tree.{can_stand, number_of, with_name}
-use Rattle.protox_name_tree.proofs.Missing.{none_behind, none_stands_behind}
+use Rattle.protox_name_tree.proofs.Lemmas.{none_behind, none_stands_behind}
 use Rattle.protox_walk.specs.Declarations.{At, Path, all_in, declared, full_name, nth, numbered, text_of}
 use Rattle.protox_walk.specs.Parts.{Declared, Described}
 use Rattle.protox_symbols.specs.Symbols.{Table, with_thing}

@@ -10,8 +10,8 @@ use Rattle.protox_ast.specs.Places.{Place, placed}
 use Rattle.protox_ast.specs.Tree as tree
 use Rattle.protox_ast.specs.declared.ast.File.{File}
 use Rattle.protox_grammar.specs.Reads.{read}
-use Rattle.protox_grammar.proofs.Main as main
-use Rattle.protox_grammar.proofs.Takes.{ok_is}
+use Rattle.protox_grammar.proofs.Lemmas as main
+use Rattle.protox_grammar.proofs.Lemmas.{ok_is}
 use Rattle.protox_options.specs.inner.Options.{here}
 use Rattle.protox_syntax.specs.inner.ParsedTable.{IsWhole, ParsesTable, RefusesTable}
 use Rattle.protox_syntax.specs.inner.Statements.{levels}

@@ -7,8 +7,7 @@ use Rattle.protox_lexeme.specs.Printed.{printed}
 use Rattle.protox_lexeme.specs.Shapes.{Shape, Invalid, Row, Rows}
 use Rattle.protox_lexeme.specs.Table.{rows_of, table_of}
 use Rattle.protox_lex.specs.LexesBack.{IsPrintable, ArePrintable, spaced}
-use Rattle.protox_lex.proofs.Printable.{printable_rows, utf8_bytes}
-use Rattle.protox_lex.proofs.ShapesBack.{Gives, gives}
+use Rattle.protox_lex.proofs.Lemmas.{Gives, gives, printable_rows, utf8_bytes}
 use Rattle.protox_ast.specs.Accepted.{IsAccepted}
 use Rattle.protox_ast.specs.Fronts.{aggregates}
 use Rattle.protox_ast.specs.AstParts.{aggregate_text}
@@ -19,7 +18,7 @@ use Rattle.protox_ast.specs.Spelling.{◌⌢◌, sign, open_brace, close_brace}
 use Rattle.protox_ast.specs.Spells.{shapes}
 use Rattle.protox_ast.specs.Tree as tree
 use Rattle.protox_grammar.specs.Told.{is_invalid, AreValidTokens}
-use Rattle.protox_grammar.proofs.Parts.{each-all}
+use Rattle.protox_grammar.proofs.Lemmas.{each-all}
 use Rattle.protox_syntax.specs.Aggregates.{LexBack, AggregatesLexBack}
 use Rattle.protox_syntax.proofs.Entries.{all-each}
 use Rattle.protox_syntax.proofs.Modes.{clean-tokens}

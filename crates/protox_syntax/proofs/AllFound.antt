@@ -11,8 +11,7 @@ use Rattle.protox_ast.specs.declared.ast.Comments.{Comments}
 use Rattle.protox_ast.specs.declared.ast.Syntax.{Syntax}
 use Rattle.protox_grammar.specs.Reader.{Refusal, Unexpected, Deep, head_in, ◌>>=◌}
 use Rattle.protox_grammar.specs.Told.{Notes, is_invalid, then_notes, IsFaultless}
-use Rattle.protox_grammar.proofs.Reading.{map_err}
-use Rattle.protox_grammar.proofs.Takes.{bind_ok, ok_is}
+use Rattle.protox_grammar.proofs.Lemmas.{bind_ok, map_err, ok_is}
 use Rattle.protox_syntax.specs.AllFaults.{Progress, after_syntax, along, beginning, faults_of_table, nowhere, read, refusal, row_at, syntax_rule, unless_found, unworded}
 use Rattle.protox_syntax.specs.inner.ParsedTable.{AreAllOf, rows_left_at_first_note, total_of}
 use Rattle.protox_syntax.specs.inner.Leading.{Ends, Leads, found_with_notes, rest_of}

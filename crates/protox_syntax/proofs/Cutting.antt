@@ -2,7 +2,7 @@
 use Rattle.std.proofs.Common.{ℕ, List, Bool, drop, length, leb, leb-true}
 use Rattle.protox_lexeme.specs.Lexemes.{cut}
 use Rattle.protox_lexeme.specs.Table.{Table}
-use Rattle.protox_lex.proofs.Tables.{none_at_end}
+use Rattle.protox_lex.proofs.Lemmas.{none_at_end}
 use Rattle.protox_lex.specs.Parts.{IsPart}
 use Rattle.protox_syntax.specs.inner.Parts.{IsPartOf}
 

@@ -8,7 +8,7 @@ use Rattle.protox_lexeme.specs.Lexemes.{Lexeme}
 use Rattle.protox_lexeme.specs.Table.{is_gap, rows_of, faults_of, in_front, row_faults, invalid_faults}
 use Rattle.protox_fault.specs.declared.error.ParseErrorKind.{ParseErrorKind}
 use Rattle.protox_ast.specs.Keywords.{Each}
-use Rattle.protox_grammar.proofs.CleanModes.{in-append, invalid-some}
+use Rattle.protox_grammar.proofs.Lemmas.{in-append, invalid-some}
 
 abbrev Faults : Type 0
 Faults = List ParseErrorKind

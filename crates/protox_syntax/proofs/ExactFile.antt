@@ -14,15 +14,12 @@ use Rattle.protox_rows.specs.declared.expected.Expected.{Expected}
 use Rattle.protox_rows.specs.declared.expected.Expected.TheVariants as expected
 use Rattle.protox_rows.specs.inner.Words as rows
 use Rattle.protox_rows.specs.inner.Words.{always, and_then}
-use Rattle.protox_rows.proofs.Exact.{Exact, Fits, mapped-exact, seq-exact}
-use Rattle.protox_rows.proofs.ExactForms.{choice-exact}
-use Rattle.protox_rows.proofs.ExactNames.{fullident-exact, mark-exact, or-none, strings-exact, word-exact}
-use Rattle.protox_rows.proofs.ExactSequences.{begun_with, option-exact, reworded}
-use Rattle.protox_rows.proofs.ExactToEnd.{file-fits}
-use Rattle.protox_options.proofs.ExactOptions.{option-exact-of}
-use Rattle.protox_blocks.proofs.ExactEnums.{enum-exact, semicolon-exact}
-use Rattle.protox_blocks.proofs.ExactServices.{service-exact}
-use Rattle.protox_bodies.proofs.ExactBodies.{extend-exact, mbody-exact, message-exact}
+use Rattle.protox_rows.proofs.Lemmas.{Exact, Fits, begun_with, choice-exact, file-fits}
+use Rattle.protox_rows.proofs.Lemmas.{fullident-exact, mapped-exact, mark-exact, option-exact}
+use Rattle.protox_rows.proofs.Lemmas.{or-none, reworded, seq-exact, strings-exact, word-exact}
+use Rattle.protox_options.proofs.Lemmas.{option-exact-of}
+use Rattle.protox_blocks.proofs.Lemmas.{enum-exact, semicolon-exact, service-exact}
+use Rattle.protox_bodies.proofs.Lemmas.{extend-exact, mbody-exact, message-exact}
 use Rattle.protox_syntax.specs.inner.Statements as rule
 use Rattle.protox_syntax.specs.inner.Whole.{whole}
 use Rattle.protox_syntax.specs.inner.Words as said

@@ -12,11 +12,10 @@ use Rattle.protox_lexeme.specs.Lexemes.{Lexeme, cut}
 use Rattle.protox_lexeme.specs.Printed.{printed}
 use Rattle.protox_lexeme.specs.Shapes.{Row, Rows, Shape, Invalid}
 use Rattle.protox_lexeme.specs.Table.{Table, faults_of, in_front, is_gap, row_faults, rows_of, table_of}
-use Rattle.protox_lexeme.proofs.FaultModes.{IsRowKind, kinds-of}
-use Rattle.protox_lexeme.proofs.FaultOrder.{Rise, RiseWithin, key, keys, rise_joined, rise_lower, twice}
-use Rattle.protox_lexeme.proofs.TableOrder.{AreInOrder, filter_rises, gap_faults, list_rises, place_of, table_in_order}
-use Rattle.protox_ast.proofs.Membership.{Among, Somewhere, any-from}
-use Rattle.protox_ast.proofs.SpansStand.{each-append, each-so}
+use Rattle.protox_lexeme.proofs.Lemmas.{AreInOrder, IsRowKind, Rise, RiseWithin, filter_rises}
+use Rattle.protox_lexeme.proofs.Lemmas.{gap_faults, key, keys, kinds-of, list_rises, place_of}
+use Rattle.protox_lexeme.proofs.Lemmas.{rise_joined, rise_lower, table_in_order, twice}
+use Rattle.protox_ast.proofs.Lemmas.{Among, Somewhere, any-from, each-append, each-so}
 use Rattle.protox_ast.specs.Basics.{Each}
 use Rattle.protox_ast.specs.FaultList.{IsOwn, Stands, StandIn, StandOnce, is_lexical}
 use Rattle.protox_ast.specs.Places.{placed}

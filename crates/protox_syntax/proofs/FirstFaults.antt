@@ -4,12 +4,12 @@ use Rattle.std.specs.Prelude.{slice_get, filter}
 use Rattle.protox_fault.specs.Faults.{Span, faults_in, is_of_mode, span_from}
 use Rattle.protox_fault.specs.declared.error.ParseErrorKind.{ParseErrorKind}
 use Rattle.protox_fault.specs.declared.error.ParseErrorKind.TheVariants as fault
-use Rattle.protox_lexeme.proofs.FaultModes.{IsRowKind}
+use Rattle.protox_lexeme.proofs.Lemmas.{IsRowKind}
 use Rattle.protox_lexeme.specs.Lexemes.{Lexeme}
 use Rattle.protox_lexeme.specs.Printed.{printed}
 use Rattle.protox_lexeme.specs.Shapes.{Shape, Ident, Int, Float, Str, Mark, LineComment, BlockComment, Newline, Invalid, Row, Rows}
 use Rattle.protox_lexeme.specs.Table.{is_gap, row_faults, rows_of, table_of}
-use Rattle.protox_ast.proofs.Standing.{as-many, bare-placed}
+use Rattle.protox_ast.proofs.Lemmas.{as-many, bare-placed}
 use Rattle.protox_ast.specs.Basics.{Each, first_of}
 use Rattle.protox_ast.specs.CheckedNodes.{CheckedNode, ASyntax, AnImport, AReservedName, AGroupName, APackageAgain, ATooDeep, checked_nodes}
 use Rattle.protox_ast.specs.Checks.{WrongCheckedNode}
@@ -22,13 +22,11 @@ use Rattle.protox_ast.specs.Truth.{IsWrongBefore, IsWrongBehind, is_terminator, 
 use Rattle.protox_grammar.specs.Reader.{Refusal, Unexpected, ◌>>=◌}
 use Rattle.protox_grammar.specs.Reads.{read}
 use Rattle.protox_grammar.specs.Told.{is_invalid}
-use Rattle.protox_grammar.proofs.CleanFronts.{AreClearTo, AreToldTo, IsFirstLexeme, clean-all, clean-through, first-lexeme, row-there, row-valid}
-use Rattle.protox_grammar.proofs.DeepOutside.{mode-inside-all}
-use Rattle.protox_grammar.proofs.FrontModes.{begins-at, is_open_behind}
-use Rattle.protox_grammar.proofs.Fronts as fronts
-use Rattle.protox_grammar.proofs.Holding.{Holds, any-holds, holds-one}
-use Rattle.protox_grammar.proofs.NonePassed as passed
-use Rattle.protox_grammar.proofs.PlaceLaws.{placed-shapes}
+use Rattle.protox_grammar.proofs.Lemmas.{AreClearTo, AreToldTo, Holds, IsFirstLexeme, any-holds}
+use Rattle.protox_grammar.proofs.Lemmas.{begins-at, clean-all, clean-through, first-lexeme, holds-one}
+use Rattle.protox_grammar.proofs.Lemmas.{is_open_behind, mode-inside-all, placed-shapes, row-there}
+use Rattle.protox_grammar.proofs.Lemmas.{row-valid}
+use Rattle.protox_grammar.proofs.Lemmas as grammar
 use Rattle.protox_options.specs.inner.Options.{here}
 use Rattle.protox_syntax.specs.inner.ParsedTable.{AreMergedFaults}
 use Rattle.protox_syntax.specs.inner.Statements.{levels}
@@ -107,8 +105,8 @@ module _ (lexemes : List Lexeme) where
   clear-to n m h c k l = c k (omega (arith, h, l))
 
   -- the rows before are tokens
-  valid : (n : ℕ) → AreClearBelow (in_mode lexemes) (suc n) → passed.AreTokensTo n (rows lexemes)
-  valid n c = passed.tokens-to n (rows lexemes) (λ k r h e. token k r e (c k (omega (arith, h))))
+  valid : (n : ℕ) → AreClearBelow (in_mode lexemes) (suc n) → grammar.AreTokensTo n (rows lexemes)
+  valid n c = grammar.tokens-to n (rows lexemes) (λ k r h e. token k r e (c k (omega (arith, h))))
     where
       token : (k : ℕ) (r : Row Place) → slice_get (rows lexemes) k ≡ Some r → in_mode lexemes k ≡ [] → is_invalid r.shape ≡ false
       token k r e none =
@@ -119,7 +117,7 @@ module _ (lexemes : List Lexeme) where
   -- so no node is wrong that ends before
   none-before : (n : ℕ) → AreClearBelow (in_mode lexemes) n → ((j : ℕ) → j < n → IsFineTo lexemes j) → NoneIsWrongBefore lexemes n
   none-before zero c fine = λ k wrong l h. absurd (omega (arith, l))
-  none-before (suc n) c fine = (passed.none-passed lexemes here n (valid n c) (fine n (omega arith))).0
+  none-before (suc n) c fine = (grammar.none-passed lexemes here n (valid n c) (fine n (omega arith))).0
 
   -- ---- of a row
 
@@ -244,7 +242,7 @@ module _ (lexemes : List Lexeme) where
       at : (left : ℕ) → y.left ≡ left → IsUnexpected (shapes (rows_of lexemes)) (taken lexemes)
       at zero e = absurd (not-at-end errors y e)
       at (suc left) e =
-          let u = fronts.unexpected here levels left (rows lexemes) (not-read (Unexpected y.left) y.read ∙ ap (λ n. Err (Unexpected n)) e) in
+          let u = grammar.unexpected here levels left (rows lexemes) (not-read (Unexpected y.left) y.read ∙ ap (λ n. Err (Unexpected n)) e) in
           let same : u.0 ≡ taken lexemes = omega (arith, u.1, e, stops-at lexemes y.left y.read) in
           subst (λ n. IsUnexpected (shapes (rows_of lexemes)) n) same (subst (λ ss. IsUnexpected ss u.0) same-shapes u.2)
 
@@ -256,7 +254,7 @@ module _ (lexemes : List Lexeme) where
   of-end errors y =
       let n = length (rows_of lexemes) in
       let last : taken lexemes ≡ n = omega (arith, stops-at lexemes 0 y.read, many) in
-      let ended : IsEnded (shapes (rows_of lexemes)) = subst IsEnded same-shapes (fronts.ended here levels (rows lexemes) (not-read (Unexpected 0) y.read)) in
+      let ended : IsEnded (shapes (rows_of lexemes)) = subst IsEnded same-shapes (grammar.ended here levels (rows lexemes) (not-read (Unexpected 0) y.read)) in
       let before : AreClearBelow (in_mode lexemes) (suc n) = λ j l. y.before j (omega (arith, l)) in
       let clean = clean-all lexemes on (clear-to (suc n) (suc n) (omega arith) before) (told (suc n) (omega (arith, last))) in
       inr (y.is_said.0, record { ended = ended; clean = clean; none_before = none-before (suc n) before (λ j l. y.fine j) })

@@ -3,14 +3,14 @@ use Rattle.std.proofs.Common.{◌≡◌, inl, inr, ℕ, suc, List, [], ◌∷◌
 use Rattle.protox_fault.specs.Faults.{Span, span_from}
 use Rattle.protox_fault.specs.declared.error.ParseErrorKind.{ParseErrorKind}
 use Rattle.protox_fault.specs.declared.error.ParseErrorKind.TheVariants as fault
-use Rattle.protox_lexeme.proofs.FaultModes.{IsOwnKind, IsRowKind, kinds-of}
+use Rattle.protox_lexeme.proofs.Lemmas.{IsOwnKind, IsRowKind, kinds-of}
 use Rattle.protox_lexeme.specs.Lexemes.{Lexeme, cut}
 use Rattle.protox_lexeme.specs.Shapes.{Shape, Ident, Int, Float, Str, Mark, LineComment, BlockComment, Newline, Invalid}
 use Rattle.protox_lexeme.specs.Table.{invalid_faults, row_faults}
 use Rattle.protox_ast.specs.Basics.{Each, first_of}
 use Rattle.protox_ast.specs.FirstFault.{IsFirstFault, IsFirstOfLexemes}
 use Rattle.protox_ast.specs.Truth.{IsFirstOfLexeme, IsInvalidThere, IsTrueOf}
-use Rattle.protox_grammar.proofs.Holding.{Holds, holds-any, holds-right}
+use Rattle.protox_grammar.proofs.Lemmas.{Holds, holds-any, holds-right}
 use Rattle.protox_syntax.proofs.FirstFaults.{AreOfKinds, each-here}
 
 abbrev Faults : Type 0

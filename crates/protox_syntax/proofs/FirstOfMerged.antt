@@ -11,7 +11,7 @@ use Rattle.protox_lexeme.specs.Lexemes.{Lexeme}
 use Rattle.protox_lexeme.specs.Printed.{printed}
 use Rattle.protox_lexeme.specs.Shapes.{Row, Rows}
 use Rattle.protox_lexeme.specs.Table.{faults_of, rows_of, table_of}
-use Rattle.protox_ast.proofs.Standing.{as-many}
+use Rattle.protox_ast.proofs.Lemmas.{as-many}
 use Rattle.protox_ast.specs.Places.{Place}
 use Rattle.protox_grammar.specs.TagLaws.{placed_steps_by, placed_tokens}
 use Rattle.protox_grammar.specs.Noted.{trace}
@@ -19,16 +19,11 @@ use Rattle.protox_grammar.specs.Reader.{Unexpected}
 use Rattle.protox_grammar.specs.Steps.{Steps, tokens, until}
 use Rattle.protox_grammar.specs.Told.{Notes, first_behind, is_invalid, keyword_behind, past, told, then_notes, IsFaultless}
 use Rattle.protox_grammar.specs.declared.note.Noted.TheVariants.{Fault, TextFormat}
-use Rattle.protox_grammar.proofs.CheckedFirst.{FirstOf, IsCheckedFirst, checked-first, past-taken, taken-rows}
-use Rattle.protox_grammar.proofs.CleanFronts.{row-valid}
-use Rattle.protox_grammar.proofs.Falling.{AreAbove, told-in-order}
-use Rattle.protox_grammar.proofs.FineNotes.{faultless-first}
-use Rattle.protox_grammar.proofs.FrontModes.{is_open_behind, mode-of-all, mode-of-front}
-use Rattle.protox_grammar.proofs.Main as main
-use Rattle.protox_grammar.proofs.NotedModes.{mode_at}
-use Rattle.protox_grammar.proofs.StepLists.{until-front}
-use Rattle.protox_grammar.proofs.Takes.{bind_ok, ok_is}
-use Rattle.protox_grammar.proofs.Telling.{told-append}
+use Rattle.protox_grammar.proofs.Lemmas.{AreAbove, FirstOf, IsCheckedFirst, bind_ok, checked-first}
+use Rattle.protox_grammar.proofs.Lemmas.{faultless-first, is_open_behind, mode-of-all, mode-of-front}
+use Rattle.protox_grammar.proofs.Lemmas.{mode_at, ok_is, past-taken, row-valid, taken-rows}
+use Rattle.protox_grammar.proofs.Lemmas.{told-append, told-in-order, until-front}
+use Rattle.protox_grammar.proofs.Lemmas as main
 use Rattle.protox_options.specs.inner.Options.{here}
 use Rattle.protox_rows.specs.Expected.{words_of}
 use Rattle.protox_rows.specs.inner.Outcome.{Fails}

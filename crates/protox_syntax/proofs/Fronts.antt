@@ -14,8 +14,9 @@ use Rattle.protox_lexeme.specs.Lexicon.{is_blank, is_letter, is_mark, is_quote}
 use Rattle.protox_lexeme.specs.Scanning.{first, scan}
 use Rattle.protox_lexeme.specs.Shapes.{Invalid, Rows}
 use Rattle.protox_lexeme.specs.Table.{is_gap, in_front, rows_of, faults_of, row_faults, table_of}
-use Rattle.protox_lexeme.proofs.ScanMatch.{scan_case, scan_other, at_letter, at_digit, at_fraction, at_quote, at_hash, at_line, at_block, at_mark, at_newline, at_other}
-use Rattle.protox_lexeme.proofs.Step.{step_cut}
+use Rattle.protox_lexeme.proofs.Lemmas.{at_block, at_digit, at_fraction, at_hash, at_letter, at_line}
+use Rattle.protox_lexeme.proofs.Lemmas.{at_mark, at_newline, at_other, at_quote, scan_case}
+use Rattle.protox_lexeme.proofs.Lemmas.{scan_other, step_cut}
 use Rattle.protox_ast.specs.Places.{placed, placed_from}
 use Rattle.protox_grammar.specs.Reader.{head_in}
 use Rattle.protox_grammar.specs.Told.{is_invalid}

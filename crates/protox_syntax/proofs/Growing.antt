@@ -8,7 +8,7 @@ use Rattle.protox_ast.specs.declared.ast.File.{File}
 use Rattle.protox_ast.specs.declared.ast.FileItem.{FileItem}
 use Rattle.protox_ast.specs.declared.ast.Package as package_type
 use Rattle.protox_ast.specs.declared.ast.Syntax.{Syntax}
-use Rattle.protox_grammar.proofs.Stated.{or_first}
+use Rattle.protox_grammar.proofs.Lemmas.{or_first}
 use Rattle.protox_syntax.proofs.OneMore.{seen-more, spell-more}
 use Rattle.protox_syntax.proofs.RightFiles.{and_statement, right-more}
 use Rattle.protox_syntax.proofs.Turns.{first-added}
@@ -97,10 +97,6 @@ spell-all f [] = ap (λ st. s.spell (record { syntax = f.syntax; statements = st
 spell-all f (x ∷ xs) =
     ap (λ st. s.spell (record { syntax = f.syntax; statements = st })) (sym (append_assoc f.statements (x ∷ []) xs)) ∙ spell-all (and_statement f x) xs
     ∙ ap (λ l. l ++ s.many s.statement xs) (spell-more f x) ∙ append_assoc (s.spell f) (s.statement x) (s.many s.statement xs)
-
-pub syntax-all : (head : File) (xs : List statement_type.Statement) → (with_statements head xs).syntax ≡ head.syntax
-syntax-all head [] = refl
-syntax-all head (x ∷ xs) = syntax-all (with_statement head x) xs ∙ syntax-with head x
 
 -- the place of the first package statement behind some statements
 abbrev pub place_behind : Option Span → List (tree.Statement Place) → Option Span

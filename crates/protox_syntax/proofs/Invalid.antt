@@ -6,13 +6,13 @@ use Rattle.protox_fault.specs.declared.error.ParseErrorKind.{ParseErrorKind}
 use Rattle.protox_fault.specs.declared.error.ParseErrorKind.TheVariants as fault
 use Rattle.protox_lexeme.specs.Printed.{printed}
 use Rattle.protox_lexeme.specs.Table.{Table}
-use Rattle.protox_ast.proofs.Standing.{as-many}
+use Rattle.protox_ast.proofs.Lemmas.{as-many}
 use Rattle.protox_lexeme.specs.Shapes.{Shape, Invalid, Row, Rows}
 use Rattle.protox_ast.specs.Places.{Place, placed, placed_from}
 use Rattle.protox_grammar.specs.Class.{all, in_set}
 use Rattle.protox_grammar.specs.Reader.{Unexpected, fixed, gathered, head_in, star, star_at, ◌>>=◌}
 use Rattle.protox_grammar.specs.Told.{checked, is_invalid, then_notes}
-use Rattle.protox_grammar.proofs.Stated.{stated-turn}
+use Rattle.protox_grammar.proofs.Lemmas.{stated-turn}
 use Rattle.protox_blocks.specs.inner.Services.{service}
 use Rattle.protox_syntax.specs.AllFaults.{refusal, row_at}
 use Rattle.protox_syntax.specs.inner.ParsedTable.{IsTableOf, total_of}

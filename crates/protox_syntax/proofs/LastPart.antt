@@ -12,8 +12,7 @@ use Rattle.protox_fault.specs.declared.error.SyntaxFailure.TheVariants.{Faults}
 use Rattle.protox_lexeme.specs.Lexemes.{Lexeme}
 use Rattle.protox_lexeme.specs.Shapes.{Row, Rows}
 use Rattle.protox_lexeme.specs.Table.{Table, gaps_of, is_gap, rows_of, table_of}
-use Rattle.protox_ast.proofs.SpansStand.{each-back, each-front}
-use Rattle.protox_ast.proofs.Standing.{as-many}
+use Rattle.protox_ast.proofs.Lemmas.{as-many, each-back, each-front}
 use Rattle.protox_ast.specs.Accepted.{Fits}
 use Rattle.protox_ast.specs.AstParts.{last_place, rows_span}
 use Rattle.protox_ast.specs.Basics.{Each}
@@ -26,7 +25,7 @@ use Rattle.protox_ast.specs.declared.ast.Syntax.{Syntax}
 use Rattle.protox_grammar.specs.Class.{all, in_set}
 use Rattle.protox_grammar.specs.Reader.{◌>>=◌, gathered, head_in, star}
 use Rattle.protox_grammar.specs.Told.{Notes, is_invalid}
-use Rattle.protox_rows.proofs.Turns as turns
+use Rattle.protox_rows.proofs.Lemmas as turns
 use Rattle.protox_rows.specs.inner.Notes.{AddsTo}
 use Rattle.protox_rows.specs.declared.refused.Refused.{Refused}
 use Rattle.protox_rows.specs.declared.refused.Refused.TheVariants.{OutOfMemory, At, TooDeep}

@@ -2,12 +2,12 @@
 use Rattle.std.proofs.Common.{◌≡◌, ◌<◌, ◌≤◌, ℕ, zero, suc, ◌+◌, ◌-◌, Bool, true, false, cond, List, [], ◌∷◌, ◌++◌, drop, length, Option, Result, Ok, Err, refl, sym, ap, subst, ◌∙◌, append_assoc, arith, inl, inr}
 use Rattle.std.proofs.lemmas.Bool.{cases_lt, lt-ltb, le-ltb}
 use Rattle.std.proofs.lemmas.List.{length-append}
-use Rattle.std.specs.Prelude.{eqb, nat_lt}
+use Rattle.std.specs.Prelude.{nat_lt}
 use Rattle.protox_fault.specs.Faults.{Span}
 use Rattle.protox_fault.specs.declared.error.ParseErrorKind.{ParseErrorKind}
 use Rattle.protox_lexeme.specs.Shapes.{Row, Rows}
 use Rattle.protox_lexeme.specs.Table.{Table}
-use Rattle.protox_ast.proofs.Standing.{as-many}
+use Rattle.protox_ast.proofs.Lemmas.{as-many}
 use Rattle.protox_ast.specs.KeywordWalk as k
 use Rattle.protox_ast.specs.Places.{Place, placed}
 use Rattle.protox_ast.specs.Tree as tree
@@ -15,12 +15,9 @@ use Rattle.protox_grammar.specs.Bodies as bodies
 use Rattle.protox_grammar.specs.Reader.{Consumes, Refusal, Unexpected, Deep}
 use Rattle.protox_grammar.specs.Steps.{Steps}
 use Rattle.protox_grammar.specs.Told.{Notes, first_behind, told}
-use Rattle.protox_grammar.proofs.Depths.{body-laws}
-use Rattle.protox_grammar.proofs.Messages as messages
-use Rattle.protox_grammar.proofs.Reading.{map_err}
-use Rattle.protox_grammar.proofs.Shows.{as_is, shows-eats}
+use Rattle.protox_grammar.proofs.Lemmas.{as_is, body-laws, map_err, shows-eats}
+use Rattle.protox_grammar.proofs.Lemmas as messages
 use Rattle.protox_options.specs.inner.Options.{here}
-use Rattle.protox_rows.proofs.Turns.{all_read}
 use Rattle.protox_rows.specs.inner.Outcome.{Fails}
 use Rattle.protox_rows.specs.declared.refused.Refused.{Refused}
 use Rattle.protox_rows.specs.declared.refused.Refused.TheVariants.{OutOfMemory, At, TooDeep}
@@ -183,9 +180,6 @@ leads-end t notes q [] e v = (v.found, v.alike, v.rest)
 leads-end t notes q (r ∷ rs) e v = absurd cc
 
 -- ---- turns of the loops
-
-pub leads-over : (t : Table) (notes : Notes) (q : Option Span) (rows : Rows Place) → eqb (length rows) 0 ≡ true → Leads t notes q rows → Ends t notes
-leads-over t notes q rows e v = leads-end t notes q rows (all_read rows e) v
 
 pub leads-more : (t : Table) (notes : Notes) (q : Option Span) (xs ys : Rows Place) (x : statement_type.Statement) (new : Notes) → Leads t notes q xs → statement.code xs ≡ Ok (x, ys) → new ≡ notes ++ statement.notes q xs → Leads t new (next_first q x) ys
 leads-more t notes q [] ys x new v e added = absurd (omega (arith, statement-eats [] (x, ys) e))

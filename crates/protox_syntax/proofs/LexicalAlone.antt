@@ -19,8 +19,7 @@ use Rattle.protox_grammar.specs.TagLaws.{placed_tokens}
 use Rattle.protox_grammar.specs.Reader.{Unexpected, Deep}
 use Rattle.protox_grammar.specs.Reads.{read}
 use Rattle.protox_grammar.specs.Told.{Notes, IsFaultless}
-use Rattle.protox_grammar.proofs.Main as main
-use Rattle.protox_grammar.proofs.ModeFaults as mode
+use Rattle.protox_grammar.proofs.Lemmas as grammar
 use Rattle.protox_options.specs.inner.Options.{here}
 use Rattle.protox_rows.specs.inner.Outcome.{Fails}
 use Rattle.protox_rows.specs.declared.refused.Refused.{Refused}
@@ -42,7 +41,7 @@ each-valid [] h = tt
 each-valid (x ∷ xs) h = modes.valid-by x xs (is_gap x.shape) h.0 (each-valid xs h.1)
 
 -- the entries one by one, from the first on
-from-first : (lexemes : List Lexeme) (on : ℕ → Bool) (low n : ℕ) → all_from (λ k. faults_in (on k) (slice_index_or (faults_of lexemes) k [])) low n ≡ mode.all_from lexemes on low n
+from-first : (lexemes : List Lexeme) (on : ℕ → Bool) (low n : ℕ) → all_from (λ k. faults_in (on k) (slice_index_or (faults_of lexemes) k [])) low n ≡ grammar.all_from lexemes on low n
 from-first lexemes on low zero = refl
 from-first lexemes on low (suc n) =
     all-first (λ k. faults_in (on k) (slice_index_or (faults_of lexemes) k [])) low n
@@ -67,11 +66,11 @@ module _ (lexemes : List Lexeme) (f : tree.File Place) (spelled : Spells (placed
       let same = all-same (seen_faults (faults_of lexemes) total (all_notes rows)) (λ k. faults_in (on k) (slice_index_or (faults_of lexemes) k [])) 0 total
       (λ k a b. ap (λ v. faults_in v (slice_index_or (faults_of lexemes) k [])) (modes.mode-is lexemes f spelled deep k (omega (arith, b)))) in
       let count : total ≡ suc (length (rows_of lexemes)) = omega arith in
-      subst (AreFaultsOf lexemes) (sym (exact ∙ same ∙ from-first lexemes on 0 total ∙ ap (mode.all_from lexemes on 0) count))
-      (mode.faults-are lexemes on (λ k h. (modes.is_inside lexemes f spelled deep k, modes.is_on lexemes f spelled deep k)))
+      subst (AreFaultsOf lexemes) (sym (exact ∙ same ∙ from-first lexemes on 0 total ∙ ap (grammar.all_from lexemes on 0) count))
+      (grammar.faults-are lexemes on (λ k h. (modes.is_inside lexemes f spelled deep k, modes.is_on lexemes f spelled deep k)))
 
   is-read : read levels rows ≡ Ok f
-  is-read = (main.accepts_iff here levels rows f).1 (spelled, deep)
+  is-read = (grammar.accepts_iff here levels rows f).1 (spelled, deep)
 
   refused-not : (e : Refused) (at_refusal : Notes) → Fails e (whole rows) → AreRefusalNotes (table_of lexemes).rows e at_refusal → ⊥
   refused-not refused.OutOfMemory at_refusal h g = g

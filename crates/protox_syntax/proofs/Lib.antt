@@ -55,3 +55,4 @@ pub mod OnWay
 pub mod LastPart
 pub mod PartRead
 pub mod Answering
+pub mod Lemmas

@@ -9,7 +9,7 @@ use Rattle.protox_grammar.specs.Told.{Notes, IsNoFault, IsFaultless}
 use Rattle.protox_grammar.specs.declared.note.Note.{Note}
 use Rattle.protox_grammar.specs.declared.note.Noted.{Noted}
 use Rattle.protox_grammar.specs.declared.note.Noted.TheVariants.{Fault, TextFormat}
-use Rattle.protox_grammar.proofs.NotedModes.{mode_at, mode_of}
+use Rattle.protox_grammar.proofs.Lemmas.{mode_at, mode_of}
 use Rattle.protox_syntax.specs.inner.Merge.{Progress, progress, faults_of_rows, read_until, rows_to_read, with_noted, noted_in, merge_notes, beginning, merged_faults}
 use Rattle.protox_syntax.proofs.Merging.{Fall, unset}
 
@@ -83,10 +83,6 @@ module _ (faults : List Faults) (total : ℕ) where
   abbrev pub seen_faults : Notes → ℕ → Faults
   seen_faults ns k = in_mode false ns k
 
-  -- The faults of a row depend only on the notes before it.
-  pub row-of-front : (l k : ℕ) (a b : Notes) → Fall l b → k < total - l → seen_faults (a ++ b) k ≡ seen_faults a k
-  row-of-front l k a b h g = ap (λ v. faults_in v (slice_index_or faults k [])) (mode-of-front false (total - suc k) l a b h (omega (arith, g)))
-
   faults_of_rows-all : (b : Bool) (low n : ℕ) → faults_of_rows b faults low n ≡ all_from (in_mode b []) low n
   faults_of_rows-all b low zero = refl
   faults_of_rows-all b low (suc n) = ap (λ v. v ++ faults_in b (slice_index_or faults (low + n) [])) (faults_of_rows-all b low n)
@@ -142,12 +138,6 @@ module _ (faults : List Faults) (total : ℕ) where
       grows-on (read_until faults total l p).errors q.errors (read_until faults total left (merge_notes faults total xs r)).errors
       (further l x.left p h.0)
       (grows-on q.errors r.errors (read_until faults total left (merge_notes faults total xs r)).errors (noted-grows x.noted q) (rest-grows xs left r))
-
-  -- The list up to some row is a front of each list with more notes.
-  pub merged_faults-extends : (a b : Notes) (l left : ℕ) → Fall l b → left ≤ l → (more : Faults) × (merged_faults faults total (a ++ b) left ≡ merged_faults faults total a l ++ more)
-  merged_faults-extends a b l left h g =
-      let r = past l left b (merge_notes faults total a beginning) h g in
-      (r.0, ap (λ q. (read_until faults total left q).errors) (merge_notes-both a b beginning) ∙ r.1)
 
   -- A noted fault follows the list up to where it is noted.
   pub merged_faults-note : (a b : Notes) (f : ParseErrorKind) (l left : ℕ) → (more : Faults) × (merged_faults faults total (a ++ note_at l (Fault f) ∷ b) left ≡ merged_faults faults total a l ++ f ∷ more)

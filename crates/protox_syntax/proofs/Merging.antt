@@ -10,9 +10,8 @@ use Rattle.protox_grammar.specs.Told.{Notes, IsNoFault, IsFaultless}
 use Rattle.protox_grammar.specs.declared.note.Note.{Note}
 use Rattle.protox_grammar.specs.declared.note.Noted.{Noted}
 use Rattle.protox_grammar.specs.declared.note.Noted.TheVariants.{Fault, TextFormat}
-pub use Rattle.protox_grammar.proofs.Falling.{Fall}
-use Rattle.protox_grammar.proofs.NotedModes.{mode_at, mode_of}
-use Rattle.protox_grammar.proofs.Telling.{AllLie, NotedLies}
+pub use Rattle.protox_grammar.proofs.Lemmas.{Fall}
+use Rattle.protox_grammar.proofs.Lemmas.{AllLie, NotedLies, mode_at, mode_of}
 use Rattle.protox_syntax.specs.inner.Merge.{Progress, progress, faults_of_rows, read_until, rows_to_read, with_noted, noted_in, merge_notes, beginning, merged_faults}
 use Rattle.protox_syntax.proofs.Entries.{append-empty, each-in}
 

@@ -8,8 +8,8 @@ use Rattle.protox_fault.specs.declared.error.ParseErrorKind.{ParseErrorKind}
 use Rattle.protox_lexeme.specs.Lexemes.{Lexeme}
 use Rattle.protox_lexeme.specs.Shapes.{Shape, Ident, Int, Float, Str, Mark, LineComment, BlockComment, Newline, Invalid, Row, Rows}
 use Rattle.protox_lexeme.specs.Table.{faults_of, is_gap, rows_of, table_of}
-use Rattle.protox_lex.proofs.Tables.{faults_of_length}
-use Rattle.protox_ast.proofs.Standing.{as-many}
+use Rattle.protox_lex.proofs.Lemmas.{faults_of_length}
+use Rattle.protox_ast.proofs.Lemmas.{as-many}
 use Rattle.protox_ast.specs.AstParts.{strings_span, strings_value, text_of}
 use Rattle.protox_ast.specs.CheckedNodes.{CheckedNode, ASyntax, AnImport, AReservedName, AGroupName, APackageAgain, ATooDeep}
 use Rattle.protox_ast.specs.Checks.{NothingWrong}
@@ -29,15 +29,10 @@ use Rattle.protox_grammar.specs.declared.note.Note as note_type
 use Rattle.protox_grammar.specs.declared.note.Noted.{Noted}
 use Rattle.protox_grammar.specs.declared.note.Noted.TheVariants.{Fault, TextFormat}
 use Rattle.protox_grammar.specs.Told.{Notes, at_once, behind, group_faults, ident_faults, is_invalid, node_notes, noted, run_note, path_faults, syntax_faults, text_faults, told, AreValidTokens, IsFaultless, IsNoFault}
-use Rattle.protox_grammar.proofs.CleanModes.{clean-modes, in-none}
-use Rattle.protox_grammar.proofs.FineNotes.{faultless-first, faultless-last}
-use Rattle.protox_grammar.proofs.InsideLaws as insides
-use Rattle.protox_grammar.proofs.Main as main
-use Rattle.protox_grammar.proofs.TakenSteps.{none-deep, taken}
-use Rattle.protox_grammar.proofs.NotedModes.{mode_at, told-mode}
-use Rattle.protox_grammar.proofs.NotedWrong.{noted-wrong}
-use Rattle.protox_grammar.proofs.PlaceLaws.{noted_alike}
-use Rattle.protox_grammar.proofs.StepLists.{shallow-ends, until-note}
+use Rattle.protox_grammar.proofs.Lemmas.{clean-modes, faultless-first, faultless-last, in-none}
+use Rattle.protox_grammar.proofs.Lemmas.{mode_at, none-deep, noted-wrong, noted_alike, shallow-ends}
+use Rattle.protox_grammar.proofs.Lemmas.{taken, told-mode, until-note}
+use Rattle.protox_grammar.proofs.Lemmas as grammar
 use Rattle.protox_options.specs.inner.Options.{here}
 use Rattle.protox_syntax.specs.inner.Statements.{levels}
 use Rattle.protox_syntax.specs.inner.Merge.{merged_faults}
@@ -176,7 +171,7 @@ module _ (lexemes : List Lexeme) (f : tree.File Place) (spelled : Spells (placed
 
   tokens-are : tokens (trace levels rows) ≡ rows
   unfolding bodies.file
-  tokens-are = ap tokens (taken lexemes f spelled deep).same ∙ (main.laws here levels).traced.rows f ∙ sym (spelled.0)
+  tokens-are = ap tokens (taken lexemes f spelled deep).same ∙ (grammar.laws here levels).traced.rows f ∙ sym (spelled.0)
 
   flat : (n : ℕ) → is_too_deep_by lexemes n ≡ false
   flat n = sym (noted_alike lexemes n).too_deep ∙ none-deep (trace levels rows) n (taken lexemes f spelled deep).shallow
@@ -199,13 +194,13 @@ module _ (lexemes : List Lexeme) (f : tree.File Place) (spelled : Spells (placed
     | inr le ↦
         let open_now = sym ((noted_alike lexemes n).is_open false) ∙ sym (on-within n le) ∙ e in
         let took = sym (noted_alike lexemes n).taken ∙ taken-until n (trace levels rows) (taken lexemes f spelled deep).shallow (subst (λ (v : Rows Place). n ≤ length v) (sym tokens-are) le) in
-        insides.open_is_inside lexemes n (flat n) took open_now
+        grammar.open_is_inside lexemes n (flat n) took open_now
   ]
 
   pub is_on : (n : ℕ) → Inside lexemes n → on n ≡ true
   is_on n i =
       let le : n ≤ length rows = omega (arith, i.1.there, many, shapes-many (rows_of lexemes)) in
-      on-within n le ∙ (noted_alike lexemes n).is_open false ∙ insides.inside_is_open lexemes n (flat n) i
+      on-within n le ∙ (noted_alike lexemes n).is_open false ∙ grammar.inside_is_open lexemes n (flat n) i
 
   abbrev pub total : ℕ
   total = length (rows_of lexemes) + 1
@@ -233,7 +228,7 @@ module _ (lexemes : List Lexeme) (f : tree.File Place) (spelled : Spells (placed
 
   keeps : k.Each (bodies.StatementHas k.KeepsMbody) f.statements
   unfolding bodies.file
-  keeps = main.may-of here levels f spelled.1
+  keeps = grammar.may-of here levels f spelled.1
 
   pub wrong : AreValidTokens rows → IsFaultless (all_notes rows) ↔ NothingWrong f
   wrong a =

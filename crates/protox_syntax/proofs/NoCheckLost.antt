@@ -23,11 +23,9 @@ use Rattle.protox_grammar.specs.Steps.{until}
 use Rattle.protox_grammar.specs.Told.{Notes, first_behind, is_invalid, keyword_behind, past, told}
 use Rattle.protox_grammar.specs.declared.note.Noted.{Noted}
 use Rattle.protox_grammar.specs.declared.note.Noted.TheVariants.{Fault, TextFormat}
-use Rattle.protox_grammar.proofs.FirstWords.{placed-worded, same-told}
-use Rattle.protox_grammar.proofs.Holding.{Holds, any-holds, holds-left, holds-one, holds-right}
-use Rattle.protox_grammar.proofs.PlaceLaws.{noted_alike, wrong_alike}
-use Rattle.protox_grammar.proofs.StepLists.{until-front}
-use Rattle.protox_grammar.proofs.Telling.{told-append}
+use Rattle.protox_grammar.proofs.Lemmas.{Holds, any-holds, holds-left, holds-one, holds-right}
+use Rattle.protox_grammar.proofs.Lemmas.{noted_alike, placed-worded, same-told, told-append}
+use Rattle.protox_grammar.proofs.Lemmas.{until-front, wrong_alike}
 use Rattle.protox_options.specs.inner.Options.{here}
 use Rattle.protox_syntax.specs.inner.ParsedTable.{AreMergedFaults, ParsesTable, RefusesTable, unknown_syntax, unexpected_row, refused_statement, all_read}
 use Rattle.protox_syntax.specs.LostChecks.{IsCheckedBefore, NoCheckIsLost, NoneIsLost}

@@ -20,17 +20,11 @@ use Rattle.protox_grammar.specs.TagLaws.{no_place}
 use Rattle.protox_grammar.specs.Noted.{noted_nodes, steps, trace}
 use Rattle.protox_grammar.specs.Reader.{head_in, is_string}
 use Rattle.protox_grammar.specs.Steps.{Steps, has_deep, tokens, until}
-use Rattle.protox_grammar.proofs.DeepNoted.{too_deep_is_noted}
-use Rattle.protox_grammar.proofs.Holding.{Holds, any-holds, holds-one}
-use Rattle.protox_grammar.proofs.Located.{Located, locate}
-use Rattle.protox_grammar.proofs.Main as main
-use Rattle.protox_grammar.proofs.NotedFiles.{file-noted}
-use Rattle.protox_grammar.proofs.NotedTrue.{noted-front}
-use Rattle.protox_grammar.proofs.Numbers.{numbered-at, string-at}
-use Rattle.protox_grammar.proofs.PassedOver as passed
-use Rattle.protox_grammar.proofs.Placing.{ArePlaced, last_row, is_string_row, last-past, placed-front}
-use Rattle.protox_grammar.proofs.Reading.{cut-same}
-use Rattle.protox_grammar.proofs.StepLists.{tokens-append, until-at-most, until-front}
+use Rattle.protox_grammar.proofs.Lemmas.{ArePlaced, Holds, Located, any-holds, cut-same, file-noted}
+use Rattle.protox_grammar.proofs.Lemmas.{holds-one, is_string_row, last-past, last_row, locate}
+use Rattle.protox_grammar.proofs.Lemmas.{noted-front, numbered-at, placed-front, string-at}
+use Rattle.protox_grammar.proofs.Lemmas.{tokens-append, too_deep_is_noted, until-at-most, until-front}
+use Rattle.protox_grammar.proofs.Lemmas as grammar
 use Rattle.protox_syntax.specs.LostChecks.{EndsReading, IsReached}
 use Rattle.protox_syntax.proofs.NodesTold.{AreNumbered, told-of}
 
@@ -78,10 +72,10 @@ module _ (lexemes : List Lexeme) (n : ℕ) (f : t.File ℕ) (go : GoesOn (shapes
   more = numbered (0 + length (take n all_shapes)) go.more
 
   all-tokens : tokens (steps 31 f) ≡ s.spell f
-  all-tokens = (main.laws 0 31).traced.rows f ∙ main.spelling 0 31 f
+  all-tokens = (grammar.laws 0 31).traced.rows f ∙ grammar.spelling 0 31 f
 
   placed : ArePlaced None (steps 31 f) []
-  placed = (main.laws 0 31).traced.placed f [] (main.ends-of 0 31 f go.spells.1)
+  placed = (grammar.laws 0 31).traced.placed f [] (grammar.ends-of 0 31 f go.spells.1)
 
   -- Reading takes the steps of the file up to there, and ...
   abbrev pub IsSame : Type 0
@@ -108,7 +102,7 @@ module _ (lexemes : List Lexeme) (n : ℕ) (f : t.File ℕ) (go : GoesOn (shapes
         let all : Holds (λ u. u ≡ x) (noted_nodes None 0 (steps 31 f)) = subst (λ v. Holds (λ u. u ≡ x) (noted_nodes None 0 v)) (sym later.1) (noted-front (λ u. u ≡ x) None 0 (steps_by lexemes n) later.0 h) in
         let v = told-of (λ (k : ℕ). no_place) (MessageNestingTooDeep no_place.span) 0 None (steps_by lexemes n) (tokens later.0 ++ []) steps-placed tt steps-numbered None 0 [] x h in
         let most : length (tokens (steps_by lexemes n)) ≤ n = until-at-most n (trace levels (tokens_of lexemes)) in
-        ((file-noted (λ u. u ≡ x) 0 f (main.may-of 0 31 f go.spells.1)).0 all, omega (arith, v.at, v.within, most))
+        ((file-noted (λ u. u ≡ x) 0 f (grammar.may-of 0 31 f go.spells.1)).0 all, omega (arith, v.at, v.within, most))
 
   module _ (node : CheckedNode ℕ) (ends : suc (node_end node) ≡ n) (whole : is_run node ≡ true → is_string (source_row (rows_of lexemes) n).shape ≡ false) where
     abbrev IsNode : CheckedNode ℕ → Type 0
@@ -119,14 +113,14 @@ module _ (lexemes : List Lexeme) (n : ℕ) (f : t.File ℕ) (go : GoesOn (shapes
         let spelled : s.spell f ≡ v.before ++ (v.here ∷ v.behind) = sym all-tokens ∙ v.parts in
         let at : v.here.at ≡ 0 + length v.before = numbered-at 0 (take n all_shapes ++ go.more) v.before v.here v.behind (go.spells.0 ∙ spelled) in
         let end : suc (length v.before) ≡ n = omega (arith, at, v.facts.0, ap node_end v.holds, ends) in
-        let cuts : front ++ more ≡ (v.before ++ (v.here ∷ [])) ++ v.behind = sym (passed.file-is lexemes n f go) ∙ spelled ∙ sym (append_assoc v.before (v.here ∷ []) v.behind) in
-        let len : length more ≡ length v.behind = omega (arith, ap length cuts, length-append front more, length-append (v.before ++ (v.here ∷ [])) v.behind, length-append v.before (v.here ∷ []), passed.front-length lexemes n f go, end) in
+        let cuts : front ++ more ≡ (v.before ++ (v.here ∷ [])) ++ v.behind = sym (grammar.file-is lexemes n f go) ∙ spelled ∙ sym (append_assoc v.before (v.here ∷ []) v.behind) in
+        let len : length more ≡ length v.behind = omega (arith, ap length cuts, length-append front more, length-append (v.before ++ (v.here ∷ [])) v.behind, length-append v.before (v.here ∷ []), grammar.front-length lexemes n f go, end) in
         let two = cut-same front (v.before ++ (v.here ∷ [])) more v.behind cuts len in
         let last : is_string_row (last_row None front) ≡ is_string v.here.shape = ap (λ u. is_string_row (last_row None u)) two.0 ∙ ap is_string_row (last-past None v.before v.here []) in
         let alike : is_string_row (last_row None front) ≡ true → head_in is_string rest ≡ head_in is_string more = λ g.
         let run : is_run v.node ≡ true = sym v.facts.1 ∙ sym last ∙ g in
         sym (string-at (rows_of lexemes) n _) ∙ whole (ap is_run (sym v.holds) ∙ run) ∙ sym (ap (head_in is_string) (two.1 ∙ sym (append-nil v.behind)) ∙ (v.facts.2 run).0) in
-        let same : IsSame = passed.same-steps lexemes n f go alike in
+        let same : IsSame = grammar.same-steps lexemes n f go alike in
         let cut : until (suc (length v.before)) (steps 31 f) ≡ steps_by lexemes n = ap (λ u. until u (steps 31 f)) end ∙ sym same in (
           same,
           elim v.seen [
@@ -137,7 +131,7 @@ module _ (lexemes : List Lexeme) (n : ℕ) (f : t.File ℕ) (go : GoesOn (shapes
 
     found-in : Holds IsNode (checked_nodes f) → IsSame × (Holds IsNode (noted_by lexemes n) ⊎ (is_too_deep_by lexemes n ≡ true))
     unfolding rule.file
-    found-in h = found (locate IsNode (steps 31 f) [] [] placed placed None 0 ((file-noted IsNode 0 f (main.may-of 0 31 f go.spells.1)).1 h))
+    found-in h = found (locate IsNode (steps 31 f) [] [] placed placed None 0 ((file-noted IsNode 0 f (grammar.may-of 0 31 f go.spells.1)).1 h))
 
     -- a node that ends reading by then is this node
     pub ends-here : IsSame → IsReached f n node → (x : CheckedNode ℕ) → EndsReading x → Holds (λ u. u ≡ x) (noted_by lexemes n) → x ≡ node

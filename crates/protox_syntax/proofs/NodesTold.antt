@@ -16,8 +16,8 @@ use Rattle.protox_grammar.specs.Steps.{Event, ANode, APackage, AKeyword, ADeepBo
 use Rattle.protox_grammar.specs.Told.{Notes, at_once, behind, brace_notes, is_invalid, node_notes, noted, path_faults, ident_faults, text_faults, told, unless_so}
 use Rattle.protox_grammar.specs.declared.note.Note as note_type
 use Rattle.protox_grammar.specs.declared.note.Noted.TheVariants.{Fault}
-use Rattle.protox_grammar.proofs.Holding.{Holds, holds-left, holds-right}
-use Rattle.protox_grammar.proofs.Placing.{ArePlaced, IsPlaced, event_end}
+use Rattle.protox_grammar.proofs.Lemmas.{ArePlaced, Holds, IsPlaced, event_end, holds-left}
+use Rattle.protox_grammar.proofs.Lemmas.{holds-right}
 
 -- the note of this fault
 abbrev pub IsOfFault : ParseErrorKind → note_type.Note → Type 0

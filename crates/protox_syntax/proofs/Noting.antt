@@ -1,7 +1,6 @@
 -- What is noted of a part, once some of its rows are read.
-use Rattle.std.proofs.Common.{◌≡◌, inl, inr, ℕ, suc, ◌+◌, Bool, true, false, List, [], ◌∷◌, ◌++◌, length, nat_eq, Some, None, refl, sym, ap, subst, ◌∙◌, append_assoc, true≢false, arith}
+use Rattle.std.proofs.Common.{◌≡◌, inl, inr, ℕ, suc, ◌+◌, true, false, List, [], ◌∷◌, ◌++◌, length, Some, None, refl, sym, ap, subst, ◌∙◌, append_assoc, true≢false}
 use Rattle.std.specs.Prelude.{slice_index_or}
-use Rattle.std.proofs.lemmas.Bool.{eqb-true}
 use Rattle.std.proofs.lemmas.List.{length-append}
 use Rattle.protox_fault.specs.Faults.{Span, span_from}
 use Rattle.protox_lexeme.specs.Lexemes.{Lexeme, cut}
@@ -10,8 +9,7 @@ use Rattle.protox_lexeme.specs.Table.{gaps_of, is_gap, rows_of, table_of}
 use Rattle.protox_ast.specs.AstParts.{last_place, rows_span}
 use Rattle.protox_ast.specs.Places.{Place}
 use Rattle.protox_ast.specs.declared.ast.File.{File}
-use Rattle.protox_ast.proofs.SpansStand.{each-append, each-front}
-use Rattle.protox_ast.proofs.Standing.{as-many}
+use Rattle.protox_ast.proofs.Lemmas.{as-many, each-append, each-front}
 use Rattle.protox_ast.specs.declared.ast.FileItem.{FileItem}
 use Rattle.protox_rows.specs.Rows.{bare_row}
 use Rattle.protox_syntax.proofs.Spans.{placed-span}
@@ -36,21 +34,12 @@ last-at : (span : Span) (a : Rows Span) (r : Row Span) → last_place (λ (x : R
 last-at span [] r = refl
 last-at span (x ∷ a) r = last-at x.at a r
 
-last-stop : (size : ℕ) (a : Rows Span) (r : Row Span) → (bare_span size (a ++ r ∷ [])).end ≡ r.at.end
-last-stop size [] r = refl
-last-stop size (x ∷ a) r = ap (λ (v : Span). v.end) (last-at x.at a r)
-
 -- The row of a lexeme stands behind those of the lexemes in front of it.
 pub row-at : (front : List Lexeme) (last : Lexeme) (left : List Lexeme) → is_gap last.shape ≡ false → slice_index_or (rows_of (front ++ last ∷ left)) (length (rows_of front)) bare_row ≡ row_of last
 row-at front last left row = ap (λ l. slice_index_or l (length (rows_of front)) bare_row) (rows-before front last left row) ∙ at-front (rows_of front) (row_of last) (rows_of left) bare_row
 
 pub row-count : (front : List Lexeme) (last : Lexeme) (left : List Lexeme) → is_gap last.shape ≡ false → length (rows_of (front ++ last ∷ left)) ≡ length (rows_of front) + suc (length (rows_of left))
 row-count front last left row = ap length (rows-before front last left row) ∙ length-append (rows_of front) (row_of last ∷ rows_of left)
-
--- No row is left.
-pub no-rows-left : (left : Rows Place) (none : Bool) → none ≡ nat_eq (length left) 0 → none ≡ true → left ≡ []
-no-rows-left [] none is h = refl
-no-rows-left (x ∷ left) none is h = absurd (omega (arith, eqb-true (length (x ∷ left)) 0 (sym is ∙ h)))
 
 -- ---- within a part
 

@@ -8,7 +8,7 @@ use Rattle.protox_ast.specs.declared.ast.FileItem.{FileItem}
 use Rattle.protox_grammar.specs.Class.{all, in_set}
 use Rattle.protox_grammar.specs.Reader.{◌>>=◌, gathered, head_in, star}
 use Rattle.protox_grammar.specs.Told.{Notes}
-use Rattle.protox_rows.proofs.Turns as turns
+use Rattle.protox_rows.proofs.Lemmas as turns
 use Rattle.protox_rows.specs.inner.Notes.{AddsTo}
 use Rattle.protox_rows.specs.inner.Outcome.{Fails}
 use Rattle.protox_rows.specs.inner.Words.{SaysOf}

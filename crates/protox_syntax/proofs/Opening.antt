@@ -12,8 +12,7 @@ use Rattle.protox_ast.specs.Spelling as s
 use Rattle.protox_ast.specs.Tree as tree
 use Rattle.protox_ast.specs.declared.ast.File.{File}
 use Rattle.protox_ast.specs.declared.ast.FileItem.{FileItem}
-use Rattle.protox_ast.proofs.SpansStand.{each-front}
-use Rattle.protox_ast.proofs.Standing.{as-many}
+use Rattle.protox_ast.proofs.Lemmas.{as-many, each-front}
 use Rattle.protox_syntax.specs.declared.parts.Part.{Part}
 use Rattle.protox_syntax.specs.declared.parts.Progress.{Progress}
 use Rattle.protox_syntax.specs.inner.Parts.{IsBetween, IsFlawless, IsInPart, IsNoted, IsOpen, IsPartOf, IsReached, lexemes_from, places, rows}

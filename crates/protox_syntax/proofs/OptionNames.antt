@@ -9,14 +9,11 @@ use Rattle.protox_lexeme.specs.Lexemes.{Lexeme, first_lexeme, blanks, cut}
 use Rattle.protox_lexeme.specs.Lexicon.{pattern, is_letter, is_word, is_mark, is_blank}
 use Rattle.protox_lexeme.specs.Scanning.{scan}
 use Rattle.protox_lexeme.specs.Shapes.{Shape, Ident, Mark, Rows}
-use Rattle.protox_lexeme.proofs.Cut.{cut_none, cut_some, first_moves}
-use Rattle.protox_lexeme.proofs.Fitting.{no_run}
-use Rattle.protox_lexeme.proofs.ScanMatch as scanned
+use Rattle.protox_lexeme.proofs.Lemmas.{cut_none, cut_some, first_moves, no_run}
+use Rattle.protox_lexeme.proofs.Lemmas as scanned
 use Rattle.protox_lex.specs.LexesBack.{ArePrintable}
 use Rattle.protox_lex.specs.Words.{IsWordOf}
-use Rattle.protox_lex.proofs.LexesBack.{LexesAs, run_to, front_is, rest_is, by_scan}
-use Rattle.protox_lex.proofs.NumbersBack.{word_passes}
-use Rattle.protox_lex.proofs.ShapesBack.{Gives}
+use Rattle.protox_lex.proofs.Lemmas.{Gives, LexesAs, by_scan, front_is, rest_is, run_to, word_passes}
 use Rattle.protox_ast.specs.AstParts as ast
 use Rattle.protox_ast.specs.Names.{dotted_part, type_name_text}
 use Rattle.protox_ast.specs.Names as names

@@ -12,9 +12,8 @@ use Rattle.protox_lexeme.specs.Lexicon.{is_word}
 use Rattle.protox_lexeme.specs.Printed as lexed
 use Rattle.protox_lexeme.specs.Shapes.{Shape, Ident, Int, Float, Str, Mark, LineComment, BlockComment, Newline, Invalid, Rows}
 use Rattle.protox_lex.specs.LexesBack.{AreBytes, IsPrintable, ArePrintable}
-use Rattle.protox_lex.proofs.LexesBack.{AtEnd, ident_lexes, mark_lexes}
-use Rattle.protox_lex.proofs.NumbersBack.{int_lexes, float_lexes}
-use Rattle.protox_lex.proofs.StringsBack.{printed_spells, spelled_lexes}
+use Rattle.protox_lex.proofs.Lemmas.{AtEnd, float_lexes, ident_lexes, int_lexes, mark_lexes}
+use Rattle.protox_lex.proofs.Lemmas.{printed_spells, spelled_lexes}
 use Rattle.protox_ast.specs.AstParts as ast
 use Rattle.protox_ast.specs.Options.{name_part, uninterpreted}
 use Rattle.protox_ast.specs.Places.{Place}

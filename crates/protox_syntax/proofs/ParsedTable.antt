@@ -9,16 +9,15 @@ use Rattle.protox_lexeme.specs.Printed.{printed}
 use Rattle.protox_lexeme.specs.Table.{Table, rows_of, faults_of, StandBetween}
 use Rattle.protox_fault.specs.declared.error.ParseErrorKind.{ParseErrorKind}
 use Rattle.protox_fault.specs.declared.error.ParseErrorKind.TheVariants.{UnexpectedToken, UnexpectedEof}
-use Rattle.protox_lexeme.proofs.Places.{stand, lie}
-use Rattle.protox_ast.proofs.Standing.{Stand, bare, bare-placed, as-many, count-fits}
+use Rattle.protox_lexeme.proofs.Lemmas.{lie, stand}
+use Rattle.protox_ast.proofs.Lemmas.{Stand, as-many, bare, bare-placed, count-fits}
 use Rattle.protox_ast.specs.Keywords.{Each}
 use Rattle.protox_ast.specs.Places.{Place, placed}
 use Rattle.protox_ast.specs.Tree as tree
 use Rattle.protox_grammar.specs.Reader.{Unexpected, Deep}
 use Rattle.protox_grammar.specs.Told.{Notes, is_invalid, then_notes, IsFaultless}
 use Rattle.protox_grammar.specs.declared.note.Noted.TheVariants.{TextFormat}
-use Rattle.protox_grammar.proofs.FineNotes.{faultless-first}
-use Rattle.protox_grammar.proofs.Telling.{AllLie, both-lie}
+use Rattle.protox_grammar.proofs.Lemmas.{AllLie, both-lie, faultless-first}
 use Rattle.protox_rows.specs.inner.Notes.{AddsTo}
 use Rattle.protox_rows.specs.inner.Outcome.{Fails}
 use Rattle.protox_rows.specs.inner.Words.{SaysOf}

@@ -4,7 +4,7 @@ use Rattle.std.specs.Prelude.{IfSome}
 use Rattle.protox_fault.specs.declared.error.ParseErrorKind.{ParseErrorKind}
 use Rattle.protox_fault.specs.declared.error.SyntaxFailure.{SyntaxFailure}
 use Rattle.protox_fault.specs.declared.error.SyntaxFailure.TheVariants.{Faults, OutOfMemory}
-use Rattle.protox_lexeme.proofs.FaultModes.{first-in-mode, kinds-of}
+use Rattle.protox_lexeme.proofs.Lemmas.{first-in-mode, kinds-of}
 use Rattle.protox_lexeme.specs.Lexemes.{cut}
 use Rattle.protox_lexeme.specs.Table.{table_of}
 use Rattle.protox_ast.specs.Basics.{first_of}

@@ -4,7 +4,7 @@ use Rattle.std.proofs.Common.{◌≡◌, suc, Bool, true, false, List, [], ◌�
 use Rattle.protox_fault.specs.Faults.{Span}
 use Rattle.protox_lexeme.specs.Shapes.{Rows}
 use Rattle.protox_lexeme.specs.Table.{Table}
-use Rattle.protox_ast.proofs.SpansStand.{each-front}
+use Rattle.protox_ast.proofs.Lemmas.{each-front}
 use Rattle.protox_ast.specs.CheckedNodes.{CheckedNode, APackageAgain, ATooDeep}
 use Rattle.protox_ast.specs.inner.Fine.{IsFine}
 use Rattle.protox_ast.specs.KeywordWalk as k
@@ -22,19 +22,14 @@ use Rattle.protox_grammar.specs.Rules as r
 use Rattle.protox_grammar.specs.Steps.{ANode, APackage, AKeyword, ADeepBody, ADeeperBody, AnOpenBrace, ACloseBrace, Token, Note, Steps, steps_of_many}
 use Rattle.protox_grammar.specs.Told.{Notes, IsFaultless, behind, checked, first_behind, is_invalid, keyword_behind, node_notes, past, place_of, then_notes, told}
 use Rattle.protox_grammar.specs.Token as token
-use Rattle.protox_grammar.proofs.Depths.{body-laws}
-use Rattle.protox_grammar.proofs.Falling.{AreAbove, none-noted-of, told-in-order}
-use Rattle.protox_grammar.proofs.FineNotes.{faultless-first, faultless-last, told-fine}
-use Rattle.protox_grammar.proofs.Forms.{Lawful, optional-laws, stops-none}
-use Rattle.protox_grammar.proofs.Kept as kept
-use Rattle.protox_grammar.proofs.Messages as messages
-use Rattle.protox_grammar.proofs.Outside.{Outside, file-outside}
-use Rattle.protox_grammar.proofs.Parts as parts
-use Rattle.protox_grammar.proofs.Sets.{gated, stops-then}
-use Rattle.protox_grammar.proofs.Stated.{first-append, noted-append, stated-turn}
-use Rattle.protox_grammar.proofs.Telling.{past-append, told-append}
+use Rattle.protox_grammar.proofs.Lemmas.{AreAbove, Lawful, Outside, body-laws, faultless-first}
+use Rattle.protox_grammar.proofs.Lemmas.{faultless-last, file-outside, first-append, gated}
+use Rattle.protox_grammar.proofs.Lemmas.{none-noted-of, noted-append, optional-laws, past-append}
+use Rattle.protox_grammar.proofs.Lemmas.{stated-turn, stops-none, stops-then, told-append, told-fine}
+use Rattle.protox_grammar.proofs.Lemmas.{told-in-order}
+use Rattle.protox_grammar.proofs.Lemmas as grammar
 use Rattle.protox_options.specs.inner.Options.{here}
-use Rattle.protox_rows.proofs.Turns.{more, more-words}
+use Rattle.protox_rows.proofs.Lemmas.{more, more-words}
 use Rattle.protox_rows.specs.inner.Words as words
 use Rattle.protox_syntax.proofs.AllFound.{leads-start}
 use Rattle.protox_syntax.proofs.Leading.{leads-more}
@@ -81,7 +76,7 @@ abbrev starts : Set
 starts = among (mark s.semicolon ∷ word (codes "import") ∷ word (codes "package") ∷ word (codes "option") ∷ word (codes "extend") ∷ word (codes "message") ∷ word (codes "enum") ∷ word (codes "service") ∷ [])
 
 laws : Lawful statement_rule false starts none
-laws = messages.statement-laws here k.KeepsMbody (bodies.FitsMbody levels) (bodies.unsealed levels).read (bodies.unsealed levels).steps (bodies.unsealed levels).trace (body-laws here levels)
+laws = grammar.statement-laws here k.KeepsMbody (bodies.FitsMbody levels) (bodies.unsealed levels).read (bodies.unsealed levels).steps (bodies.unsealed levels).trace (body-laws here levels)
 
 module _ (x : tree.Statement Place) (rest : Rows Place) (fits : Fits x) where
   -- anything may follow a statement
@@ -228,17 +223,17 @@ syntax-fits (Some x) = tt
 syntax-follows : (o : Option (tree.Syntax Place)) (rows : Rows Place) → (o ≡ None → Stops (only token.syntax) rows) → rule.Closes r.syntax.ends (only token.syntax) o rows
 unfolding r.syntax
 syntax-follows None rows stops = stops refl
-syntax-follows (Some x) rows stops = (parts.syntax-laws here).spelled.follow x rows tt (stops-none rows)
+syntax-follows (Some x) rows stops = (grammar.syntax-laws here).spelled.follow x rows tt (stops-none rows)
 
 module _ (t : Table) (o : Option (tree.Syntax Place)) (rows : Rows Place) (is : placed t ≡ s.maybe s.syntax o ++ rows) (stops : o ≡ None → Stops (only token.syntax) rows) where
   syntax-reads : syntax_rule.read (placed t) ≡ Ok (o, rows)
   unfolding r.syntax
   syntax-reads =
-      let l = optional-laws (only token.syntax) (parts.syntax-laws here) refl in
+      let l = optional-laws (only token.syntax) (grammar.syntax-laws here) refl in
       ap syntax_rule.read is ∙ l.read.again o rows (syntax-fits o) (syntax-follows o rows stops)
 
   syntax-traced : syntax_rule.trace (placed t) ≡ syntax_steps o
-  syntax-traced = (optional-laws (only token.syntax) (parts.syntax-laws here) refl).traced.ok (placed t) (o, rows) syntax-reads
+  syntax-traced = (optional-laws (only token.syntax) (grammar.syntax-laws here) refl).traced.ok (placed t) (o, rows) syntax-reads
 
   syntax-code : syntax_if_any.code (placed t) ≡ Ok (option_map syntax_seen o, rows)
   syntax-code = syntax_if_any.shows.same (placed t) ∙ ap (λ v. v >>= λ y. Ok (option_map syntax_seen y.0, y.1)) syntax-reads
@@ -271,7 +266,7 @@ module _ (t : Table) (o : Option (tree.Syntax Place)) (rows : Rows Place) (is : 
     start-before = ap (λ l. told None here l (placed t)) start-steps ∙ told-is ∙ no-notes
 
     start-first : first_in (begun o) ≡ None
-    start-first = ap (λ l. place_of (first_behind None l)) start-steps ∙ ap place_of (kept.syntax-first here None (placed t) (o, rows) syntax-reads)
+    start-first = ap (λ l. place_of (first_behind None l)) start-steps ∙ ap place_of (grammar.syntax-first here None (placed t) (o, rows) syntax-reads)
 
     at-start : head_in is_invalid (placed t) ≡ false → IsAt t (begun o) rows
     at-start valid = record {

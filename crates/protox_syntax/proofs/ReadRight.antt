@@ -20,17 +20,12 @@ use Rattle.protox_grammar.specs.Rule as rule
 use Rattle.protox_grammar.specs.Rules as r
 use Rattle.protox_grammar.specs.Told.{Notes, first_behind, AreValidTokens, IsFaultless, IsNoFault, place_of}
 use Rattle.protox_grammar.specs.Token as token
-use Rattle.protox_grammar.proofs.Depths.{body-laws}
+use Rattle.protox_grammar.proofs.Lemmas.{bind_ok, body-laws, fine-told, head-stops, ok_is}
+use Rattle.protox_grammar.proofs.Lemmas.{optional-laws, true-false}
 use Rattle.protox_grammar.specs.declared.note.Note.{Note}
 use Rattle.protox_grammar.specs.declared.note.Noted.{Noted}
 use Rattle.protox_grammar.specs.declared.note.Noted.TheVariants.{Fault, TextFormat}
-use Rattle.protox_grammar.proofs.FineNotes.{fine-told}
-use Rattle.protox_grammar.proofs.Forms.{optional-laws}
-use Rattle.protox_grammar.proofs.Kept as kept
-use Rattle.protox_grammar.proofs.Messages as messages
-use Rattle.protox_grammar.proofs.Parts as parts
-use Rattle.protox_grammar.proofs.Reading.{head-stops, true-false}
-use Rattle.protox_grammar.proofs.Takes.{bind_ok, ok_is}
+use Rattle.protox_grammar.proofs.Lemmas as grammar
 use Rattle.protox_options.specs.inner.Options.{here}
 use Rattle.protox_rows.specs.declared.refused.Refused.{Refused}
 use Rattle.protox_rows.specs.inner.Notes.{Adds}
@@ -44,7 +39,7 @@ unfolding bodies.statement
 statement-next first old new found valid e f =
     let p = bind_ok (statement_rule.read old) (λ y. Ok (statement_seen y.0, y.1)) (found, new) (sym (statement.shows.same old) ∙ e) in
     let same = ok_is (statement_seen p.0.0, p.0.1) (found, new) p.2 in
-    let l = messages.statement-laws here k.KeepsMbody (bodies.FitsMbody levels) (bodies.unsealed levels).read (bodies.unsealed levels).steps (bodies.unsealed levels).trace (body-laws here levels) in
+    let l = grammar.statement-laws here k.KeepsMbody (bodies.FitsMbody levels) (bodies.unsealed levels).read (bodies.unsealed levels).steps (bodies.unsealed levels).trace (body-laws here levels) in
     let took = l.read.takes old p.0 p.1 in
     let traced : statement_rule.trace old ≡ statement_rule.steps p.0.0 = l.traced.ok old p.0 p.1 in
     record {
@@ -71,7 +66,7 @@ unfolding r.syntax
 syntax-next old new found valid e f =
     let p = bind_ok (syntax_rule.read old) (λ y. Ok (option_map syntax_seen y.0, y.1)) (found, new) (sym (syntax_if_any.shows.same old) ∙ e) in
     let same = ok_is (option_map syntax_seen p.0.0, p.0.1) (found, new) p.2 in
-    let l = optional-laws (only token.syntax) (parts.syntax-laws here) refl in
+    let l = optional-laws (only token.syntax) (grammar.syntax-laws here) refl in
     let took = l.read.takes old p.0 p.1 in
     let traced : syntax_rule.trace old ≡ syntax_rule.steps p.0.0 = l.traced.ok old p.0 p.1 in
     record {
@@ -80,7 +75,7 @@ syntax-next old new found valid e f =
       seen = ap (λ (i : Option (Syntax × (Span × Comments)) × Rows Place). i.0) (sym same);
       fine = λ w. subst (λ t. Each IsFine (noted_nodes None w t)) traced
           (fine-told None w (syntax_rule.trace old) old valid (subst IsFaultless (sym (syntax_if_any.tells.says None w old)) f));
-      no_package = ap (first_behind None) (sym traced) ∙ kept.syntax-first here None old p.0 p.1;
+      no_package = ap (first_behind None) (sym traced) ∙ grammar.syntax-first here None old p.0 p.1;
       absent = absent-at p.0.0 old p.0.1 took.parts took.ends;
     }
 
@@ -95,10 +90,6 @@ none_faulty (n ∷ ns) h = let k = first-no-fault n.noted (list_all (λ (m : Not
 some-fault : (n : Noted) (b : Bool) → (is_no_fault n && b) ≡ false → IsNoFault n → b ≡ false
 some-fault (Fault f) b h k = absurd k
 some-fault (TextFormat open_now) b h k = h
-
-pub some_faulty : (notes : Notes) → list_all (λ (n : Note). is_no_fault n.noted) notes ≡ false → IsFaultless notes → ⊥
-some_faulty [] h k = absurd cc
-some_faulty (n ∷ ns) h k = some_faulty ns (some-fault n.noted (list_all (λ (m : Note). is_no_fault m.noted) ns) h k.0) k.1
 
 -- ---- what the code answers
 

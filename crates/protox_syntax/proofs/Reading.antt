@@ -2,7 +2,7 @@
 use Rattle.std.proofs.Common.{◌≡◌, ◌≤◌, ℕ, suc, true, [], ◌∷◌, ◌++◌, length, Option, Some, None, Result, Ok, Err, refl, sym, ap, subst, ◌∙◌, arith}
 use Rattle.std.proofs.lemmas.List.{length-append}
 use Rattle.protox_lexeme.specs.Shapes.{Rows}
-use Rattle.protox_ast.proofs.Standing.{Stand}
+use Rattle.protox_ast.proofs.Lemmas.{Stand}
 use Rattle.protox_ast.specs.Ast as ast
 use Rattle.protox_ast.specs.Places.{Place}
 use Rattle.protox_ast.specs.Spelling.{spell}
@@ -17,16 +17,11 @@ use Rattle.protox_grammar.specs.Rules as r
 use Rattle.protox_grammar.specs.Steps.{ANode, APackage, AKeyword, ADeepBody, ADeeperBody, AnOpenBrace, ACloseBrace, Token, Note, Steps, has_deep, star_trace, then_steps, tokens}
 use Rattle.protox_grammar.specs.Told.{behind, node_notes, first_behind, keyword_behind, past, told, then_notes, IsFaultless}
 use Rattle.protox_grammar.specs.Token as token
-use Rattle.protox_grammar.proofs.FineNotes.{faultless-last}
-use Rattle.protox_grammar.proofs.Kept as kept
-use Rattle.protox_grammar.proofs.Main as main
-use Rattle.protox_grammar.proofs.NotedFiles.{file-marks}
-use Rattle.protox_grammar.proofs.Notes.{IsShallow, notes, notes-append, shallow-front}
-use Rattle.protox_grammar.proofs.Reading.{map_err, err-ok}
-use Rattle.protox_grammar.proofs.Shows.{Shows, left-shows, seq-shows}
-use Rattle.protox_grammar.proofs.Stated.{all-lie, all-says}
-use Rattle.protox_grammar.proofs.Takes.{bind_ok, ok_is}
-use Rattle.protox_grammar.proofs.Telling.{AllLie, both-lie, then-lie, then-seen, told-append}
+use Rattle.protox_grammar.proofs.Lemmas.{AllLie, IsShallow, Shows, all-lie, all-says, bind_ok}
+use Rattle.protox_grammar.proofs.Lemmas.{both-lie, err-ok, faultless-last, file-marks, left-shows}
+use Rattle.protox_grammar.proofs.Lemmas.{map_err, notes, notes-append, ok_is, seq-shows}
+use Rattle.protox_grammar.proofs.Lemmas.{shallow-front, then-lie, then-seen, told-append}
+use Rattle.protox_grammar.proofs.Lemmas as grammar
 use Rattle.protox_options.specs.inner.Options.{here}
 use Rattle.protox_syntax.specs.inner.ParsedTable.{built_file}
 use Rattle.protox_syntax.specs.inner.Statements.{levels, statement, statement_rule, statements-shows, syntax_if_any, notes_behind}
@@ -40,12 +35,6 @@ file_rule = bodies.file (bodies.mbody_at levels)
 pub whole-shows : Shows file_seen file_rule.read whole
 unfolding bodies.file whole
 whole-shows = left-shows _ file_seen (λ x. refl) (seq-shows syntax_if_any.shows statements-shows)
-
-pub read-whole : (xs : Rows Place) (f : tree.File Place) → read levels xs ≡ Ok f → (rest : Rows Place) × (whole xs ≡ Ok (file_seen f, rest))
-unfolding read
-read-whole xs f e =
-    let p = bind_ok (file_rule.read xs) (λ x. Ok x.0) f e in
-    (p.0.1, whole-shows.same xs ∙ ap (λ v. v >>= λ y. Ok (file_seen y.0, y.1)) p.1 ∙ ap (λ v. Ok (file_seen v, p.0.1)) (ok_is p.0.0 f p.2))
 
 -- the code reads a file
 pub whole-read : (xs : Rows Place) (v : Whole) (rest : Rows Place) → whole xs ≡ Ok (v, rest) → (f : tree.File Place) × (read levels xs ≡ Ok f) × (file_seen f ≡ v)
@@ -71,7 +60,7 @@ built_file-is size f = at f.syntax
 
 -- rows that are read as a file spell it
 pub built_file-of : (size : ℕ) (xs : Rows Place) (f : tree.File Place) → read levels xs ≡ Ok f → built_file size xs (file_seen f) ≡ ast.file size f
-built_file-of size xs f e = ap (λ v. built_file size v (file_seen f)) ((main.accepts_iff here levels xs f).0 e).0.0 ∙ built_file-is size f
+built_file-of size xs f e = ap (λ v. built_file size v (file_seen f)) ((grammar.accepts_iff here levels xs f).0 e).0.0 ∙ built_file-is size f
 
 -- ---- notes
 
@@ -90,7 +79,7 @@ file-told xs =
         (then_steps q (λ x. star_trace (in_set all) statement_rule.read statement_rule.trace (suc (length x.1)) x.1)) (past ((rule.optional (only token.syntax) r.syntax).trace xs) xs)
         ≡ then_notes (notes_behind None) q
     rest (Ok x) e =
-        (λ i. told (kept.syntax-first here None xs x e i) (keyword_behind here ((rule.optional (only token.syntax) r.syntax).trace xs)) (star_trace (in_set all) statement_rule.read statement_rule.trace (suc (length x.1)) x.1) (syntax_if_any.tells.left xs x e i))
+        (λ i. told (grammar.syntax-first here None xs x e i) (keyword_behind here ((rule.optional (only token.syntax) r.syntax).trace xs)) (star_trace (in_set all) statement_rule.read statement_rule.trace (suc (length x.1)) x.1) (syntax_if_any.tells.left xs x e i))
         ∙ all-says (in_set all) statement None (keyword_behind here ((rule.optional (only token.syntax) r.syntax).trace xs)) x.1
     rest (Err d) e = refl
 
@@ -107,7 +96,7 @@ notes-lie low high xs h =
 
 pub left-within : (xs : Rows Place) (left : ℕ) → whole xs ≡ Err (Unexpected left) → left ≤ length xs
 left-within xs left e =
-    let v = (main.laws here levels).traced.halts xs (Unexpected left) (err-read xs (Unexpected left) e) in
+    let v = (grammar.laws here levels).traced.halts xs (Unexpected left) (err-read xs (Unexpected left) e) in
     omega (arith, v.left_is, ap length v.parts, length-append (tokens (trace levels xs)) v.rest)
 
 -- a body that is too deep is noted
@@ -130,7 +119,7 @@ file-shallow f h = (file-marks f h).1 tt
 -- where reading stops at a body that is too deep, there is a fault
 pub deep-noted : (xs : Rows Place) (left : ℕ) → whole xs ≡ Err (Deep left) → IsFaultless (all_notes xs) → ⊥
 deep-noted xs left e f =
-    let v = (main.laws here levels).traced.halts xs (Deep left) (err-read xs (Deep left) e) in
+    let v = (grammar.laws here levels).traced.halts xs (Deep left) (err-read xs (Deep left) e) in
     let whole_shallow = subst IsShallow (ap notes v.goes_on ∙ notes-append (trace levels xs) v.later) (file-shallow v.tree v.tree_may) in
     let shallow = shallow-front (notes (trace levels xs)) (notes v.later) whole_shallow in
     deep-told None here (trace levels xs) xs shallow (v.deep left refl) (subst IsFaultless (sym (file-told xs)) f)

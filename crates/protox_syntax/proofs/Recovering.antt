@@ -8,7 +8,7 @@ use Rattle.protox_fault.specs.declared.error.ParseErrorKind.TheVariants as fault
 use Rattle.protox_lexeme.specs.Shapes.{Row, Rows}
 use Rattle.protox_lexeme.specs.Table.{Table}
 use Rattle.protox_lexeme.specs.TokenClass.{class}
-use Rattle.protox_ast.proofs.Standing.{Stand, as-many, stand-after}
+use Rattle.protox_ast.proofs.Lemmas.{Stand, as-many, stand-after}
 use Rattle.protox_ast.specs.AstParts.{strings_span, strings_value, text_of}
 use Rattle.protox_ast.specs.CheckedNodes.{CheckedNode, ASyntax, AnImport, AReservedName, AGroupName, APackageAgain, ATooDeep}
 use Rattle.protox_ast.specs.Checks.{is_group_name, is_ident, is_import_path, is_known_syntax, is_text}
@@ -19,8 +19,7 @@ use Rattle.protox_grammar.specs.Class.{among, in_set, only}
 use Rattle.protox_grammar.specs.Reader.{head_in}
 use Rattle.protox_grammar.specs.Steps.{ANode, APackage, AKeyword, ADeepBody, ADeeperBody, AnOpenBrace, ACloseBrace, Token, Note, Steps}
 use Rattle.protox_grammar.specs.Told.{Notes, at_once, behind, is_invalid, node_notes, noted, run_note, past, told, unless_so, place_of}
-use Rattle.protox_grammar.proofs.Telling.{AllLie, both-lie}
-use Rattle.protox_grammar.proofs.Takes.{bind_ok, ok_is}
+use Rattle.protox_grammar.proofs.Lemmas.{AllLie, bind_ok, both-lie, ok_is}
 use Rattle.protox_options.specs.inner.Options.{here}
 use Rattle.protox_rows.specs.declared.refused.Refused.{Refused}
 use Rattle.protox_rows.specs.declared.refused.Refused.TheVariants.{OutOfMemory, At, TooDeep}
@@ -260,9 +259,3 @@ behind-syntax xs rest s e =
     let p = bind_ok (a.read xs) (λ y. Ok (option_map syntax_seen y.0, y.1)) (s, rest) (sym (syntax_if_any.shows.same xs) ∙ e) in
     let same = ok_is (option_map syntax_seen p.0.0, p.0.1) (s, rest) p.2 in
     subst (IsLastOf xs) (syntax_if_any.tells.left xs p.0 p.1 ∙ ap (λ (v : Option (syntax_type.Syntax × (Span × Comments)) × Rows Place). v.1) same) (past-last (a.trace xs) xs)
-
-pub first-of-all : (xs rest : Rows Place) (s : Option (syntax_type.Syntax × (Span × Comments))) (first : Option Span) → syntax_if_any.code xs ≡ Ok (s, rest) → FirstLies rest first → FirstLies xs first
-first-of-all xs rest s first e lies low size h =
-    let last = behind-syntax xs rest s e in
-    let p = stand-after low size last.0 rest (subst (Stand low size) last.1 h) in
-    lies p.0 size p.2

@@ -7,10 +7,10 @@ use Rattle.protox_fault.specs.declared.error.ParseErrorKind.TheVariants.{Unexpec
 use Rattle.protox_lexeme.specs.Printed.{printed}
 use Rattle.protox_lexeme.specs.Shapes.{Shape, Invalid, Row, Rows}
 use Rattle.protox_lexeme.specs.Table.{StandBetween, Table}
-use Rattle.protox_ast.proofs.Standing.{Stand, bare-placed}
+use Rattle.protox_ast.proofs.Lemmas.{Stand, bare-placed}
 use Rattle.protox_ast.specs.Places.{Place, placed}
 use Rattle.protox_grammar.specs.Told.{Notes, is_invalid}
-use Rattle.protox_grammar.proofs.Telling.{AllLie}
+use Rattle.protox_grammar.proofs.Lemmas.{AllLie}
 use Rattle.protox_rows.specs.inner.Notes.{AddsTo}
 use Rattle.protox_rows.specs.declared.refused.Refused.{Refused}
 use Rattle.protox_rows.specs.declared.refused.Refused.TheVariants.{OutOfMemory, At, TooDeep}

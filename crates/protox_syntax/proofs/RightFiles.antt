@@ -2,7 +2,7 @@
 use Rattle.std.proofs.Common.{◌≡◌, List, [], ◌∷◌, ◌++◌, Option, None, sym, ap, subst, ◌∙◌, append-nil, append_assoc}
 use Rattle.protox_fault.specs.Faults.{Span}
 use Rattle.protox_lexeme.specs.Shapes.{Rows}
-use Rattle.protox_ast.proofs.SpansStand.{each-append}
+use Rattle.protox_ast.proofs.Lemmas.{each-append}
 use Rattle.protox_ast.specs.inner.Fine.{IsFine}
 use Rattle.protox_ast.specs.KeywordWalk as k
 use Rattle.protox_ast.specs.Keywords.{Each}
@@ -12,7 +12,7 @@ use Rattle.protox_grammar.specs.Bodies as bodies
 use Rattle.protox_grammar.specs.Noted.{noted_nodes, steps}
 use Rattle.protox_grammar.specs.Steps.{Steps, steps_of_many}
 use Rattle.protox_grammar.specs.Told.{first_behind, keyword_behind, place_of}
-use Rattle.protox_grammar.proofs.Stated.{first-append, noted-append}
+use Rattle.protox_grammar.proofs.Lemmas.{first-append, noted-append}
 use Rattle.protox_options.specs.inner.Options.{here}
 use Rattle.protox_syntax.specs.NextStatement.{IsNextSyntax, IsRight, syntax_steps}
 use Rattle.protox_syntax.specs.inner.SoFar.{IsRightSoFar, begun}

@@ -8,7 +8,7 @@ use Rattle.protox_lexeme.specs.Lexemes.{Lexeme, blanks, cut, first_lexeme}
 use Rattle.protox_lexeme.specs.Lexicon.{is_blank}
 use Rattle.protox_lexeme.specs.Shapes.{Shape, Row, Rows}
 use Rattle.protox_lexeme.specs.Table.{gaps_of, in_front, is_gap, rows_of}
-use Rattle.protox_lexeme.proofs.Cut.{cut_none, cut_some, first_moves, first_start}
+use Rattle.protox_lexeme.proofs.Lemmas.{cut_none, cut_some, first_moves, first_start}
 use Rattle.protox_ast.specs.Places.{Place, next_gap, next_shape, place_of, placed_from}
 use Rattle.protox_syntax.specs.inner.Parts.{places}
 

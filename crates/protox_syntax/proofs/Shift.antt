@@ -9,7 +9,7 @@ use Rattle.protox_fault.specs.declared.error.ParseErrorKind.{ParseErrorKind}
 use Rattle.protox_lexeme.specs.Lexemes.{Lexeme}
 use Rattle.protox_lexeme.specs.Shapes.{Shape, Ident, Int, Float, Str, Mark, LineComment, BlockComment, Newline, Invalid, Rows}
 use Rattle.protox_lexeme.specs.Table.{Table, faults_of, in_front, invalid_faults, is_gap, rows_of, table_of}
-use Rattle.protox_ast.proofs.Standing.{as-many, bare, bare-placed}
+use Rattle.protox_ast.proofs.Lemmas.{as-many, bare, bare-placed}
 use Rattle.protox_ast.specs.Basics.{Each}
 use Rattle.protox_ast.specs.KeywordWalk as walk
 use Rattle.protox_ast.specs.Places.{Place}
@@ -19,12 +19,8 @@ use Rattle.protox_grammar.specs.Steps.{tokens}
 use Rattle.protox_grammar.specs.Told.{Notes, is_invalid, IsNoFault, IsFaultless}
 use Rattle.protox_grammar.specs.declared.note.Noted.{Noted}
 use Rattle.protox_grammar.specs.declared.note.Noted.TheVariants.{Fault, TextFormat}
-use Rattle.protox_grammar.proofs.Depths.{body-laws}
-use Rattle.protox_grammar.proofs.Falling.{AreAbove}
-use Rattle.protox_grammar.proofs.Messages as messages
-use Rattle.protox_grammar.proofs.NotedModes.{mode_of}
-use Rattle.protox_grammar.proofs.Reading.{map_err}
-use Rattle.protox_grammar.proofs.Tracing.{Halts}
+use Rattle.protox_grammar.proofs.Lemmas.{AreAbove, Halts, body-laws, map_err, mode_of}
+use Rattle.protox_grammar.proofs.Lemmas as messages
 use Rattle.protox_options.specs.inner.Options.{here}
 use Rattle.protox_rows.specs.inner.Outcome.{Fails}
 use Rattle.protox_rows.specs.declared.refused.Refused.{Refused}

@@ -7,11 +7,11 @@ use Rattle.protox_fault.specs.Faults.{Span}
 use Rattle.protox_lexeme.specs.Shapes.{Row, Rows}
 use Rattle.protox_lexeme.specs.Table.{Table}
 use Rattle.protox_lexeme.specs.TokenClass.{class}
-use Rattle.protox_ast.proofs.Standing.{as-many}
+use Rattle.protox_ast.proofs.Lemmas.{as-many}
 use Rattle.protox_ast.specs.Places.{Place, placed}
 use Rattle.protox_grammar.specs.Class.{among, in_set}
 use Rattle.protox_rows.specs.Rows.{bare_row, no_row}
-use Rattle.protox_rows.proofs.PlacedRows.{drop-row, row-placed, left-none}
+use Rattle.protox_rows.proofs.Lemmas.{drop-row, left-none, row-placed}
 use Rattle.protox_syntax.specs.inner.Recovery.{behind_block, from_statement, last_rows, statement_words}
 use Rattle.protox_syntax.proofs.Recovering.{IsLastOf, block-last, drop-last, last-last}
 

@@ -1,5 +1,5 @@
 -- Statements that are read of a part behind which others come.
-use Rattle.std.proofs.Common.{◌≡◌, ◌≤◌, ◌-◌, ℕ, zero, suc, take, length-drop, nat_eq, Bool, true, false, List, [], ◌∷◌, ◌++◌, drop, length, map, Option, Some, None, option_map, Ok, refl, sym, ap, subst, ◌∙◌, append-nil, append_assoc, inl, inr, true≢false, arith}
+use Rattle.std.proofs.Common.{◌≡◌, ◌≤◌, ◌-◌, ℕ, nat_eq, Bool, true, false, List, [], ◌∷◌, ◌++◌, drop, length, map, Option, Some, None, option_map, Ok, refl, sym, ap, subst, ◌∙◌, append-nil, append_assoc, inl, inr, true≢false, arith}
 use Rattle.std.proofs.lemmas.Bool.{eqb-true}
 use Rattle.std.proofs.lemmas.List.{map-append}
 use Rattle.std.specs.List.{list_all}
@@ -101,13 +101,3 @@ empty-none (x ∷ xs) none is h = absurd (omega (arith, eqb-true (length (x ∷ 
 
 pub vec-empty : {A : Type 0} (xs : List A) (n : ℕ) (none : Bool) → n ≡ length xs → none ≡ nat_eq n 0 → none ≡ true → xs ≡ []
 vec-empty xs n none long is h = empty-none xs none (is ∙ ap (λ k. nat_eq k 0) long) h
-
-take-all : {A : Type 0} (n : ℕ) (xs : List A) → length xs ≤ n → take n xs ≡ xs
-take-all zero [] le = refl
-take-all (suc n) [] le = refl
-take-all zero (x ∷ xs) le = absurd (omega (arith, le))
-take-all (suc n) (x ∷ xs) le = ap (λ l. x ∷ l) (take-all n xs (omega (arith, le)))
-
--- A slice up to the end is what is left from its start on.
-pub take-rest : {A : Type 0} (n : ℕ) (xs : List A) → take (length xs - n) (drop n xs) ≡ drop n xs
-take-rest n xs = take-all (length xs - n) (drop n xs) (omega (arith, length-drop n xs))

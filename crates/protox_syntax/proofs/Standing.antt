@@ -5,9 +5,7 @@ use Rattle.std.proofs.lemmas.Str.{IsCharBoundary-from_drop, IsUtf8-drop}
 use Rattle.std.specs.Str.{IsCharBoundary, IsUtf8}
 use Rattle.protox_fault.specs.Faults.{Span, span_from}
 use Rattle.protox_lexeme.specs.Lexemes.{IsCut, Lexeme, blanks, cut}
-use Rattle.protox_lexeme.proofs.Boundaries.{blanks_boundary}
-use Rattle.protox_lexeme.proofs.Cut.{cut_is_cut}
-use Rattle.protox_lexeme.proofs.Extents.{lexeme_stands}
+use Rattle.protox_lexeme.proofs.Lemmas.{blanks_boundary, cut_is_cut, lexeme_stands}
 use Rattle.protox_syntax.specs.declared.parts.Progress.{Progress}
 use Rattle.protox_syntax.specs.inner.Parts.{IsBetween, IsNoted, last_end}
 use Rattle.protox_ast.specs.declared.ast.File.{File}

@@ -21,14 +21,10 @@ use Rattle.protox_grammar.specs.Rules as r
 use Rattle.protox_grammar.specs.Steps.{ANode, APackage, AKeyword, ADeepBody, ADeeperBody, AnOpenBrace, ACloseBrace, Token, Note, Steps, star_trace, then_steps, until}
 use Rattle.protox_grammar.specs.Told.{told, IsFaultless}
 use Rattle.protox_grammar.specs.Token as token
-use Rattle.protox_grammar.proofs.FirstCheck.{FirstCheck, fault_note, first-check}
-use Rattle.protox_grammar.proofs.Forms.{optional-laws}
-use Rattle.protox_grammar.proofs.Holding.{Holds, holds-right}
-use Rattle.protox_grammar.proofs.NotedTrue.{noted-front}
-use Rattle.protox_grammar.proofs.Parts as parts
-use Rattle.protox_grammar.proofs.PlaceLaws.{noted_alike, wrong_alike}
-use Rattle.protox_grammar.proofs.StepLists.{until-front}
-use Rattle.protox_grammar.proofs.Told.{syntax-tells}
+use Rattle.protox_grammar.proofs.Lemmas.{FirstCheck, Holds, fault_note, first-check, holds-right}
+use Rattle.protox_grammar.proofs.Lemmas.{noted-front, noted_alike, optional-laws, syntax-tells}
+use Rattle.protox_grammar.proofs.Lemmas.{until-front, wrong_alike}
+use Rattle.protox_grammar.proofs.Lemmas as parts
 use Rattle.protox_options.specs.inner.Options.{here}
 use Rattle.protox_syntax.specs.LostChecks.{EndsReading}
 use Rattle.protox_syntax.specs.inner.Statements.{statement_rule, syntax_if_any}

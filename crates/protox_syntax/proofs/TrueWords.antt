@@ -6,12 +6,12 @@ use Rattle.protox_fault.specs.declared.error.ParseErrorKind.{ParseErrorKind}
 use Rattle.protox_fault.specs.declared.error.ParseErrorKind.TheVariants as fault
 use Rattle.protox_fault.specs.declared.error.SyntaxFailure.{SyntaxFailure}
 use Rattle.protox_fault.specs.declared.error.SyntaxFailure.TheVariants as failure
-use Rattle.protox_lexeme.proofs.FaultModes.{IsRowKind, first-in-mode, kinds-of}
+use Rattle.protox_lexeme.proofs.Lemmas.{IsRowKind, first-in-mode, kinds-of}
 use Rattle.protox_lexeme.specs.Lexemes.{Lexeme, cut}
 use Rattle.protox_lexeme.specs.Printed.{printed}
 use Rattle.protox_lexeme.specs.Shapes.{Shape, Row, Rows}
 use Rattle.protox_lexeme.specs.Table.{rows_of, table_of}
-use Rattle.protox_ast.proofs.Standing.{as-many}
+use Rattle.protox_ast.proofs.Lemmas.{as-many}
 use Rattle.protox_ast.specs.Basics.{Each, first_of}
 use Rattle.protox_ast.specs.CheckedNodes.{CheckedNode, ASyntax, AnImport, AReservedName, AGroupName, APackageAgain, ATooDeep, checked_nodes}
 use Rattle.protox_ast.specs.Checks.{WrongCheckedNode}
@@ -21,13 +21,10 @@ use Rattle.protox_ast.specs.Truth.{IsWrongBefore, token_span}
 use Rattle.protox_ast.specs.declared.ast.File.{File}
 use Rattle.protox_grammar.specs.Reader.{Refusal, Unexpected, Deep, ◌>>=◌}
 use Rattle.protox_grammar.specs.Reads.{read}
-use Rattle.protox_grammar.proofs.Fronts as fronts
-use Rattle.protox_grammar.proofs.Holding.{holds-one}
-use Rattle.protox_grammar.proofs.Main as main
-use Rattle.protox_grammar.proofs.Numbers.{shapes-append, shapes-length}
-use Rattle.protox_grammar.proofs.StepLists.{take-front}
+use Rattle.protox_grammar.proofs.Lemmas as grammar
+use Rattle.protox_grammar.proofs.Lemmas.{holds-one, shapes-append, shapes-length, take-front}
 use Rattle.protox_options.specs.inner.Options.{here}
-use Rattle.protox_rows.proofs.Exact.{Fits, Took}
+use Rattle.protox_rows.proofs.Lemmas.{Fits, Took}
 use Rattle.protox_syntax.specs.ExpectedWords.{AreTrueBehind, ExpectsTruly, HasTrueWords}
 use Rattle.protox_syntax.specs.inner.ParsedTable.{AreMergedFaults, ParsesTable, RefusesTable}
 use Rattle.protox_syntax.specs.inner.Recovery.{IsSaid}
@@ -54,13 +51,13 @@ not-read xs e h = ap (λ w. w >>= λ x. Ok x.0) (err-read xs e h)
 begins-by : (xs : Rows Place) (v : Result (Whole × Rows Place) Refusal) → whole xs ≡ v → Took 0 v → BeginsFile (shapes xs) (length (shapes xs))
 begins-by xs (Ok (x, [])) q t =
     let f = whole-read xs x [] q in
-    fronts.spelling-begins here xs f.0 ((main.accepts_iff here levels xs f.0).0 f.1).0
+    grammar.spelling-begins here xs f.0 ((grammar.accepts_iff here levels xs f.0).0 f.1).0
 begins-by xs (Ok (x, r ∷ rs)) q t = absurd (omega (arith, t))
-begins-by xs (Err (Unexpected zero)) q t = (fronts.ended here levels xs (not-read xs (Unexpected 0) q)).0
+begins-by xs (Err (Unexpected zero)) q t = (grammar.ended here levels xs (not-read xs (Unexpected 0) q)).0
 begins-by xs (Err (Unexpected (suc n))) q t = absurd (omega (arith, t))
 begins-by xs (Err (Deep zero)) q t = absurd (omega (arith, t.0))
 begins-by xs (Err (Deep (suc zero))) q t =
-    let v = fronts.too_deep here levels 0 xs (not-read xs (Deep 1) q) in
+    let v = grammar.too_deep here levels 0 xs (not-read xs (Deep 1) q) in
     subst (BeginsFile (shapes xs)) (omega (arith, v.1, shapes-length xs)) v.2.1
 begins-by xs (Err (Deep (suc (suc n)))) q t = absurd (omega (arith, t.1))
 
@@ -68,7 +65,7 @@ begins-by xs (Err (Deep (suc (suc n)))) q t = absurd (omega (arith, t.1))
 none-begins : (front : Rows Place) (token : Shape) → whole (front ++ row_of token ∷ []) ≡ Err (Unexpected 1) → BeginsFile (shapes (front ++ row_of token ∷ [])) (suc (length front)) → ⊥
 none-begins front token q b =
     let xs = front ++ row_of token ∷ [] in
-    let u = fronts.unexpected here levels 0 xs (not-read xs (Unexpected 1) q) in
+    let u = grammar.unexpected here levels 0 xs (not-read xs (Unexpected 1) q) in
     let same : suc u.0 ≡ suc (length front) = omega (arith, u.1, length-append front (row_of token ∷ [])) in
     u.2.2 (subst (BeginsFile (shapes xs)) (sym same) b)
 
@@ -109,7 +106,7 @@ module _ (lexemes : List Lexeme) where
   -- an unexpected token
   token-true : (left : ℕ) (words : List ℕ) → whole (rows lexemes) ≡ Err (Unexpected (suc left)) → IsSaid (said.whole (rows lexemes)) words → AreTrueBehind tokens (taken lexemes) words
   token-true left words h s =
-      let u = main.unexpected here levels left (rows lexemes) (first.not-read lexemes (Unexpected (suc left)) h) in
+      let u = grammar.unexpected_row here levels left (rows lexemes) (first.not-read lexemes (Unexpected (suc left)) h) in
       let behind = u.here ∷ u.rest in
       let here_is : length u.front ≡ taken lexemes = omega (arith, stops-at lexemes (suc left) h, ap length u.parts, length-append u.front behind, u.left_is) in
       let whole-is : whole (u.front ++ behind) ≡ Err (Unexpected (length behind)) = ap whole (sym u.parts) ∙ h ∙ ap (λ n. Err (Unexpected n)) u.left_is in

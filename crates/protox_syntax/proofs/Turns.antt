@@ -9,10 +9,8 @@ use Rattle.protox_grammar.specs.Bodies as bodies
 use Rattle.protox_grammar.specs.Class.{all, in_set}
 use Rattle.protox_grammar.specs.Reader.{Consumes, Refusal, head_in}
 use Rattle.protox_grammar.specs.Told.{Notes, checked}
-use Rattle.protox_grammar.proofs.Depths.{body-laws}
-use Rattle.protox_grammar.proofs.Messages as messages
-use Rattle.protox_grammar.proofs.Shows.{shows-eats}
-use Rattle.protox_grammar.proofs.Stated.{or_first, stated-turn, stated-done}
+use Rattle.protox_grammar.proofs.Lemmas.{body-laws, or_first, shows-eats, stated-done, stated-turn}
+use Rattle.protox_grammar.proofs.Lemmas as messages
 use Rattle.protox_options.specs.inner.Options.{here}
 use Rattle.protox_rows.specs.inner.Notes.{AddsTo}
 use Rattle.protox_rows.specs.inner.Outcome.{Fails}

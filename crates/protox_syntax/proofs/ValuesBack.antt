@@ -14,13 +14,14 @@ use Rattle.protox_ast.specs.Values.{token_string}
 use Rattle.protox_ast.specs.declared.ast.OptionValue.TheVariants as value
 use Rattle.protox_ast.specs.declared.ast.String.{String}
 use Rattle.protox_lex.specs.LexesBack.{AreBytes}
-use Rattle.protox_lex.proofs.ShapesBack.{spelled_alone}
-use Rattle.protox_lex.proofs.StringsBack.{Spells, SpellsByte, plain_byte, tab_piece, return_piece, newline_piece, single_piece, double_piece, slash_piece}
+use Rattle.protox_lex.proofs.Lemmas.{Spells, SpellsByte, double_piece, newline_piece, plain_byte}
+use Rattle.protox_lex.proofs.Lemmas.{return_piece, single_piece, slash_piece, spelled_alone}
+use Rattle.protox_lex.proofs.Lemmas.{tab_piece}
 use Rattle.protox_lexeme.specs.Lexemes.{cut}
 use Rattle.protox_lexeme.specs.Lexicon.{is_octal, is_x}
 use Rattle.protox_lexeme.specs.Shapes.{Str}
 use Rattle.protox_lexeme.specs.Strings as spec
-use Rattle.protox_lexeme.proofs.Fitting.{run_more}
+use Rattle.protox_lexeme.proofs.Lemmas.{run_more}
 
 octal_digit : (d : ℕ) → d < 8 → is_octal (digit_char d) ≡ true
 octal_digit d h = grind (arith, nat_tests)

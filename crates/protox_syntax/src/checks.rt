@@ -4,7 +4,7 @@ ghost use Rattle.std.specs.Prelude.{◌≡◌, ◌++◌, ◌==◌, OnOk};
 ghost use Rattle.std.specs.List.{list_any};
 ghost use Rattle.protox_ast.specs.Checks.{is_known_syntax, is_import_path, is_plain_component};
 ghost use Rattle.protox_grammar.specs.Told.{noted, path_faults, syntax_notes};
-ghost use Rattle.protox_grammar.proofs.Stated.{again_notes};
+ghost use Rattle.protox_grammar.proofs.Lemmas.{again_notes};
 
 use protox_grammar::note::Note;
 use protox_lex::error::{ParseErrorKind, Span};

@@ -8,3 +8,4 @@ pub mod Complete
 pub mod Steps
 pub mod Stops
 pub mod SameShapes
+pub mod Lemmas

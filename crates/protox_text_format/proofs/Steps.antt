@@ -13,7 +13,7 @@ use Rattle.protox_text_format.specs.declared.reading.Frame.{Frame}
 use Rattle.protox_text_format.specs.declared.reading.Turn.TheVariants as turn
 use Rattle.protox_text_format.specs.inner.Marks.{Begins, NotFirst}
 use Rattle.protox_text_format.specs.inner.Names.{IsNamed}
-use Rattle.protox_text_format.specs.inner.Reading.{Advances, ColonThen, Follows, Goes, Reads, Same, Spot, close_of, frame, open_of, place}
+use Rattle.protox_text_format.specs.inner.Reading.{Advances, ColonThen, Follows, Goes, Reads, Spot, close_of, frame, open_of, place}
 use Rattle.protox_text_format.specs.inner.Reading.Follows.{AsLeft}
 use Rattle.protox_text_format.specs.inner.Reading.Same.{BothGoOn}
 use Rattle.protox_text_format.specs.inner.Reading.Reads.{AtClose, AtComma, AtFirst, AtLast, AtList, AtMark, AtName, AtNoMark, AtNone, AtOne, AtOpen, AtScalar}
@@ -283,10 +283,6 @@ pub colon_none : (left : List Piece) → NotFirst (Stands 58) left → ColonThen
 colon_none left not = record { colon = []; cut = refl; is = NoColon; none = λ h. not }
 
 -- ---- one step behind the other
-
-pub same_append : (taken left more : List Piece) → Same left more → Same (taken ++ left) (taken ++ more)
-same_append [] left more s = s
-same_append (piece ∷ taken) left more s = BothGoOn piece (taken ++ left) (taken ++ more)
 
 pub follows_append : (taken left more : List Piece) → Follows left more → Follows (taken ++ left) (taken ++ more)
 follows_append [] left more f = f

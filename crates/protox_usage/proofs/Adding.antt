@@ -42,16 +42,6 @@ one_more_kept {X = X} {Y = Y} f keep g m s a b xs i x below is kept so_far added
     ∙ ap (λ (ys : List X). fold f s (flat_map m (map g ys))) (sym (filter-append keep (take i xs) (x ∷ [])))
     ∙ ap (λ (ys : List X). fold f s (flat_map m (map g (filter keep ys)))) (sym (next_element xs i x below is))
 
-pub one_more_left : {X Y Z S : Type 0} (f : S → Z → S) (keep : X → Bool) (g : X → Y) (m : Y → List Z) (s a : S) (xs : List X) (i : ℕ) (x : X)
-    → i < length xs → x ≡ get_or xs i x → keep x ≡ false → a ≡ fold f s (flat_map m (map g (filter keep (take i xs))))
-    → a ≡ fold f s (flat_map m (map g (filter keep (take (i + 1) xs))))
-one_more_left {X = X} f keep g m s a xs i x below is left so_far =
-    so_far
-    ∙ ap (λ (ys : List X). fold f s (flat_map m (map g ys))) (sym (append-nil (filter keep (take i xs))))
-    ∙ ap (λ (b : Bool). fold f s (flat_map m (map g (filter keep (take i xs) ++ cond b (x ∷ []) [])))) (sym left)
-    ∙ ap (λ (ys : List X). fold f s (flat_map m (map g ys))) (sym (filter-append keep (take i xs) (x ∷ [])))
-    ∙ ap (λ (ys : List X). fold f s (flat_map m (map g (filter keep ys)))) (sym (next_element xs i x below is))
-
 pub flat_map_flat : {X Y Z : Type 0} (m : Y → List Z) (n : X → List Y) (xs : List X) → flat_map (λ x. flat_map m (n x)) xs ≡ flat_map m (flat_map n xs)
 flat_map_flat m n [] = refl
 flat_map_flat m n (x ∷ xs) = ap (λ rest. flat_map m (n x) ++ rest) (flat_map_flat m n xs) ∙ sym (flat_map-append m (n x) (flat_map n xs))

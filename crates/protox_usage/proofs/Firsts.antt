@@ -4,7 +4,7 @@ use Rattle.std.specs.List.{find}
 use Rattle.std.specs.Option.{option_or}
 use Rattle.std.proofs.lemmas.Bool.Decides.{eqb_tells}
 use Rattle.std.proofs.lemmas.Grind.{get_or-set_at}
-use Rattle.std.proofs.lemmas.List.{get_or-set_other, get_or_default, take_all, take_more}
+use Rattle.std.proofs.lemmas.List.{get_or-set_other, get_or_default, take_more}
 use Rattle.std.proofs.lemmas.List.Folds.{find-append}
 
 pub or_none : (x : Option ℕ) → option_or x None ≡ x
@@ -46,6 +46,3 @@ pub found_more : (p : ℕ → Bool) (order : List ℕ) (i x : ℕ) → i < lengt
     → find p (take (i + 1) order) ≡ option_or (find p (take i order)) (cond (p x) (Some x) None)
 found_more p order i x below is =
     ap (find p) (take_more order i x below ∙ ap (λ y. take i order ++ y ∷ []) (sym is)) ∙ find-append p (take i order) (x ∷ [])
-
-pub found_all : (p : ℕ → Bool) (order : List ℕ) (i : ℕ) → length order ≤ i → find p (take i order) ≡ find p order
-found_all p order i end = ap (find p) (take_all i order end)

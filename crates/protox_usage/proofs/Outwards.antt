@@ -1,5 +1,5 @@
 -- The way outwards from a scope, and what a search meets on it.
-use Rattle.std.proofs.Common.{◌≡◌, ◌+◌, ℕ, true, false, Bor, List, [], ◌∷◌, ◌++◌, append-nil, fold, length, MatchOption, Option, None, Some, ap, sym, ◌∙◌}
+use Rattle.std.proofs.Common.{◌≡◌, ◌+◌, ℕ, true, false, Bor, List, [], ◌∷◌, ◌++◌, append-nil, fold, length, Option, None, Some, ap, sym, ◌∙◌}
 use Rattle.std.proofs.lemmas.Bool.{false≢true, true≢false}
 use Rattle.std.proofs.lemmas.Grind.{fold-append}
 use Rattle.protox_names.specs.Names.{scopes}
@@ -17,10 +17,6 @@ way (Some scope) = length scope.now + 1
 abbrev pub around : Option (Bor (List ℕ)) → List (List ℕ)
 around None = []
 around (Some scope) = scope.now ∷ scopes scope.now
-
-pub around_is : (o : Option (Bor (List ℕ))) (name : List ℕ) → MatchOption o (scopes name ≡ []) (λ s. scopes name ≡ s.now ∷ scopes s.now) → around o ≡ scopes name
-around_is None name is = sym is
-around_is (Some s) name is = sym is
 
 -- A search that goes on meets what is met in the scope, and then what is met further outwards.
 pub goes_on : {S : Type 0} (f : S → ℕ → S) (s t : S) (here more : List ℕ) (step : Step ℕ) → ends step ≡ false → t ≡ fold f s here

@@ -8,7 +8,7 @@ use Rattle.protox_descriptor.specs.declared.descriptor.FileDescriptorProto.{File
 use Rattle.protox_link.specs.Seen.{packages_of}
 use Rattle.protox_name_tree.specs.Tree.{Names, number_of}
 use Rattle.protox_symbols.specs.Things.{table_of}
-use Rattle.protox_usage.proofs.Firsts.{found_all, found_more, or_none}
+use Rattle.protox_usage.proofs.Firsts.{found_more, or_none}
 use Rattle.protox_usage.specs.First.{AreFirst}
 use Rattle.protox_views.specs.FilesOf.{is_in_package}
 use Rattle.protox_views.specs.Packages.{is_on_the_way}
@@ -61,9 +61,3 @@ module _ (files : List FileDescriptorProto) (order : List ℕ) (i x : ℕ) (firs
         (sym (in_no_package names (λ (f : FileDescriptorProto). number_of names (text_of f.«package»)) files n x missing))
         ∙ sym (found_more (is_in n) order i x below is);
   }
-
-pub all_files_told : (files : List FileDescriptorProto) (order : List ℕ) (i : ℕ) (first : List (Option ℕ)) → length order ≤ i → AreFirst files (take i order) first → AreFirst files order first
-all_files_told files order i first end so_far = record {
-  as_many = so_far.as_many;
-  told = λ n here. so_far.told n here ∙ found_all (is_in_package (table_of files).names (packages_of (table_of files) files) n) order i end;
-}

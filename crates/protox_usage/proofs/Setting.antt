@@ -1,5 +1,5 @@
 -- Whether there are options at all.
-use Rattle.std.proofs.Common.{◌≡◌, ◌<◌, ◌||◌, ◌==◌, ◌+◌, get_or, zero, not, ◌++◌, Bool, true, false, List, [], ◌∷◌, length, refl, sym, ap, ◌∙◌, ℕ, suc, arith}
+use Rattle.std.proofs.Common.{◌≡◌, ◌<◌, ◌||◌, ◌==◌, ◌+◌, get_or, zero, ◌++◌, Bool, true, false, List, [], ◌∷◌, length, refl, sym, ap, ◌∙◌, ℕ, suc, arith}
 use Rattle.std.specs.List.{FoldsTo, flat_map}
 use Rattle.protox_descriptor.specs.declared.descriptor.options.UninterpretedOption.{UninterpretedOption}
 use Rattle.protox_usage.specs.Options.{are_some}
@@ -14,10 +14,6 @@ or_false false = refl
 
 later_is_some : (n : ℕ) → (suc n == 0) ≡ false
 later_is_some n = grind arith
-
-pub empty_is_none : (xs : List UninterpretedOption) → not (length xs == 0) ≡ are_some xs
-empty_is_none [] = refl
-empty_is_none (x ∷ xs) = ap not (later_is_some (length xs))
 
 pub some_append : (xs ys : List UninterpretedOption) → are_some (xs ++ ys) ≡ (are_some xs || are_some ys)
 some_append [] ys = refl

@@ -1,7 +1,7 @@
 -- What is found under a full name has it.
 use Rattle.std.proofs.Common.{◌≡◌, ℕ, false, List, [], Option, Some, None, MatchOption, is_some, sym, ap}
 use Rattle.std.proofs.lemmas.Option.{get_or_from_slice_get}
-use Rattle.protox_name_tree.proofs.FullNames.{found_name}
+use Rattle.protox_name_tree.proofs.Lemmas.{found_name}
 use Rattle.protox_name_tree.specs.Tree.{name_at, number_of}
 use Rattle.protox_symbols.specs.Symbols.{Table}
 use Rattle.protox_views.specs.Views.{stands}

@@ -3,3 +3,4 @@ mod Files
 pub mod Seen
 pub mod Ways
 mod Resolved
+pub mod Lemmas

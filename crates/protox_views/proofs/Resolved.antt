@@ -5,9 +5,8 @@ use Rattle.std.specs.Option.{option_and_then}
 use Rattle.std.proofs.lemmas.Bool.{true≢false}
 use Rattle.std.proofs.lemmas.Option.{get_or_from_slice_get, none-some}
 use Rattle.protox_names.specs.Names.{front, is_absolute, is_dot, is_one_part, within}
-use Rattle.protox_names.proofs.Joining.{within_nests}
-use Rattle.protox_name_tree.proofs.FullNames.{found_name}
-use Rattle.protox_name_tree.proofs.Outwards.{none_within}
+use Rattle.protox_names.proofs.Lemmas.{within_nests}
+use Rattle.protox_name_tree.proofs.Lemmas.{found_name, none_within}
 use Rattle.protox_name_tree.specs.Tree.{AreTreeNames, Names, name_at, name_in, number_of}
 use Rattle.protox_name_tree.specs.Word.{Sought}
 use Rattle.protox_scopes.specs.Scopes.{fits, holds_names, step, step_from}

@@ -1,7 +1,7 @@
 -- A package is seen exactly if a file that is seen is in it, or in one within it.
 use Rattle.std.proofs.Common.{◌≡◌, ◌<◌, ◌||◌, ◌&&◌, ℕ, zero, suc, Bool, false, List, [], ◌∷◌, length, map, Option, refl, sym, ap, ◌∙◌}
 use Rattle.std.specs.Prelude.{slice_index_or}
-use Rattle.protox_marks.proofs.Words.{none_among}
+use Rattle.protox_marks.proofs.Lemmas.{none_among}
 use Rattle.protox_marks.specs.Few.{among}
 use Rattle.protox_marks.specs.Marks.{any_marked}
 use Rattle.protox_marks.specs.declared.few.FewMarks.{FewMarks}

@@ -6,9 +6,9 @@ use Rattle.std.proofs.lemmas.List.{drop_all, take_all}
 use Rattle.std.proofs.lemmas.List.Elements.{All-head}
 use Rattle.std.proofs.lemmas.Option.{same_Some, slice_get_past, unwrap_or-slice_get}
 use Rattle.std.proofs.lemmas.Slice.Eq.{bytes_eq-Decides}
-use Rattle.protox_name_tree.proofs.FullNames.{known_name, known_some}
+use Rattle.protox_name_tree.proofs.Lemmas.{known_name, known_some}
 use Rattle.protox_name_tree.specs.Tree.{AreTreeNames, IsNameTree, Names, name_at}
-use Rattle.protox_names.proofs.Joining.{scopes_are_shorter}
+use Rattle.protox_names.proofs.Lemmas.{scopes_are_shorter}
 use Rattle.protox_names.specs.Names.{scopes}
 use Rattle.protox_names.specs.Tree.{name_of_place}
 use Rattle.protox_scopes.specs.Scopes.{IsOuter}

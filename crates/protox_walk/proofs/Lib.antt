@@ -1,3 +1,4 @@
 pub mod Folds
 pub mod Levels
 pub mod ByPath
+pub mod Lemmas

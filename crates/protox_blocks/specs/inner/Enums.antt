@@ -14,8 +14,9 @@ use Rattle.protox_grammar.specs.Reader.{folded}
 use Rattle.protox_grammar.specs.Rule as rule
 use Rattle.protox_grammar.specs.Rules as r
 use Rattle.protox_grammar.specs.Token as token
-use Rattle.protox_grammar.proofs.Enums as enums
-use Rattle.protox_grammar.proofs.Shown.{Noting, both, seen, named, named_from, renamed, choice, gather, the, sign}
+use Rattle.protox_grammar.proofs.Lemmas as enums
+use Rattle.protox_grammar.proofs.Lemmas.{Noting, both, choice, gather, named, named_from, renamed}
+use Rattle.protox_grammar.proofs.Lemmas.{seen, sign, the}
 use Rattle.protox_rows.specs.inner.Names.{ident, int}
 use Rattle.protox_rows.specs.inner.Reads.{declared}
 use Rattle.protox_options.specs.inner.Options.{here, list_if_any, option}

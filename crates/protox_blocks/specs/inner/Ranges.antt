@@ -16,10 +16,9 @@ use Rattle.protox_grammar.specs.Rule.{on_sum}
 use Rattle.protox_grammar.specs.Rules as r
 use Rattle.protox_grammar.specs.Told.{name_notes}
 use Rattle.protox_grammar.specs.Token as token
-use Rattle.protox_grammar.proofs.Shows.{two}
-use Rattle.protox_grammar.proofs.Shown.{Silent, Noting, both, seen, named, renamed, shown_by, choice, optional, the, sign, list_of}
+use Rattle.protox_grammar.proofs.Lemmas.{Noting, Silent, both, choice, list_of, name-lie, named}
+use Rattle.protox_grammar.proofs.Lemmas.{optional, renamed, seen, shown_by, sign, the, two}
 use Rattle.protox_rows.specs.inner.Names.{int}
-use Rattle.protox_grammar.proofs.NotesLie.{name-lie}
 use Rattle.protox_rows.specs.inner.Strings.{checked_strings}
 use Rattle.protox_options.specs.inner.Options.{list_if_any}
 

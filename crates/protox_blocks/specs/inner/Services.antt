@@ -15,8 +15,8 @@ use Rattle.protox_grammar.specs.Reader.{folded}
 use Rattle.protox_grammar.specs.Rule as rule
 use Rattle.protox_grammar.specs.Rules as r
 use Rattle.protox_grammar.specs.Token as token
-use Rattle.protox_grammar.proofs.Shows.{two, three}
-use Rattle.protox_grammar.proofs.Shown.{Silent, Noting, both, seen, named, renamed, choice, gather, the, sign}
+use Rattle.protox_grammar.proofs.Lemmas.{Noting, Silent, both, choice, gather, named, renamed, seen}
+use Rattle.protox_grammar.proofs.Lemmas.{sign, the, three, two}
 use Rattle.protox_rows.specs.inner.Names.{ident, typename}
 use Rattle.protox_options.specs.inner.Options.{option}
 use Rattle.protox_blocks.specs.declared.services.ServiceElement as element_type

@@ -34,16 +34,12 @@ use Rattle.protox_grammar.specs.Bodies as bodies
 use Rattle.protox_grammar.specs.Steps.{ANode}
 use Rattle.protox_grammar.specs.Told as told
 use Rattle.protox_grammar.specs.Token as token
-use Rattle.protox_grammar.proofs.Braced.{int-braced, options-braced}
-use Rattle.protox_grammar.proofs.Depths as depths
-use Rattle.protox_grammar.proofs.Forms.{optional-laws}
-use Rattle.protox_grammar.proofs.Messages as messages
-use Rattle.protox_grammar.proofs.Opened.{Opened, Keeps, keeps-of, plain-keeps, node-keeps, before, body_seen, opened_by, opened, sunk}
-use Rattle.protox_grammar.proofs.Options as options
-use Rattle.protox_grammar.proofs.Parts as parts
-use Rattle.protox_grammar.proofs.Reading.{IsRead}
-use Rattle.protox_grammar.proofs.Shows.{two, three}
-use Rattle.protox_grammar.proofs.Shown.{Noting, both, seen, named, named_from, renamed, choice, gather, shown_by, the, sign}
+use Rattle.protox_grammar.proofs.Lemmas.{IsRead, Keeps, Noting, Opened, before, body_seen, both}
+use Rattle.protox_grammar.proofs.Lemmas.{choice, gather, int-braced, keeps-of, named, named_from}
+use Rattle.protox_grammar.proofs.Lemmas.{node-keeps, opened, opened_by, optional-laws, options-braced}
+use Rattle.protox_grammar.proofs.Lemmas.{plain-keeps, renamed, seen, shown_by, sign, sunk, the, three}
+use Rattle.protox_grammar.proofs.Lemmas.{two}
+use Rattle.protox_grammar.proofs.Lemmas as grammar
 use Rattle.protox_rows.specs.inner.Names.{ident, int, typename, label}
 use Rattle.protox_options.specs.inner.Options.{here, list_if_any, option}
 use Rattle.protox_blocks.specs.inner.Enums.{enum_}
@@ -196,10 +192,10 @@ pub equals-keeps : Keeps (r.sign s.equals).trace
 equals-keeps = plain-keeps (fixed (Mark s.equals))
 
 pub int-keeps : Keeps (r.int).trace
-int-keeps = keeps-of r.int (parts.int-laws here).traced (λ x. []) int-braced
+int-keeps = keeps-of r.int (grammar.int-laws here).traced (λ x. []) int-braced
 
 pub options-keep : Keeps (rule.optional (only token.open_bracket) r.list).trace
-options-keep = keeps-of (rule.optional (only token.open_bracket) r.list) (optional-laws (only token.open_bracket) (options.list-laws here) refl).traced (λ o. aggregates.of_list o) options-braced
+options-keep = keeps-of (rule.optional (only token.open_bracket) r.list) (optional-laws (only token.open_bracket) (grammar.list-laws here) refl).traced (λ o. aggregates.of_list o) options-braced
 
 pub group_name-keeps : Keeps (rule.noting (λ (x : tree.Word Place). ANode (AGroupName x)) r.ident).trace
 group_name-keeps = node-keeps (r.ident).read (r.ident).trace (λ x. ANode (AGroupName x)) (λ x w. refl) name-keeps
@@ -245,7 +241,7 @@ module _ (n : ℕ) (b : Opened (bodies.unsealed n).read (bodies.unsealed n).trac
   field-seen (inr x) rest = kind-begins x (labelled (inr x)) rest ∙ field-is None x
 
   abbrev pub law : IsRead {M = Place} (bodies.field (bodies.mbody_at n))
-  law = (messages.field-laws here k.KeepsMbody (bodies.FitsMbody n) (bodies.unsealed n).read (bodies.unsealed n).steps (bodies.unsealed n).trace (depths.body-laws here n)).read
+  law = (grammar.field-laws here k.KeepsMbody (bodies.FitsMbody n) (bodies.unsealed n).read (bodies.unsealed n).steps (bodies.unsealed n).trace (grammar.body-laws here n)).read
 
   -- label? field_kind
   unfoldable pub labelled_kind : Noting (rule.unless (among (token.optional ∷ token.required ∷ token.repeated ∷ [])) (rule.seq r.label (bodies.field_kind (bodies.mbody_at n))) (bodies.field_kind (bodies.mbody_at n))) labelled

@@ -21,8 +21,8 @@ use Rattle.protox_grammar.specs.Rules as r
 use Rattle.protox_grammar.specs.Steps.{ANode}
 use Rattle.protox_grammar.specs.Told.{group_notes}
 use Rattle.protox_grammar.specs.Token as token
-use Rattle.protox_grammar.proofs.NotesLie.{group-lie, word-lies}
-use Rattle.protox_grammar.proofs.Shown.{Noting, both, seen, named, the, sign, with_note}
+use Rattle.protox_grammar.proofs.Lemmas.{Noting, both, group-lie, named, seen, sign, the, with_note}
+use Rattle.protox_grammar.proofs.Lemmas.{word-lies}
 use Rattle.protox_rows.specs.inner.Names.{ident, int, field_type}
 use Rattle.protox_rows.specs.inner.Reads.{declared}
 use Rattle.protox_options.specs.inner.Options.{list_if_any}

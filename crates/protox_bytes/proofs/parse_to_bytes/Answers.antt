@@ -1,6 +1,6 @@
 use Rattle.protox_bytes.proofs.Spelled.{found, none, only}
 use Rattle.protox_parse.specs.Failures.{IsRefusalOf}
-use Rattle.protox_parse.proofs.AnswerLaws.{one_translation}
+use Rattle.protox_parse.proofs.Lemmas.{one_translation}
 use Rattle.protox_parse.specs.FirstFault.{BeginsWithFirst}
 use Rattle.protox_bytes.proofs.parse_to_bytes.Goals as goal
 

@@ -3,7 +3,7 @@ use Rattle.std.proofs.Common.{◌≡◌, ◌≢◌, ℕ, zero, suc, List, [], �
 use Rattle.std.specs.Prelude.{codes}
 use Rattle.protox_lexeme.specs.Lexemes.{Lexeme}
 use Rattle.protox_lexeme.specs.Shapes.{LineComment}
-use Rattle.protox_ast.proofs.SpansStand.{each-back, each-front}
+use Rattle.protox_ast.proofs.Lemmas.{each-back, each-front}
 use Rattle.protox_ast.specs.Keywords.{Each}
 use Rattle.protox_descriptor.specs.declared.descriptor.source_code_info.Location.{Location}
 use Rattle.protox_generate.specs.Commented.{AreText, CommentedOnce, NoneTwice, Sources, numbers_of}

@@ -2,7 +2,8 @@
 use Rattle.std.proofs.Common.{◌≡◌, List, [], ◌∷◌, map, Option, refl, ap, ap₂, ◌∙◌}
 use Rattle.protox_fault.specs.Faults.{Span}
 use Rattle.protox_ast.specs.Steps.{Steps, of_message, of_body, of_item, of_field, of_kind, of_oneof, of_extend}
-use Rattle.protox_ast.proofs.Levels.{item-field, item-enum, item-message, item-extend, item-oneof, kind-normal, kind-group, kind-map}
+use Rattle.protox_ast.proofs.Lemmas.{item-enum, item-extend, item-field, item-message, item-oneof}
+use Rattle.protox_ast.proofs.Lemmas.{kind-group, kind-map, kind-normal}
 use Rattle.protox_ast.specs.declared.ast.Enum.{Enum}
 use Rattle.protox_ast.specs.declared.ast.Extend.{Extend, roll-Extend}
 use Rattle.protox_ast.specs.declared.ast.Extensions.{Extensions}

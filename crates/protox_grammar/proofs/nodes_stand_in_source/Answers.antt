@@ -1,4 +1,4 @@
-use Rattle.protox_ast.proofs.FilesStand.{source-stands}
+use Rattle.protox_ast.proofs.Lemmas.{source-stands}
 use Rattle.protox_grammar.proofs.nodes_stand_in_source.Goals as goal
 
 pub returns : goal.returns

@@ -6,7 +6,7 @@ use Rattle.protox_ast.specs.Spelling as s
 use Rattle.protox_ast.specs.KeywordWalk as k
 use Rattle.protox_ast.specs.DepthWalk as d
 use Rattle.protox_ast.specs.Spells.{Spells}
-use Rattle.protox_ast.proofs.NodesKeep.{nodes-keep}
+use Rattle.protox_ast.proofs.Lemmas.{nodes-keep}
 use Rattle.protox_grammar.proofs.Balance.{counted}
 use Rattle.protox_grammar.proofs.Begin.{among-none}
 use Rattle.protox_grammar.proofs.samples.Build as b

@@ -13,7 +13,7 @@ use Rattle.protox_ast.specs.FirstFault.{IsFirstFault}
 use Rattle.protox_ast.specs.Fronts.{AreCleanBehind}
 use Rattle.protox_ast.specs.Spells.{IsUnexpected, shapes}
 use Rattle.protox_ast.specs.Truth.{IsWrongBehind, source_row}
-use Rattle.protox_ast.proofs.Membership.{somewhere-from}
+use Rattle.protox_ast.proofs.Lemmas.{somewhere-from}
 use Rattle.protox_grammar.specs.Reads.{read}
 use Rattle.protox_grammar.specs.Rules as r
 use Rattle.protox_grammar.specs.Bodies as rule

@@ -20,8 +20,7 @@ use Rattle.protox_ast.specs.Spelling as s
 use Rattle.protox_ast.specs.Spells.{BeginsFile, IsUnexpected, shapes}
 use Rattle.protox_ast.specs.Tree as t
 use Rattle.protox_ast.specs.Truth.{source_row, IsFirstOfLexeme, IsTrueOf, IsWrongBefore, IsWrongBehind}
-use Rattle.protox_ast.proofs.Membership.{Somewhere, somewhere-from, any-from}
-use Rattle.protox_ast.proofs.Texts.{text-same}
+use Rattle.protox_ast.proofs.Lemmas.{Somewhere, any-from, somewhere-from, text-same}
 use Rattle.protox_grammar.specs.Reader as reader
 use Rattle.protox_grammar.specs.Reader.{Unexpected}
 use Rattle.protox_grammar.specs.Rules as r

@@ -20,10 +20,10 @@ use Rattle.protox_grammar.specs.Rules as r
 use Rattle.protox_grammar.specs.Steps.{AnOpenBrace, ACloseBrace}
 use Rattle.protox_grammar.specs.Told.{brace_notes}
 use Rattle.protox_grammar.specs.Token as token
-use Rattle.protox_grammar.proofs.Closed.{closed-read}
-use Rattle.protox_grammar.proofs.Shows.{as_is, seq-shows, right-shows, two, three}
-use Rattle.protox_grammar.proofs.Telling.{plain-tells}
-use Rattle.protox_grammar.proofs.Shown.{Silent, Noting, both, seen, named, renamed, choice, optional, the, sign, with_note, list_of, list_view, list_then}
+use Rattle.protox_grammar.proofs.Lemmas.{Noting, Silent, as_is, both, choice, closed-read, list_of}
+use Rattle.protox_grammar.proofs.Lemmas.{list_then, list_view, named, optional, plain-tells, renamed}
+use Rattle.protox_grammar.proofs.Lemmas.{right-shows, seen, seq-shows, sign, the, three, two}
+use Rattle.protox_grammar.proofs.Lemmas.{with_note}
 use Rattle.protox_rows.specs.inner.Names.{ident, typename, integer, float}
 use Rattle.protox_rows.specs.inner.Strings.{strings}
 use Rattle.protox_options.specs.declared.values.Unsigned as unsigned_type

@@ -1,8 +1,8 @@
 use Rattle.std.proofs.Common.{length, subst}
-use Rattle.protox_checks.proofs.FaultsLie.{listed-lie}
+use Rattle.protox_checks.proofs.Lemmas.{listed-lie}
 use Rattle.protox_checks.specs.Faults.{AreWrong}
 use Rattle.protox_fault.specs.declared.error.SyntaxFailure.TheVariants.{Faults}
-use Rattle.protox_generate.proofs.Standing.{file-stands}
+use Rattle.protox_generate.proofs.Lemmas.{file-stands}
 use Rattle.protox_generate.specs.File.{AreListedAll}
 use Rattle.protox_parse.proofs.Answering as answers
 use Rattle.protox_parse.proofs.Translating.{has_listed}

@@ -17,8 +17,8 @@ use Rattle.protox_grammar.specs.Reader.{see_word, see_integer, see_float}
 use Rattle.protox_grammar.specs.Rule as rule
 use Rattle.protox_grammar.specs.Rules as r
 use Rattle.protox_grammar.specs.Token as token
-use Rattle.protox_grammar.proofs.Shows.{two, three}
-use Rattle.protox_grammar.proofs.Shown.{Silent, both, seen, named, renamed, choice, optional, list_of, the, sign, one}
+use Rattle.protox_grammar.proofs.Lemmas.{Silent, both, choice, list_of, named, one, optional, renamed}
+use Rattle.protox_grammar.proofs.Lemmas.{seen, sign, the, three, two}
 
 -- ---- names
 

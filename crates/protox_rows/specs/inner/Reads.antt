@@ -1,7 +1,7 @@
 -- What the steps of the code read, beside names and strings.
 use Rattle.std.specs.Prelude.{[], ◌∷◌, Bool, true, None}
 use Rattle.protox_lexeme.specs.Shapes.{Shape, Rows}
-pub use Rattle.protox_grammar.proofs.Shown.{push, mapped_from}
+pub use Rattle.protox_grammar.proofs.Lemmas.{mapped_from, push}
 use Rattle.protox_ast.specs.Ast.{comments}
 use Rattle.protox_ast.specs.Places.{Place}
 use Rattle.protox_ast.specs.declared.ast.Comments.{Comments}

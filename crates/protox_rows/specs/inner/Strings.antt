@@ -13,9 +13,8 @@ use Rattle.protox_grammar.specs.Rules as r
 use Rattle.protox_grammar.specs.Steps.{ANode}
 use Rattle.protox_grammar.specs.Told.{Notes, node_notes}
 use Rattle.protox_grammar.specs.Token as token
-use Rattle.protox_grammar.proofs.NotesLie.{run-lies}
-use Rattle.protox_grammar.proofs.Telling.{AllLie}
-use Rattle.protox_grammar.proofs.Shown.{Silent, Noting, both, seen, named, times, one, with_note}
+use Rattle.protox_grammar.proofs.Lemmas.{AllLie, Noting, Silent, both, named, one, run-lies, seen}
+use Rattle.protox_grammar.proofs.Lemmas.{times, with_note}
 use Rattle.protox_rows.specs.inner.Names.{with_span}
 
 -- Reads one string.

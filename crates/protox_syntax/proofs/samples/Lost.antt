@@ -6,7 +6,7 @@ use Rattle.protox_fault.specs.declared.error.ParseErrorKind.{ParseErrorKind}
 use Rattle.protox_fault.specs.declared.error.ParseErrorKind.TheVariants as fault
 use Rattle.protox_lexeme.specs.Lexemes.{Lexeme}
 use Rattle.protox_lexeme.specs.Shapes.{Invalid}
-use Rattle.protox_ast.proofs.Membership.{any-from}
+use Rattle.protox_ast.proofs.Lemmas.{any-from}
 use Rattle.protox_ast.specs.Basics.{Each}
 use Rattle.protox_ast.specs.CheckedNodes.{CheckedNode, APackageAgain, checked_nodes, node_end}
 use Rattle.protox_ast.specs.Tree as t
@@ -14,8 +14,8 @@ use Rattle.protox_grammar.specs.Bodies as rule
 use Rattle.protox_grammar.specs.Reader as reader
 use Rattle.protox_grammar.specs.Reads.{read}
 use Rattle.protox_grammar.specs.Rules as r
-use Rattle.protox_grammar.proofs.samples.Sources as x
-use Rattle.protox_grammar.proofs.samples.Sources.{IsMade, goes-on, joined, made}
+use Rattle.protox_grammar.proofs.Lemmas as x
+use Rattle.protox_grammar.proofs.Lemmas.{IsMade, goes-on, joined, made}
 use Rattle.protox_syntax.specs.LostChecks.{EndsReading, IsCheckedBefore, NoneIsLost}
 
 -- package a; package b; $

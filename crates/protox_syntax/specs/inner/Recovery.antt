@@ -6,7 +6,7 @@ use Rattle.protox_fault.specs.declared.error.ParseErrorKind.TheVariants.{Unexpec
 use Rattle.protox_lexeme.specs.Printed.{printed}
 use Rattle.protox_lexeme.specs.Shapes.{Invalid, Row, Rows}
 use Rattle.protox_lexeme.specs.Table.{Table}
-use Rattle.protox_ast.proofs.Standing.{Stand}
+use Rattle.protox_ast.proofs.Lemmas.{Stand}
 use Rattle.protox_ast.specs.Basics.{Each}
 use Rattle.protox_ast.specs.FaultList.{is_lexical}
 use Rattle.protox_ast.specs.KeywordWalk.{Given}
@@ -16,7 +16,7 @@ use Rattle.protox_grammar.specs.Told.{Notes}
 use Rattle.protox_grammar.specs.declared.note.Note as note_type
 use Rattle.protox_grammar.specs.declared.note.Noted.{Noted}
 use Rattle.protox_grammar.specs.declared.note.Noted.TheVariants.{Fault, TextFormat}
-use Rattle.protox_grammar.proofs.Telling.{AllLie}
+use Rattle.protox_grammar.proofs.Lemmas.{AllLie}
 use Rattle.protox_rows.specs.Expected.{words_of}
 use Rattle.protox_rows.specs.declared.expected.Expected.{Expected}
 use Rattle.protox_rows.specs.declared.refused.Refused.{Refused}

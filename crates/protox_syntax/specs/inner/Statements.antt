@@ -25,11 +25,12 @@ use Rattle.protox_grammar.specs.Rules as r
 use Rattle.protox_grammar.specs.Steps.{APackage}
 use Rattle.protox_grammar.specs.Told as told
 use Rattle.protox_grammar.specs.Token as token
-use Rattle.protox_grammar.proofs.Kept as kept
-use Rattle.protox_grammar.proofs.NotesLie.{import-lie, package-lies, syntax-lie}
-use Rattle.protox_grammar.proofs.Shows.{Shows, right-shows, shows-by, star-shows, two}
-use Rattle.protox_grammar.proofs.Shown.{Silent, Noting, both, seen, named, renamed, choice, optional, shown_by, the, sign}
-use Rattle.protox_grammar.proofs.Stated.{KeepsFirst, Stated, or_first, stated, packaged, stated_choice, stated_renamed, stated_notes}
+use Rattle.protox_grammar.proofs.Lemmas as kept
+use Rattle.protox_grammar.proofs.Lemmas.{KeepsFirst, Noting, Shows, Silent, Stated, both, choice}
+use Rattle.protox_grammar.proofs.Lemmas.{import-lie, named, optional, or_first, package-lies}
+use Rattle.protox_grammar.proofs.Lemmas.{packaged, renamed, right-shows, seen, shown_by, shows-by}
+use Rattle.protox_grammar.proofs.Lemmas.{sign, star-shows, stated, stated_choice, stated_notes}
+use Rattle.protox_grammar.proofs.Lemmas.{stated_renamed, syntax-lie, the, two}
 use Rattle.protox_rows.specs.inner.Names.{fullident}
 use Rattle.protox_rows.specs.inner.Strings.{checked_strings}
 use Rattle.protox_options.specs.inner.Options.{here, option}

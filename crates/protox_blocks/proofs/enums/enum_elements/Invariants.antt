@@ -1,7 +1,7 @@
 use Rattle.std.proofs.Common.{◌≡◌, ◌++◌, length}
 use Rattle.protox_grammar.specs.Class.{but, in_set}
 use Rattle.protox_grammar.specs.Reader.{star, gathered}
-use Rattle.protox_grammar.proofs.Telling.{star_notes}
+use Rattle.protox_grammar.proofs.Lemmas.{star_notes}
 use Rattle.protox_blocks.specs.inner.Enums as rule
 use Rattle.protox_blocks.proofs.enums.enum_elements.Given as goal
 use Rattle.protox_rows.specs.inner.Words as said

@@ -1,7 +1,7 @@
 use Rattle.std.proofs.Common.{sym, ◌∙◌}
 use Rattle.std.proofs.lemmas.Result.{err_from_is_err_and}
 use Rattle.protox_grammar.specs.Class.{but, in_set}
-use Rattle.protox_rows.proofs.Turns as turns
+use Rattle.protox_rows.proofs.Lemmas as turns
 use Rattle.protox_blocks.specs.inner.Services as rule
 use Rattle.protox_blocks.proofs.Turns.{service_element-eats}
 use Rattle.protox_blocks.proofs.services.service_elements.Goals as goal

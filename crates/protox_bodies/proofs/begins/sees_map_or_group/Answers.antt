@@ -1,7 +1,7 @@
 use Rattle.std.proofs.Common.{[], ◌∷◌, ap, ◌∙◌}
 use Rattle.protox_grammar.specs.Class.{Set, among}
 use Rattle.protox_grammar.specs.Token as token
-use Rattle.protox_rows.proofs.PlacedRows.{first-in}
+use Rattle.protox_rows.proofs.Lemmas.{first-in}
 use Rattle.protox_bodies.proofs.begins.sees_map_or_group.Goals as goal
 
 abbrev words : Set

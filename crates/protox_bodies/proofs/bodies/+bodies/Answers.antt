@@ -1,7 +1,7 @@
 use Rattle.std.proofs.Common.{sym, subst, ◌∙◌}
 use Rattle.std.proofs.lemmas.Result.{err_from_is_err_and}
 use Rattle.protox_grammar.specs.Class.{but, in_set}
-use Rattle.protox_rows.proofs.Turns as turns
+use Rattle.protox_rows.proofs.Lemmas as turns
 use Rattle.protox_rows.specs.inner.Notes.{Adds, AddsTo}
 use Rattle.protox_rows.specs.inner.Words.{Says, SaysOf}
 use Rattle.protox_bodies.specs.inner.Bodies as rule

@@ -5,7 +5,7 @@ use Rattle.protox_ast.specs.declared.ast.Extend.{out-Extend}
 use Rattle.protox_ast.specs.declared.ast.Field.{out-Field}
 use Rattle.protox_ast.specs.declared.ast.MessageBody.{out-MessageBody}
 use Rattle.protox_ast.specs.declared.ast.Oneof.{out-Oneof}
-use Rattle.protox_ast.proofs.Levels.{item-enum}
+use Rattle.protox_ast.proofs.Lemmas.{item-enum}
 use Rattle.protox_checks.specs.Checks.{nodes_faults}
 use Rattle.protox_checks.specs.FieldFaults.{InExtend, InOneof}
 use Rattle.protox_checks.specs.Nodes.{AField, AMessageNumber, empty_nodes, fields_nodes, node_steps, option_nodes}

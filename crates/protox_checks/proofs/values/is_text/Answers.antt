@@ -1,5 +1,5 @@
 use Rattle.std.proofs.Common.{sym}
-use Rattle.protox_ast.proofs.ValidTexts.{text-ok}
+use Rattle.protox_ast.proofs.Lemmas.{text-ok}
 use Rattle.protox_checks.proofs.values.is_text.Goals as goal
 
 pub returns-in-Ok : goal.returns-in-Ok

@@ -1,5 +1,5 @@
 use Rattle.std.proofs.Common.{rules}
-use Rattle.protox_ast.proofs.Levels.{field-gives}
+use Rattle.protox_ast.proofs.Lemmas.{field-gives}
 use Rattle.protox_describe.specs.Descriptor.{descriptor_steps}
 use Rattle.protox_describe.proofs.fields.field_proto.Goals as goal
 

@@ -1,7 +1,7 @@
 use Rattle.std.proofs.Common.{◌<◌, ◌∷◌, ◌++◌, [], length, map, take_all, arith, ap, sym, ◌∙◌}
 use Rattle.protox_ast.specs.Steps.{of_field}
 use Rattle.protox_ast.specs.declared.ast.Extend.{out-Extend}
-use Rattle.protox_ast.proofs.Levels.{extend-gives}
+use Rattle.protox_ast.proofs.Lemmas.{extend-gives}
 use Rattle.protox_describe.specs.Descriptor.{Gives, descriptor_steps, extending}
 use Rattle.protox_describe.proofs.Lists.{map-twice, more-mapped}
 use Rattle.protox_describe.proofs.items.push_extensions.Goals as goal

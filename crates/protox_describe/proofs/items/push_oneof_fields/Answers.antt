@@ -1,6 +1,6 @@
 use Rattle.std.proofs.Common.{◌<◌, ◌++◌, length, map, take_all, arith, ap, sym, ◌∙◌}
 use Rattle.protox_ast.specs.Steps.{of_field}
-use Rattle.protox_ast.proofs.Levels.{oneof-gives}
+use Rattle.protox_ast.proofs.Lemmas.{oneof-gives}
 use Rattle.protox_describe.specs.Descriptor.{descriptor_steps, in_oneof}
 use Rattle.protox_describe.proofs.Lists.{more-mapped}
 use Rattle.protox_describe.proofs.items.push_oneof_fields.Goals as goal

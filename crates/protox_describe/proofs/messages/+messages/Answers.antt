@@ -2,7 +2,7 @@ use Rattle.std.proofs.Common.{◌<◌, ◌++◌, [], length, map, take_all, arit
 use Rattle.std.specs.List.{flat_map}
 use Rattle.protox_ast.specs.Steps.{of_field, of_item}
 use Rattle.protox_ast.specs.declared.ast.Extend.{out-Extend}
-use Rattle.protox_ast.proofs.Levels.{extend-gives, oneof-gives}
+use Rattle.protox_ast.proofs.Lemmas.{extend-gives, oneof-gives}
 use Rattle.protox_describe.specs.Descriptor.{Gives, descriptor_steps, nested_of}
 use Rattle.protox_describe.proofs.Lists.{more-flat}
 use Rattle.protox_describe.proofs.Oneofs.{extending-nested}

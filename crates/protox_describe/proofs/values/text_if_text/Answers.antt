@@ -1,6 +1,6 @@
 use Rattle.std.proofs.Common.{ap, sym, ◌∙◌, Some, None}
 use Rattle.std.specs.Prelude.{if◌then◌else◌}
-use Rattle.protox_ast.proofs.ValidTexts.{text-ok}
+use Rattle.protox_ast.proofs.Lemmas.{text-ok}
 use Rattle.protox_describe.proofs.values.text_if_text.Goals as goal
 
 pub returns-in_ok-copy-in-Ok : goal.returns-in_ok-copy-in-Ok

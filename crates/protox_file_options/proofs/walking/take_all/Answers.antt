@@ -6,7 +6,7 @@ use Rattle.protox_descriptor.specs.declared.descriptor.options.UninterpretedOpti
 use Rattle.protox_descriptor.specs.declared.tag.file.TheConstants as file_tag
 use Rattle.protox_file_options.specs.Places.{place_if_any, place_of_file, places_at, statements_of_file}
 use Rattle.protox_file_options.proofs.Taking.{all_taken}
-use Rattle.protox_walk.proofs.Folds.{folds-append}
+use Rattle.protox_walk.proofs.Lemmas.{folds-append}
 use Rattle.protox_walk.specs.Declarations.{file_declarations}
 use Rattle.protox_file_options.proofs.walking.take_all.Goals as goal
 

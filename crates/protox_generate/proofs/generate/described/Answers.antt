@@ -1,8 +1,8 @@
 use Rattle.std.proofs.Common.{List, ap, sym, subst, ◌∙◌}
 use Rattle.protox_ast.specs.declared.ast.FileItem.{FileItem}
 use Rattle.protox_generate.specs.File.{AreLocated, AreSorted, file_descriptor}
-use Rattle.protox_locate.proofs.InOrder.{in-order}
-use Rattle.protox_places.proofs.SortedPaths.{sorted-by-path}
+use Rattle.protox_locate.proofs.Lemmas.{in-order}
+use Rattle.protox_places.proofs.Lemmas.{sorted-by-path}
 use Rattle.protox_places.specs.Order.{StartsBefore}
 use Rattle.protox_locate.specs.Locations.{file_locations}
 use Rattle.protox_places.specs.Lines.{span_numbers}

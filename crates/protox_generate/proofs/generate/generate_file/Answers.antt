@@ -1,6 +1,6 @@
 use Rattle.std.proofs.Common.{◌≡◌, [], length, sym, subst}
 use Rattle.protox_ast.specs.Basics.{Each}
-use Rattle.protox_checks.proofs.FaultsLie.{listed-lie}
+use Rattle.protox_checks.proofs.Lemmas.{listed-lie}
 use Rattle.protox_checks.specs.Faults.{HasEachWrong}
 use Rattle.protox_fault.specs.Faults.{LiesIn}
 use Rattle.protox_generate.proofs.CommentedOnce.{answer-commented}

@@ -5,8 +5,7 @@ use Rattle.std.proofs.lemmas.Str.{IsCharBoundary-end}
 use Rattle.std.specs.List.{All}
 use Rattle.protox_lexeme.specs.Lexemes as spec
 use Rattle.protox_lex.specs.TableView.{finished}
-use Rattle.protox_lexeme.proofs.Cut.{cut_none}
-use Rattle.protox_lexeme.proofs.Step.{step_boundary, step_cut}
+use Rattle.protox_lexeme.proofs.Lemmas.{cut_none, step_boundary, step_cut}
 use Rattle.protox_lex.proofs.Tables.{all_but_more, end_of_more, ends_with}
 use Rattle.protox_lex.proofs.table_draft.draft.Goals as goal
 

@@ -1,5 +1,5 @@
 use Rattle.std.proofs.Common.{length, subst}
-use Rattle.protox_imports.proofs.NamesAgree.{ordered_has_no_cycle}
+use Rattle.protox_imports.proofs.Lemmas.{ordered_has_no_cycle}
 use Rattle.protox_imports.specs.Answer.{IsAnswer}
 use Rattle.protox_imports.specs.Imports.{Imports}
 use Rattle.protox_link.proofs.linking.order_of_right.Goals as goal

@@ -1,6 +1,6 @@
 use Rattle.std.proofs.Common.{length, subst, sym}
 use Rattle.std.proofs.lemmas.Result.{IfOk-weaker}
-use Rattle.protox_imports.proofs.NamesAgree.{answer_agrees, rows_agree}
+use Rattle.protox_imports.proofs.Lemmas.{answer_agrees, rows_agree}
 use Rattle.protox_imports.specs.Agree.{Agree}
 use Rattle.protox_imports.specs.Answer.{IsAnswer}
 use Rattle.protox_imports.specs.Imports.{Imports}

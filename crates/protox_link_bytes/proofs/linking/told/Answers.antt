@@ -5,7 +5,7 @@ use Rattle.protox_link_bytes.proofs.Sources.{one_list, same_texts, stand}
 use Rattle.protox_link_bytes.specs.Given.{given}
 use Rattle.protox_link_bytes.specs.Parsed.{IsParsedOf}
 use Rattle.protox_link_fault.specs.declared.LinkFault.{LinkFault}
-use Rattle.protox_link_records.proofs.SomeRecords.{some_records}
+use Rattle.protox_link_records.proofs.Lemmas.{some_records}
 use Rattle.protox_link_records.specs.LinkRecords as records
 use Rattle.protox_link_records.specs.LinkRecords.{AreTold}
 use Rattle.protox_link_bytes.proofs.linking.told.Goals as goal

@@ -2,7 +2,7 @@ use Rattle.std.proofs.Common.{◌++◌, ◌≤◌, length, w32, refl, sym, ap, �
 use Rattle.std.specs.List.{flat_map}
 use Rattle.std.proofs.lemmas.Bool.{eqb-true}
 use Rattle.std.proofs.lemmas.Int.{to_z-of_z}
-use Rattle.protox_symbols.proofs.Siblings.{place_kept, place_of}
+use Rattle.protox_symbols.proofs.Lemmas.{place_kept, place_of}
 use Rattle.protox_walk.specs.Declarations.{all_in, siblings_at}
 use Rattle.protox_link_checks.specs.Faults.{declared_faults}
 use Rattle.protox_link_checks.proofs.Folding.{sibling_checked, siblings_checked}

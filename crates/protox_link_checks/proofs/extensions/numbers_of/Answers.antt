@@ -4,7 +4,7 @@ use Rattle.protox_descriptor.specs.FieldDescriptorProto.{FieldDescriptorProto}
 use Rattle.protox_link_checks.specs.Extensions.{extension_in}
 use Rattle.protox_link_checks.proofs.Extending.{in_no_scope, named_in, numbered_in, with_both, without_message, without_number}
 use Rattle.protox_name_tree.specs.Tree.{name_in, number_of}
-use Rattle.protox_names.proofs.Joining.{identifiers_are_one_part}
+use Rattle.protox_names.proofs.Lemmas.{identifiers_are_one_part}
 use Rattle.protox_names.specs.Names.{is_identifier}
 use Rattle.protox_symbols.specs.Scopes.{IsFoundScope}
 use Rattle.protox_walk.specs.Declarations.{Path, full_name, text_of}

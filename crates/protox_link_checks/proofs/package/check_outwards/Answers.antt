@@ -6,7 +6,7 @@ use Rattle.protox_link_checks.proofs.Outwards.{one_outwards, outer_known}
 use Rattle.protox_link_fault.specs.declared.LinkFaultKind.TheVariants.{NotAPackage}
 use Rattle.protox_name_tree.specs.Tree.{IsKnown, name_at}
 use Rattle.protox_names.specs.Tree.{name_of_place}
-use Rattle.protox_views.proofs.Ways.{shorter_outwards}
+use Rattle.protox_views.proofs.Lemmas.{shorter_outwards}
 use Rattle.protox_link_checks.proofs.package.check_outwards.Goals as goal
 
 pub loop-place-smaller : goal.loop-place-smaller

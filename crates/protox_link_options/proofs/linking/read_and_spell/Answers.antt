@@ -1,6 +1,6 @@
 use Rattle.std.proofs.Common.{List, ℕ, inr, subst, sym}
 use Rattle.protox_descriptor.specs.declared.descriptor.FileDescriptorProto.{FileDescriptorProto}
-use Rattle.protox_link_bytes.proofs.Sources.{same_texts}
+use Rattle.protox_link_bytes.proofs.Lemmas.{same_texts}
 use Rattle.protox_link_bytes.specs.Given.{given}
 use Rattle.protox_link_bytes.specs.Outcomes.{IsWant}
 use Rattle.protox_link_bytes.specs.declared.failure.LinkSourcesFailure.TheVariants.{Refused}

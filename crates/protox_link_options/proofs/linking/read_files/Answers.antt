@@ -3,8 +3,7 @@ use Rattle.std.specs.Prelude.{MatchOption}
 use Rattle.protox_link_options.specs.Options.{AreWrongUses}
 use Rattle.protox_link_records.specs.LinkRecords.{texts}
 use Rattle.protox_option_checks.specs.Checks.{check_faults}
-use Rattle.protox_option_records.proofs.Lists.{none_in}
-use Rattle.protox_option_records.proofs.Reading.{interpreted_of}
+use Rattle.protox_option_records.proofs.Lemmas.{interpreted_of, none_in}
 use Rattle.protox_symbols.specs.Things.{table_of}
 use Rattle.protox_link_options.proofs.Entries.{not_none}
 use Rattle.protox_link_options.proofs.linking.read_files.Goals as goal

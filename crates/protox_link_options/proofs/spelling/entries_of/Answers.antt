@@ -2,7 +2,7 @@ use Rattle.std.proofs.Common.{◌≡◌, ◌∙◌, [], ◌∷◌, ap, arith, le
 use Rattle.std.proofs.lemmas.Grind.{common_steps}
 use Rattle.std.proofs.lemmas.List.{map-append}
 use Rattle.protox_encode.specs.declared.fault.EncodeError.TheVariants.{TooLarge}
-use Rattle.protox_link_bytes.proofs.Errors.{same_error}
+use Rattle.protox_link_bytes.proofs.Lemmas.{same_error}
 use Rattle.protox_link_options.proofs.Entries.{all_made, large_one, one_made, reverse-map}
 use Rattle.protox_link_options.proofs.spelling.entries_of.Goals as goal
 

@@ -2,7 +2,7 @@ use Rattle.std.proofs.Common.{List, ℕ, Some, None, ap, sym, ◌∙◌}
 use Rattle.protox_link_text.specs.Told.{defined_in}
 use Rattle.protox_link_text.specs.declared.error.LinkError.TheVariants.{AlreadyDefined, AlreadyDefinedIn}
 use Rattle.protox_link_text.proofs.Naming.{defined_alone, defined_at}
-use Rattle.protox_name_tree.proofs.Standing.{cut_last}
+use Rattle.protox_name_tree.proofs.Lemmas.{cut_last}
 use Rattle.protox_names.specs.Names.{scopes}
 use Rattle.protox_link_text.proofs.defined.defined_in.Goals as goal
 

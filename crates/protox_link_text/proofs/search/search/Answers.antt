@@ -1,6 +1,6 @@
 use Rattle.std.proofs.Common.{None, lit<, sym, ◌∙◌}
 use Rattle.std.proofs.lemmas.Str.Pattern.{strip_prefix_char}
-use Rattle.protox_scopes.proofs.Outwards as outwards
+use Rattle.protox_scopes.proofs.Lemmas as outwards
 use Rattle.protox_link_text.proofs.Searching.{at_top, relative, stopped}
 use Rattle.protox_link_text.proofs.search.search.Goals as goal
 

@@ -1,7 +1,7 @@
 use Rattle.std.proofs.Common.{◌≡◌, List, map, subst, rules, to_z, of_z}
 use Rattle.std.specs.Prelude.{IfOk, Some, ℤ}
 use Rattle.std.specs.Int.{w32}
-use Rattle.protox_ast.proofs.Levels.{extend-gives}
+use Rattle.protox_ast.proofs.Lemmas.{extend-gives}
 use Rattle.protox_ast.specs.Steps.{of_field}
 use Rattle.protox_ast.specs.declared.ast.Extend.{out-Extend}
 use Rattle.protox_ast.specs.declared.ast.Field.{Field}

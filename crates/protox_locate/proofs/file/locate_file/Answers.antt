@@ -5,8 +5,7 @@ use Rattle.protox_locate.specs.Locations.{file_locations}
 use Rattle.protox_locate.specs.inner.Draft.{IsDraft}
 use Rattle.protox_places.specs.Order.{InOrder, StartsBefore}
 use Rattle.protox_locate.proofs.InOrder.{in-order}
-use Rattle.protox_places.proofs.LineFacts.{numbers-are}
-use Rattle.protox_places.proofs.SortedPaths.{sorted-by-path}
+use Rattle.protox_places.proofs.Lemmas.{numbers-are, sorted-by-path}
 use Rattle.protox_locate.proofs.file.locate_file.Goals as goal
 
 pub returns-clause-located : goal.returns-clause-located

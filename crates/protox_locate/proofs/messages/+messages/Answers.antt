@@ -8,7 +8,7 @@ use Rattle.protox_ast.specs.declared.ast.MessageItem.{MessageItem}
 use Rattle.protox_ast.specs.declared.ast.Reserved.{Reserved}
 use Rattle.protox_descriptor.specs.declared.tag.message.TheConstants.{ENUM_TYPE, FIELD, NESTED_TYPE}
 use Rattle.protox_fault.specs.Faults.{Span}
-use Rattle.protox_ast.proofs.Levels.{body-gives}
+use Rattle.protox_ast.proofs.Lemmas.{body-gives}
 use Rattle.protox_places.specs.Lines.{numbers_at}
 use Rattle.protox_locate.specs.LocationWords.{Part, extensions_statements}
 use Rattle.protox_locate.specs.Locations.{OfItem, all_of, from_blocks, location_steps}

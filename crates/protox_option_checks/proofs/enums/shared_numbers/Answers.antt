@@ -1,5 +1,5 @@
 use Rattle.std.proofs.Common.{subst, sym, ◌∙◌}
-use Rattle.protox_numbers.proofs.None.{none_if_rising}
+use Rattle.protox_numbers.proofs.Lemmas.{none_if_rising}
 use Rattle.protox_option_checks.specs.Parts.{spans_of}
 use Rattle.protox_option_checks.specs.inner.Rising.{AreRising}
 use Rattle.protox_option_checks.proofs.enums.shared_numbers.Goals as goal

@@ -1,7 +1,7 @@
 use Rattle.std.proofs.Common.{None, lit<, cond, drop, Option, sym, ap, ℕ}
 use Rattle.std.proofs.lemmas.Str.Pattern.{strip_prefix_char}
 use Rattle.protox_name_tree.specs.Tree.{number_of}
-use Rattle.protox_scopes.proofs.Outwards.{relative}
+use Rattle.protox_scopes.proofs.Lemmas.{relative}
 use Rattle.protox_option_checks.proofs.names.named.Goals as goal
 
 pub returns-in-None : goal.returns-in-None

@@ -3,7 +3,7 @@ use Rattle.std.proofs.lemmas.Str.Pattern.{strip_prefix_char}
 use Rattle.protox_option_checks.proofs.Naming.{no_name}
 use Rattle.protox_name_tree.specs.Tree.{name_at}
 use Rattle.protox_names.specs.Names.{is_absolute}
-use Rattle.protox_scopes.proofs.Outwards.{relative}
+use Rattle.protox_scopes.proofs.Lemmas.{relative}
 use Rattle.protox_option_checks.proofs.text.full_name.Goals as goal
 
 pub returns : goal.returns

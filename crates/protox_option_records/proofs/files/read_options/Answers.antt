@@ -2,7 +2,7 @@ use Rattle.std.proofs.Common.{arith}
 use Rattle.protox_link_records.specs.LinkRecords.{texts}
 use Rattle.protox_option_records.proofs.NoneTold.{none_of_files}
 use Rattle.protox_option_records.proofs.Reading.{all_read, all_right, interpreted_of, one_read}
-use Rattle.protox_set_options.proofs.ReadBack.{all_read_back}
+use Rattle.protox_set_options.proofs.Lemmas.{all_read_back}
 use Rattle.protox_option_records.proofs.files.read_options.Goals as goal
 
 pub loop-number-preserved : goal.loop-number-preserved

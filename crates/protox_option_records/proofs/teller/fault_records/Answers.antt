@@ -1,7 +1,6 @@
 use Rattle.std.proofs.Common.{◌∙◌, ◌++◌, List, ap, map, refl, subst, sym}
 use Rattle.std.specs.List.{FoldsTo}
-use Rattle.protox_file_options.proofs.Each.{all_each}
-use Rattle.protox_file_options.proofs.Paths.{Apart, places_apart}
+use Rattle.protox_file_options.proofs.Lemmas.{Apart, all_each, places_apart}
 use Rattle.protox_file_options.specs.Interpreted.{Taken}
 use Rattle.protox_file_options.specs.Outcomes.{IsOutcome}
 use Rattle.protox_file_options.specs.Places.{Place, places_of}

@@ -2,7 +2,7 @@ use Rattle.std.proofs.Common.{◌≡◌, ◌++◌, length}
 use Rattle.protox_grammar.specs.Class.{only, in_set}
 use Rattle.protox_grammar.specs.Reader.{star, gathered}
 use Rattle.protox_grammar.specs.Token as token
-use Rattle.protox_grammar.proofs.Telling.{star_notes}
+use Rattle.protox_grammar.proofs.Lemmas.{star_notes}
 use Rattle.protox_rows.specs.inner.Reads.{push}
 use Rattle.protox_options.specs.inner.Options.{more_body, bodies}
 use Rattle.protox_options.proofs.options.bodies.Given as goal

@@ -3,7 +3,7 @@ use Rattle.std.proofs.lemmas.Result.{err_from_is_err_and}
 use Rattle.protox_grammar.specs.Class.{only, in_set}
 use Rattle.protox_grammar.specs.Token as token
 use Rattle.protox_rows.specs.inner.Reads.{push}
-use Rattle.protox_rows.proofs.Turns as turns
+use Rattle.protox_rows.proofs.Lemmas as turns
 use Rattle.protox_options.specs.inner.Options.{more_part, name}
 use Rattle.protox_options.proofs.Turns.{more_part-eats}
 use Rattle.protox_options.proofs.options.name.Goals as goal

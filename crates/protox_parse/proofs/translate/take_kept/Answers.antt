@@ -1,6 +1,6 @@
 use Rattle.std.proofs.Common.{◌≡◌, sym, ◌∙◌}
 use Rattle.std.specs.Vec.Iter.{into_iter_items}
-use Rattle.protox_generate.proofs.Items.{all_taken, one_more}
+use Rattle.protox_generate.proofs.Lemmas.{all_taken, one_more}
 use Rattle.protox_parse.proofs.Making.{reached_first}
 use Rattle.protox_parse.proofs.translate.take_kept.Goals as goal
 

@@ -1,7 +1,7 @@
 use Rattle.std.proofs.Common.{ℕ, List}
 use Rattle.std.specs.Vec.Iter.{into_iter_items}
 use Rattle.protox_ast.specs.declared.ast.FileItem.{FileItem}
-use Rattle.protox_generate.proofs.Items.{Reached}
+use Rattle.protox_generate.proofs.Lemmas.{Reached}
 use Rattle.protox_parse.specs.inner.Made.{AreInHand}
 use Rattle.protox_parse.proofs.translate.take_kept.Given as goal
 

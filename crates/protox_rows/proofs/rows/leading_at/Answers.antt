@@ -2,7 +2,7 @@ use Rattle.std.proofs.Common.{[], sym, ap, ◌∙◌}
 use Rattle.std.specs.Prelude.{option_map}
 use Rattle.protox_lexeme.specs.Gaps.{attribution}
 use Rattle.protox_lex.specs.TableView.{shapes_of_lent}
-use Rattle.protox_comments.proofs.Attributing.{newlines_alone}
+use Rattle.protox_comments.proofs.Lemmas.{newlines_alone}
 use Rattle.protox_rows.specs.Rows.{shape_of_row}
 use Rattle.protox_rows.proofs.PlacedRows.{none-there}
 use Rattle.protox_rows.proofs.rows.leading_at.Goals as goal

@@ -1,4 +1,4 @@
-use Rattle.protox_grammar.proofs.Main as main
+use Rattle.protox_grammar.proofs.Lemmas as main
 use Rattle.protox_options.specs.inner.Options.{here}
 use Rattle.protox_syntax.proofs.Aggregates.{aggregates-lex-back}
 use Rattle.protox_syntax.proofs.Answering.{listed-file, listed-only}

@@ -2,7 +2,7 @@ use Rattle.std.proofs.Common.{false, refl, sym, subst, ◌∙◌}
 use Rattle.protox_ast.specs.Spelling as s
 use Rattle.protox_ast.specs.declared.ast.File.{File}
 use Rattle.protox_grammar.specs.Told.{AreValidTokens}
-use Rattle.protox_rows.proofs.Turns.{all_read}
+use Rattle.protox_rows.proofs.Lemmas.{all_read}
 use Rattle.protox_syntax.proofs.Further.{valid-behind}
 use Rattle.protox_syntax.proofs.SomeRead.{none-read, read-more}
 use Rattle.protox_syntax.specs.inner.SomeRead.{AreRead}

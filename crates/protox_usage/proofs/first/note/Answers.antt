@@ -4,7 +4,7 @@ use Rattle.std.proofs.lemmas.List.{get_or_default, length-set}
 use Rattle.protox_name_tree.specs.Tree.{name_at}
 use Rattle.protox_names.specs.Tree.{name_of_place}
 use Rattle.protox_usage.proofs.Firsts.{first_left, first_outwards, one_first, or_none}
-use Rattle.protox_views.proofs.Ways.{no_way, shorter_outwards, way_step}
+use Rattle.protox_views.proofs.Lemmas.{no_way, shorter_outwards, way_step}
 use Rattle.protox_views.specs.Packages.{is_on_the_way}
 use Rattle.protox_usage.proofs.first.note.Goals as goal
 

@@ -1,5 +1,5 @@
 use Rattle.std.proofs.Common.{sym}
-use Rattle.protox_names.proofs.Joining.{front_of_one_part}
+use Rattle.protox_names.proofs.Lemmas.{front_of_one_part}
 use Rattle.protox_views.proofs.resolve.cut.Goals as goal
 
 pub returns-in-None-clause-front : goal.returns-in-None-clause-front

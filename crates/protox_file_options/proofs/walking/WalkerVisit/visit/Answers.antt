@@ -3,7 +3,7 @@ use Rattle.std.proofs.lemmas.Result.{on_ok_weaker}
 use Rattle.std.specs.List.{FoldsTo}
 use Rattle.protox_descriptor.specs.declared.descriptor.descriptor_proto.ExtensionRange.{ExtensionRange}
 use Rattle.protox_file_options.specs.Places.{place_of_part, ranges_from, ranges_of, scope_around}
-use Rattle.protox_walk.proofs.Folds.{folds-append}
+use Rattle.protox_walk.proofs.Lemmas.{folds-append}
 use Rattle.protox_walk.specs.Parts.{part_of}
 use Rattle.protox_file_options.proofs.walking.WalkerVisit.visit.Goals as goal
 

@@ -2,7 +2,7 @@ use Rattle.std.proofs.Common.{ℕ, List, [], Some, ap, sym, subst, ◌∙◌}
 use Rattle.protox_generate.specs.File.{file_descriptor}
 use Rattle.protox_generate.specs.inner.Taken.{ArePlaced}
 use Rattle.protox_locate.specs.Locations.{file_at}
-use Rattle.protox_places.proofs.LineFacts.{numbers-are}
+use Rattle.protox_places.proofs.Lemmas.{numbers-are}
 use Rattle.protox_places.specs.Lines.{numbers_at, starts}
 use Rattle.protox_generate.proofs.draft.FileDraft.finish.Goals as goal
 

@@ -5,7 +5,7 @@ use Rattle.protox_imports.specs.Rows.{row_by}
 use Rattle.protox_imports.specs.Seen.{AreSeen}
 use Rattle.protox_marks.specs.Few.{among}
 use Rattle.protox_marks.specs.Marks.{any_marked}
-use Rattle.protox_views.proofs.Seen.{packages_seen}
+use Rattle.protox_views.proofs.Lemmas.{packages_seen}
 use Rattle.protox_link.specs.Seen.{packages_of}
 use Rattle.protox_symbols.specs.Things.{table_of}
 use Rattle.protox_link.proofs.known.Known.names.Goals as goal

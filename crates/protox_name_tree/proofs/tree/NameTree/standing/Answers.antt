@@ -1,7 +1,7 @@
 use Rattle.std.proofs.Common.{◌≡◌, true, false, None, Some, sym, ap, subst, ◌∙◌}
 use Rattle.protox_names.specs.Names.{within}
 use Rattle.protox_names.specs.Tree.{name_of_place}
-use Rattle.protox_names.proofs.Joining.{identifiers_are_one_part}
+use Rattle.protox_names.proofs.Lemmas.{identifiers_are_one_part}
 use Rattle.protox_name_tree.specs.Tree.{can_stand, name_at, number_of}
 use Rattle.protox_name_tree.proofs.Standing.{cut_last, cut_within, in_scope, no_scope, none_in_place, none_in_scope, none_with_end, stands_in_place, uncut, whole_name}
 use Rattle.protox_name_tree.proofs.tree.NameTree.standing.Goals as goal

@@ -1,7 +1,7 @@
 use Rattle.std.proofs.Common.{◌<◌, ◌++◌, List, arith, length, refl, subst, sym, take}
 use Rattle.std.specs.List.{FoldsTo}
 use Rattle.protox_ast.specs.declared.ast.FileItem.{FileItem}
-use Rattle.protox_locate.proofs.Numbered.{take_more}
+use Rattle.protox_locate.proofs.Lemmas.{take_more}
 use Rattle.protox_parse.specs.inner.Made.{TakesNext}
 use Rattle.protox_parse.proofs.Making.{keeping, keeps_none, one_more_kept}
 use Rattle.protox_parse.proofs.translate.Translation.check_all.Goals as goal

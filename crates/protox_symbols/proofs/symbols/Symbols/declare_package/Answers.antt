@@ -1,10 +1,9 @@
 use Rattle.std.proofs.Common.{fold, Some, None, lit<, refl, sym, ap, subst, ◌∙◌, rules}
 use Rattle.std.proofs.lemmas.Str.Pattern.{split_parts}
 use Rattle.protox_names.specs.Names.{within}
-use Rattle.protox_names.proofs.Found.{one_part}
+use Rattle.protox_names.proofs.Lemmas.{one_part}
 use Rattle.protox_name_tree.specs.Tree.{name_at, number_of}
-use Rattle.protox_name_tree.proofs.FullNames.{known_some}
-use Rattle.protox_name_tree.proofs.Outwards.{some_scope}
+use Rattle.protox_name_tree.proofs.Lemmas.{known_some, some_scope}
 use Rattle.protox_symbols.specs.Scopes.{IsMissing, scope_name}
 use Rattle.protox_symbols.specs.Things.{with_entry}
 use Rattle.protox_symbols.proofs.Found.{with_number}

@@ -1,7 +1,7 @@
 use Rattle.std.proofs.Common.{◌≡◌, ◌∙◌, ℕ, Bool, Bor, List, Option, None, ap, cond, drop, subst, sym, lit<}
 use Rattle.std.proofs.lemmas.Str.Pattern.{strip_prefix_char}
 use Rattle.protox_names.specs.Names.{scopes}
-use Rattle.protox_scopes.proofs.Outwards.{relative}
+use Rattle.protox_scopes.proofs.Lemmas.{relative}
 use Rattle.protox_scopes.specs.Scopes.{step}
 use Rattle.protox_usage.proofs.Outwards.{around, ended}
 use Rattle.protox_usage.specs.Met.{if_found, met_in, met_outwards}

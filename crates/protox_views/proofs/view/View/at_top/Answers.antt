@@ -1,7 +1,7 @@
 use Rattle.std.proofs.Common.{◌≡◌, [], Some, cond, None, sym, ap, ◌∙◌}
 use Rattle.std.specs.Option.{option_and_then}
 use Rattle.protox_name_tree.specs.Tree.{number_of}
-use Rattle.protox_names.proofs.Joining.{front_of_one_part}
+use Rattle.protox_names.proofs.Lemmas.{front_of_one_part}
 use Rattle.protox_views.specs.Views.{is_seen, seen}
 use Rattle.protox_views.proofs.Resolved.{found_at_top, none_at_top, rest_within}
 use Rattle.protox_views.proofs.view.View.at_top.Goals as goal

@@ -2,8 +2,7 @@ use Rattle.std.proofs.Common.{None, lit<, ◌∙◌, arith}
 use Rattle.std.proofs.lemmas.Str.Pattern.{strip_prefix_char}
 use Rattle.std.proofs.lemmas.Grind.{common_steps}
 use Rattle.protox_name_tree.specs.Tree.{kind_at, name_at}
-use Rattle.protox_scopes.proofs.Outwards.{relative}
-use Rattle.protox_scopes.proofs.TreeSearch.{at_top, by_user, nearer_from, stopped}
+use Rattle.protox_scopes.proofs.Lemmas.{at_top, by_user, nearer_from, relative, stopped}
 use Rattle.protox_views.specs.Views.{seen}
 use Rattle.protox_views.proofs.view.View.resolve.Goals as goal
 

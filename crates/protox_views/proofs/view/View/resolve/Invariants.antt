@@ -1,6 +1,6 @@
 use Rattle.std.proofs.Common.{◌≡◌}
 use Rattle.protox_name_tree.specs.Tree.{kind_at, name_at}
-use Rattle.protox_scopes.proofs.TreeSearch.{all_from, way_from}
+use Rattle.protox_scopes.proofs.Lemmas.{all_from, way_from}
 use Rattle.protox_views.specs.Views.{seen}
 use Rattle.protox_views.proofs.view.View.resolve.Given as goal
 

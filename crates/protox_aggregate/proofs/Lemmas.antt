@@ -1,0 +1,2 @@
+-- What other crates need of these proofs.
+pub use Rattle.protox_aggregate.proofs.SameSteps.{entries_alike}

@@ -5,3 +5,4 @@ pub mod Outermost
 pub mod SortedList
 pub mod Finding
 pub mod SameMoves
+pub mod Neighbours

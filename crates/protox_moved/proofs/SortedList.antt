@@ -39,7 +39,7 @@ up-placed l (m ∷ ms) up = go (before m l) refl (up-placed l ms up.1) where
   go false e rest = ((e, none_through before order l m ms e up.0), up)
 
 -- two elements of which not both are kept
-swapped : (m l : Location) (rest : List Location) (p q : Bool) → (p ≡ true → q ≡ true → ⊥)
+pub swapped : (m l : Location) (rest : List Location) (p q : Bool) → (p ≡ true → q ≡ true → ⊥)
     → cond p (m ∷ cond q (l ∷ rest) rest) (cond q (l ∷ rest) rest)
     ≡ cond q (l ∷ cond p (m ∷ rest) rest) (cond p (m ∷ rest) rest)
 swapped m l rest true true h = absurd (h refl refl)

@@ -12,6 +12,7 @@ ghost use Rattle.protox_moved.specs.Moved.{after_moves};
 pub mod laws;
 mod lookups;
 mod steps;
+mod straighten;
 
 use crate::steps::rearrange;
 use protox_descriptor::descriptor::SourceCodeInfo;

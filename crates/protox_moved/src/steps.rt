@@ -8,6 +8,7 @@ ghost use Rattle.protox_moved.specs.inner.Sorting.{AreApart, AreByStart};
 
 use crate::Move;
 use crate::lookups::{find_move, is_below_any, keep_outermost, sort_moves};
+use crate::straighten::straighten;
 use protox_descriptor::descriptor::source_code_info::Location;
 use protox_descriptor::values::Numbers;
 use std::alloc::{AllocError, Global};
@@ -47,6 +48,7 @@ fn give_paths(alloc: Global, moves: &[Move], locations: &mut [Location]) -> Resu
 fn sort_locations(locations: &mut Vec<Location>) -> Result<(), AllocError>
     ensures { OnOk result (locations.new.items ≡ sorted_by_path locations.old.items) }
 {
+    straighten(locations.as_mut_slice());
     locations.sort_by(|a, b| a.path.as_slice().cmp(&b.path.as_slice()))
 }
 

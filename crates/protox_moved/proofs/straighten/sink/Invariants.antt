@@ -1,0 +1,9 @@
+use Rattle.std.proofs.Common.{◌≡◌, ◌<◌, length}
+use Rattle.std.specs.List.Sorted.{IsStableBy}
+use Rattle.protox_moved.specs.inner.Sorting.{comes_before}
+use Rattle.protox_moved.proofs.straighten.sink.Given as goal
+
+abbrev pub invariant-loop : goal.invariant-loop
+invariant-loop l =
+    IsStableBy comes_before l.fn.locations l.locations × (length l.locations ≡ length l.fn.locations)
+    × (l.at < length l.locations)

@@ -11,7 +11,8 @@ line is 'N names past a door'.
 
 With --mend the proofs of these crates get their door: each name that others import is passed on by
 proofs/Lemmas.antt, and the others import it from there. A name that stands in several modules is told, and
-nothing is changed: it wants a name of its own first.
+nothing is changed: it wants a name of its own first. A file that had several modules of a crate under
+names of its own then has the door under several names, where one is allowed: that is mended by hand.
 """
 import collections
 import glob

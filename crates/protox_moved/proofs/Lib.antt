@@ -4,5 +4,6 @@ pub mod Starts
 pub mod Outermost
 pub mod SortedList
 pub mod Finding
+pub mod Counts
 pub mod SameMoves
 pub mod Neighbours

@@ -1,6 +1,6 @@
 //! Moves sorted by where they begin, and the search among them.
 
-ghost use Rattle.std.specs.Prelude.{◌≡◌, ℕ, ℤ, ◌≤◌, true, false, if◌then◌else◌, List, Some, None, length, slice_get, OnOk};
+ghost use Rattle.std.specs.Prelude.{◌≡◌, ℕ, ℤ, ◌≤◌, ◌<◌, ◌-◌, true, false, if◌then◌else◌, List, Some, None, length, slice_get, slice_index_or, OnOk};
 ghost use Rattle.std.specs.Cmp.Lexicographic.{pointwise};
 ghost use Rattle.std.specs.List.{AllWithin, find, list_any};
 ghost use Rattle.std.specs.Option.{option_copied};
@@ -23,15 +23,57 @@ pub(crate) fn sort_moves(moves: &mut Vec<Move>) -> Result<(), AllocError>
     moves.sort_by(|a, b| a.from.as_slice().cmp(&b.from.as_slice()))
 }
 
+// Whether a move begins at a smaller path.
+fn is_before(m: &Move, path: &[i32]) -> bool
+    ensures { result ≡ is_before m.now.from path.now }
+{
+    m.from.as_slice().cmp(&path).is_lt()
+}
+
+// Whether so many moves begin at a smaller path.
+fn is_count(moves: &[Move], count: usize, path: &[i32]) -> bool
+    ensures bound { result ≡ true → count ≤ length moves.now }
+    ensures last { result ≡ true → (m : Move) → 0 < count
+        → is_before (slice_index_or moves.now (count - 1) m).from path.now ≡ true }
+    ensures next { result ≡ true → (m : Move) → count < length moves.now
+        → is_before (slice_index_or moves.now count m).from path.now ≡ false }
+{
+    if count > moves.len() || count > 0 && !is_before(&moves[count - 1], path) {
+        return false;
+    }
+    count == moves.len() || !is_before(&moves[count], path)
+}
+
 // How many moves begin at a smaller path, by binary search.
-fn count_before(moves: &[Move], path: &[i32]) -> usize
+fn search_count(moves: &[Move], path: &[i32]) -> usize
     requires { AreByStart moves.now }
     ensures bound { result ≤ length moves.now }
     ensures before { AllWithin (λ m. is_before m.from path.now ≡ true) moves.now 0 result }
     ensures from { AllWithin (λ m. is_before m.from path.now ≡ false)
         moves.now result (length moves.now) }
 {
-    moves.partition_point(|m| m.from.as_slice().cmp(&path).is_lt())
+    moves.partition_point(|m| is_before(m, path))
+}
+
+// How many moves begin at a smaller path. `near` is the last answer: it or the next number is mostly
+// the answer again, as locations stand by path.
+fn count_before(moves: &[Move], near: &mut usize, path: &[i32]) -> usize
+    requires { AreByStart moves.now }
+    ensures bound { result ≤ length moves.now }
+    ensures before { AllWithin (λ m. is_before m.from path.now ≡ true) moves.now 0 result }
+    ensures from { AllWithin (λ m. is_before m.from path.now ≡ false)
+        moves.now result (length moves.now) }
+{
+    let next = near.saturating_add(1);
+    if is_count(moves, *near, path) {
+        return *near;
+    }
+    *near = if is_count(moves, next, path) {
+        next
+    } else {
+        search_count(moves, path)
+    };
+    *near
 }
 
 // The move at an index, if it begins at this path.
@@ -48,12 +90,12 @@ fn with_start<'a>(moves: &'a [Move], at: usize, path: &[i32]) -> Option<&'a Move
     }
 }
 
-// The first move that begins at this path.
-pub(crate) fn find_move<'a>(moves: &'a [Move], path: &[i32]) -> Option<&'a Move>
+// The first move that begins at this path. `near` tells where the last one was looked for.
+pub(crate) fn find_move<'a>(moves: &'a [Move], near: &mut usize, path: &[i32]) -> Option<&'a Move>
     requires { AreByStart moves.now }
     ensures { option_copied result ≡ find (λ m. pointwise int_eq m.from path.now) moves.now }
 {
-    let at = count_before(moves, path);
+    let at = count_before(moves, near, path);
     with_start(moves, at, path)
 }
 
@@ -80,13 +122,13 @@ pub(crate) fn keep_outermost(moves: &mut Vec<Move>)
 
 // Whether a path lies below the start of a move. It can only be that of the last move that begins
 // before the path. For all paths between a start and one below it lie below that start, too, and no
-// move begins there.
-pub(crate) fn is_below_any(moves: &[Move], path: &[i32]) -> bool
+// move begins there. `near` tells where the last path was looked for.
+pub(crate) fn is_below_any(moves: &[Move], near: &mut usize, path: &[i32]) -> bool
     requires sorted { AreByStart moves.now }
     requires apart { AreApart moves.now }
     ensures { result ≡ list_any (λ m. is_below m.from path.now) moves.now }
 {
-    let at = count_before(moves, path);
+    let at = count_before(moves, near, path);
     if at == 0 {
         return false;
     }

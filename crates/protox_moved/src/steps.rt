@@ -19,15 +19,28 @@ fn drop_parts(moves: &[Move], locations: &mut Vec<Location>)
     requires apart { AreApart moves.now }
     ensures { locations.new.items ≡ filter (λ l. not (is_part moves.now l)) locations.old.items }
 {
-    locations.retain(|location| !is_below_any(moves, location.path.as_slice()));
+    let mut near = 0;
+    locations.retain(
+        |location|
+            requires sorted { AreByStart moves.now }
+            requires apart { AreApart moves.now }
+            ensures is { result ≡ not (is_part moves.entry.now location.now) }
+            ensures same { moves.exit ≡ moves.entry }
+        { !is_below_any(moves, &mut near, location.path.as_slice()) },
+    );
 }
 
-// Gives a location its new path, if it has one.
-fn give_path(alloc: Global, moves: &[Move], location: &mut Location) -> Result<(), AllocError>
+// Gives a location its new path, if it has one. `near` tells where the last one was looked for.
+fn give_path(
+    alloc: Global,
+    moves: &[Move],
+    near: &mut usize,
+    location: &mut Location,
+) -> Result<(), AllocError>
     requires { AreByStart moves.now }
     ensures { OnOk result (location.new ≡ moved moves.now location.old) }
 {
-    if let Some(found) = find_move(moves, location.path.as_slice()) {
+    if let Some(found) = find_move(moves, near, location.path.as_slice()) {
         location.path = Numbers::from_slice(alloc, found.to.as_slice())?;
     }
     Ok(())
@@ -38,8 +51,9 @@ fn give_paths(alloc: Global, moves: &[Move], locations: &mut [Location]) -> Resu
     requires { AreByStart moves.now }
     ensures { OnOk result (locations.new ≡ map (moved moves.now) locations.old) }
 {
+    let mut near = 0;
     for location in locations.iter_mut() {
-        give_path(alloc, moves, location)?;
+        give_path(alloc, moves, &mut near, location)?;
     }
     Ok(())
 }

@@ -1,24 +1,21 @@
-use Rattle.std.proofs.Common.{rules}
-use Rattle.std.proofs.lemmas.List.Sorted.{IsPartitionPoint-from_clause}
-use Rattle.protox_moved.specs.declared.Move.{Move}
-use Rattle.protox_moved.specs.inner.Sorting.{is_before}
-use Rattle.protox_moved.proofs.Finding.{start-parted}
+use Rattle.std.proofs.Common.{refl}
+use Rattle.protox_moved.proofs.Counts.{counted-before, counted-from}
 use Rattle.protox_moved.proofs.lookups.count_before.Goals as goal
 
-pub returns-clause-before : goal.returns-clause-before
-returns-clause-before c =
-    let point = IsPartitionPoint-from_clause
-    (λ (m : Move). is_before m.from c.args.path.now)
-    _ _ c.partition_point.ensures.partitioned
-    (start-parted c.args.moves.now c.args.path.now c.requires)
-    (λ a r q k. search rules) in
-    point.0
+pub returns-then-is_count-clause-before : goal.returns-then-is_count-clause-before
+returns-then-is_count-clause-before c =
+    let is = c.if-is_count.ensures in
+    counted-before c.args.moves.now c.args.path.now _ c.requires (is.bound refl) (is.last refl)
 
-pub returns-clause-from : goal.returns-clause-from
-returns-clause-from c =
-    let point = IsPartitionPoint-from_clause
-    (λ (m : Move). is_before m.from c.args.path.now)
-    _ _ c.partition_point.ensures.partitioned
-    (start-parted c.args.moves.now c.args.path.now c.requires)
-    (λ a r q k. search rules) in
-    point.1
+pub returns-then-is_count-clause-from : goal.returns-then-is_count-clause-from
+returns-then-is_count-clause-from c =
+    counted-from c.args.moves.now c.args.path.now _ c.requires (c.if-is_count.ensures.next refl)
+
+pub returns-then-is_count-2-clause-before : goal.returns-then-is_count-2-clause-before
+returns-then-is_count-2-clause-before c =
+    let is = c.if-is_count-2.ensures in
+    counted-before c.args.moves.now c.args.path.now _ c.requires (is.bound refl) (is.last refl)
+
+pub returns-then-is_count-2-clause-from : goal.returns-then-is_count-2-clause-from
+returns-then-is_count-2-clause-from c =
+    counted-from c.args.moves.now c.args.path.now _ c.requires (c.if-is_count-2.ensures.next refl)

@@ -1,0 +1,52 @@
+//! Puts the locations of its input into a pool, a line each, and prints what the pool tells of them.
+//!
+//! `4,0 1 3,8,11` is a location with the path `4,0,1` and the span `3,8,11`. Behind these may stand
+//! words that are its comments: the leading one, the trailing one, and those that are detached. `-` is
+//! no number, and no comment. Printed is how many locations there are; each of them; each of a pool that
+//! is made of these as a descriptor has them; and each of the descriptor. A location is printed as it is
+//! read, but with its path in one word.
+#![tactic(auto)]
+
+mod read;
+mod show;
+
+use crate::read::add_line;
+use crate::show::{shown, shown_lent};
+use protox_pool::LocationPool;
+use std::alloc::{AllocError, Global};
+use std::io;
+
+// A line for each location of a pool.
+fn told(alloc: Global, pool: &LocationPool) -> Result<String, AllocError> {
+    let mut text = String::new(alloc);
+    for index in 0..pool.len() {
+        if let Some(location) = pool.get(index) {
+            text.push_str(shown_lent(alloc, &location)?.as_str())?;
+        }
+    }
+    Ok(text)
+}
+
+// The same of the locations as a descriptor has them, and of a pool that is made of these.
+fn told_of_info(alloc: Global, pool: &LocationPool) -> Result<String, AllocError> {
+    let info = pool.to_source_code_info(alloc)?;
+    let again = LocationPool::from_source_code_info(alloc, &info)?;
+    let mut text = told(alloc, &again)?;
+    for location in info.location.iter() {
+        text.push_str(shown(alloc, location)?.as_str())?;
+    }
+    Ok(text)
+}
+
+fn main(rt: HostRuntime) -> io::Result<()> {
+    let alloc = rt.alloc();
+    let mut pool = LocationPool::with_room(alloc, 2);
+    for line in rt.lines(alloc) {
+        add_line(alloc, &mut pool, line?.as_str())?;
+    }
+    pool.shrink_to_fit();
+    println!(rt; "{}", pool.len())?;
+    println!(rt; "{}", told(alloc, &pool)?)?;
+    println!(rt; "{}", told_of_info(alloc, &pool)?)?;
+    Ok(())
+}

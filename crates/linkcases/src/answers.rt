@@ -132,7 +132,7 @@ fn write_linking<W: Write>(
     }
 }
 
-// The same. If `check` tells another number of faults, that is printed too.
+// Writes what linking says. If `check` tells another number of faults, that is printed too.
 fn write_both<W: Write>(
     alloc: Global,
     out: &mut W,

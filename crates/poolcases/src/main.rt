@@ -27,7 +27,7 @@ fn told(alloc: Global, pool: &LocationPool) -> Result<String, AllocError> {
     Ok(text)
 }
 
-// The same of the locations as a descriptor has them, and of a pool that is made of these.
+// A line for each location of a pool that is made of a descriptor, and for each of the descriptor.
 fn told_of_info(alloc: Global, pool: &LocationPool) -> Result<String, AllocError> {
     let info = pool.to_source_code_info(alloc)?;
     let again = LocationPool::from_source_code_info(alloc, &info)?;

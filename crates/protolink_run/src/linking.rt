@@ -177,7 +177,7 @@ fn warn<E: Write>(
     Ok(alike || unused)
 }
 
-// The same as `linked`, with what is known of the files.
+// Links the files, with what is known of them.
 fn linked_by<H: Host, W: Write, E: Write>(
     alloc: Global,
     host: &H,

@@ -127,7 +127,7 @@ fn move_in(
     }
 }
 
-// The same in all files.
+// Moves the locations of statements in all files.
 fn move_all(
     alloc: Global,
     files: &mut [FileDescriptorProto],

@@ -140,7 +140,7 @@ abbrev pub opened_as : Reading → Named → FieldDescriptorProto → Option ℕ
 opened_as reading named field (Some message) = Ok (into reading named field message)
 opened_as reading named field None = if named.colon then Err kind.NotScalar else Err kind.NoColon
 
--- The same; or it begins as the value of an `Any`.
+-- the message that begins as the value of a field, or as that of an `Any`
 abbrev pub opened_typed : Reading → Named → FieldDescriptorProto → Option ℕ → Option Typed → Result Reading AggregateFaultKind
 opened_typed reading named field message (Some typed) = Ok (into_typed reading named typed)
 opened_typed reading named field message None = opened_as reading named field message

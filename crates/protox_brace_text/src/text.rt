@@ -182,7 +182,7 @@ fn step_text(
     }
 }
 
-// The same of a step, if there is one.
+// What is wrong with a step, if there is one.
 fn item_text(
     alloc: Global,
     here: Site<'_>,

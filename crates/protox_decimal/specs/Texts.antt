@@ -64,7 +64,7 @@ reads_back format text x = option_eq eq (parse_float format text) (Some x)
 abbrev pub double_text : Float → List ℕ
 double_text x = if reads_back binary64 (general_text 15 x) x then general_text 15 x else general_text 17 x
 
--- The same of a float of 32 bits, with 6 or 9 digits. Its text is read as a float of 32 bits, by one
+-- A float of 32 bits with 6 digits if they read back, and else with 9. Its text is read by one
 -- rounding: protobuf reads it by C's `strtof`. Six digits are never exactly a subnormal float, so
 -- for these glibc's `strtof` reports an underflow, and protobuf takes that for a failure to read.
 abbrev pub float_text : Float → List ℕ

@@ -122,7 +122,7 @@ tested m =
 abbrev AgreesAt : DescriptorProto → Type 0
 AgreesAt m = (path : Path) → all (without.message_descriptor m) ≡ true → linked.message_descriptor [] path m ≡ plain.message_descriptor m
 
--- The same of each of these messages.
+-- Each of these messages holds the same in both.
 abbrev Agree : List DescriptorProto → Type 0
 Agree ms = (path : Path) (index : ℕ) → exact.each without.message_descriptor ms ≡ true
     → each_from (linked.message_descriptor []) path index ms ≡ each plain.message_descriptor ms

@@ -22,7 +22,7 @@ pub data Answered (Found : List ℕ → Type 0) (Missing : Reason → Type 0) (d
   without : (reason : Reason) → Missing reason → len ≡ 0 → new ≡ old → status ≡ status_of reason
       → Answered Found Missing done old new len status
 
--- The same of a call that finds bytes of more than one kind, each with a status of its own.
+-- A call finds bytes of more than one kind, each with a status of its own, or a reason why there are none.
 pub data AnsweredBy (Found : ℕ → List ℕ → Type 0) (Missing : Reason → Type 0) (old new : List ℕ) (len status : ℕ) : Type 0 where
   written : (bytes : List ℕ) → Found status bytes → length bytes ≤ length old → len ≡ length bytes → new ≡ bytes ++ drop (length bytes) old
       → AnsweredBy Found Missing old new len status

@@ -21,7 +21,7 @@ pub data IsAnswer (files : List GivenFile) : ℕ → List ℕ → Type 0 where
   IsSet : (bytes : List ℕ) → IsLinkedSet files bytes → IsAnswer files 0 bytes
   AreRecords : (bytes : List ℕ) → AreRefused files bytes → IsAnswer files 1 bytes
 
--- The same of what the code has.
+-- What the code has found is such a set, or such records.
 abbrev pub IsFound : List GivenFile → Found → Type 0
 IsFound files (Set bytes) = IsLinkedSet files bytes.items
 IsFound files (Records bytes) = AreRefused files bytes.items

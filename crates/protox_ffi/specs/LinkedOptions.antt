@@ -13,7 +13,7 @@ pub data IsOptionAnswer (files : List GivenFile) : ℕ → List ℕ → Type 0 w
   IsSet : (bytes : List ℕ) → IsOptionSet files bytes → IsOptionAnswer files 0 bytes
   AreRecords : (bytes : List ℕ) → AreRefusedWithOptions files bytes → IsOptionAnswer files 1 bytes
 
--- The same of what the code has.
+-- What the code has found is such a set, or such records.
 abbrev pub IsOptionFound : List GivenFile → Found → Type 0
 IsOptionFound files (Set bytes) = IsOptionSet files bytes.items
 IsOptionFound files (Records bytes) = AreRefusedWithOptions files bytes.items

@@ -19,7 +19,7 @@ use Rattle.protox_descriptor.specs.declared.descriptor.field_descriptor_proto.Fi
 abbrev pub new_double : List ℕ → Option (List ℕ)
 new_double text = option_map double_text (parse_float binary64 text)
 
--- The same of a float of 32 bits: that of 64 bits, narrowed.
+-- the text of a float of 32 bits, printed anew: that of 64 bits is narrowed
 abbrev pub new_float : List ℕ → Option (List ℕ)
 new_float text = option_map (λ x. float_text (round_to_format binary32 x)) (parse_float binary64 text)
 

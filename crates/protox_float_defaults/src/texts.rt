@@ -21,7 +21,7 @@ fn new_double(alloc: Global, text: &str) -> Result<Option<String>, AllocError>
     }
 }
 
-// The same of a float of 32 bits. Its text is read with 64 bits first, as by protoc.
+// A float of 32 bits, printed anew. Its text is read with 64 bits first, as by protoc.
 fn new_float(alloc: Global, text: &str) -> Result<Option<String>, AllocError>
     ensures { IfOk result (λ made. option_map string_bytes made ≡ new_float text.now) }
 {

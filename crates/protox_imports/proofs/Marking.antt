@@ -98,7 +98,7 @@ Marks-more before from wanted wanted' marks list file below now was own m =
           omega (arith, s, l, was_size);
     }
 
--- The same files are wanted, said in another way.
+-- Marks stay right if the wanted files are said in another way.
 pub Marks-same : (before : List Bool) (from : List ℕ) (wanted wanted' : ℕ → Type 0)
     (marks : List Bool) (list : List ℕ) → ((h : ℕ) → wanted' h → wanted h)
     → ((h : ℕ) → wanted h → wanted' h) → Marks before from wanted marks list

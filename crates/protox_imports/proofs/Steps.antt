@@ -275,7 +275,7 @@ passed_visited rows states stack placed root x s ends is other = record {
   visits = Passes placed placed root [] (state_placed rows states placed root x s is other) (Ends placed);
 }
 
--- The same of equal lists.
+-- What is placed by some lists is placed by equal ones.
 pub placed_as : (states states' : List State) (named named' : List (Option ℕ)) → states ≡ states'
     → named ≡ named' → ArePlaced states named (length named) → ArePlaced states' named' (length named')
 placed_as states states' named named' e e' h =

@@ -25,7 +25,7 @@ abbrev pub Imports : List FileDescriptorProto → ℕ → ℕ → Type 0
 Imports set f g =
     (i : ℕ) × (name : List ℕ) × (dependency_at set f i ≡ Some name) × IsFirstNamed set name g
 
--- The same of an import whose index is among the public ones.
+-- File f imports file g publicly: by an import whose index is among its public ones.
 abbrev pub ImportsPublicly : List FileDescriptorProto → ℕ → ℕ → Type 0
 ImportsPublicly set f g =
     (k : ℕ) × (i : ℕ) × (name : List ℕ) × (public_at set f k ≡ Some (pos i))

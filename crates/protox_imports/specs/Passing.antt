@@ -9,7 +9,7 @@ abbrev pub PassedBy : Option (List Bool) → ℕ → ℕ → Type 0
 PassedBy None g h = g ≡ h
 PassedBy (Some marks) g h = slice_get marks h ≡ Some true
 
--- The same by the rows of all files.
+-- By the rows of all files, file g passes on file h.
 abbrev pub PassedIn : List (Option (List Bool)) → ℕ → ℕ → Type 0
 PassedIn rows g = PassedBy (slice_index_or rows g None) g
 

@@ -50,7 +50,7 @@ fn add_rows(marks: &mut Marks, rows: &[Option<Marks>], files: &[usize])
     }
 }
 
-// The same for a list that has gaps.
+// Marks what each file of a list that has gaps passes on.
 fn add_named(marks: &mut Marks, rows: &[Option<Marks>], named: &[Option<usize>])
     requires below { (g : ℕ) → Contains named.now (Some g) → g < length marks.old }
     requires long { AreAsLong rows.now (length marks.old) }

@@ -40,7 +40,7 @@ pub record IsChecked (all : List FileDescriptorProto) (table : Table) (sees pack
   pub faults : after ≡ before ++ (file_faults table sees packages number imports file ++ extended_faults all table number sees packages file)
   pub linked : after ≡ [] → made ≡ linked_file (meaning table sees packages) file
 
--- The same of the file of a list that has the number n.
+-- The file of a list that has the number n was checked, and it is linked if no fault is known.
 pub record IsDone (all : List FileDescriptorProto) (n : ℕ) (file made : FileDescriptorProto) (before after : List LinkFault) : Type 0 where
   pub sees : List Bool
   pub packages : List Bool
@@ -48,7 +48,7 @@ pub record IsDone (all : List FileDescriptorProto) (n : ℕ) (file made : FileDe
   pub faults : after ≡ before ++ faults_in all n sees packages file
   pub linked : after ≡ [] → made ≡ linked_in all sees packages file
 
--- The same where the file is checked alone.
+-- The file of a list that has the number n was checked, and not linked.
 pub record IsToldOf (all : List FileDescriptorProto) (n : ℕ) (file : FileDescriptorProto) (before after : List LinkFault) : Type 0 where
   pub sees : List Bool
   pub packages : List Bool

@@ -170,7 +170,7 @@ impl Resolver {
 }
 
 impl FileNames<'_> {
-    /// The same as a view of the table.
+    /// What the file sees, as a view of the table.
     pub fn view(&self) -> View<'_>
         ensures table { result.symbols.now ≡ self.now.symbols.now }
         ensures sees { result.sees.now ≡ self.now.sees }

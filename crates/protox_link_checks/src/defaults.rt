@@ -74,7 +74,7 @@ fn wrong_value(symbols: &Symbols, number: usize, default: &str) -> Option<LinkFa
     Some(LinkFaultKind::NoSuchValue(number))
 }
 
-// The same where the type has this number, if there is one.
+// What is wrong with a default where the type has this number, if there is one.
 fn wrong_default(symbols: &Symbols, number: Option<usize>, default: &str) -> Option<LinkFaultKind>
     ensures { option_to_list result ≡ wrong_default symbols.now number default.now }
 {

@@ -44,7 +44,7 @@ fn check_range(
     add_fault(alloc, file, extension.path.as_slice(), NUMBER, kind, faults)
 }
 
-// The same for all extensions of a file.
+// Adds the faults of all extensions of a file whose numbers are in no range.
 fn check_ranges(
     alloc: Global,
     ranges: &Ranges,
@@ -184,7 +184,7 @@ fn check_options(
     )
 }
 
-// The same for all extensions of a file.
+// Adds the faults of all extensions of a file that extend no message of options.
 fn check_all_options(
     alloc: Global,
     symbols: &Symbols,

@@ -62,7 +62,7 @@ fn wrong_type(
     Ok(Some(LinkFaultKind::NotAType(Text::copy(alloc, name)?)))
 }
 
-// The same for the name of a message.
+// What is wrong with the name of a message.
 fn wrong_message(
     alloc: Global,
     name: &str,
@@ -119,7 +119,7 @@ pub(crate) fn check_type(
     add_if_any(alloc, file, path, tag, wrong, faults)
 }
 
-/// The same for the name of a message.
+/// Adds what is wrong with the name of a message.
 pub(crate) fn check_message(
     alloc: Global,
     view: &View<'_>,

@@ -8,7 +8,7 @@ pub starts-more : (xs : List ℕ) (b i : ℕ) → starts i (xs ++ b ∷ []) ≡ 
 starts-more [] b i = grind (arith, nat_tests)
 starts-more (x ∷ xs) b i = let e = starts-more xs b (i + 1) in grind (arith, nat_tests)
 
--- The same of the next byte of a list.
+-- The next byte of a list adds a start if it is a newline.
 pub starts-next : (xs : List ℕ) (i : ℕ) → i < length xs → starts 0 (take (i + 1) xs) ≡ starts 0 (take i xs) ++ (if get_or xs i 0 == 10 then (i + 1) ∷ [] else [])
 starts-next xs i lt =
     let more : starts 0 (take (i + 1) xs) ≡ starts 0 (take i xs) ++ (if get_or xs i 0 == 10 then (0 + length (take i xs) + 1) ∷ [] else []) = ap (starts 0) (take_more xs i 0 lt) ∙ starts-more (take i xs) (get_or xs i 0) 0 in

@@ -71,7 +71,7 @@ fn push_fault(
     push_errors(alloc, out, file_told(fault), &place, errors.as_slice())
 }
 
-// The same for faults of one file, which has this number.
+// Tells the faults of one file, which has this number.
 fn push_faults(
     alloc: Global,
     out: &mut Vec<u8>,
@@ -94,7 +94,7 @@ fn push_faults(
     Ok(())
 }
 
-// The same, where what the file sees is still to be found out.
+// Tells the faults of one file, where what it sees is still to be found out.
 fn push_faults_of_file(
     alloc: Global,
     out: &mut Vec<u8>,

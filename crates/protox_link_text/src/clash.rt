@@ -90,7 +90,7 @@ fn told_field(field: Option<&FieldDescriptorProto>) -> (&str, i32)
     }
 }
 
-// The same of a value.
+// The name of a value, and its number.
 fn told_value(value: Option<&EnumValueDescriptorProto>) -> (&str, i32)
     ensures name { result.0.now ≡ value_name (option_copied value.entry) }
     ensures number { result.1 ≡ value_number (option_copied value.entry) }
@@ -312,7 +312,7 @@ fn clash_in_message(
     }
 }
 
-// The same in an enum.
+// What is told of the part with index `n` of an enum, which clashes with that with index `m`.
 fn clash_in_enum(
     alloc: Global,
     of: &EnumDescriptorProto,

@@ -35,7 +35,7 @@ pub enum LinkError {
         value: Text,
         of: Text,
     },
-    /// The same for an enum in this scope.
+    /// Why a value clashes with something beside its enum, if that stands in this scope.
     ValueBesideEnumIn {
         value: Text,
         scope: Text,

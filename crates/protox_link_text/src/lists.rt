@@ -27,7 +27,7 @@ pub(crate) fn nth<T>(parts: &[T], index: usize) -> Option<&T>
     parts.get(index)
 }
 
-/// The same for an index of a path, which may be negative.
+/// The part with an index of a path, which may be negative.
 pub(crate) fn at_index<T>(parts: &[T], index: i32) -> Option<&T>
     ensures { option_copied result ≡ at_index parts.now index }
 {

@@ -54,7 +54,7 @@ impl NameTree {
         NameTree::with_room(alloc, 64)
     }
 
-    /// The same. It is quickest if it gets about as many names as it has `room` for.
+    /// A tree without names. It is quickest if it gets about as many names as it has `room` for.
     pub fn with_room(alloc: Global, room: usize) -> NameTree
         ensures { result ≡ record { full_names = []; kinds = [] } }
     {
@@ -227,7 +227,7 @@ impl NameTree {
         }
     }
 
-    /// The same as `find`, for one who guesses that `near` is the number. It is quicker where the
+    /// What `find` answers, for one who guesses that `near` is the number. It is quicker where the
     /// guess is right; whatever it is, the answer is the same.
     pub fn find_near(&self, place: Option<usize>, name: &str, near: usize) -> Option<usize>
         ensures { result ≡ number_of self.now (name_in self.now place name.now) }

@@ -45,7 +45,7 @@ fn is_each_identifier(bytes: &[u8]) -> bool
     true
 }
 
-// The same, four bytes at a time, as that is faster.
+// Whether each byte belongs to an identifier, four bytes at a time, as that is faster.
 fn is_all_identifier(bytes: &[u8]) -> bool
     ensures { result ≡ list_all words.is_identifier_byte bytes.now }
 {

@@ -38,7 +38,7 @@ fn named(symbols: &Symbols, name: &str) -> Option<usize>
     }
 }
 
-/// The same, if there is a name.
+/// The number of what has a full name, behind a dot, if there is a name.
 pub(crate) fn found(symbols: &Symbols, name: Option<&Text>) -> Option<usize>
     ensures { result ≡ option_and_then (named symbols.now) (option_copied name.entry) }
 {

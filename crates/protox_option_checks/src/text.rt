@@ -22,7 +22,7 @@ fn full_name(alloc: Global, symbols: &Symbols, number: usize) -> Result<Text, Al
     }
 }
 
-// The same; the empty text where there is no number.
+// The full name with a number; the empty text where there is no number.
 fn name_of(alloc: Global, symbols: &Symbols, number: Option<usize>) -> Result<Text, AllocError>
     ensures { IfOk result (λ made. made ≡ words.name_of symbols.now number) }
 {
@@ -84,7 +84,7 @@ fn closed_enum_words(alloc: Global, of: &str, message: &str) -> Result<String, A
     )
 }
 
-// The same, by their numbers.
+// The text of such a field, where the enum and the message have these numbers.
 fn closed_enum_text(
     alloc: Global,
     symbols: &Symbols,
@@ -109,7 +109,7 @@ fn shared_number_words(alloc: Global, value: &str, earlier: &str) -> Result<Stri
     )
 }
 
-// The same, by their numbers.
+// The text of two values with one number, where the table has them by these numbers.
 fn shared_number_text(
     alloc: Global,
     symbols: &Symbols,

@@ -56,7 +56,7 @@ impl PooledLocation<'_> {
         }
     }
 
-    /// The same as a `Location` that owns its memory.
+    /// A `Location` that says the same, and owns its memory.
     ///
     /// # Errors
     /// `AllocError` where memory runs out.

@@ -249,7 +249,7 @@ impl LocationPool {
         Ok(pool)
     }
 
-    /// The same locations, each with memory of its own, as a descriptor has them.
+    /// A list of these locations, as a descriptor has it. Each has memory of its own.
     ///
     /// # Errors
     /// `AllocError` where memory runs out.

@@ -46,7 +46,7 @@ impl Symbols {
         Symbols::with_room(alloc, 64)
     }
 
-    /// The same. It is quickest if it gets about as many full names as it has `room` for.
+    /// A table of nothing. It is quickest if it gets about as many full names as it has `room` for.
     pub fn with_room(alloc: Global, room: usize) -> Symbols
         ensures { result
             ≡ record { names = record { full_names = []; kinds = [] }; things = [] } }
@@ -88,7 +88,7 @@ impl Symbols {
         Ok(())
     }
 
-    /// The same for a name in the scope with a number, of one or more parts; with no number, in the
+    /// Declares a name of one or more parts in the scope with a number; with no number, in the
     /// nameless scope. It returns the number of the full name, or None if that can't stand in the
     /// table. Unlike `declare`, it doesn't look for the scope, so it serves where many names stand
     /// in a scope with a long name.
@@ -185,7 +185,7 @@ impl Symbols {
         self.names.is_part(number, scope, name)
     }
 
-    /// The same as `find`, for one who guesses that `near` is the number. It is quicker where the
+    /// What `find` answers, for one who guesses that `near` is the number. It is quicker where the
     /// guess is right; whatever it is, the answer is the same.
     pub fn find_near(&self, scope: Option<usize>, name: &str, near: usize) -> Option<usize>
         ensures { result ≡ number_of self.now.names (name_in self.now.names scope name.now) }

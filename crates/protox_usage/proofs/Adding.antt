@@ -28,7 +28,7 @@ pub no_more : {X Y S : Type 0} (f : S → Y → S) (m : X → List Y) (s a : S) 
     → length xs ≤ i → a ≡ fold f s (flat_map m (take i xs)) → a ≡ fold f s (flat_map m xs)
 no_more {X = X} f m s a xs i end so_far = so_far ∙ ap (λ (ys : List X). fold f s (flat_map m ys)) (take_all i xs end)
 
--- The same with a test: only some elements count.
+-- One more element is added if it passes a test.
 pub one_more_kept : {X Y Z S : Type 0} (f : S → Z → S) (keep : X → Bool) (g : X → Y) (m : Y → List Z) (s a b : S) (xs : List X) (i : ℕ) (x : X)
     → i < length xs → x ≡ get_or xs i x → keep x ≡ true → a ≡ fold f s (flat_map m (map g (filter keep (take i xs)))) → b ≡ fold f a (m (g x))
     → b ≡ fold f s (flat_map m (map g (filter keep (take (i + 1) xs))))

@@ -20,6 +20,6 @@ abbrev pub is_not_met : List FileDescriptorProto → FileDescriptorProto → Fou
 is_not_met files file found index named =
     option_map_or (λ n. not (is_public file index || has_public files n) && not (found.guesses || slice_index_or found.used n false)) named false
 
--- The same, where `named` has the file that each import names.
+-- An import with this index was not come upon, where `named` has the file that each import names.
 abbrev pub is_not_found : List FileDescriptorProto → FileDescriptorProto → List (Option ℕ) → Found → ℕ → Bool
 is_not_found files file named found index = is_not_met files file found index (slice_index_or named index None)

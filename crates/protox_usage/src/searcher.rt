@@ -106,7 +106,7 @@ impl Sight<'_> {
         found.guesses |= some_may_use_more(options);
     }
 
-    // The same for the options of the extension ranges of a message.
+    // Notes what the options of the extension ranges of a message use.
     fn search_ranges(&self, message: &DescriptorProto, user: &str, found: &mut Found)
         ensures used { found.new.used ≡ noted self.now found.old.used
             (flat_map (met_by self.now)

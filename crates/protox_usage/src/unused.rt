@@ -118,7 +118,7 @@ impl<'a> Usage<'a> {
         })
     }
 
-    /// The same, with what a caller knows of the files.
+    /// What tells which imports these files don't use, with what a caller knows of them.
     ///
     /// # Errors
     /// `AllocError` where memory runs out.

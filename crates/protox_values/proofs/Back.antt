@@ -98,7 +98,7 @@ said_back kind.Bool p o = back kind.Bool p Truth (truth_in o.identifier_value) (
 said_back kind.String p o = bytes_back kind.String p o.string_value (λ bytes. refl)
 said_back kind.Bytes p o = bytes_back kind.Bytes p o.string_value (λ bytes. refl)
 
--- The same of an answer.
+-- An answer reads back as what the statement says.
 pub answer_back : (scalar : ScalarType) (o : UninterpretedOption) (answer : Result SettingValue ValueFailure)
     → IfOk answer (λ payload. mapped (wire scalar) (says scalar o) ≡ Ok payload) → IfOk answer (λ payload. reading scalar payload ≡ result_ok (says scalar o))
 answer_back scalar o (Ok payload) e = said_back scalar payload o e

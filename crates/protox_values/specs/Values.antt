@@ -46,8 +46,8 @@ abbrev pub double_in : Option (List ℕ) → Option ℤ → Option Float
 double_in (Some text) integer = parse_float binary64 text
 double_in None integer = option_map (of_int binary64) integer
 
--- The same with 32 bits. A text is read with 64 bits first, and then narrowed. What lies beyond the
--- limits is infinite.
+-- The float of 32 bits of a text or of an integer. A text is read with 64 bits first, and then
+-- narrowed. What lies beyond the limits is infinite.
 abbrev pub float_in : Option (List ℕ) → Option ℤ → Option Float
 float_in (Some text) integer = option_map (round_to_format binary32) (parse_float binary64 text)
 float_in None integer = option_map (of_int binary32) integer

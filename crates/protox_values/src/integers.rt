@@ -134,7 +134,7 @@ pub fn uint32_setting(option: &UninterpretedOption) -> Result<SettingValue, Valu
     }
 }
 
-/// The same for `fixed32`.
+/// What a statement says to a field of the type `fixed32`, on the wire.
 pub fn fixed32_setting(option: &UninterpretedOption) -> Result<SettingValue, ValueFault>
     ensures { result ≡ mapped (wire kind.Fixed32) (says kind.Fixed32 option.now) }
 {
@@ -144,7 +144,7 @@ pub fn fixed32_setting(option: &UninterpretedOption) -> Result<SettingValue, Val
     }
 }
 
-/// The same for `uint64`.
+/// What a statement says to a field of the type `uint64`, on the wire.
 pub fn uint64_setting(option: &UninterpretedOption) -> Result<SettingValue, ValueFault>
     ensures { result ≡ mapped (wire kind.Uint64) (says kind.Uint64 option.now) }
 {
@@ -154,7 +154,7 @@ pub fn uint64_setting(option: &UninterpretedOption) -> Result<SettingValue, Valu
     }
 }
 
-/// The same for `fixed64`.
+/// What a statement says to a field of the type `fixed64`, on the wire.
 pub fn fixed64_setting(option: &UninterpretedOption) -> Result<SettingValue, ValueFault>
     ensures { result ≡ mapped (wire kind.Fixed64) (says kind.Fixed64 option.now) }
 {

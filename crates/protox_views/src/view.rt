@@ -57,7 +57,9 @@ impl View<'_> {
     {
         self.if_seen(self.symbols.find(scope, name))
     }
-    /// The same in the scope with this full name. The nameless scope is the empty text.
+
+    /// The number of what has this name in the scope with this full name, if that is seen. The
+    /// nameless scope is the empty text.
     pub fn find_within(&self, scope: &str, name: &str) -> Option<usize>
         ensures { result ≡ seen self.now.symbols.now self.now.sees.now self.now.packages
             (within scope.now name.now) }

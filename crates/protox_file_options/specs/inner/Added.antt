@@ -40,7 +40,7 @@ pub record AreAdded (view : View) (files : List FileDescriptorProto) (old : Inte
   pub moves : new.moves.items ≡ old.moves.items ++ moves_of_all taken
   pub options : (q : Path) → set_at new.options q ≡ bytes_from q (set_at old.options q) taken
 
--- The same of an interpreter.
+-- What came of these places was added to the answer of an interpreter, which is else as it was.
 pub record Adds (old : Interpreter) (places : List Place) (new : Interpreter) : Type 0 where
   pub view : new.view.now ≡ old.view.now
   pub files : new.files.now ≡ old.files.now

@@ -49,7 +49,7 @@ pub record IsUnnamed (pieces wrong : List Piece) (kind : TextFaultKind) : Type 0
   pub cut : pieces ≡ before ++ wrong
   pub broken : IsBroken kind before wrong
 
--- The same for pieces that stand behind a bracket.
+-- Behind a bracket the pieces begin with a name.
 abbrev pub IsNamedInBrackets : List Piece → List Piece → Type 0
 IsNamedInBrackets pieces more = (open_at : Piece) → Stands 91 open_at → IsNamed (open_at ∷ pieces) more
 

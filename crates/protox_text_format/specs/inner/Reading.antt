@@ -96,7 +96,7 @@ rank (turn.After in_list) = 1
 abbrev pub weight : Turn → List Piece → ℕ
 weight turn left = 2 * length left + rank turn
 
--- The same by a step, which takes a piece or comes nearer to one.
+-- Reading goes on by a step, which takes a piece or comes nearer to one.
 pub record Advances (here there : Spot) : Type 0 where
   pub goes : Goes here there
   pub less : weight there.turn there.left < weight here.turn here.left

@@ -14,27 +14,38 @@ use Rattle.protox_generate.specs.NamePaths.{HasPlaces}
 use Rattle.protox_generate.specs.Names.{HasNames}
 use Rattle.protox_locate.proofs.Lemmas.{in-order}
 use Rattle.protox_locate.specs.Locations.{file_locations}
+use Rattle.protox_parse.specs.inner.Answered.{HasLaws}
 use Rattle.protox_places.proofs.Lemmas.{sorted-by-path}
 use Rattle.protox_places.specs.Lines.{span_numbers}
 use Rattle.protox_places.specs.Order.{StartsBefore}
 
 module _ (name source : List ℕ) (u : IsUtf8 source) (file : File) (of_source : IsFileOf source file) (d : FileDescriptorProto) (is : d ≡ file_descriptor name source file) where
-  pub located : AreLocated d
+  located : AreLocated d
   unfolding file_descriptor
   located = subst AreLocated (sym is) (in-order source _ file (file-stands source file u of_source))
 
-  pub sorted : AreSorted d
+  sorted : AreSorted d
   unfolding file_descriptor
   sorted = subst AreSorted (sym is) (sorted-by-path StartsBefore (file_locations (span_numbers source) file) (in-order source _ file (file-stands source file u of_source)))
 
-  pub oneofs : IsFaultless file → HasRealFirst d
+  oneofs : IsFaultless file → HasRealFirst d
   oneofs faultless = answer-first name source file d faultless is
 
-  pub named : HasNames source d
+  named : HasNames source d
   named = answer-named name source file d u of_source is
 
-  pub in_places : HasPlaces d
+  in_places : HasPlaces d
   in_places = answer-placed name source file d is
 
-  pub commented_once : AreCommentedOnce source d
+  commented_once : AreCommentedOnce source d
   commented_once = answer-commented name source file d u of_source is
+
+  pub laws : IsFaultless file → HasLaws source d
+  laws faultless = record {
+    located = located;
+    sorted = sorted;
+    oneofs = oneofs faultless;
+    named = named;
+    placed = in_places;
+    commented_once = commented_once;
+  }

@@ -18,6 +18,7 @@ use Rattle.protox_parse.specs.Failures.{AreWrongOf, IsOutOfMemory, IsRefusalOf}
 use Rattle.protox_parse.specs.FaultLists.{AreAllFound, AreLexicalAlone, AreListedOf, AreStanding, ExpectsTruly, HasFaultsOf, NoCheckIsLost}
 use Rattle.protox_parse.specs.FirstFault.{BeginsWithFirst, IsFirstOfSource}
 use Rattle.protox_parse.specs.Refusal.{Refusal}
+use Rattle.protox_parse.specs.inner.Answered.{IsUnread}
 use Rattle.protox_parse.specs.declared.failure.ParseFailure.{ParseFailure}
 use Rattle.protox_parse.specs.declared.failure.ParseFailure.TheVariants.{Refused, OutOfMemory}
 use Rattle.protox_syntax.specs.AllFaults.{AreAllFaults}
@@ -40,59 +41,72 @@ pub none-listed : (file : File) (e : ParseFailure) → IsOutOfMemory e → AreLi
 none-listed file OutOfMemory h = tt
 none-listed file (Refused e) h = absurd h
 
+-- what reading says of its faults
+pub record FaultLaws (source : List ℕ) (e : SyntaxFailure) : Type 0 where
+  pub first : syntax.BeginsWithFirst source e
+  pub stands : standing.AreStanding source e
+  pub lexical : lexical.AreLexicalAlone source e
+  pub all_found : found.AreAllFound source e
+  pub no_check_lost : lost.NoCheckIsLost source e
+  pub words : words.ExpectsTruly source e
+
 module _ (source : List ℕ) where
   -- ---- the faults of reading
 
-  pub read-first : (e : SyntaxFailure) (r : ParseFailure) → HasFaultsOf e r → syntax.BeginsWithFirst source e → BeginsWithFirst source r
+  read-first : (e : SyntaxFailure) (r : ParseFailure) → HasFaultsOf e r → syntax.BeginsWithFirst source e → BeginsWithFirst source r
   read-first e OutOfMemory same h = tt
   read-first failure.OutOfMemory (Refused x) same h = absurd same
   read-first (failure.Faults v) (Refused x) same h =
       subst (λ errors. IfSome (first_of errors) (IsFirstOfSource source)) (sym same) (if-more (IsFirstFault (cut 0 source)) (IsFirstOfSource source) (first_of v.items) (λ f k. inr (inl k)) h)
 
-  pub read-stand : (e : SyntaxFailure) (r : ParseFailure) → HasFaultsOf e r → standing.AreStanding source e → AreStanding source r
+  read-stand : (e : SyntaxFailure) (r : ParseFailure) → HasFaultsOf e r → standing.AreStanding source e → AreStanding source r
   read-stand e OutOfMemory same h = tt
   read-stand failure.OutOfMemory (Refused x) same h = absurd same
   read-stand (failure.Faults v) (Refused x) same h = subst (StandIn (cut 0 source)) (sym same) h
 
-  pub read-lexical : (e : SyntaxFailure) (r : ParseFailure) → HasFaultsOf e r → lexical.AreLexicalAlone source e → AreLexicalAlone source r
+  read-lexical : (e : SyntaxFailure) (r : ParseFailure) → HasFaultsOf e r → lexical.AreLexicalAlone source e → AreLexicalAlone source r
   read-lexical e OutOfMemory same h = tt
   read-lexical failure.OutOfMemory (Refused x) same h = absurd same
   read-lexical (failure.Faults v) (Refused x) same h = λ fits f spelled deep nothing valid unclean. subst (AreFaultsOf (cut 0 source)) (sym same) (h f spelled deep nothing valid)
 
-  pub read-all : (e : SyntaxFailure) (r : ParseFailure) → HasFaultsOf e r → found.AreAllFound source e → AreAllFound source r
+  read-all : (e : SyntaxFailure) (r : ParseFailure) → HasFaultsOf e r → found.AreAllFound source e → AreAllFound source r
   read-all e OutOfMemory same h = tt
   read-all failure.OutOfMemory (Refused x) same h = absurd same
   read-all (failure.Faults v) (Refused x) same h = λ fits none. subst (AreAllFaults source) (sym same) h
 
-  pub read_lost : (e : SyntaxFailure) (r : ParseFailure) → HasFaultsOf e r → lost.NoCheckIsLost source e → NoCheckIsLost source r
+  read_lost : (e : SyntaxFailure) (r : ParseFailure) → HasFaultsOf e r → lost.NoCheckIsLost source e → NoCheckIsLost source r
   read_lost e OutOfMemory same h = tt
   read_lost failure.OutOfMemory (Refused x) same h = absurd same
   read_lost (failure.Faults v) (Refused x) same h = λ fits none. subst (NoneIsLost (cut 0 source)) (sym same) h
 
-  pub read-words : (e : SyntaxFailure) (r : ParseFailure) → HasFaultsOf e r → words.ExpectsTruly source e → ExpectsTruly source r
+  read-words : (e : SyntaxFailure) (r : ParseFailure) → HasFaultsOf e r → words.ExpectsTruly source e → ExpectsTruly source r
   read-words e OutOfMemory same h = tt
   read-words failure.OutOfMemory (Refused x) same h = absurd same
   read-words (failure.Faults v) (Refused x) same h = λ fits none. subst (λ errors. IfSome (first_of errors) (words.HasTrueWords (cut 0 source))) (sym same) h
 
-  -- ---- memory ran out
+  -- what is said of a source that is refused
+  pub unread : (name : List ℕ) (e : SyntaxFailure) (r : ParseFailure) → HasFaultsOf e r → IsRefusalOf name source r
+      → FaultLaws source e → IsUnread name source r
+  unread name e r same refusal laws = record {
+    refused = refusal;
+    first = read-first e r same laws.first;
+    stands = read-stand e r same laws.stands;
+    lexical = read-lexical e r same laws.lexical;
+    all_found = read-all e r same laws.all_found;
+    no_check_lost = read_lost e r same laws.no_check_lost;
+    words = read-words e r same laws.words;
+  }
 
-  pub none-first : BeginsWithFirst source OutOfMemory
-  none-first = tt
-
-  pub none-stand : AreStanding source OutOfMemory
-  none-stand = tt
-
-  pub none-lexical : AreLexicalAlone source OutOfMemory
-  none-lexical = tt
-
-  pub none-all : AreAllFound source OutOfMemory
-  none-all = tt
-
-  pub none-lost : NoCheckIsLost source OutOfMemory
-  none-lost = tt
-
-  pub none-words : ExpectsTruly source OutOfMemory
-  none-words = tt
+  pub none_unread : (name : List ℕ) → IsUnread name source OutOfMemory
+  none_unread name = record {
+    refused = tt;
+    first = tt;
+    stands = tt;
+    lexical = tt;
+    all_found = tt;
+    no_check_lost = tt;
+    words = tt;
+  }
 
   -- ---- those of the generator
 
@@ -162,5 +176,3 @@ module _ (source : List ℕ) where
     pub large-lost : (r : ParseFailure) → NoCheckIsLost source r
     large-lost OutOfMemory = tt
     large-lost (Refused e) = λ fits none. absurd (large fits)
-
-pub ruleset reading = (read-first, read-stand, read-lexical, read-all, read_lost, read-words, none-first, none-stand, none-lexical, none-all, none-lost, none-words)

@@ -19,6 +19,7 @@ ghost use Rattle.protox_parse.specs.Failures.{AreWrongOf, IsOutOfMemory, IsRefus
 ghost use Rattle.protox_parse.specs.FaultLists.{AreAllFound, AreLexicalAlone, AreListedOf, AreStanding, ExpectsTruly, NoCheckIsLost};
 ghost use Rattle.protox_parse.specs.Files.{IsFile, IsTranslation};
 ghost use Rattle.protox_parse.specs.FirstFault.{BeginsWithFirst};
+ghost use Rattle.protox_parse.specs.inner.Answered.{HasLaws, IsUnread};
 ghost use Rattle.protox_parse.specs.inner.Made.{IsRead, IsSoFar};
 
 mod failure;
@@ -50,7 +51,7 @@ pub fn source_fits(len: usize) -> bool
 
 // Reads the source, and makes what can be made of its items. Answers the syntax tree without its
 // items; or the faults that the parser finds, or that memory ran out.
-#[tactic(auto, using(crate::proofs::Truths::reading))]
+#[tactic(auto, using(crate::proofs::Truths::none_unread))]
 fn read(
     alloc: Global,
     name: &str,
@@ -61,13 +62,7 @@ fn read(
     requires none { (syntax : syntax_type.Syntax) → IsSoFar source.now syntax [] made.old }
     ensures found { IfOk result (λ head. (file : file_type.File) × IsRead source.now file head made.new) }
     ensures only { (f : tree.File Place) → IsAccepted source.now f → MatchResult result (λ head. head ≡ record (ast_of.file (length source.now) f) { items = [] }) IsOutOfMemory }
-    ensures refused { IfErr result (IsRefusalOf name.now source.now) }
-    ensures first { IfErr result (BeginsWithFirst source.now) }
-    ensures stands { IfErr result (AreStanding source.now) }
-    ensures lexical { IfErr result (AreLexicalAlone source.now) }
-    ensures all_found { IfErr result (AreAllFound source.now) }
-    ensures no_check_lost { IfErr result (NoCheckIsLost source.now) }
-    ensures words { IfErr result (ExpectsTruly source.now) }
+    ensures unread { IfErr result (IsUnread name.now source.now) }
 {
     match read_source(alloc, source, made) {
         Ok(head) => Ok(head),
@@ -88,12 +83,7 @@ fn translated(
     requires { (file : file_type.File) × IsRead source.now file head made }
     ensures found { (file : file_type.File) → IsRead source.now file head made.entry → IfOk result (λ d. IsFaultless file × (d ≡ file_descriptor name.now source.now file)) }
     ensures only { (file : file_type.File) → IsRead source.now file head made.entry → IsFaultless file → MatchResult result (λ d. d ≡ file_descriptor name.now source.now file) IsOutOfMemory }
-    ensures located { IfOk result AreLocated }
-    ensures sorted { IfOk result AreSorted }
-    ensures oneofs { IfOk result HasRealFirst }
-    ensures named { IfOk result (HasNames source.now) }
-    ensures placed { IfOk result HasPlaces }
-    ensures commented_once { IfOk result (AreCommentedOnce source.now) }
+    ensures laws { IfOk result (HasLaws source.now) }
     ensures refused { IfErr result (IsRefusalOf name.now source.now) }
     ensures wrong { (file : file_type.File) → IsRead source.now file head made.entry → IfErr result (AreWrongOf file) }
     ensures checked { (file : file_type.File) → IsRead source.now file head made.entry → IfErr result (AreListedOf file) }

@@ -4,7 +4,7 @@ use Rattle.protox_checks.specs.Faults.{AreWrong}
 use Rattle.protox_fault.specs.declared.error.SyntaxFailure.TheVariants.{Faults}
 use Rattle.protox_generate.proofs.Lemmas.{file-stands}
 use Rattle.protox_generate.specs.File.{AreListedAll}
-use Rattle.protox_parse.proofs.Answering as answers
+use Rattle.protox_parse.proofs.Answering.{laws}
 use Rattle.protox_parse.proofs.Translating.{has_listed}
 use Rattle.protox_parse.proofs.translated.Goals as goal
 
@@ -31,38 +31,8 @@ pub returns-in-Err-Faults-clause-checked : goal.returns-in-Err-Faults-clause-che
 returns-in-Err-Faults-clause-checked c = λ file read.
     has_listed file (Faults c.in-Err-Faults.found) c.refused.result c.refused.ensures.same (subst (AreListedAll file) c.in-Err-Faults.field-0-is (c.in-Err-Faults.ensures.in_order c.args.source.now file read))
 
-pub returns-in-Ok-clause-located : goal.returns-in-Ok-clause-located
-returns-in-Ok-clause-located c =
+pub returns-in-Ok-clause-laws : goal.returns-in-Ok-clause-laws
+returns-in-Ok-clause-laws c =
     let r = c.requires in
     let h = c.in-Ok.ensures.found c.args.source.now r.0 r.1 in
-    answers.located c.args.name.now c.args.source.now c.utf8.source r.0 r.1.of_source c.in-Ok.descriptor h.1
-
-pub returns-in-Ok-clause-sorted : goal.returns-in-Ok-clause-sorted
-returns-in-Ok-clause-sorted c =
-    let r = c.requires in
-    let h = c.in-Ok.ensures.found c.args.source.now r.0 r.1 in
-    answers.sorted c.args.name.now c.args.source.now c.utf8.source r.0 r.1.of_source c.in-Ok.descriptor h.1
-
-pub returns-in-Ok-clause-oneofs : goal.returns-in-Ok-clause-oneofs
-returns-in-Ok-clause-oneofs c =
-    let r = c.requires in
-    let h = c.in-Ok.ensures.found c.args.source.now r.0 r.1 in
-    answers.oneofs c.args.name.now c.args.source.now c.utf8.source r.0 r.1.of_source c.in-Ok.descriptor h.1 h.0
-
-pub returns-in-Ok-clause-named : goal.returns-in-Ok-clause-named
-returns-in-Ok-clause-named c =
-    let r = c.requires in
-    let h = c.in-Ok.ensures.found c.args.source.now r.0 r.1 in
-    answers.named c.args.name.now c.args.source.now c.utf8.source r.0 r.1.of_source c.in-Ok.descriptor h.1
-
-pub returns-in-Ok-clause-placed : goal.returns-in-Ok-clause-placed
-returns-in-Ok-clause-placed c =
-    let r = c.requires in
-    let h = c.in-Ok.ensures.found c.args.source.now r.0 r.1 in
-    answers.in_places c.args.name.now c.args.source.now c.utf8.source r.0 r.1.of_source c.in-Ok.descriptor h.1
-
-pub returns-in-Ok-clause-commented_once : goal.returns-in-Ok-clause-commented_once
-returns-in-Ok-clause-commented_once c =
-    let r = c.requires in
-    let h = c.in-Ok.ensures.found c.args.source.now r.0 r.1 in
-    answers.commented_once c.args.name.now c.args.source.now c.utf8.source r.0 r.1.of_source c.in-Ok.descriptor h.1
+    laws c.args.name.now c.args.source.now c.utf8.source r.0 r.1.of_source c.in-Ok.descriptor h.1 h.0

@@ -31,6 +31,13 @@ same_steps xs ys paths parts (l ∷ ls) =
         ap (λ p. record l { path = unwrap_or p l.path } ∷ map (moved ys) (filter (λ (l : Location). not (is_part ys l)) ls)) (paths l.path e)
         ∙ ap (λ r. moved xs l ∷ r) rest
 
+-- no move changes nothing
+pub unmoved : (moves : List Move) → length moves ≡ 0 → (ls : List Location)
+    → map (moved moves) (filter (λ (l : Location). not (is_part moves l)) ls) ≡ ls
+unmoved [] none [] = refl
+unmoved [] none (l ∷ ls) = ap (λ r. l ∷ r) (unmoved [] none ls)
+unmoved (m ∷ moves) none ls = absurd (omega (arith, none))
+
 -- a list that was written over from its start to its end
 pub written_back : {X : Type 0} (n : ℕ) (new old : List X) → n ≡ length old → length new ≡ n
     → take n (new ++ drop (length new) old) ≡ new

@@ -66,7 +66,7 @@ fn sort_locations(locations: &mut Vec<Location>) -> Result<(), AllocError>
     locations.sort_by(|a, b| a.path.as_slice().cmp(&b.path.as_slice()))
 }
 
-// All steps, one after another.
+// All steps, one after another. Without a move only the last of them does anything.
 pub(crate) fn rearrange(
     alloc: Global,
     moves: &mut Vec<Move>,
@@ -75,6 +75,10 @@ pub(crate) fn rearrange(
     ensures { OnOk result
         (locations.new.items ≡ after_moves moves.old.items locations.old.items) }
 {
+    let count = moves.as_slice().len();
+    if count == 0 {
+        return sort_locations(locations);
+    }
     sort_moves(moves)?;
     keep_outermost(moves);
     drop_parts(moves.as_slice(), locations);

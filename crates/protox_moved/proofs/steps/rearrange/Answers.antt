@@ -1,12 +1,18 @@
-use Rattle.std.proofs.Common.{◌≡◌, ap, false, List, map, not, ◌∙◌, arith}
+use Rattle.std.proofs.Common.{rules, ◌≡◌, ap, false, sym, List, map, not, ◌∙◌, arith}
 use Rattle.std.specs.Prelude.{ℤ}
 use Rattle.std.specs.List.{filter, list_any}
 use Rattle.std.proofs.lemmas.Result.{on_ok_weaker}
 use Rattle.protox_descriptor.specs.declared.descriptor.source_code_info.Location.{Location}
 use Rattle.protox_moved.specs.declared.Move.{Move}
 use Rattle.protox_moved.specs.Moved.{is_below, is_part, moved, sorted_by_path}
-use Rattle.protox_moved.proofs.SameMoves.{same_steps, written_back}
+use Rattle.protox_moved.proofs.SameMoves.{same_steps, unmoved, written_back}
 use Rattle.protox_moved.proofs.steps.rearrange.Goals as goal
+
+pub returns-then-count-eq0 : goal.returns-then-count-eq0
+returns-then-count-eq0 c =
+    on_ok_weaker c.sort_locations.result
+    (λ e. e ∙ ap sorted_by_path (sym (unmoved c.args.moves.now.items (search rules) c.args.locations.now.items)))
+    c.sort_locations.ensures
 
 pub returns : goal.returns
 returns c =
@@ -25,4 +31,4 @@ returns c =
     ∙ same_steps c.args.moves.now.items kept paths parts old in
     let left = c.drop_parts.new.locations.items in
     let back = written_back c.drop_parts.new.locations.len c.give_paths.new.locations left (omega arith) (omega arith) in
-    on_ok_weaker c.sort_locations.result (λ e. e ∙ ap sorted_by_path (back ∙ given)) c.sort_locations.ensures
+    on_ok_weaker c.sort_locations-2.result (λ e. e ∙ ap sorted_by_path (back ∙ given)) c.sort_locations-2.ensures

@@ -57,7 +57,8 @@ fn part_of(
     TokenTable::part(alloc, source, 0, until.min(source.len()))
 }
 
-// The same, or the whole source where the last lexeme ends more than `long` bytes behind the place.
+// The first part of a source, or the whole source where the last lexeme of the part ends more than
+// `long` bytes behind the place.
 fn part_or_rest(
     alloc: Global,
     source: &str,

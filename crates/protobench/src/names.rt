@@ -71,7 +71,7 @@ pub const WORDS: [&str; 64] = [
     "version",
 ];
 
-/// The same words, as names of types begin.
+/// The words, as names of types begin.
 pub const TYPES: [&str; 64] = [
     "Account",
     "Action",

@@ -109,6 +109,6 @@ file-stands size x h =
     in
     lists-stand size lists h
 
--- The same for the tree that the tokens of a source spell.
+-- The nodes of the tree that the tokens of a source spell stand in the source.
 pub source-stands : (source : List ℕ) → IsUtf8 source → (x : t.File Place) → placed (table_of (cut 0 source)) ≡ s.spell x → FileStands (length source) (ast.file (length source) x)
 source-stands source u x e = file-stands (length source) x (subst (Stand 0 (length source)) e (tokens-stand source u))

@@ -212,7 +212,7 @@ pub lists-within : (span : Span) (low high : ℕ) (xss : List (List Span)) → l
 lists-within span low high [] l m h = tt
 lists-within span low high (xs ∷ xss) l m h = (record { from = l; parts = h.0; to = m }, lists-within span low high xss l m h.1)
 
--- The same without what is in them.
+-- The rows hold these spans. What is in them is left out.
 pub spans-only : {rows : Rows Place} {xs : List Span} {i : List Siblings} → Hold rows xs i → Hold rows xs []
 spans-only {rows} {xs} {i} f = record { stand = λ low high h. record { spans = (f.stand low high h).spans; within = tt } }
 

@@ -83,7 +83,7 @@ strings_value x = x.first.0 ++ values x.others
 abbrev pub run_span : {M : Type 0} → (M → Span) → t.Strings M → Span
 run_span {M} span x = join (span x.first.1) (last_place (λ (y : t.Text M). span y.1) (span x.first.1) x.others)
 
--- The same, with tags that are places.
+-- The span of a run of strings whose tags are places.
 abbrev pub strings_span : t.Strings Place → Span
 strings_span = run_span (λ place. place.span)
 

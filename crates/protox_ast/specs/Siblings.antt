@@ -62,7 +62,7 @@ abbrev pub span_if_any : Option Span → List Span
 span_if_any None = []
 span_if_any (Some span) = span ∷ []
 
--- The same, of a value with its span.
+-- The span of a value that has one, if there is a value.
 abbrev pub place_if_any : {A : Type 0} → Option (A × Span) → List Span
 place_if_any None = []
 place_if_any (Some place) = place.1 ∷ []
@@ -377,10 +377,6 @@ file_siblings size x =
     ++ siblings whole (syntax_span x.syntax_span) ∷ siblings whole (package_span x.«package») ∷ siblings whole (map (λ i. i.span) x.imports)
     ∷ siblings whole (option_spans x.options) ∷ siblings whole (node_spans items)
     ∷ (package_siblings x.«package» ++ (flat_map import_siblings x.imports ++ (flat_map option_siblings x.options ++ inside_all items)))
-
--- All spans of a file except its own.
-abbrev pub spans_in : ℕ → File → List Span
-spans_in size x = flat_map (λ s. s.children) (file_siblings size x)
 
 -- All nodes of a file stand in the source, and those of a list stand one after another.
 abbrev pub FileStands : ℕ → File → Type 0

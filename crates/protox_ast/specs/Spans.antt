@@ -43,7 +43,7 @@ end_place start range_end.None = start
 end_place start (range_end.Int int) = int.span
 end_place start (range_end.Max span) = span
 
--- The same, for a whole range.
+-- The span of the end of a whole range, or of its start if it has no end.
 abbrev pub end_span : ReservedRange → Span
 end_span range = end_place range.start.span range.end
 

@@ -109,7 +109,7 @@ fn map_or_group<'t, 'a>(
     group(alloc, notes, rows, level)
 }
 
-// The same, as the field that begins at the rows `begun` with this label.
+// A map or a group, as the field that begins at the rows `begun` with this label.
 #[cycle(bodies)]
 fn map_or_group_field(
     alloc: Global,
@@ -394,7 +394,7 @@ fn keyword_element(
     bodiless_element(alloc, notes, rows)
 }
 
-/// The same, added to those inside.
+/// An element that begins with a keyword, or one without a body, added to those inside.
 #[cycle(bodies)]
 fn add_keyword_element(
     alloc: Global,

@@ -122,11 +122,11 @@ field_faults syntax scope f =
 
 -- ---- numbers
 
--- the fault of a field number outside 1 to 536870911
+-- the fault of a number of a field, or of a range in a message, outside 1 to 536870911
 abbrev pub message_number_faults : Int → List ParseErrorKind
 message_number_faults int = only_if (not (in_message_range int)) (fault.InvalidMessageNumber int.span)
 
--- the fault of an enum number that 32 bits can't hold
+-- the fault of a number of an enum value, or of a range in an enum, that 32 bits can't hold
 abbrev pub enum_number_faults : Int → List ParseErrorKind
 enum_number_faults int = only_if (not (is_in signed_32 int)) (fault.InvalidEnumNumber int.span)
 

@@ -22,7 +22,7 @@ same t y = (t.decides y).0
 pub itself : {K : Type 0} {E : K → K → Bool} {x : K} → Tells E x → E x x ≡ true
 itself {K} {E} {x} t = (t.decides x).1 refl
 
--- The same for another test with the same answers.
+-- A test with the same answers as one that tells a value tells it too.
 pub tells-alike : {K : Type 0} {E F : K → K → Bool} {x : K} → ((y : K) → E x y ≡ F x y) → Tells F x → Tells E x
 tells-alike {K} {E} {F} {x} alike t = tells-if (λ y h. same t y (sym (alike y) ∙ h)) (alike x ∙ itself t)
 
@@ -49,7 +49,7 @@ tells-both {A} {B} {E} {F} {x} {y} e f = tells-if
     (λ q h i. (same e q.0 (first_so (E x q.0) (F y q.1) h) i, same f q.1 (second_so (E x q.0) (F y q.1) h) i))
     (both-so (E x x) (F y y) (itself e) (itself f))
 
--- The same for a record, tested by its parts. `whole` builds the record from them.
+-- A record is told by a test of its parts. `whole` builds the record from them.
 pub tells-parts : {K J : Type 0} {E : J → J → Bool} (parts : K → J) (whole : J → K) → ((z : K) → whole (parts z) ≡ z) → (x : K) → Tells E (parts x) → Tells (λ (y z : K). E (parts y) (parts z)) x
 tells-parts parts whole again x e = tells-if (λ y h. sym (again x) ∙ ap whole (same e (parts y) h) ∙ again y) (itself e)
 
@@ -66,7 +66,7 @@ tells-option {K} {E} e o = tells-if (alike o) (to_itself o)
     to_itself None = refl
     to_itself (Some x) = itself (e x)
 
--- The same for a list, with a proof for each element.
+-- A list is told element by element. Each element comes with a proof that it is told.
 pub tells-held : {K : Type 0} {E : K → K → Bool} (held : List ((x : K) × Tells E x)) → Tells (pointwise E) (map (λ e. e.0) held)
 tells-held {K} {E} held = tells-if (alike held) (to_itself held)
   where

@@ -13,7 +13,7 @@ one k n x h = rw (within_one k n h) refl
 pub more : (k n : ℕ) (x : List ℕ) → 128 ≤ n → varint_within (suc k) n ++ x ≡ (128 + n % 128) ∷ (varint_within k (n / 128) ++ x)
 more k n x h = rw (within_split k n h) refl
 
--- The same groups, if the highest ones are known.
+-- Two numbers with the same lowest group are the same, if the numbers above that group are.
 grown : (m n : ℕ) {P : Type 0} → 128 + m % 128 ≡ 128 + n % 128 → (m / 128 ≡ n / 128) × P → (m ≡ n) × P
 grown m n e h = (omega (arith, h.0), h.1)
 

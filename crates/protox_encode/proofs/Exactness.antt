@@ -322,7 +322,7 @@ tested m =
 abbrev ToldAt : DescriptorProto → Type 0
 ToldAt x = (y : DescriptorProto) → all (exact.message_descriptor x) ≡ true → all (exact.message_descriptor y) ≡ true → message (words.message_descriptor x) ≡ message (words.message_descriptor y) → x ≡ y
 
--- The same for each of these messages.
+-- No other list of messages has the same bytes.
 abbrev AreTold : List DescriptorProto → Type 0
 AreTold xs = (ys : List DescriptorProto) → exact.each exact.message_descriptor xs ≡ true → exact.each exact.message_descriptor ys ≡ true → payload.each words.message_descriptor xs ≡ payload.each words.message_descriptor ys → xs ≡ ys
 

@@ -102,11 +102,13 @@ pub enum ParseErrorKind {
     NegativeIdentOutsideDefault {
         span: Span,
     },
-    /// A field number outside 1 to 536870911. The span covers the sign.
+    /// The number of a field, or of a range of `reserved` or `extensions`, is outside 1 to 536870911.
+    /// The span covers the sign.
     InvalidMessageNumber {
         span: Span,
     },
-    /// An enum number that 32 bits cannot hold. The span covers the sign.
+    /// The number of an enum value, or of a `reserved` range of an enum, is one that 32 bits cannot
+    /// hold. The span covers the sign.
     InvalidEnumNumber {
         span: Span,
     },

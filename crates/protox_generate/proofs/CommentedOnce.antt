@@ -258,7 +258,7 @@ commented-once source u f accepted =
       none-twice (flat_map numbers_of (map (source_of lexemes) take.taken)) (λ n. omega (arith, counted lexemes n take.taken, bound (count n) (count-grows n), count-once n 0 lexemes)),
     )
 
--- The same holds for the descriptor in the answer.
+-- In an answer that is the descriptor of a source's tree, each comment stands once.
 pub answer-commented : (name source : List ℕ) (file : File) (d : FileDescriptorProto) → IsUtf8 source → IsFileOf source file → d ≡ file_descriptor name source file → AreCommentedOnce source d
 unfolding file_descriptor
 answer-commented name source file d u of is =

@@ -133,7 +133,7 @@ module _ (lexemes : List Lexeme) where
   from-on k [] h j gap first front e = tt
   from-on k (x ∷ xs) h j gap first front e = in-shape j k gap x xs x.shape first refl h front e (from-on (suc k) xs (from-next k x xs h))
 
-  -- The same holds for each row of the lexemes.
+  -- Each row of the lexemes has its gap around it.
   pub rows-around : Each IsAround (placed_from true (rows_of lexemes) (gaps_of (numbered 0 lexemes)))
   rows-around =
       subst (λ gaps. Each IsAround (placed_from true (rows_of lexemes) gaps)) (no-gap (gaps_of (numbered 0 lexemes)))

@@ -15,7 +15,7 @@ balances unclosed (r ∷ rs) =
     then (if unclosed == 0 then false else balances (unclosed - 1) rs)
     else balances unclosed rs)
 
--- The same, by all beginnings of the rows.
+-- The braces of the rows match behind so many open ones, said by all beginnings of the rows.
 abbrev MatchBehind : {M : Type 0} → ℕ → Rows M → Type 0
 MatchBehind unclosed rows =
     ((n : ℕ) → how_many is_close_brace (take n rows) ≤ unclosed + how_many is_open_brace (take n rows)) × (unclosed + how_many is_open_brace rows ≡ how_many is_close_brace rows)

@@ -310,7 +310,7 @@ row-there [] n r e = absurd cc
 row-there (x ∷ rows) zero r e = let same : x ≡ r = cc in (omega arith, same)
 row-there (x ∷ rows) (suc n) r e = let h = row-there rows n r e in (omega arith, h.1)
 
--- The same for a row that is looked up, by its entry alone, in any mode.
+-- A row that is looked up is valid, if its entry has no fault in some mode.
 pub row-valid : (b : Bool) (xs : List Lexeme) (n : ℕ) (r : Row Span) → slice_get (rows_of xs) n ≡ Some r → faults_in b (slice_index_or (faults_of xs) n []) ≡ [] → r.shape ≡ Invalid → ⊥
 row-valid b xs n r e none is =
     let h = row-there (rows_of xs) n r e in

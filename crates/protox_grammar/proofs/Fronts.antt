@@ -25,7 +25,7 @@ read-too : {A B : Type 0} (f : t.File A) (other : Result (t.File B) Refusal) →
 read-too f (Ok g) h = (g, refl)
 read-too f (Err e) h = absurd h
 
--- The same for a file that is at most n deep.
+-- Rows with the shapes of a file that is at most n deep spell such a file, with their own tags.
 pub remarked : {A B : Type 0} (a : A) (b : B) (n : ℕ) (f : t.File A) → k.KeepsKeywords f → d.depth f ≤ n → (rows : Rows B) → shapes rows ≡ shapes (s.spell f) → (g : t.File B) × Spells rows g × (d.depth g ≤ n)
 remarked a b n f h w rows e =
     let first : read n (s.spell f) ≡ Ok f = (main.accepts_iff a n (s.spell f) f).1 ((refl, h), w) in

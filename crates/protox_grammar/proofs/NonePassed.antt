@@ -37,7 +37,7 @@ AreTokensTo n [] = Unit {0}
 AreTokensTo zero (r ∷ rs) = is_invalid r.shape ≡ false
 AreTokensTo (suc n) (r ∷ rs) = (is_invalid r.shape ≡ false) × AreTokensTo n rs
 
--- The same for each row, by its number.
+-- The rows up to this one are valid tokens, if each of them is, by its number.
 pub tokens-to : (n : ℕ) (xs : Rows Place) → ((k : ℕ) (r : Row Place) → k ≤ n → slice_get xs k ≡ Some r → is_invalid r.shape ≡ false) → AreTokensTo n xs
 tokens-to zero [] h = tt
 tokens-to (suc n) [] h = tt

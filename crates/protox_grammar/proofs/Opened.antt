@@ -49,7 +49,7 @@ each-front : {A : Type 0} (P : A → Type 0) (xs ys : List A) → Each P (xs ++ 
 each-front P [] ys h = tt
 each-front P (x ∷ xs) ys h = (h.0, each-front P xs ys h.1)
 
--- The same for a rule whose trees note nothing but braces of aggregates.
+-- A rule whose trees note nothing but braces of aggregates.
 module _ {A : Type 0} (r : Rule Place A) (traced : IsTraced r) (bs : A → List (Place × Place)) (braced : (x : A) → Braced (r.steps x) (bs x)) where
   all-braces : (x : A) → Each IsBrace (notes (r.steps x))
   all-braces x = subst (Each IsBrace) (sym (braced x)) (events-braces (bs x))

@@ -50,7 +50,8 @@ abbrev pub IsPlaced : {M : Type 0} → Option (Row M) → Event M → Rows M →
 IsPlaced None e rest = ⊥
 IsPlaced (Some r) e rest = (r.at ≡ event_end e) × (is_string r.shape ≡ is_run_event e) × (is_run_event e ≡ true → head_in is_string rest ≡ false) × (is_too_deep e ≡ false → is_brace_event e ≡ is_brace r.shape)
 
--- The same for each note among these steps, after this row and before those.
+-- Each note among these steps stands after the last row of its event. The steps come after this row
+-- and before those.
 abbrev pub ArePlaced : {M : Type 0} → Option (Row M) → Steps M → Rows M → Type 0
 ArePlaced last [] z = Unit {0}
 ArePlaced last (Token r ∷ l) z = ArePlaced (Some r) l z

@@ -22,42 +22,43 @@ module _ {M : Type 0} (P : t.Mbody M → Type 0) where
   abbrev pub GroupHas : t.Group M → Type 0
   GroupHas (t.group_of m n e i l b) = k.Given k.KeepsList l × P b
 
-  -- The same for the kind of a field.
+  -- The kind of a field keeps the keyword rules, and P holds for the body of a group.
   abbrev pub KindHas : t.FieldKind M → Type 0
   KindHas (t.normal x) = k.KeepsNormal x
   KindHas (t.map x) = k.KeepsMap x
   KindHas (t.group x) = GroupHas x
 
-  -- The same for a field. Its type doesn't begin with a label.
+  -- The field keeps the keyword rules, and P holds for the body of a group. Its type doesn't begin
+  -- with a label.
   abbrev pub FieldHas : t.Field M → Type 0
   FieldHas (t.field_of l x) = k.BeginsWithNoLabel (t.field_of l x) × KindHas x
 
-  -- The same for an element of a oneof.
+  -- The element of a oneof keeps the keyword rules, and P holds for the bodies in it.
   abbrev pub OneofElementHas : t.OneofElement M → Type 0
   OneofElementHas (t.oneof_empty m) = Unit {0}
   OneofElementHas (t.oneof_option x) = k.KeepsOption x
   OneofElementHas (t.oneof_field x) = k.BeginsWithNoOption x × FieldHas x
 
-  -- The same for the elements of a oneof.
+  -- Each element of a oneof does.
   abbrev pub OneofElementsHas : t.OneofElements M → Type 0
   OneofElementsHas t.no_oneof_elements = Unit {0}
   OneofElementsHas (t.oneof_elements e es) = OneofElementHas e × OneofElementsHas es
 
-  -- The same for a oneof.
+  -- Each element of the oneof keeps the keyword rules, and P holds for the bodies in them.
   abbrev pub OneofHas : t.Oneof M → Type 0
   OneofHas (t.oneof_of m n o es c) = OneofElementsHas es
 
-  -- The same for an element of an extend.
+  -- The element of an extend keeps the keyword rules, and P holds for the bodies in it.
   abbrev pub ExtendElementHas : t.ExtendElement M → Type 0
   ExtendElementHas (t.extend_empty m) = Unit {0}
   ExtendElementHas (t.extend_field x) = FieldHas x
 
-  -- The same for the elements of an extend.
+  -- Each element of an extend does.
   abbrev pub ExtendElementsHas : t.ExtendElements M → Type 0
   ExtendElementsHas t.no_extend_elements = Unit {0}
   ExtendElementsHas (t.extend_elements e es) = ExtendElementHas e × ExtendElementsHas es
 
-  -- The same for an extend.
+  -- Each element of the extend keeps the keyword rules, and P holds for the bodies in them.
   abbrev pub ExtendHas : t.Extend M → Type 0
   ExtendHas (t.extend_of m n o es c) = ExtendElementsHas es
 
@@ -65,7 +66,7 @@ module _ {M : Type 0} (P : t.Mbody M → Type 0) where
   abbrev pub MessageHas : t.Message M → Type 0
   MessageHas (t.message_of m n b) = P b
 
-  -- The same for an element of a message.
+  -- The element of a message keeps the keyword rules, and P holds for the bodies in it.
   abbrev pub ElementHas : t.Element M → Type 0
   ElementHas (t.empty m) = Unit {0}
   ElementHas (t.field x) = k.BeginsWithNoElement x × FieldHas x
@@ -77,7 +78,7 @@ module _ {M : Type 0} (P : t.Mbody M → Type 0) where
   ElementHas (t.reserved x) = Unit {0}
   ElementHas (t.extensions x) = k.KeepsExtensions x
 
-  -- The same for the elements of a message.
+  -- Each element of a message does.
   abbrev pub ElementsHas : t.Elements M → Type 0
   ElementsHas t.no_elements = Unit {0}
   ElementsHas (t.elements e es) = ElementHas e × ElementsHas es
@@ -86,7 +87,7 @@ module _ {M : Type 0} (P : t.Mbody M → Type 0) where
   abbrev pub MbodyHas : t.Mbody M → Type 0
   MbodyHas (t.mbody_of o es c) = ElementsHas es
 
-  -- The same for a statement of a file.
+  -- The statement of a file keeps the keyword rules, and P holds for the bodies in it.
   abbrev pub StatementHas : t.Statement M → Type 0
   StatementHas (t.an_empty m) = Unit {0}
   StatementHas (t.an_import x) = Unit {0}
@@ -97,7 +98,7 @@ module _ {M : Type 0} (P : t.Mbody M → Type 0) where
   StatementHas (t.an_enum x) = k.KeepsEnum x
   StatementHas (t.a_service x) = k.KeepsService x
 
-  -- The same for a file.
+  -- Each statement of the file keeps the keyword rules, and P holds for the bodies in it.
   abbrev pub FileHas : t.File M → Type 0
   FileHas x = k.Each StatementHas x.statements
 
@@ -312,7 +313,7 @@ unfoldable pub unsealed : {M : Type 0} → ℕ → Rule M (t.Mbody M)
 unsealed zero = sealed k.KeepsMbody (FitsMbody 0) deep_read (λ b. deep_steps ADeepBody (suc (d.mbody_depth b)) b) (deep_trace ADeepBody)
 unsealed (suc n) = mbody (sealed k.KeepsMbody (FitsMbody n) (unsealed n).read (unsealed n).steps (unsealed n).trace)
 
--- The same, and anything may follow it.
+-- A body of which at most n levels can be read. Anything may follow it.
 abbrev pub mbody_at : {M : Type 0} → ℕ → Rule M (t.Mbody M)
 mbody_at n = sealed k.KeepsMbody (FitsMbody n) (unsealed n).read (unsealed n).steps (unsealed n).trace
 

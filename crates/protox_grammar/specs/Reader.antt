@@ -95,7 +95,7 @@ unfoldable pub star_at : {M A : Type 0} → (Shape → Bool) → Reader M A → 
 star_at p a zero xs = refuse xs
 star_at p a (suc n) xs = if head_in p xs then (a xs >>= λ x. star_at p a n x.1 >>= λ y. Ok (x.0 ∷ y.0, y.1)) else Ok ([], xs)
 
--- The same, with a bound that is never reached.
+-- Reads again and again, as long as the next token passes the test.
 unfoldable pub star : {M A : Type 0} → (Shape → Bool) → Reader M A → Reader M (List A)
 star p a xs = star_at p a (suc (length xs)) xs
 
@@ -104,7 +104,7 @@ abbrev pub folded : {A B : Type 0} → (B → A → B) → B → List A → B
 folded add b [] = b
 folded add b (x ∷ xs) = folded add (add b x) xs
 
--- The same, for values that were read.
+-- Adds the values that were read to b, one after another.
 abbrev pub gathered : {M A B : Type 0} → (B → A → B) → B → Result (List A × Rows M) Refusal → Result (B × Rows M) Refusal
 gathered add b read = read >>= λ x. Ok (folded add b x.0, x.1)
 

@@ -154,7 +154,8 @@ too_deep w a = record {
 abbrev pub unless : {M A B : Type 0} → Set → Rule M A → Rule M B → Rule M (A ⊎ B)
 unless P a b = either (in_set P) P a b
 
--- The same, for a second rule that never begins with such a token.
+-- The first rule if the next token is in the set, else the second, which never begins with such a
+-- token.
 abbrev pub choice : {M A B : Type 0} → Set → Rule M A → Rule M B → Rule M (A ⊎ B)
 choice P a b = record {
   spell = on_sum a.spell b.spell;
@@ -204,7 +205,7 @@ named spell keeps to from b = record {
   trace = b.trace;
 }
 
--- The same, where fewer trees can be read.
+-- A rule under other names for its trees, of which fewer can be read.
 abbrev pub named_fits : {M A B : Type 0} → (A → Rows M) → (A → Type 0) → (A → Type 0) → (B → A) → (A → B) → Rule M B → Rule M A
 named_fits spell keeps fits to from b = record {
   spell = spell;
@@ -228,7 +229,7 @@ unstarted P a = record {
   trace = λ xs. if head_in (in_set P) xs then [] else a.trace xs;
 }
 
--- The same rule, with a note after its tree.
+-- A rule with a note after its tree.
 abbrev pub noting : {M A : Type 0} → (A → Event M) → Rule M A → Rule M A
 noting note a = record {
   spell = a.spell;

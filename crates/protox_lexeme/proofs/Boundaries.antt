@@ -169,7 +169,7 @@ longest_utf8 Newline text n h u = fits_utf8 (pattern Newline) text n (byte_ascii
 pub longest_boundary : (kind : Kind) (text : List ℕ) (n : ℕ) → IsLongest pattern kind text n → n ≤ length text → IsUtf8 text → IsCharBoundary text n
 longest_boundary kind text n h within u = IsCharBoundary-from_drop text n within (longest_utf8 kind text n h u)
 
--- The same for the match that the scan finds.
+-- The match that the scan finds ends at a boundary of characters.
 pub scan_boundary : (text : List ℕ) (kind : Kind) (n : ℕ) → scan text ≡ Some (kind, n) → n ≤ length text → IsUtf8 text → IsCharBoundary text n
 scan_boundary text kind n e within u =
     let P : Option (Kind × ℕ) → Type 0 = λ r. MatchOption r ((k : Kind) (m : ℕ) → Fits (pattern k) text m → ⊥) (λ p. IsLongest pattern p.0 text p.1) in

@@ -57,7 +57,7 @@ no_run p (b ∷ text) h = rw h
 pub run_more : (p : ℕ → Bool) (b : ℕ) (text : List ℕ) → p b ≡ true → prefix_len p (b ∷ text) ≡ suc (prefix_len p text)
 run_more p b text h = rw h (omega arith)
 
--- The same for a text as a whole.
+-- A text that fits one byte and then a pattern has such a byte first. The rest fits the pattern.
 pub one_then_rest : (p : ℕ → Bool) (q : Pattern) (text : List ℕ) (n : ℕ) → Fits (one p ⋅ q) text n
     → (m : ℕ) × (n ≡ suc m) × (p (get_or text 0 0) ≡ true) × Fits q (drop 1 text) m
 one_then_rest p q [] n f = absurd (one_then_empty p q n f)

@@ -19,7 +19,7 @@ pub mod Places
 pub mod FaultPlaces
 pub mod FaultModes
 pub mod FaultOrder
-pub mod FaultsOnce
+pub mod FaultsRise
 pub mod TableOrder
 pub mod Keywords
 pub mod Lemmas

@@ -9,7 +9,7 @@ use Rattle.protox_lexeme.specs.Shapes.{Shape, LineComment, BlockComment, Newline
 use Rattle.protox_lexeme.specs.Table.{is_gap, in_front, faults_of, invalid_faults, row_faults}
 use Rattle.protox_lexeme.proofs.Cut.{cut_is_cut}
 use Rattle.protox_lexeme.proofs.FaultOrder.{twice, key, keys, Rise, RiseWithin, rise_lower, within_joined}
-use Rattle.protox_lexeme.proofs.FaultsOnce.{row_rises}
+use Rattle.protox_lexeme.proofs.FaultsRise.{row_rises}
 
 -- The places of each list of faults come after those of the list before it.
 abbrev pub AreInOrder : ℕ → List (List ParseErrorKind) → Type 0

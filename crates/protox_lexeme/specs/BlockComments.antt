@@ -31,7 +31,7 @@ pub record Ending : Type 0 where
   pub before : List Mark
   pub at : ℕ
 
--- The same end, with one more before it.
+-- The end of a comment, with one more mark before it.
 abbrev pub behind : Mark → Ending → Ending
 behind m e = record { before = m ∷ e.before; at = e.at }
 

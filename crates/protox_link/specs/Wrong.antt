@@ -89,7 +89,7 @@ pub record Declares (files : List FileDescriptorProto) (number : ℕ) (d : Decla
   pub declares : Contains (file_declarations file) d
 
 -- The own name of a declaration is an identifier, and the table has the scope that it stands in. Of
--- all other declarations no more is told than that their own names are bad.
+-- all other declarations no more is told than that their own names are missing or no identifiers.
 pub record IsNamed (table : Table) (d : Declared) : Type 0 where
   pub identifier : is_identifier (text_of (name_of d.part)) ≡ true
   pub scope : has_innermost table.names (scopes d.full_name) ≡ true

@@ -118,7 +118,7 @@ impl Marks {
         false
     }
 
-    /// The same marks, as bits.
+    /// These marks, as bits.
     ///
     /// # Errors
     /// `AllocError` where memory runs out.

@@ -71,7 +71,7 @@ impl NameTree {
         self.nodes.len()
     }
 
-    // The same place, where an unknown number stands for the top.
+    // The place, or the top if its number is unknown.
     fn known(&self, place: Option<usize>) -> Option<usize>
         ensures tree { IsNameTree self.now }
         ensures known { IsKnown self.now.full_names result }

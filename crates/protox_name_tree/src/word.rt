@@ -61,7 +61,7 @@ impl NameTree {
     }
 }
 
-// The same place, where an unknown number stands for the top.
+// The place, or the top if its number is unknown.
 fn known(nodes: &Nodes, place: Option<usize>) -> Option<usize>
     ensures known { (names : List (List ℕ)) → length names ≡ length nodes.now
         → IsKnown names result }

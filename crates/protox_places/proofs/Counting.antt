@@ -12,7 +12,7 @@ pub behind-more : (xs : List ℕ) (b start i : ℕ) → behind_last start i (xs 
 behind-more [] b start i = grind (arith, nat_tests)
 behind-more (x ∷ xs) b start i = let e = behind-more xs b (i + 1) (i + 1) in let f = behind-more xs b start (i + 1) in grind (arith, nat_tests)
 
--- The same of the next byte of a list.
+-- How the count of newlines grows with the next byte of a list.
 pub newlines-next : (xs : List ℕ) (i : ℕ) → i < length xs → newlines (take (i + 1) xs) ≡ newlines (take i xs) + (if get_or xs i 0 == 10 then 1 else 0)
 newlines-next xs i lt = ap newlines (take_more xs i 0 lt) ∙ newlines-more (take i xs) (get_or xs i 0)
 

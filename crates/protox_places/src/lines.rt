@@ -63,8 +63,8 @@ fn is_count(starts: &[u32], count: usize, offset: usize) -> bool
     begun && ended
 }
 
-// The same count, found at once if the offset lies in the line `near` or in one of the next seven,
-// as behind a comment.
+// How many lines start up to the offset. The count is found at once if the offset lies in the line
+// `near` or in one of the next seven, as behind a comment.
 fn count_near(starts: &[u32], near: usize, offset: usize) -> usize
     requires { Rises 0 starts.now }
     ensures found { Found starts.now offset result }
@@ -154,8 +154,8 @@ impl LineResolver {
         numbers_in(&self.starts, first, last, span)
     }
 
-    /// The same as `numbers`, faster if the span starts in the line `near` or in one of the next
-    /// seven. Sets `near` to the line in which the span starts. Offsets as for `numbers`.
+    /// Answers what `numbers` answers, faster if the span starts in the line `near` or in one of the
+    /// next seven. Sets `near` to the line in which the span starts. Offsets as for `numbers`.
     pub fn numbers_near(&self, near: &mut usize, span: Span) -> Numbers
         requires start { span.start ≤ 2147483647 }
         requires end { span.end ≤ 2147483647 }

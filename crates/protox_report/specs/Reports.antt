@@ -132,7 +132,8 @@ pub record AreShown (source : List ℕ) (paint : Paint) (fault : ParseErrorKind)
   pub first : Tells source paint (first_place source fault) (label_text fault) old middle
   pub second : MatchOption (second_label_of fault) (new ≡ middle) (λ s. Tells source paint s.0 s.1 middle new)
 
--- The same if the fault has a place; otherwise nothing is added.
+-- The lines that show the fault's places are added to the text, if it has a place. Otherwise nothing
+-- is added.
 abbrev pub AreTold : List ℕ → Paint → ParseErrorKind → List ℕ → List ℕ → Type 0
 AreTold source paint fault old new = elim (has_place fault) as (λ _. Type 0) [ true ↦ AreShown source paint fault old new | false ↦ new ≡ old ]
 

@@ -12,7 +12,7 @@ pub last_line_more : (xs : List ℕ) (b : ℕ) → length (last_line (xs ++ b �
 last_line_more [] b = grind (arith, nat_tests)
 last_line_more (x ∷ xs) b = let e = last_line_more xs b in let n = newlines_more xs b in let l = length_push xs b in grind (arith, nat_tests)
 
--- The same for the next byte of a list.
+-- How the count of newlines grows with the next byte of a list.
 pub newlines_next : (xs : List ℕ) (i : ℕ) → i < length xs → newlines (take (i + 1) xs) ≡ newlines (take i xs) + (if get_or xs i 0 == 10 then 1 else 0)
 newlines_next xs i lt = ap newlines (take_more xs i 0 lt) ∙ newlines_more (take i xs) (get_or xs i 0)
 

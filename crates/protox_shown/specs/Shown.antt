@@ -14,7 +14,7 @@ use Rattle.protox_fault.specs.declared.error.ParseErrorKind.TheVariants.{Unknown
 abbrev pub is_low_ignorable : ℕ → Bool
 is_low_ignorable c = is_in_range 0xAD 0xAD c || (is_in_range 0x34F 0x34F c || (is_in_range 0x61C 0x61C c || (is_in_range 0x115F 0x1160 c || (is_in_range 0x17B4 0x17B5 c || (is_in_range 0x180B 0x180F c || (is_in_range 0x200B 0x200F c || (is_in_range 0x202A 0x202E c || (is_in_range 0x2060 0x206F c))))))))
 
--- The same for characters above U+2FFF.
+-- Whether a character above U+2FFF has that property.
 abbrev pub is_high_ignorable : ℕ → Bool
 is_high_ignorable c = is_in_range 0x3164 0x3164 c || (is_in_range 0xFE00 0xFE0F c || (is_in_range 0xFEFF 0xFEFF c || (is_in_range 0xFFA0 0xFFA0 c || (is_in_range 0xFFF0 0xFFF8 c || (is_in_range 0x1_BCA0 0x1_BCA3 c || (is_in_range 0x1_D173 0x1_D17A c || (is_in_range 0xE_0000 0xE_0FFF c)))))))
 

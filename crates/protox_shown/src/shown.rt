@@ -22,7 +22,7 @@ fn is_low_ignorable(c: char) -> bool
     )
 }
 
-// The same for characters from U+3000 on.
+// Whether a character from U+3000 on is one that a terminal shows nothing of.
 fn is_high_ignorable(c: char) -> bool
     ensures { result ≡ shown_as.is_high_ignorable c }
 {
@@ -96,7 +96,7 @@ impl fmt::Display for Shown<'_> {
     }
 }
 
-/// The same for the first 200 characters of a text. `…` stands for all others.
+/// The first 200 characters of a text to be shown on a line of a terminal. `…` stands for all others.
 #[derive(Clone, Copy)]
 pub struct Brief<'a>(pub &'a str);
 

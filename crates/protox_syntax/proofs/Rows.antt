@@ -261,6 +261,6 @@ cut-from at text (f ∷ front) x back e =
       | inr none ↦ absurd (nothing-cut at text (f ∷ front) x back none e)
     ]
 
--- The same of a source.
+-- Cutting a source from one of its lexemes on gives that lexeme and those behind it.
 pub source-from : (source : List ℕ) (front : List Lexeme) (x : Lexeme) (back : List Lexeme) → cut 0 source ≡ front ++ x ∷ back → cut x.start (drop x.start source) ≡ x ∷ back
 source-from source front x back e = ap (λ k. cut x.start (drop k source)) (let same : x.start ≡ x.start - 0 = omega arith in same) ∙ sym (cut-from 0 source front x back e).0

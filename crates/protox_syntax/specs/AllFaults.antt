@@ -55,8 +55,8 @@ rows_to_read total left next = (total - left) - next
 abbrev pub read_until : List (List ParseErrorKind) → ℕ → ℕ → Progress → Progress
 read_until faults total left p = progress (p.errors ++ faults_of_rows p.text_format faults p.next (rows_to_read total left p.next)) (p.next + rows_to_read total left p.next) p.text_format
 
--- The same in a table. A row's faults are found when it is read, in the mode of that moment. The
--- end of the source counts as a row.
+-- All rows of a table are read until `left` of them are left. A row's faults are found when it is
+-- read, in the mode of that moment. The end of the source counts as a row.
 abbrev pub read : Table → ℕ → Progress → Progress
 read t left p = read_until t.faults (length t.rows + 1) left p
 

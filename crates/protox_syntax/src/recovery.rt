@@ -88,7 +88,7 @@ fn from_last<'t, 'a>(table: &'t TokenTable<'a>, count: usize) -> Unread<'t, 'a>
     from_statement(table, table.rows().saturating_sub(count))
 }
 
-// The same, after skipping to the end of the block that is open.
+// Of the last `count` rows, those from the next statement behind the block that is open.
 fn behind_last<'t, 'a>(table: &'t TokenTable<'a>, count: usize) -> Unread<'t, 'a>
     ensures { result ≡ from_statement (behind_block 0 (last_rows table.now count)) }
 {

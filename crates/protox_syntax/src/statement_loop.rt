@@ -127,7 +127,7 @@ fn read_last_one<'t, 'a>(
     }
 }
 
-// The same of the notes behind the first `known`. Mostly there are none.
+// Whether the notes behind the first `known` hold no fault. Mostly there are none.
 fn are_right_behind(notes: &[Note], known: usize) -> bool
     ensures { result ≡ list_all (λ n. is_no_fault n.noted) (drop known notes.now) }
 {

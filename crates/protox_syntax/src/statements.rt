@@ -36,7 +36,7 @@ use std::alloc::{AllocError, Global};
 /// How many levels of messages and groups may be nested.
 pub const MAX_MESSAGE_NESTING_DEPTH: u32 = 31;
 
-// The same limit as a usize: the parser counts levels down to 0.
+// That limit as a usize: the parser counts levels down to 0.
 const LEVELS: usize = MAX_MESSAGE_NESTING_DEPTH as usize;
 
 fn syntax_of(value: &[u8]) -> Syntax

@@ -46,7 +46,7 @@ behind_end range_ends.None behind_start behind_stop = behind_start
 behind_end (range_ends.Int x) behind_start behind_stop = behind_stop
 behind_end (range_ends.Max x) behind_start behind_stop = behind_stop
 
--- The same, if there is a range.
+-- What may follow a range, if there is one; else what may follow an end.
 abbrev pub behind_range : Option ReservedRange → Expected → Expected → Expected
 behind_range (Some range) behind_start behind_stop = behind_end range.end behind_start behind_stop
 behind_range None behind_start behind_stop = behind_stop

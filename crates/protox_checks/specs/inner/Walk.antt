@@ -20,7 +20,7 @@ use Rattle.protox_checks.specs.declared.numbers.Numbering.TheVariants as numberi
 abbrev pub AddsIn : Syntax → List ParseErrorKind → List ParseErrorKind → List Node → Type 0
 AddsIn syntax old new nodes = new ≡ old ++ nodes_faults syntax nodes
 
--- The same for nodes whose faults don't depend on the syntax.
+-- The faults of these nodes are added, and they don't depend on the syntax.
 abbrev pub Adds : List ParseErrorKind → List ParseErrorKind → List Node → Type 0
 Adds old new nodes = (syntax : Syntax) → AddsIn syntax old new nodes
 

@@ -19,7 +19,7 @@ left (Err e) = Some e
 abbrev stop : ℕ → List Shape → Option Refusal
 stop n ss = left (read n (rows (word "message" ∷ word "M" ∷ Mark s.open_brace ∷ ss)))
 
--- The same for a file with these rows.
+-- where the reading of a file with these rows stops
 abbrev of_file : List Shape → Option Refusal
 of_file ss = left (read 31 (rows ss))
 

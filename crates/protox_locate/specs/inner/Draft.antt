@@ -19,7 +19,8 @@ pub record AreSiblings (context : Context) (next : ℕ) (tag : ℤ) (front : Lis
   pub locations : context.locations ≡ front ++ siblings_at [] tag siblings
   pub counted : next ≡ length siblings
 
--- The same of parts that all have the path of their list.
+-- The context stands at the file itself, and has the locations of these parts. They all have the
+-- path of their list.
 pub record AreParts (context : Context) (tag : ℤ) (parts : List Part) : Type 0 where
   pub path : context.path ≡ []
   pub locations : context.locations ≡ each_at (part [] tag) parts

@@ -24,7 +24,7 @@ SaysOf OutOfMemory words = Unit {0}
 SaysOf (At left said) words = said ≡ words
 SaysOf (TooDeep left) words = Unit {0}
 
--- The same of a function that may succeed.
+-- The function fails with these words, if it fails since a row doesn't fit.
 abbrev pub Says : {X : Type 0} → Result X Refused → Expected → Type 0
 Says (Ok x) words = Unit {0}
 Says (Err e) words = SaysOf e words
@@ -57,7 +57,7 @@ unfoldable pub words_at : {A : Type 0} → (Shape → Bool) → Reader Place A �
 words_at p a first zero xs = first xs
 words_at p a first (suc n) xs = if head_in p xs then behind (first xs) (λ x. words_at p a first n) (a xs) else first xs
 
--- The same, with a bound that is never reached.
+-- The words of a reader that reads as often as the next token passes the test.
 unfoldable pub times : {A : Type 0} → (Shape → Bool) → Reader Place A → Words → Words
 times p a first xs = words_at p a first (suc (length xs)) xs
 

@@ -17,7 +17,7 @@ with_noted (TextFormat on) p = progress p.errors p.next on
 abbrev pub noted_in : List (List ParseErrorKind) → ℕ → Note → Progress → Progress
 noted_in faults total x p = with_noted x.noted (read_until faults total x.left p)
 
--- The same for all notes, one after another.
+-- For each note, one after another, rows are read up to it, and then it counts.
 abbrev pub merge_notes : List (List ParseErrorKind) → ℕ → Notes → Progress → Progress
 merge_notes faults total [] p = p
 merge_notes faults total (x ∷ xs) p = merge_notes faults total xs (noted_in faults total x p)

@@ -174,7 +174,8 @@ span_to_end size false t progress = span_from progress.start (bare_span size t.r
 abbrev pub IsAll : List ℕ → List FileItem → File → Type 0
 IsAll source gone head = (f : tree.File Place) × IsWhole (table_of (cut 0 source)) f × (record head { items = gone ++ head.items } ≡ ast.file (length source) f)
 
--- The same, but for the head's span.
+-- The source is read, and nothing is wrong with it. With the span of the source the head is its
+-- syntax tree, but for the items that are gone.
 abbrev pub IsAllButSpan : List ℕ → List FileItem → File → Type 0
 IsAllButSpan source gone head = IsAll source gone (record head { span = rows_span (length source) (rows source) })
 

@@ -1,27 +1,23 @@
 //! The position in the tree while it is walked, and the locations so far.
 
 ghost use Rattle.std.specs.Prelude.{◌≡◌, ◌≤◌, ◌+◌, ◌++◌, ◌∷◌, [], true, None, ℤ, pos, length, IfOk, OnOk, List};
-ghost use Rattle.std.specs.Option.{option_copied};
 ghost use Rattle.protox_places.specs.Lines.{numbers_at};
 ghost use Rattle.protox_locate.specs.LocationWords.{bare, commented, part};
 ghost use Rattle.protox_locate.specs.inner.Walk.{Emits};
 
+use crate::location_list::{LocationList, copied_comments};
 use protox_ast::ast::Comments;
-use protox_descriptor::descriptor::source_code_info::Location;
-use protox_descriptor::values::{Items, Numbers, Text};
+use protox_descriptor::values::{Items, Numbers};
 use protox_fault::error::Span;
 use protox_places::lines::LineResolver;
 use std::alloc::{AllocError, Global};
-
-// So many numbers take no memory.
-const FEW: usize = 7;
 
 /// The path to the current part, the locations so far, and the line in which the last of them
 /// starts. The next one is looked for there first.
 #[derive(Drop)]
 pub(crate) struct Context {
     pub path: Items<i32>,
-    pub locations: Items<Location>,
+    pub locations: LocationList,
     near: usize,
 }
 
@@ -29,82 +25,6 @@ fn copied_span(span: &Span) -> Span
     ensures { result ≡ span.now }
 {
     span.start..span.end
-}
-
-fn copied_option(alloc: Global, text: Option<&Text>) -> Result<Option<Text>, AllocError>
-    ensures { IfOk result (λ copy. copy ≡ option_copied text.entry) }
-{
-    match text {
-        None => Ok(None),
-        Some(text) => Ok(Some(Text::copy(alloc, text.as_str())?)),
-    }
-}
-
-fn copied(alloc: Global, texts: &[Text]) -> Result<Items<Text>, AllocError>
-    ensures { IfOk result (λ copies. copies ≡ texts.now) }
-{
-    let mut copies = Vec::with_capacity(alloc, texts.len())?;
-    for text in texts {
-        copies.push(Text::copy(alloc, text.as_str())?)?;
-    }
-    Ok(Items::from_vec(copies))
-}
-
-// A long path and one tag behind it. The tag is pushed: it is not worth a copy of its own.
-fn pushed(alloc: Global, path: &[i32], tag: i32) -> Result<Numbers, AllocError>
-    ensures { IfOk result (λ made. made ≡ path.now ++ tag ∷ []) }
-{
-    let mut numbers = Vec::with_capacity(alloc, path.len() + 1)?;
-    numbers.extend_from_slice(path)?;
-    numbers.push(tag)?;
-    Ok(Numbers::from_vec(numbers))
-}
-
-// A copy of a path.
-fn copied_path(alloc: Global, path: &[i32]) -> Result<Numbers, AllocError>
-    ensures { IfOk result (λ made. made ≡ path.now) }
-{
-    if path.len() <= FEW {
-        return Numbers::from_slice(alloc, path);
-    }
-    Ok(Numbers::from_vec(Vec::from_slice(alloc, path)?))
-}
-
-// A path and one tag behind it. Paths of usual lengths are taken apart, so that nothing is called.
-#[inline(always)]
-fn tagged(alloc: Global, path: &[i32], tag: i32) -> Result<Numbers, AllocError>
-    ensures { IfOk result (λ made. made ≡ path.now ++ tag ∷ []) }
-{
-    match path {
-        [a, b] => Ok(Numbers::few(&[*a, *b, tag])),
-        [a, b, c, d] => Ok(Numbers::few(&[*a, *b, *c, *d, tag])),
-        _ if path.len() < FEW => Numbers::joined(alloc, path, &[tag]),
-        _ => pushed(alloc, path, tag),
-    }
-}
-
-// A copy of a path, in the same way.
-#[inline(always)]
-fn untagged(alloc: Global, path: &[i32]) -> Result<Numbers, AllocError>
-    ensures { IfOk result (λ made. made ≡ path.now) }
-{
-    match path {
-        [a, b] => Ok(Numbers::few(&[*a, *b])),
-        [a, b, c, d] => Ok(Numbers::few(&[*a, *b, *c, *d])),
-        _ => copied_path(alloc, path),
-    }
-}
-
-// A path and then tags.
-#[inline(always)]
-fn joined(alloc: Global, path: &[i32], tags: &[i32]) -> Result<Numbers, AllocError>
-    ensures { IfOk result (λ made. made ≡ path.now ++ tags.now) }
-{
-    match tags {
-        [] => untagged(alloc, path),
-        [tag] => tagged(alloc, path, *tag),
-        _ => Numbers::joined(alloc, path, tags),
-    }
 }
 
 /// An index as a number of a path. `AllocError` if it is beyond an `i32`. No source within the
@@ -153,20 +73,23 @@ fn is_bare(comments: &Comments) -> bool
 }
 
 impl Context {
-    /// The path of a file (empty), and no location. There is room for `room` locations, if memory
-    /// allows.
-    pub fn new(alloc: Global, room: usize) -> Context
+    /// The path of a file (empty), and these locations.
+    pub fn new(alloc: Global, locations: LocationList) -> Context
         ensures path { result.path ≡ [] }
-        ensures locations { result.locations ≡ [] }
+        ensures locations { result.locations ≡ locations }
     {
         Context {
             path: Items::new(alloc),
-            locations: match Items::with_capacity(alloc, room) {
-                Ok(locations) => locations,
-                Err(_) => Items::new(alloc),
-            },
+            locations,
             near: 0,
         }
+    }
+
+    /// The locations.
+    pub fn into_locations(self) -> LocationList
+        ensures { result ≡ self.locations }
+    {
+        self.locations
     }
 
     /// Adds a location without comments. Its path is the current one and then `tags`.
@@ -179,9 +102,8 @@ impl Context {
     ) -> Result<(), AllocError>
         ensures { OnOk result (Emits self.old self.new (bare (numbers_at lines.now) (self.old.path ++ tags.now) span.now ∷ [])) }
     {
-        let path = joined(alloc, self.path.as_slice(), tags)?;
         let span = numbers_of(lines, &mut self.near, span)?;
-        self.locations.push(Location::bare(path, span))
+        self.locations.add(alloc, self.path.as_slice(), tags, span)
     }
 
     /// Adds the location of a declaration with its comments. Its path is the current one and then
@@ -199,13 +121,10 @@ impl Context {
         if is_bare(comments) {
             return self.add(alloc, lines, tags, span);
         }
-        let leading = copied_option(alloc, comments.leading_comment())?;
-        let trailing = copied_option(alloc, comments.trailing_comment())?;
-        let detached = copied(alloc, comments.leading_detached_comments())?;
-        let path = joined(alloc, self.path.as_slice(), tags)?;
+        let copies = copied_comments(alloc, comments)?;
         let span = numbers_of(lines, &mut self.near, span)?;
-        let location = Location::commented(alloc, path, span, leading, trailing, detached)?;
-        self.locations.push(location)
+        self.locations
+            .add_commented(alloc, self.path.as_slice(), tags, span, copies)
     }
 
     /// Goes down to a child: its field number, and its index among its siblings. `AllocError` as

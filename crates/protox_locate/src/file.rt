@@ -14,7 +14,8 @@ ghost use Rattle.protox_locate.specs.inner.Walk.{Emits};
 use crate::context::Context;
 use crate::declarations::{blocks_of, enums_of, extensions_of, messages_of, services_of};
 use crate::imports::{locate_imports, locate_public_words, locate_weak_words};
-use crate::lists::{fronted, joined, listed, trimmed};
+use crate::lists::trimmed;
+use crate::location_list::{LocationList, one_behind_other, with_front};
 use crate::options::locate_options;
 use protox_ast::ast::{Comments, File, FileItem, Opt, Package};
 use protox_descriptor::descriptor::SourceCodeInfo;
@@ -23,12 +24,14 @@ use protox_descriptor::tag::file::{OPTIONS, PACKAGE, SYNTAX};
 use protox_descriptor::values::Items;
 use protox_fault::error::Span;
 use protox_places::lines::LineResolver;
+use protox_pool::LocationPool;
 use std::alloc::{AllocError, Global};
 
-/// The locations of a file while its items are located one by one: a list for each kind of parts,
-/// and the index of the next part of this kind.
+/// The locations of a file while its items are located one by one: a list or a pool for each kind of
+/// parts, and the index of the next part of this kind.
 #[derive(Drop)]
 pub struct LocationDraft {
+    alloc: Global,
     // The first list begins with so many empty locations. At the end those in front of the items
     // take their places.
     reserved: usize,
@@ -69,6 +72,20 @@ pub fn front_len(head: &File) -> usize
     }
 }
 
+// The locations in front of a file's items, behind these.
+fn front_behind(
+    alloc: Global,
+    lines: &LineResolver,
+    ast: &File,
+    locations: LocationList,
+) -> Result<LocationList, AllocError>
+    ensures { IfOk result (λ front. front ≡ locations ++ file_front (numbers_at lines.now) ast.now []) }
+{
+    let mut context = Context::new(alloc, locations);
+    add_front(alloc, lines, &mut context, ast)?;
+    Ok(context.into_locations())
+}
+
 /// The locations that come before those of a file's items: those of the file itself, of its package
 /// and of its imports. Lines and columns are from 0; columns count bytes.
 ///
@@ -81,9 +98,31 @@ pub fn locate_front(
 ) -> Result<Items<Location>, AllocError>
     ensures { IfOk result (λ front. front ≡ file_front (numbers_at lines.now) ast.now []) }
 {
-    let mut context = Context::new(alloc, 0);
-    add_front(alloc, lines, &mut context, ast)?;
-    Ok(context.locations)
+    front_behind(alloc, lines, ast, LocationList::list_with_room(alloc, 0))?.into_items(alloc)
+}
+
+/// These locations in a pool.
+///
+/// # Errors
+/// As for `locate_front`.
+pub fn pooled_front(
+    alloc: Global,
+    lines: &LineResolver,
+    ast: &File,
+) -> Result<LocationPool, AllocError>
+    ensures { IfOk result (λ front. front ≡ file_front (numbers_at lines.now) ast.now []) }
+{
+    front_behind(alloc, lines, ast, LocationList::pool_with_room(alloc, 0))?.into_pool(alloc)
+}
+
+// An empty list with room for `room` locations, if memory allows.
+fn with_room(alloc: Global, room: usize) -> Items<Location>
+    ensures { result ≡ [] }
+{
+    match Items::with_capacity(alloc, room) {
+        Ok(locations) => locations,
+        Err(_) => Items::new(alloc),
+    }
 }
 
 // A list that begins with `reserved` empty locations. There is room for `room` locations, if memory
@@ -92,11 +131,27 @@ fn begun(alloc: Global, reserved: usize, room: usize) -> Result<Context, AllocEr
     ensures path { IfOk result (λ context. context.path ≡ []) }
     ensures reserved { IfOk result (λ context. length context.locations ≡ reserved) }
 {
-    let mut context = Context::new(alloc, room);
+    let mut places = with_room(alloc, room);
     for _ in 0..reserved {
-        context.locations.push(Location::new(alloc))?;
+        places.push(Location::new(alloc))?;
     }
-    Ok(context)
+    Ok(Context::new(alloc, LocationList::listed(places)))
+}
+
+// A walk that keeps its locations in a list.
+fn list_walk(alloc: Global) -> Context
+    ensures path { result.path ≡ [] }
+    ensures locations { result.locations ≡ [] }
+{
+    Context::new(alloc, LocationList::list_with_room(alloc, 0))
+}
+
+// A walk that keeps its locations in a pool.
+fn pool_walk(alloc: Global, room: usize) -> Context
+    ensures path { result.path ≡ [] }
+    ensures locations { result.locations ≡ [] }
+{
+    Context::new(alloc, LocationList::pool_with_room(alloc, room))
 }
 
 impl LocationDraft {
@@ -107,17 +162,38 @@ impl LocationDraft {
     {
         let messages = begun(alloc, reserved, room)?;
         Ok(LocationDraft {
+            alloc,
             reserved,
             messages,
             next_message: 0,
-            enums: Context::new(alloc, 0),
+            enums: list_walk(alloc),
             next_enum: 0,
-            services: Context::new(alloc, 0),
+            services: list_walk(alloc),
             next_service: 0,
-            blocks: Context::new(alloc, 0),
-            extensions: Context::new(alloc, 0),
+            blocks: list_walk(alloc),
+            extensions: list_walk(alloc),
             next_extension: 0,
         })
+    }
+
+    /// No item yet. The locations are kept in pools. There is room for `room` of them, if memory
+    /// allows.
+    pub fn pooled(alloc: Global, room: usize) -> LocationDraft
+        ensures located { (numbers : faults.Span → List ℤ) → IsDraft numbers [] result }
+    {
+        LocationDraft {
+            alloc,
+            reserved: 0,
+            messages: pool_walk(alloc, room),
+            next_message: 0,
+            enums: pool_walk(alloc, 0),
+            next_enum: 0,
+            services: pool_walk(alloc, 0),
+            next_service: 0,
+            blocks: pool_walk(alloc, 0),
+            extensions: pool_walk(alloc, 0),
+            next_extension: 0,
+        }
     }
 }
 
@@ -164,6 +240,20 @@ fn add_end(
     locate_syntax(alloc, lines, context, &ast.syntax_span)
 }
 
+// The locations behind a file's items, behind these.
+fn end_behind(
+    alloc: Global,
+    lines: &LineResolver,
+    ast: &File,
+    locations: LocationList,
+) -> Result<LocationList, AllocError>
+    ensures { IfOk result (λ end. end ≡ locations ++ file_end (numbers_at lines.now) ast.now []) }
+{
+    let mut context = Context::new(alloc, locations);
+    add_end(alloc, lines, &mut context, ast)?;
+    Ok(context.into_locations())
+}
+
 /// The locations that come behind those of a file's items: those of its options, of the words
 /// `public` and `weak`, and of its syntax. `AllocError` as for `locate_front`.
 pub fn locate_end(
@@ -173,9 +263,48 @@ pub fn locate_end(
 ) -> Result<Items<Location>, AllocError>
     ensures { IfOk result (λ end. end ≡ file_end (numbers_at lines.now) ast.now []) }
 {
-    let mut context = Context::new(alloc, 0);
-    add_end(alloc, lines, &mut context, ast)?;
-    Ok(context.locations)
+    end_behind(alloc, lines, ast, LocationList::list_with_room(alloc, 0))?.into_items(alloc)
+}
+
+/// These locations in a pool.
+///
+/// # Errors
+/// As for `locate_front`.
+pub fn pooled_end(
+    alloc: Global,
+    lines: &LineResolver,
+    ast: &File,
+) -> Result<LocationPool, AllocError>
+    ensures { IfOk result (λ end. end ≡ file_end (numbers_at lines.now) ast.now []) }
+{
+    end_behind(alloc, lines, ast, LocationList::pool_with_room(alloc, 0))?.into_pool(alloc)
+}
+
+// All locations of a file, kept as those in front are.
+fn all_kept(
+    front: LocationList,
+    draft: LocationDraft,
+    end: LocationList,
+) -> Result<LocationList, AllocError>
+    ensures { IfOk result (λ all. (numbers : faults.Span → List ℤ) (file : file_type.File) → IsDraft numbers file.items draft → front ≡ file_front numbers file [] → end ≡ file_end numbers file [] → all ≡ file_at numbers file []) }
+{
+    let LocationDraft {
+        alloc,
+        reserved,
+        messages,
+        enums,
+        services,
+        blocks,
+        extensions,
+        ..
+    } = draft;
+    let with_messages = with_front(alloc, front, messages.into_locations(), reserved)?;
+    let with_enums = one_behind_other(alloc, with_messages, enums.into_locations())?;
+    let with_services = one_behind_other(alloc, with_enums, services.into_locations())?;
+    let with_blocks = one_behind_other(alloc, with_services, blocks.into_locations())?;
+    let with_extensions = one_behind_other(alloc, with_blocks, extensions.into_locations())?;
+    let all = one_behind_other(alloc, with_extensions, end)?;
+    Ok(all)
 }
 
 /// All locations of a file whose items have been located, in the order of their paths. `front` are
@@ -187,24 +316,37 @@ pub fn all_locations(
 ) -> Result<SourceCodeInfo, AllocError>
     ensures { IfOk result (λ info. (numbers : faults.Span → List ℤ) (file : file_type.File) → IsDraft numbers file.items draft → front ≡ file_front numbers file [] → end ≡ file_end numbers file [] → info.location ≡ file_at numbers file []) }
 {
-    let LocationDraft {
-        reserved,
-        messages,
-        enums,
-        services,
-        blocks,
-        extensions,
-        ..
-    } = draft;
-    let with_messages = fronted(front, listed(messages), reserved)?;
-    let with_enums = joined(with_messages, listed(enums))?;
-    let with_services = joined(with_enums, listed(services))?;
-    let with_blocks = joined(with_services, listed(blocks))?;
-    let with_extensions = joined(with_blocks, listed(extensions))?;
-    let all = joined(with_extensions, end)?;
+    let alloc = draft.alloc;
+    let all = all_kept(
+        LocationList::listed(front),
+        draft,
+        LocationList::listed(end),
+    )?;
     Ok(SourceCodeInfo {
-        location: trimmed(all),
+        location: trimmed(all.into_items(alloc)?),
     })
+}
+
+/// All locations in a pool.
+///
+/// # Errors
+/// As for `all_locations`.
+pub fn pooled_locations(
+    front: LocationPool,
+    draft: LocationDraft,
+    end: LocationPool,
+) -> Result<LocationPool, AllocError>
+    ensures { IfOk result (λ pool. (numbers : faults.Span → List ℤ) (file : file_type.File) → IsDraft numbers file.items draft → front ≡ file_front numbers file [] → end ≡ file_end numbers file [] → pool ≡ file_at numbers file []) }
+{
+    let alloc = draft.alloc;
+    let all = all_kept(
+        LocationList::pooled(front),
+        draft,
+        LocationList::pooled(end),
+    )?;
+    let mut pool = all.into_pool(alloc)?;
+    pool.shrink_to_fit();
+    Ok(pool)
 }
 
 // Adds the locations of all items.

@@ -10,6 +10,7 @@ pub mod file;
 mod imports;
 mod items;
 mod lists;
+mod location_list;
 mod messages;
 mod options;
 mod ranges;

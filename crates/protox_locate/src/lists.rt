@@ -2,17 +2,9 @@
 
 ghost use Rattle.std.specs.Prelude.{◌≡◌, ◌≤◌, ◌++◌, drop, length, IfOk};
 
-use crate::context::Context;
 use protox_descriptor::descriptor::source_code_info::Location;
 use protox_descriptor::values::Items;
 use std::alloc::AllocError;
-
-/// The locations of a walk.
-pub(crate) fn listed(context: Context) -> Items<Location>
-    ensures { result ≡ context.locations }
-{
-    context.locations
-}
 
 // Both lists, the first one moved in front of the other.
 fn put_in_front(front: Vec<Location>, back: Vec<Location>) -> Result<Vec<Location>, AllocError>

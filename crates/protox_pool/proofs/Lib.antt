@@ -1,2 +1,3 @@
+pub mod OneBehindOther
 pub mod Places
 pub mod Steps

@@ -17,13 +17,13 @@ start_behind start [] index e within = absurd (omega arith)
 start_behind start (end ∷ ends) zero e within = refl
 start_behind start (end ∷ ends) (suc index) e within = start_behind end.span ends index e (omega arith)
 
-first_within : (count last start : ℕ) (ends : List Ends) → AreEnds count last start ends → start ≤ last
+pub first_within : (count last start : ℕ) (ends : List Ends) → AreEnds count last start ends → start ≤ last
 first_within count last start [] are = omega (arith, are)
 first_within count last start (end ∷ ends) are =
     le_trans (le_trans are.0 are.1) (first_within count last end.span ends are.3)
 
 -- the numbers of a location stand between its start and its end, within the list
-bounds : (count last start : ℕ) (ends : List Ends) → AreEnds count last start ends
+pub bounds : (count last start : ℕ) (ends : List Ends) → AreEnds count last start ends
     → (index : ℕ) (d : Ends) → index < length ends
     → (start_at start ends index ≤ (get_or ends index d).path)
     × ((get_or ends index d).path ≤ (get_or ends index d).span)
@@ -33,6 +33,13 @@ bounds count last start (end ∷ ends) are zero d within =
     (are.0, are.1, first_within count last end.span ends are.3)
 bounds count last start (end ∷ ends) are (suc index) d within =
     bounds count last end.span ends are.3 index d (omega arith)
+
+pub comments_within : (count last start : ℕ) (ends : List Ends) → AreEnds count last start ends
+    → (index : ℕ) (d : Ends) → index < length ends → (get_or ends index d).comments ≤ count
+comments_within count last start [] are index d within = absurd (omega arith)
+comments_within count last start (end ∷ ends) are zero d within = are.2
+comments_within count last start (end ∷ ends) are (suc index) d within =
+    comments_within count last end.span ends are.3 index d (omega arith)
 
 module _ (count last : ℕ) (ends : List Ends) (are : AreEnds count last 0 ends) (index : ℕ) (d : Ends)
     (within : index < length ends) where
@@ -64,7 +71,7 @@ module _ (numbers : List ℤ) (comments : List LocationComments) where
 
 -- ---- one more
 
-range_kept : {X : Type 0} (items more : List X) (from to : ℕ) → from ≤ to → to ≤ length items
+pub range_kept : {X : Type 0} (items more : List X) (from to : ℕ) → from ≤ to → to ≤ length items
     → slice_range (items ++ more) from to ≡ slice_range items from to
 range_kept items more from to low high =
     ap (take (to - from)) (drop-append-le from items more (omega arith))
@@ -82,7 +89,7 @@ range_middle xs ys zs =
     range_kept (xs ++ ys) zs (length xs) (length (xs ++ ys)) (omega (arith, length-append xs ys)) (le_refl (length (xs ++ ys)))
     ∙ range_end xs ys
 
-comments_kept : (comments others : List LocationComments) (number : ℕ) → number ≤ length comments
+pub comments_kept : (comments others : List LocationComments) (number : ℕ) → number ≤ length comments
     → comments_at (comments ++ others) number ≡ comments_at comments number
 comments_kept comments others zero le = refl
 comments_kept [] others (suc index) le = absurd (omega arith)
@@ -91,7 +98,7 @@ comments_kept (c ∷ comments) others (suc (suc index)) le =
     comments_kept comments others (suc index) (omega arith)
 
 module _ (numbers more : List ℤ) (comments others : List LocationComments) where
-  location_kept : (start : ℕ) (e : Ends) → start ≤ e.path → e.path ≤ e.span → e.span ≤ length numbers
+  pub location_kept : (start : ℕ) (e : Ends) → start ≤ e.path → e.path ≤ e.span → e.span ≤ length numbers
       → e.comments ≤ length comments
       → location_from (numbers ++ more) (comments ++ others) start e ≡ location_from numbers comments start e
   location_kept start e low middle high few =

@@ -3,6 +3,7 @@
 
 mod comments;
 mod ends;
+mod joined;
 mod location;
 mod locations;
 mod pool;

@@ -8,6 +8,7 @@ ghost use Rattle.protox_pool.specs.inner.Ends.{Adds, AreEnds, comments_at, locat
 
 use crate::comments::LocationComments;
 use crate::ends::{Ends, start_at};
+use crate::joined::{count_before, moved_ends, with_behind, with_front};
 use crate::location::PooledLocation;
 use crate::locations::Locations;
 use protox_descriptor::descriptor::SourceCodeInfo;
@@ -169,6 +170,62 @@ fn add_location(
     Ok(())
 }
 
+// The locations of a pool, and those of another behind them.
+fn with_pool_behind(pool: LocationPool, back: LocationPool) -> Result<LocationPool, AllocError>
+    ensures { IfOk result (λ all. all ≡ pool ++ back) }
+{
+    let numbers_before = count_before(pool.numbers.len(), back.numbers.len())?;
+    let comments_before = count_before(pool.comments.len(), back.comments.len())?;
+    let LocationPool {
+        numbers,
+        ends,
+        mut comments,
+    } = pool;
+    let LocationPool {
+        numbers: more_numbers,
+        ends: more_ends,
+        comments: mut more_comments,
+    } = back;
+    let moved = moved_ends(more_ends, numbers_before, comments_before);
+    comments.append(&mut more_comments)?;
+    let numbers = with_behind(numbers, &more_numbers)?;
+    let ends = with_behind(ends, &moved)?;
+    Ok(LocationPool {
+        numbers,
+        ends,
+        comments,
+    })
+}
+
+// The locations of a pool, and those of another in front of them. Its comments stand behind, so that
+// none moves.
+fn with_pool_in_front(pool: LocationPool, front: LocationPool) -> Result<LocationPool, AllocError>
+    ensures { IfOk result (λ all. all ≡ front ++ pool) }
+{
+    let numbers_before = count_before(front.numbers.len(), pool.numbers.len())?;
+    let comments_before = count_before(pool.comments.len(), front.comments.len())?;
+    let LocationPool {
+        numbers,
+        ends,
+        mut comments,
+    } = pool;
+    let LocationPool {
+        numbers: first_numbers,
+        ends: first_ends,
+        comments: mut first_comments,
+    } = front;
+    let first_moved = moved_ends(first_ends, 0, comments_before);
+    let moved = moved_ends(ends, numbers_before, 0);
+    comments.append(&mut first_comments)?;
+    let numbers = with_front(numbers, &first_numbers)?;
+    let ends = with_front(moved, &first_moved)?;
+    Ok(LocationPool {
+        numbers,
+        ends,
+        comments,
+    })
+}
+
 impl LocationPool {
     /// No locations. It takes no memory; later growth takes it from `alloc`.
     pub fn new(alloc: Global) -> LocationPool
@@ -312,6 +369,21 @@ impl LocationPool {
         match LocationComments::of(alloc, location)? {
             None => self.push(path, &[], span),
             Some(comments) => self.push_commented(path, &[], span, comments),
+        }
+    }
+
+    /// The locations of this pool, and behind them those of another. The shorter of the two moves,
+    /// and the ends of what stands behind.
+    ///
+    /// # Errors
+    /// `AllocError` where memory runs out, or where there are more than 4,294,967,295 numbers.
+    pub fn joined(self, more: LocationPool) -> Result<LocationPool, AllocError>
+        ensures { IfOk result (λ all. all ≡ self ++ more) }
+    {
+        if self.numbers.len() < more.numbers.len() {
+            with_pool_in_front(more, self)
+        } else {
+            with_pool_behind(self, more)
         }
     }
 }

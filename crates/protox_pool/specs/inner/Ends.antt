@@ -1,5 +1,5 @@
 -- How the parts of a pool stand for its locations.
-use Rattle.std.specs.Prelude.{◌≡◌, ℕ, zero, suc, ℤ, ◌≤◌, List, [], ◌∷◌, ◌++◌, length, Option, None, slice_get, slice_range}
+use Rattle.std.specs.Prelude.{◌≡◌, ℕ, zero, suc, ◌+◌, ℤ, ◌≤◌, List, [], ◌∷◌, ◌++◌, length, Option, None, slice_get, slice_range}
 use Rattle.protox_descriptor.specs.Location.{Location}
 use Rattle.protox_pool.specs.Pool.{location}
 use Rattle.protox_pool.specs.declared.comments.LocationComments.{LocationComments}
@@ -44,3 +44,16 @@ pub record Adds (path span : List ℤ) (comments : ℕ) (numbers : List ℤ) (en
     span = length (numbers ++ path ++ span);
     comments = comments;
   } ∷ []
+
+-- the number of comments that stand so many further behind; none have the number zero
+abbrev pub moved_number : ℕ → ℕ → ℕ
+moved_number more zero = zero
+moved_number more (suc index) = suc index + more
+
+-- the ends of a location that stands so many numbers and comments further behind
+abbrev pub moved : ℕ → ℕ → Ends → Ends
+moved numbers more end = record {
+  path = end.path + numbers;
+  span = end.span + numbers;
+  comments = moved_number more end.comments;
+}

@@ -1,5 +1,5 @@
-use Rattle.std.proofs.Common.{◌≡◌, [], length}
+use Rattle.std.proofs.Common.{◌≡◌, length}
 use Rattle.protox_locate.proofs.file.begun.Given as goal
 
 abbrev pub invariant-loop : goal.invariant-loop
-invariant-loop l = record { path : l.context.path ≡ []; counted : length l.context.locations ≡ l.counter }
+invariant-loop l = length l.places ≡ l.counter

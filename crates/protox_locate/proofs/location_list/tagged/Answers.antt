@@ -1,6 +1,6 @@
 use Rattle.std.proofs.Common.{◌≡◌, get_or, pos, rules, to_z, of_z, w32}
 use Rattle.protox_locate.proofs.Joined.{tag_behind_four}
-use Rattle.protox_locate.proofs.context.tagged.Goals as goal
+use Rattle.protox_locate.proofs.location_list.tagged.Goals as goal
 
 pub returns-in-len4 : goal.returns-in-len4
 returns-in-len4 c =

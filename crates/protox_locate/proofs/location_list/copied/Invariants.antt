@@ -1,5 +1,5 @@
 use Rattle.std.proofs.Common.{◌≡◌, take}
-use Rattle.protox_locate.proofs.context.copied.Given as goal
+use Rattle.protox_locate.proofs.location_list.copied.Given as goal
 
 abbrev pub invariant-loop-text : goal.invariant-loop-text
 invariant-loop-text l = l.copies.items ≡ take l.text-index l.texts

@@ -4,3 +4,4 @@ pub mod Names
 pub mod Commented
 pub mod inner
 pub mod Repeats
+pub mod Pooled

@@ -1,10 +1,11 @@
 //! A file whose items are located and described one by one.
 
-ghost use Rattle.std.specs.Prelude.{◌≡◌, ◌≤◌, ◌∷◌, ◌++◌, ℕ, ℤ, List, [], Some, length, IfOk, OnOk};
+ghost use Rattle.std.specs.Prelude.{◌≡◌, ◌≤◌, ◌∷◌, ◌++◌, ℕ, ℤ, List, [], None, Some, length, IfOk, OnOk};
 ghost use Rattle.protox_ast.specs.declared.ast.FileItem as item_type;
 ghost use Rattle.protox_ast.specs.declared.ast.Syntax as syntax_type;
 ghost use Rattle.protox_fault.specs.Faults as faults;
 ghost use Rattle.protox_generate.specs.File.{file_descriptor};
+ghost use Rattle.protox_generate.specs.Pooled.{with_locations};
 ghost use Rattle.protox_generate.specs.inner.Taken.{ArePlaced, IsTaken};
 ghost use Rattle.protox_locate.specs.inner.Draft.{IsDraft};
 ghost use Rattle.protox_places.specs.Lines.{numbers_at, starts};
@@ -14,9 +15,11 @@ use protox_ast::ast::{File, FileItem};
 use protox_describe::file::{ItemLists, describe_head, describe_item};
 use protox_descriptor::descriptor::{FileDescriptorProto, SourceCodeInfo};
 use protox_locate::file::{
-    LocationDraft, all_locations, front_len, locate_end, locate_front, locate_item,
+    LocationDraft, all_locations, front_len, locate_end, locate_front, locate_item, pooled_end,
+    pooled_front, pooled_locations,
 };
 use protox_places::lines::LineResolver;
+use protox_pool::LocationPool;
 use std::alloc::{AllocError, Global};
 
 /// For how many bytes of a source there is room for locations at once. Locations behind these get
@@ -34,11 +37,22 @@ struct ItemPlaces {
     locations: LocationDraft,
 }
 
+/// The descriptor of a file without locations, and its locations in a pool.
+#[derive(Drop)]
+pub struct PooledFile {
+    /// The descriptor. It has no `source_code_info`.
+    pub file: FileDescriptorProto,
+    /// The locations that its `source_code_info` would have.
+    pub locations: LocationPool,
+}
+
 /// What is made of the items of a file, one by one. The rest of the file may be known only at the
 /// end.
 #[derive(Drop)]
 pub struct FileDraft<'a> {
     source: ShortSource<'a>,
+    // Whether the locations are kept in pools.
+    pooled: bool,
     // None before the first item.
     places: Option<ItemPlaces>,
     lists: ItemLists,
@@ -63,6 +77,18 @@ impl ItemPlaces {
         })
     }
 
+    // No item yet. The locations are kept in pools, with room for `room` of them, if memory allows.
+    fn pooled(alloc: Global, source: &str, room: usize) -> Result<ItemPlaces, AllocError>
+        requires { length source.now ≤ 2147483647 }
+        ensures lines { IfOk result (λ places. places.lines ≡ starts 0 source.now) }
+        ensures located { IfOk result (λ places. (numbers : faults.Span → List ℤ) → IsDraft numbers [] places.locations) }
+    {
+        Ok(ItemPlaces {
+            lines: LineResolver::new(alloc, source)?,
+            locations: LocationDraft::pooled(alloc, room),
+        })
+    }
+
     fn locate(&mut self, alloc: Global, item: &FileItem) -> Result<(), AllocError>
         ensures lines { self.new.lines ≡ self.old.lines }
         ensures located { OnOk result ((items : List item_type.FileItem) → IsDraft (numbers_at self.old.lines) items self.old.locations → IsDraft (numbers_at self.old.lines) (items ++ item.now ∷ []) self.new.locations) }
@@ -71,10 +97,30 @@ impl ItemPlaces {
     }
 }
 
+// The places of no item yet, in lists or in pools. There is room for locations of a source of the
+// usual kind, if memory allows.
+fn no_places(
+    alloc: Global,
+    source: &str,
+    pooled: bool,
+    head: &File,
+) -> Result<ItemPlaces, AllocError>
+    requires { length source.now ≤ 2147483647 }
+    ensures lines { IfOk result (λ places. places.lines ≡ starts 0 source.now) }
+    ensures located { IfOk result (λ places. (numbers : faults.Span → List ℤ) → IsDraft numbers [] places.locations) }
+{
+    let room = source.len().min(AT_ONCE) / BYTES_A_LOCATION;
+    if pooled {
+        return ItemPlaces::pooled(alloc, source, room);
+    }
+    ItemPlaces::new(alloc, source, front_len(head), room)
+}
+
 // Locates an item. The first one also makes the table of lines and the lists of locations.
 fn locate(
     alloc: Global,
     source: &str,
+    pooled: bool,
     places: &mut Option<ItemPlaces>,
     head: &File,
     item: &FileItem,
@@ -85,8 +131,7 @@ fn locate(
     match places {
         Some(known) => known.locate(alloc, item),
         None => {
-            let room = source.len().min(AT_ONCE) / BYTES_A_LOCATION;
-            let mut made = ItemPlaces::new(alloc, source, front_len(head), room)?;
+            let mut made = no_places(alloc, source, pooled, head)?;
             made.locate(alloc, item)?;
             *places = Some(made);
             Ok(())
@@ -126,6 +171,24 @@ impl<'a> FileDraft<'a> {
     {
         FileDraft {
             source: ShortSource::new(source),
+            pooled: false,
+            places: None,
+            lists: ItemLists::new(alloc),
+        }
+    }
+
+    /// No item yet, of a file with this source, as `new`. The locations are kept in pools: it is for
+    /// `finish_pooled`.
+    ///
+    /// Needs that the source has at most 2,147,483,647 bytes.
+    pub fn pooled(alloc: Global, source: &'a str) -> FileDraft<'a>
+        requires { length source.now ≤ 2147483647 }
+        // The draft has no item.
+        ensures taken { (syntax : syntax_type.Syntax) → IsTaken source.now syntax [] result }
+    {
+        FileDraft {
+            source: ShortSource::new(source),
+            pooled: true,
             places: None,
             lists: ItemLists::new(alloc),
         }
@@ -144,7 +207,14 @@ impl<'a> FileDraft<'a> {
         ensures taken { OnOk result ((source : List ℕ) (items : List item_type.FileItem) → IsTaken source head.now.syntax items self.old → IsTaken source head.now.syntax (items ++ item ∷ []) self.new) }
     {
         describe_item(alloc, head.syntax, &item, &mut self.lists)?;
-        locate(alloc, self.source.text, &mut self.places, head, &item)
+        locate(
+            alloc,
+            self.source.text,
+            self.pooled,
+            &mut self.places,
+            head,
+            &item,
+        )
     }
 
     /// The descriptor of the file of this name that has this head and the items taken. Items of
@@ -161,6 +231,7 @@ impl<'a> FileDraft<'a> {
             source,
             places,
             lists,
+            pooled: _,
         } = self;
         let ItemPlaces { lines, locations } = placed(alloc, source.text, places)?;
         let front = locate_front(alloc, &lines, head)?;
@@ -168,5 +239,38 @@ impl<'a> FileDraft<'a> {
         let info = all_locations(front, locations, end)?;
         let file = describe_head(alloc, name, head)?;
         Ok(filled(file, lists, info))
+    }
+
+    /// The descriptor, as of `finish`, with its locations in a pool.
+    ///
+    /// # Errors
+    /// As for `finish`.
+    pub fn finish_pooled(
+        self,
+        alloc: Global,
+        name: &str,
+        head: &File,
+    ) -> Result<PooledFile, AllocError>
+        ensures apart { IfOk result (λ made. made.file.source_code_info ≡ None) }
+        ensures whole { IfOk result (λ made. (source : List ℕ) (items : List item_type.FileItem) → IsTaken source head.now.syntax items self.entry → with_locations made ≡ file_descriptor name.now source (record head.now { items = items })) }
+    {
+        let FileDraft {
+            source,
+            places,
+            lists,
+            pooled: _,
+        } = self;
+        let ItemPlaces {
+            lines,
+            locations: draft,
+        } = placed(alloc, source.text, places)?;
+        let front = pooled_front(alloc, &lines, head)?;
+        let end = pooled_end(alloc, &lines, head)?;
+        let locations = pooled_locations(front, draft, end)?;
+        let file = describe_head(alloc, name, head)?;
+        Ok(PooledFile {
+            file: lists.put_into(file),
+            locations,
+        })
     }
 }

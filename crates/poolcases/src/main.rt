@@ -4,7 +4,8 @@
 //! words that are its comments: the leading one, the trailing one, and those that are detached. `-` is
 //! no number, and no comment. Printed is how many locations there are; each of them; each of a pool that
 //! is made of these as a descriptor has them; and each of the descriptor. A location is printed as it is
-//! read, but with its path in one word.
+//! read, but with its path in one word. Last come two numbers: in how many ways the locations can be cut
+//! in two, and how many of these give the same locations when two pools of the parts are joined.
 #![tactic(auto)]
 
 mod read;
@@ -12,6 +13,7 @@ mod show;
 
 use crate::read::add_line;
 use crate::show::{shown, shown_lent};
+use protox_descriptor::descriptor::source_code_info::Location;
 use protox_pool::LocationPool;
 use std::alloc::{AllocError, Global};
 use std::io;
@@ -38,6 +40,28 @@ fn told_of_info(alloc: Global, pool: &LocationPool) -> Result<String, AllocError
     Ok(text)
 }
 
+// A pool of these locations.
+fn pool_of(alloc: Global, locations: &[Location]) -> Result<LocationPool, AllocError> {
+    let mut pool = LocationPool::new(alloc);
+    for location in locations {
+        pool.push_location(alloc, location)?;
+    }
+    Ok(pool)
+}
+
+// In how many ways locations can be cut in two so that the parts give these lines, joined.
+fn joined_alike(alloc: Global, locations: &[Location], lines: &str) -> Result<usize, AllocError> {
+    let mut alike: usize = 0;
+    for cut in 0..=locations.len() {
+        let (front, back) = locations.split_at(cut);
+        let pool = pool_of(alloc, front)?.joined(pool_of(alloc, back)?)?;
+        if told(alloc, &pool)?.as_str() == lines {
+            alike = alike.saturating_add(1);
+        }
+    }
+    Ok(alike)
+}
+
 fn main(rt: HostRuntime) -> io::Result<()> {
     let alloc = rt.alloc();
     let mut pool = LocationPool::with_room(alloc, 2);
@@ -48,5 +72,9 @@ fn main(rt: HostRuntime) -> io::Result<()> {
     println!(rt; "{}", pool.len())?;
     println!(rt; "{}", told(alloc, &pool)?)?;
     println!(rt; "{}", told_of_info(alloc, &pool)?)?;
+    let lines = told(alloc, &pool)?;
+    let info = pool.to_source_code_info(alloc)?;
+    let alike = joined_alike(alloc, info.location.as_slice(), lines.as_str())?;
+    println!(rt; "{} {alike}", info.location.len() + 1)?;
     Ok(())
 }

@@ -14,5 +14,5 @@ returns-clause-whole c = λ source items t.
     let lines = c.in_ok-lines.field-0.lines in
     let are = placed.0 ∙ ap (starts 0) t.of_source in
     let located = c.in_ok-locations.ensures (numbers_at lines) whole placed.1 c.in_ok-front.ensures c.in_ok-end.ensures ∙ ap (λ n. file_at n whole []) (numbers-are source lines are) in
-    ap (λ d. record d { source_code_info = Some (record { location = c.in_ok-locations.locations }) }) c.put_into.ensures
+    (λ i. record (c.put_into.ensures i) { source_code_info = Some (record { location = c.in_ok-locations.locations }) })
     ∙ (λ i. record (c.in_ok-file.ensures i) { message_type = t.messages i; enum_type = t.enums i; service = t.services i; extension = t.extensions i; source_code_info = Some (record { location = located i }) })

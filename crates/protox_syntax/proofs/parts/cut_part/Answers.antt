@@ -1,4 +1,5 @@
 use Rattle.std.proofs.Common.{◌≤◌, ℕ, arith, drop, leb, length, sym, subst}
+use Rattle.std.proofs.lemmas.Bool.{le-leb}
 use Rattle.std.proofs.lemmas.Str.{IsCharBoundary-from_drop}
 use Rattle.std.specs.Option.{is_none}
 use Rattle.std.specs.Str.{IsCharBoundary}
@@ -34,3 +35,8 @@ part_or_rest-requires-clause-order c =
       | in-None w ↦ omega (arith, w.from-is)
     ] in
     omega (arith, within, c.max.ensures, c.min-until.ensures)
+
+pub returns-clause-ends : goal.returns-clause-ends
+returns-clause-ends c whole =
+    le-leb (length c.args.source.now) c.in_ok-table.end
+    (omega (arith, whole, c.max.ensures, c.min-until.ensures, c.in_ok-table.ensures.past))

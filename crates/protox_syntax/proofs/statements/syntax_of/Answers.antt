@@ -1,4 +1,4 @@
-use Rattle.std.proofs.Common.{◌≡◌, true, false, codes, ap, sym, ◌∙◌, if◌then◌else◌}
+use Rattle.std.proofs.Common.{◌≡◌, true, false, codes, ap, ◌∙◌, if◌then◌else◌}
 use Rattle.std.specs.Prelude.{bytes_eq}
 use Rattle.protox_ast.specs.declared.ast.Syntax.TheVariants.{Proto2, Proto3}
 use Rattle.protox_syntax.proofs.statements.syntax_of.Goals as goal

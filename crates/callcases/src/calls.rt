@@ -152,6 +152,7 @@ fn write_tokens<W: Write>(alloc: Global, out: &mut W) -> io::Result<()> {
 fn write_parts<W: Write>(alloc: Global, out: &mut W) -> io::Result<()> {
     write_answer(out, "located", parts::located(alloc))?;
     write_answer(out, "described", parts::described(alloc))?;
+    write_answer(out, "pooled", parts::pooled(alloc))?;
     write_answer(out, "read", parts::read(alloc))
 }
 

@@ -1,12 +1,14 @@
 //! Calls of the parts that an answer is made of.
 
 use protox_describe::file::describe_file;
+use protox_generate::draft::FileDraft;
 use protox_locate::file::locate_file;
 use protox_parse::ast::{Comments, Enum, File, FileItem, Ident, Syntax};
 use protox_parse::error::{ParseErrorKind, SyntaxFailure};
 use protox_parse::syntax::read_source;
 use protox_parse::values::Items;
 use std::alloc::{AllocError, Global};
+use std::mem;
 
 const NAME: &str = "e.proto";
 
@@ -46,6 +48,29 @@ pub fn located(alloc: Global) -> Result<String, AllocError> {
 pub fn described(alloc: Global) -> Result<String, AllocError> {
     let file = describe_file(alloc, NAME, tree(alloc)?)?;
     format!(in alloc; "{file:?}")
+}
+
+// The items of a file, one by one: the draft keeps their locations in pools.
+fn take_items(
+    alloc: Global,
+    draft: &mut FileDraft<'_>,
+    head: &File,
+    items: Items<FileItem>,
+) -> Result<(), AllocError> {
+    for item in items.into_vec() {
+        draft.take(alloc, head, item)?;
+    }
+    Ok(())
+}
+
+pub fn pooled(alloc: Global) -> Result<String, AllocError> {
+    let mut head = tree(alloc)?;
+    let items = mem::replace(&mut head.items, Items::new(alloc));
+    let mut draft = FileDraft::pooled(alloc, SOURCE);
+    take_items(alloc, &mut draft, &head, items)?;
+    let made = draft.finish_pooled(alloc, NAME, &head)?;
+    let info = made.locations.to_source_code_info(alloc)?;
+    format!(in alloc; "{:?} {info:?}", made.file)
 }
 
 // What is wrong with an enum that has no name.

@@ -49,10 +49,14 @@ pub(crate) fn next_index(index: usize) -> Result<usize, AllocError>
     Ok(index + 1)
 }
 
-// The numbers of a span, which is looked for in the line `near` first. `AllocError` if an offset is
-// beyond an `i32`. No source within the limit is so long.
+/// The numbers of a span, which is looked for in the line `near` first. `AllocError` if an offset is
+/// beyond an `i32`. No source within the limit is so long.
 #[inline(always)]
-fn numbers_of(lines: &LineResolver, near: &mut usize, span: &Span) -> Result<Numbers, AllocError>
+pub(crate) fn numbers_of(
+    lines: &LineResolver,
+    near: &mut usize,
+    span: &Span,
+) -> Result<Numbers, AllocError>
     ensures { IfOk result (λ numbers. numbers ≡ numbers_at lines.now span.now) }
 {
     if span.start > 2147483647 || span.end > 2147483647 {
@@ -102,8 +106,14 @@ impl Context {
     ) -> Result<(), AllocError>
         ensures { OnOk result (Emits self.old self.new (bare (numbers_at lines.now) (self.old.path ++ tags.now) span.now ∷ [])) }
     {
-        let span = numbers_of(lines, &mut self.near, span)?;
-        self.locations.add(alloc, self.path.as_slice(), tags, span)
+        self.locations.add(
+            alloc,
+            self.path.as_slice(),
+            tags,
+            lines,
+            &mut self.near,
+            span,
+        )
     }
 
     /// Adds the location of a declaration with its comments. Its path is the current one and then

@@ -1,14 +1,19 @@
 //! The locations that a walk has added: a list of them, or a pool.
 
-ghost use Rattle.std.specs.Prelude.{◌≡◌, ◌++◌, ◌∷◌, [], None, Some, drop, IfOk, OnOk};
+ghost use Rattle.std.specs.Prelude.{◌≡◌, ◌++◌, ◌∷◌, [], Some, drop, IfOk, OnOk};
 ghost use Rattle.std.specs.Option.{option_copied};
+ghost use Rattle.protox_locate.specs.LocationWords.{bare};
+ghost use Rattle.protox_places.specs.Lines.{numbers_at};
 ghost use Rattle.protox_pool.specs.Pool.{location};
 
+use crate::context::numbers_of;
 use crate::lists::{fronted, joined as joined_lists};
 use protox_ast::ast::Comments;
 use protox_descriptor::descriptor::SourceCodeInfo;
 use protox_descriptor::descriptor::source_code_info::Location;
 use protox_descriptor::values::{Items, Numbers, Text};
+use protox_fault::error::Span;
+use protox_places::lines::LineResolver;
 use protox_pool::{LocationComments, LocationPool};
 use std::alloc::{AllocError, Global};
 use std::marker::Model;
@@ -190,19 +195,30 @@ impl LocationList {
         LocationList::pooled(LocationPool::with_room(alloc, room))
     }
 
-    /// Adds a location without comments. Its path is `path` and then `tags`.
+    /// Adds a location without comments. Its path is `path` and then `tags`. Its span is looked for in
+    /// the line `near` first.
+    #[inline(always)]
     pub fn add(
         &mut self,
         alloc: Global,
         path: &[i32],
         tags: &[i32],
-        span: Numbers,
+        lines: &LineResolver,
+        near: &mut usize,
+        span: &Span,
     ) -> Result<(), AllocError>
-        ensures { OnOk result (self.new ≡ self.old ++ location (path.now ++ tags.now) span None ∷ []) }
+        ensures { OnOk result (self.new ≡ self.old ++ bare (numbers_at lines.now) (path.now ++ tags.now) span.now ∷ []) }
     {
         match &mut self.kept {
-            Kept::Listed(list) => list.push(Location::bare(joined(alloc, path, tags)?, span)),
-            Kept::Pooled(pool) => pool.push(path, tags, span.as_slice()),
+            Kept::Listed(list) => {
+                let path = joined(alloc, path, tags)?;
+                let span = numbers_of(lines, near, span)?;
+                list.push(Location::bare(path, span))
+            }
+            Kept::Pooled(pool) => {
+                let span = numbers_of(lines, near, span)?;
+                pool.push(path, tags, span.as_slice())
+            }
         }
     }
 

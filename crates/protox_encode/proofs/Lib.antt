@@ -3,6 +3,7 @@ pub mod Apart
 pub mod Exactness
 pub mod Levels
 pub mod OneKind
+pub mod Pooled
 pub mod Readings
 pub mod Varint
 pub mod Lemmas

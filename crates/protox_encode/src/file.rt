@@ -2,13 +2,16 @@ ghost use Rattle.std.specs.Prelude.{◌≡◌, ◌<◌, ◌≤◌, ◌^◌, ◌�
 ghost use Rattle.std.specs.List.{list_all};
 ghost use Rattle.protox_encode.specs.Floats.{has_floats};
 ghost use Rattle.protox_encode.specs.Messages.{file_descriptor, file_set};
+ghost use Rattle.protox_encode.specs.Pooled.{with_pool};
 ghost use Rattle.protox_encode.specs.Wire.{message};
 
 use crate::backward::Backward;
 use crate::fault::EncodeError;
 use crate::floats::HasFloats;
+use crate::messages::FileWithPool;
 use crate::wire::{Message, prepend_files, prepend_nested};
 use protox_descriptor::descriptor::FileDescriptorProto;
+use protox_pool::LocationPool;
 use std::alloc::{AllocError, Global};
 
 // Whether there are fewer than 2 GiB of bytes.
@@ -70,6 +73,55 @@ pub fn encode_entry(alloc: Global, file: &FileDescriptorProto) -> Result<Vec<u8>
     }
     let mut out = Backward::new(alloc);
     prepend_nested(alloc, &mut out, 1, Some(file))?;
+    finished(out)
+}
+
+/// The bytes of the file with the locations of a pool in place of its own `source_code_info`.
+///
+/// # Errors
+/// As for `encode`.
+#[tactic(auto, using(crate::proofs::Pooled::pooled_floats))]
+pub fn encode_pooled(
+    alloc: Global,
+    file: &FileDescriptorProto,
+    locations: &LocationPool,
+) -> Result<Vec<u8>, EncodeError>
+    ensures exact { IfOk result (λ bytes. bytes.items ≡ message (file_descriptor (with_pool file.now locations.now))) }
+    ensures fits { IfOk result (λ bytes. length bytes.items < 2 ^ 31) }
+    ensures floats { IfOk result (λ _. has_floats (with_pool file.now locations.now) ≡ true) }
+    ensures too_large { IsErrOf result EncodeError.TooLarge → 2 ^ 31 ≤ length (message (file_descriptor (with_pool file.now locations.now))) }
+    ensures not_a_float { IsErrOf result EncodeError.NotAFloat → has_floats (with_pool file.now locations.now) ≡ false }
+{
+    if !file.has_floats() {
+        return Err(EncodeError::NotAFloat);
+    }
+    let mut out = Backward::new(alloc);
+    FileWithPool { file, locations }.prepend_to(alloc, &mut out)?;
+    finished(out)
+}
+
+/// The bytes of a `FileDescriptorSet` that holds only this file, with the locations of a pool in
+/// place of its own `source_code_info`.
+///
+/// # Errors
+/// As for `encode`.
+#[tactic(auto, unfolding(crate::specs::Messages::file_set), using(crate::proofs::Pooled::pooled_floats))]
+pub fn encode_pooled_entry(
+    alloc: Global,
+    file: &FileDescriptorProto,
+    locations: &LocationPool,
+) -> Result<Vec<u8>, EncodeError>
+    ensures exact { IfOk result (λ bytes. bytes.items ≡ message (file_set (with_pool file.now locations.now ∷ []))) }
+    ensures fits { IfOk result (λ bytes. length bytes.items < 2 ^ 31) }
+    ensures floats { IfOk result (λ _. has_floats (with_pool file.now locations.now) ≡ true) }
+    ensures too_large { IsErrOf result EncodeError.TooLarge → 2 ^ 31 ≤ length (message (file_set (with_pool file.now locations.now ∷ []))) }
+    ensures not_a_float { IsErrOf result EncodeError.NotAFloat → has_floats (with_pool file.now locations.now) ≡ false }
+{
+    if !file.has_floats() {
+        return Err(EncodeError::NotAFloat);
+    }
+    let mut out = Backward::new(alloc);
+    prepend_nested(alloc, &mut out, 1, Some(&FileWithPool { file, locations }))?;
     finished(out)
 }
 

@@ -12,4 +12,6 @@ mod options;
 pub mod wire;
 
 pub use fault::EncodeError;
-pub use file::{encode, encode_entry, encode_over, encode_set};
+pub use file::{
+    encode, encode_entry, encode_over, encode_pooled, encode_pooled_entry, encode_set,
+};

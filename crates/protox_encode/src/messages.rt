@@ -1,6 +1,9 @@
 //! How descriptors are encoded.
 
-ghost use Rattle.std.specs.Prelude.{◌≡◌, ◌++◌, OnOk};
+ghost use Rattle.std.specs.Prelude.{◌≡◌, ◌++◌, Option, OnOk};
+ghost use Rattle.std.specs.Option.{option_copied};
+ghost use Rattle.protox_descriptor.specs.declared.descriptor.SourceCodeInfo.{SourceCodeInfo};
+ghost use Rattle.protox_encode.specs.Pooled.{IsSpelledAs, with_pool};
 ghost use Rattle.protox_encode.specs.Wire.{message, part};
 ghost use Rattle.protox_encode.specs.Payloads.{text, each};
 ghost use Rattle.protox_encode.specs.Messages as words;
@@ -17,6 +20,7 @@ use protox_descriptor::descriptor::{
     DescriptorProto, EnumDescriptorProto, EnumValueDescriptorProto, FieldDescriptorProto,
     FileDescriptorProto, MethodDescriptorProto, OneofDescriptorProto, ServiceDescriptorProto,
 };
+use protox_pool::LocationPool;
 use std::alloc::{AllocError, Global};
 
 // Puts the parts that few fields have in front.
@@ -192,46 +196,75 @@ impl Message for DescriptorProto {
     }
 }
 
-// Puts the fields of a file from 8 on in front.
+// Puts the fields of a file from 8 on in front, with the locations of `info`.
 #[tactic(auto, unfolding(crate::specs::Messages::file_end))]
-fn prepend_file_end(
+fn prepend_file_end<L: Message>(
     alloc: Global,
     out: &mut Backward,
     f: &FileDescriptorProto,
+    info: Option<&L>,
 ) -> Result<(), AllocError>
-    ensures { OnOk result (out.new ≡ message (words.file_end f.now) ++ out.old) }
+    ensures { OnOk result ((of : Option SourceCodeInfo) → IsSpelledAs L.parts (option_copied info.entry) of → out.new ≡ message (words.file_end (record f.now { source_code_info = of })) ++ out.old) }
 {
     prepend_text(alloc, out, 12, f.syntax.as_ref())?;
     prepend_signeds(alloc, out, 11, f.weak_dependency.as_slice())?;
     prepend_signeds(alloc, out, 10, f.public_dependency.as_slice())?;
-    prepend_nested(alloc, out, 9, f.source_code_info.as_ref())?;
+    prepend_nested(alloc, out, 9, info)?;
     prepend_nested(alloc, out, 8, f.options.as_ref())
 }
 
-// Puts the fields of a file from 4 on in front.
+// Puts the fields of a file from 4 on in front, with the locations of `info`.
 #[tactic(auto, unfolding(crate::specs::Messages::file_definitions))]
-fn prepend_file_definitions(
+fn prepend_file_definitions<L: Message>(
     alloc: Global,
     out: &mut Backward,
     f: &FileDescriptorProto,
+    info: Option<&L>,
 ) -> Result<(), AllocError>
-    ensures { OnOk result (out.new ≡ message (words.file_definitions f.now) ++ out.old) }
+    ensures { OnOk result ((of : Option SourceCodeInfo) → IsSpelledAs L.parts (option_copied info.entry) of → out.new ≡ message (words.file_definitions (record f.now { source_code_info = of })) ++ out.old) }
 {
-    prepend_file_end(alloc, out, f)?;
+    prepend_file_end(alloc, out, f, info)?;
     prepend_each(alloc, out, 7, &f.extension)?;
     prepend_each(alloc, out, 6, &f.service)?;
     prepend_each(alloc, out, 5, &f.enum_type)?;
     prepend_each(alloc, out, 4, &f.message_type)
 }
 
+// Puts the fields of a file in front, with the locations of `info`.
+#[tactic(auto, unfolding(crate::specs::Messages::file_descriptor))]
+fn prepend_file<L: Message>(
+    alloc: Global,
+    out: &mut Backward,
+    f: &FileDescriptorProto,
+    info: Option<&L>,
+) -> Result<(), AllocError>
+    ensures { OnOk result ((of : Option SourceCodeInfo) → IsSpelledAs L.parts (option_copied info.entry) of → out.new ≡ message (words.file_descriptor (record f.now { source_code_info = of })) ++ out.old) }
+{
+    prepend_file_definitions(alloc, out, f, info)?;
+    prepend_texts(alloc, out, 3, f.dependency.as_slice())?;
+    prepend_text(alloc, out, 2, f.package.as_ref())?;
+    prepend_text(alloc, out, 1, f.name.as_ref())
+}
+
 impl Message for FileDescriptorProto {
     ghost parts = { words.file_descriptor };
 
-    #[tactic(auto, unfolding(crate::specs::Messages::file_descriptor))]
     fn prepend_to(&self, alloc: Global, out: &mut Backward) -> Result<(), AllocError> {
-        prepend_file_definitions(alloc, out, self)?;
-        prepend_texts(alloc, out, 3, self.dependency.as_slice())?;
-        prepend_text(alloc, out, 2, self.package.as_ref())?;
-        prepend_text(alloc, out, 1, self.name.as_ref())
+        prepend_file(alloc, out, self, self.source_code_info.as_ref())
+    }
+}
+
+/// A file, and its locations in a pool.
+#[derive(Drop)]
+pub(crate) struct FileWithPool<'a> {
+    pub(crate) file: &'a FileDescriptorProto,
+    pub(crate) locations: &'a LocationPool,
+}
+
+impl Message for FileWithPool<'_> {
+    ghost parts = { λ f. words.file_descriptor (with_pool f.file.now f.locations.now) };
+
+    fn prepend_to(&self, alloc: Global, out: &mut Backward) -> Result<(), AllocError> {
+        prepend_file(alloc, out, self.file, Some(self.locations))
     }
 }

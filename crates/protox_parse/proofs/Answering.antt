@@ -14,7 +14,7 @@ use Rattle.protox_generate.specs.NamePaths.{HasPlaces}
 use Rattle.protox_generate.specs.Names.{HasNames}
 use Rattle.protox_locate.proofs.Lemmas.{in-order}
 use Rattle.protox_locate.specs.Locations.{file_locations}
-use Rattle.protox_parse.specs.inner.Answered.{HasLaws}
+use Rattle.protox_parse.specs.Answers.{HasFileLaws}
 use Rattle.protox_places.proofs.Lemmas.{sorted-by-path}
 use Rattle.protox_places.specs.Lines.{span_numbers}
 use Rattle.protox_places.specs.Order.{StartsBefore}
@@ -40,7 +40,7 @@ module _ (name source : List ℕ) (u : IsUtf8 source) (file : File) (of_source :
   commented_once : AreCommentedOnce source d
   commented_once = answer-commented name source file d u of_source is
 
-  pub laws : IsFaultless file → HasLaws source d
+  pub laws : IsFaultless file → HasFileLaws source d
   laws faultless = record {
     located = located;
     sorted = sorted;

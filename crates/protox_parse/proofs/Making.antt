@@ -107,18 +107,19 @@ module _ (source : List ℕ) (file head : File) (made : Translation) (read : IsR
   pub found_wrong : EachIsWrong file found
   found_wrong = found-wrong file found found_listed
 
-  abbrev AreDescribed : List ℕ → FileDescriptorProto → Type 0
-  AreDescribed name d = (source : List ℕ) (items : List FileItem) → AreInHand source head.syntax items made.draft made.kept → d ≡ file_descriptor name source (record head { items = items })
-
   -- No fault is found.
-  pub described_of : (name : List ℕ) (d : FileDescriptorProto) → found ≡ [] → AreDescribed name d → IsFaultless file × (d ≡ file_descriptor name source file)
-  described_of name d none is =
+  pub taken_of : (draft : FileDraft) → found ≡ [] → ((source : List ℕ) (items : List FileItem) → AreInHand source head.syntax items made.draft made.kept → IsTaken source head.syntax items draft)
+      → IsFaultless file × IsTaken source head.syntax file.items draft
+  taken_of draft none takes =
       let hand = read.all.in_hand (parted made.faults.items adds.own (sym adds.behind ∙ none)).0 in
       let syntax_is : head.syntax ≡ file.syntax = ap (λ (f : File). f.syntax) read.head_is in (
         none-listed file (sym found_listed ∙ ap (map settled) none),
-        is source file.items (subst (λ (s : Syntax). AreInHand source s file.items made.draft made.kept) (sym syntax_is) hand)
-            ∙ ap (λ (h : File). file_descriptor name source (record h { items = file.items })) read.head_is,
+        takes source file.items (subst (λ (s : Syntax). AreInHand source s file.items made.draft made.kept) (sym syntax_is) hand),
       )
+
+-- What describes the head with the items of the file describes the file.
+pub of_file : (name source : List ℕ) (file head : File) (made : Translation) (d : FileDescriptorProto) → IsRead source file head made → d ≡ file_descriptor name source (record head { items = file.items }) → d ≡ file_descriptor name source file
+of_file name source file head made d read is = is ∙ ap (λ (h : File). file_descriptor name source (record h { items = file.items })) read.head_is
 
 -- ---- whether a list is empty
 

@@ -1,5 +1,6 @@
 -- What is said of the translation of a syntax tree is said of the tree that it is of.
 use Rattle.std.proofs.Common.{◌≡◌, ℕ, List, [], ◌∷◌, length, Result, Ok, Err, IfOk, MatchResult, refl, ap, sym, subst, ◌∙◌}
+use Rattle.std.proofs.lemmas.Result.{IfOk-weaker}
 use Rattle.std.specs.Prelude.{◌≢◌}
 use Rattle.protox_ast.specs.Accepted.{IsAccepted, IsFileOf}
 use Rattle.protox_ast.specs.Ast as ast
@@ -28,17 +29,21 @@ same_file source file f is accepted = is.2 ∙ ap (ast.file (length source)) (on
 abbrev Translated : List ℕ → List ℕ → File → FileDescriptorProto → Type 0
 Translated name source file d = IsFaultless file × (d ≡ file_descriptor name source file)
 
-pub found : (name source : List ℕ) (file : File) (r : Result FileDescriptorProto ParseFailure) → IsFileOf source file → IfOk r (Translated name source file) → IfOk r (IsTranslation name source)
-found name source file (Err e) is h = tt
-found name source file (Ok d) is h = (is.0, is.1, subst IsFaultless is.2 h.0, h.1 ∙ ap (file_descriptor name source) is.2)
+-- `whole` is the descriptor that an answer stands for.
+module _ {A : Type 0} (whole : A → FileDescriptorProto) (name source : List ℕ) (file : File) (r : Result A ParseFailure) (of_source : IsFileOf source file) where
+  translation : (x : A) → Translated name source file (whole x) → IsTranslation name source (whole x)
+  translation x h = (of_source.0, of_source.1, subst IsFaultless of_source.2 h.0, h.1 ∙ ap (file_descriptor name source) of_source.2)
 
-abbrev Only : List ℕ → List ℕ → File → Result FileDescriptorProto ParseFailure → Type 0
-Only name source file r = MatchResult r (λ d. d ≡ file_descriptor name source file) IsOutOfMemory
+  pub found : IfOk r (λ x. Translated name source file (whole x)) → IfOk r (λ x. IsTranslation name source (whole x))
+  found = IfOk-weaker r (λ x. Translated name source file (whole x)) (λ x. IsTranslation name source (whole x)) translation
 
-pub only : (name source : List ℕ) (file same : File) (r : Result FileDescriptorProto ParseFailure) → IsFileOf source file → file ≡ same → IsFaultless same
-    → IfOk r (Translated name source file) → (IsFaultless file → Only name source file r) → MatchResult r (IsTranslation name source) IsOutOfMemory
-only name source file same (Err e) its is none ok h = h (subst IsFaultless (sym is) none)
-only name source file same (Ok d) its is none ok h = found name source file (Ok d) its ok
+abbrev Only : {A : Type 0} → (A → FileDescriptorProto) → List ℕ → List ℕ → File → Result A ParseFailure → Type 0
+Only whole name source file r = MatchResult r (λ x. whole x ≡ file_descriptor name source file) IsOutOfMemory
+
+pub only : {A : Type 0} (whole : A → FileDescriptorProto) (name source : List ℕ) (file same : File) (r : Result A ParseFailure) → IsFileOf source file → file ≡ same → IsFaultless same
+    → IfOk r (λ x. Translated name source file (whole x)) → (IsFaultless file → Only whole name source file r) → MatchResult r (λ x. IsTranslation name source (whole x)) IsOutOfMemory
+only whole name source file same (Err e) its is none ok h = h (subst IsFaultless (sym is) none)
+only whole name source file same (Ok x) its is none ok h = found whole name source file (Ok x) its ok
 
 -- A file with which nothing is wrong has no list of what is.
 pub none-wrong : (file : File) (faults : List ParseErrorKind) → faults ≢ [] → Each (Wrong file) faults → IsFaultless file → ⊥

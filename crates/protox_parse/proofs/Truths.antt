@@ -1,6 +1,7 @@
 -- What is said of the faults of a failure is said of the refusal for it; and of the generator's faults, and that the source is too large.
-use Rattle.std.proofs.Common.{inl, inr, ℕ, List, [], ◌∷◌, Option, Some, None, Result, Ok, Err, IfErr, refl, sym, subst}
-use Rattle.std.specs.Prelude.{IfSome}
+use Rattle.std.proofs.Common.{◌≡◌, Bool, false, inl, inr, ℕ, List, [], ◌∷◌, Option, Some, None, refl, sym, subst}
+use Rattle.std.proofs.lemmas.Bool.{false≢true}
+use Rattle.std.specs.Prelude.{IfSome, IsTrue}
 use Rattle.protox_fault.specs.declared.error.ParseErrorKind.{ParseErrorKind}
 use Rattle.protox_fault.specs.declared.error.ParseErrorKind.TheVariants.{FileTooLarge}
 use Rattle.protox_fault.specs.declared.error.SyntaxFailure.{SyntaxFailure}
@@ -12,13 +13,12 @@ use Rattle.protox_ast.specs.FaultList.{AreFaultsOf, StandIn}
 use Rattle.protox_ast.specs.FirstFault.{IsFirstFault}
 use Rattle.protox_ast.specs.declared.ast.File.{File}
 use Rattle.protox_checks.specs.Faults.{Wrong}
-use Rattle.protox_descriptor.specs.declared.descriptor.FileDescriptorProto.{FileDescriptorProto}
 use Rattle.protox_checks.proofs.Lemmas.{all-plain, plain-stand}
+use Rattle.protox_parse.specs.Answers.{HasFailureLaws}
 use Rattle.protox_parse.specs.Failures.{AreWrongOf, IsOutOfMemory, IsRefusalOf}
 use Rattle.protox_parse.specs.FaultLists.{AreAllFound, AreLexicalAlone, AreListedOf, AreStanding, ExpectsTruly, HasFaultsOf, NoCheckIsLost}
 use Rattle.protox_parse.specs.FirstFault.{BeginsWithFirst, IsFirstOfSource}
 use Rattle.protox_parse.specs.Refusal.{Refusal}
-use Rattle.protox_parse.specs.inner.Answered.{IsUnread}
 use Rattle.protox_parse.specs.declared.failure.ParseFailure.{ParseFailure}
 use Rattle.protox_parse.specs.declared.failure.ParseFailure.TheVariants.{Refused, OutOfMemory}
 use Rattle.protox_syntax.specs.AllFaults.{AreAllFaults}
@@ -34,12 +34,17 @@ if-more : {A : Type 0} (P Q : A → Type 0) (o : Option A) → ((x : A) → P x 
 if-more P Q None h k = tt
 if-more P Q (Some x) h k = h x k
 
+-- ---- whether a source fits
+
+pub not_fitting : (fits : Bool) (source : List ℕ) → (Fits source → IsTrue fits) → fits ≡ false → Fits source → ⊥
+not_fitting fits source says none it = false≢true (subst IsTrue none (says it))
+
 -- ---- all faults of a syntax tree
 
 -- Where memory ran out there is no list.
-pub none-listed : (file : File) (e : ParseFailure) → IsOutOfMemory e → AreListedOf file e
-none-listed file OutOfMemory h = tt
-none-listed file (Refused e) h = absurd h
+pub none_listed : (file : File) (e : ParseFailure) → IsOutOfMemory e → AreListedOf file e
+none_listed file OutOfMemory h = tt
+none_listed file (Refused e) h = absurd h
 
 -- what reading says of its faults
 pub record FaultLaws (source : List ℕ) (e : SyntaxFailure) : Type 0 where
@@ -84,9 +89,9 @@ module _ (source : List ℕ) where
   read-words failure.OutOfMemory (Refused x) same h = absurd same
   read-words (failure.Faults v) (Refused x) same h = λ fits none. subst (λ errors. IfSome (first_of errors) (words.HasTrueWords (cut 0 source))) (sym same) h
 
-  -- what is said of a source that is refused
+  -- what is said of a source that the parser refuses
   pub unread : (name : List ℕ) (e : SyntaxFailure) (r : ParseFailure) → HasFaultsOf e r → IsRefusalOf name source r
-      → FaultLaws source e → IsUnread name source r
+      → FaultLaws source e → HasFailureLaws name source r
   unread name e r same refusal laws = record {
     refused = refusal;
     first = read-first e r same laws.first;
@@ -97,8 +102,8 @@ module _ (source : List ℕ) where
     words = read-words e r same laws.words;
   }
 
-  pub none_unread : (name : List ℕ) → IsUnread name source OutOfMemory
-  none_unread name = record {
+  pub no_memory : (name : List ℕ) → HasFailureLaws name source OutOfMemory
+  no_memory name = record {
     refused = tt;
     first = tt;
     stands = tt;
@@ -118,61 +123,28 @@ module _ (source : List ℕ) where
   its-tree file is errors h =
       if-more (Wrong file) (IsFirstOfSource source) (first_of errors) (λ wrong w. inr (inr (is.0, is.1, subst (λ u. Wrong u wrong) is.2 w))) (first-wrong file errors h)
 
-  pub made-first : (file : File) → IsFileOf source file → (r : Result FileDescriptorProto ParseFailure) → IfErr r (AreWrongOf file) → IfErr r (BeginsWithFirst source)
-  made-first file is (Ok d) h = tt
-  made-first file is (Err OutOfMemory) h = tt
-  made-first file is (Err (Refused e)) h = its-tree file is e.errors h
-
-  pub made-stand : (file : File) (r : Result FileDescriptorProto ParseFailure) → IfErr r (AreWrongOf file) → IfErr r (AreStanding source)
-  made-stand file (Ok d) h = tt
-  made-stand file (Err OutOfMemory) h = tt
-  made-stand file (Err (Refused e)) h = plain-stand (cut 0 source) e.errors (all-plain file e.errors h)
-
-  pub made-lexical : (file : File) → IsFileOf source file → (r : Result FileDescriptorProto ParseFailure) → IfErr r (AreLexicalAlone source)
-  made-lexical file is (Ok d) = tt
-  made-lexical file is (Err OutOfMemory) = tt
-  made-lexical file is (Err (Refused e)) = λ fits f spelled deep nothing valid unclean. absurd (unclean is.1.clean)
-
-  pub made-all : (file : File) → IsFileOf source file → (r : Result FileDescriptorProto ParseFailure) → IfErr r (AreAllFound source)
-  made-all file is (Ok d) = tt
-  made-all file is (Err OutOfMemory) = tt
-  made-all file is (Err (Refused e)) = λ fits none. absurd (none is.0 is.1)
-
-  pub made-lost : (file : File) → IsFileOf source file → (r : Result FileDescriptorProto ParseFailure) → IfErr r (NoCheckIsLost source)
-  made-lost file is (Ok d) = tt
-  made-lost file is (Err OutOfMemory) = tt
-  made-lost file is (Err (Refused e)) = λ fits none. absurd (none is.0 is.1)
-
-  pub made-words : (file : File) → IsFileOf source file → (r : Result FileDescriptorProto ParseFailure) → IfErr r (ExpectsTruly source)
-  made-words file is (Ok d) = tt
-  made-words file is (Err OutOfMemory) = tt
-  made-words file is (Err (Refused e)) = λ fits none. absurd (none is.0 is.1)
+  -- what is said of a source in whose tree the generator finds faults
+  pub unmade : (name : List ℕ) (file : File) → IsFileOf source file → (r : ParseFailure) → IsRefusalOf name source r → AreWrongOf file r → HasFailureLaws name source r
+  unmade name file is OutOfMemory refusal h = no_memory name
+  unmade name file is (Refused e) refusal h = record {
+    refused = refusal;
+    first = its-tree file is e.errors h;
+    stands = plain-stand (cut 0 source) e.errors (all-plain file e.errors h);
+    lexical = λ fits f spelled deep nothing valid unclean. absurd (unclean is.1.clean);
+    all_found = λ fits none. absurd (none is.0 is.1);
+    no_check_lost = λ fits none. absurd (none is.0 is.1);
+    words = λ fits none. absurd (none is.0 is.1);
+  }
 
   -- ---- that the source is too large
 
-  module _ (name : List ℕ) (large : Fits source → ⊥) where
-    alone : (r : ParseFailure) → IsRefusalOf name source r → (P : List ParseErrorKind → Type 0) → P (FileTooLarge ∷ []) → (Q : ParseFailure → Type 0) → Q OutOfMemory → ((e : Refusal) → P e.errors → Q (Refused e)) → Q r
-    alone OutOfMemory h P p Q none k = none
-    alone (Refused e) h P p Q none k = k e (elim h.1 as (λ _. P e.errors) [ inl fits ↦ absurd (large fits.0) | inr other ↦ subst P (sym other.2) p ])
-
-    pub large-first : (r : ParseFailure) → IsRefusalOf name source r → BeginsWithFirst source r
-    large-first r h = alone r h (λ errors. IfSome (first_of errors) (IsFirstOfSource source)) (inl (large, refl)) (BeginsWithFirst source) tt (λ e p. p)
-
-    pub large-stand : (r : ParseFailure) → IsRefusalOf name source r → AreStanding source r
-    large-stand r h = alone r h (StandIn (cut 0 source)) (plain-stand (cut 0 source) (FileTooLarge ∷ []) (refl, tt)) (AreStanding source) tt (λ e p. p)
-
-    pub large-lexical : (r : ParseFailure) → AreLexicalAlone source r
-    large-lexical OutOfMemory = tt
-    large-lexical (Refused e) = λ fits f spelled deep nothing valid unclean. absurd (large fits)
-
-    pub large-all : (r : ParseFailure) → AreAllFound source r
-    large-all OutOfMemory = tt
-    large-all (Refused e) = λ fits none. absurd (large fits)
-
-    pub large-words : (r : ParseFailure) → ExpectsTruly source r
-    large-words OutOfMemory = tt
-    large-words (Refused e) = λ fits none. absurd (large fits)
-
-    pub large-lost : (r : ParseFailure) → NoCheckIsLost source r
-    large-lost OutOfMemory = tt
-    large-lost (Refused e) = λ fits none. absurd (large fits)
+  pub too_large : (name : List ℕ) → (Fits source → ⊥) → (e : Refusal) → e.file ≡ name → e.source ≡ [] → e.errors ≡ FileTooLarge ∷ [] → HasFailureLaws name source (Refused e)
+  too_large name large e named no_text alone = record {
+    refused = (named, inr (large, no_text, alone));
+    first = subst (λ errors. IfSome (first_of errors) (IsFirstOfSource source)) (sym alone) (inl (large, refl));
+    stands = subst (StandIn (cut 0 source)) (sym alone) (plain-stand (cut 0 source) (FileTooLarge ∷ []) (refl, tt));
+    lexical = λ fits f spelled deep nothing valid unclean. absurd (large fits);
+    all_found = λ fits none. absurd (large fits);
+    no_check_lost = λ fits none. absurd (large fits);
+    words = λ fits none. absurd (large fits);
+  }

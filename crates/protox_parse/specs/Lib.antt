@@ -5,4 +5,5 @@ pub mod Files
 pub mod FirstFault
 pub mod Truth
 pub mod FaultLists
+pub mod Answers
 pub mod inner

@@ -9,6 +9,7 @@ ghost use Rattle.protox_fault.specs.Faults.{LiesIn, span_of};
 ghost use Rattle.protox_fault.specs.declared.error.SyntaxFailure.TheVariants.{Faults};
 ghost use Rattle.protox_places.specs.Faults.{first_place};
 ghost use Rattle.protox_places.specs.Lines.{line, column};
+ghost use Rattle.protox_parse.specs.Answers.{HasFailureLaws};
 ghost use Rattle.protox_parse.specs.FaultLists.{HasFaultsOf};
 ghost use Rattle.protox_parse.specs.Failures.{AreWrongOf, IsOutOfMemory, IsRefusalOf, first_of};
 
@@ -179,8 +180,9 @@ fn refusal(
 }
 
 /// The refusal of a source that is too large.
+#[tactic(auto, using(crate::proofs::Truths::no_memory))]
 pub(crate) fn too_large(alloc: Global, name: &str) -> ParseFailure
-    ensures { (source : List ℕ) → (Fits source → ⊥) → IsRefusalOf name.now source result }
+    ensures { (source : List ℕ) → (Fits source → ⊥) → HasFailureLaws name.now source result }
 {
     let mut errors = Vec::new(alloc);
     if errors.push(ParseErrorKind::FileTooLarge).is_err() {

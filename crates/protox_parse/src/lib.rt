@@ -2,7 +2,7 @@
 //! descriptor with locations, or what is wrong with the text.
 #![tactic(auto)]
 
-ghost use Rattle.std.specs.Prelude.{◌≡◌, ◌≤◌, ◌↔◌, [], IsTrue, IfOk, IfErr, MatchResult, length};
+ghost use Rattle.std.specs.Prelude.{◌≡◌, ◌≤◌, ◌↔◌, [], None, IsTrue, IfOk, IfErr, MatchResult, length};
 ghost use Rattle.protox_ast.specs.Accepted.{Fits, IsAccepted};
 ghost use Rattle.protox_ast.specs.Ast as ast_of;
 ghost use Rattle.protox_ast.specs.Tree as tree;
@@ -12,14 +12,15 @@ ghost use Rattle.protox_generate.specs.Commented.{AreCommentedOnce};
 ghost use Rattle.protox_generate.specs.File.{file_descriptor, AreLocated, AreSorted};
 ghost use Rattle.protox_generate.specs.NamePaths.{HasPlaces};
 ghost use Rattle.protox_generate.specs.Names.{HasNames};
+ghost use Rattle.protox_generate.specs.Pooled.{with_locations};
 ghost use Rattle.protox_ast.specs.Places.{Place};
 ghost use Rattle.protox_ast.specs.declared.ast.File as file_type;
 ghost use Rattle.protox_ast.specs.declared.ast.Syntax as syntax_type;
-ghost use Rattle.protox_parse.specs.Failures.{AreWrongOf, IsOutOfMemory, IsRefusalOf};
+ghost use Rattle.protox_parse.specs.Answers.{HasFailureLaws, HasFileLaws};
+ghost use Rattle.protox_parse.specs.Failures.{IsOutOfMemory, IsRefusalOf};
 ghost use Rattle.protox_parse.specs.FaultLists.{AreAllFound, AreLexicalAlone, AreListedOf, AreStanding, ExpectsTruly, NoCheckIsLost};
 ghost use Rattle.protox_parse.specs.Files.{IsFile, IsTranslation};
 ghost use Rattle.protox_parse.specs.FirstFault.{BeginsWithFirst};
-ghost use Rattle.protox_parse.specs.inner.Answered.{HasLaws, IsUnread};
 ghost use Rattle.protox_parse.specs.inner.Made.{IsRead, IsSoFar};
 
 mod failure;
@@ -31,6 +32,7 @@ use failure::{refused, too_large};
 pub use protox_ast::ast;
 use protox_descriptor::descriptor::FileDescriptorProto;
 pub use protox_descriptor::{case, descriptor, tag, values};
+pub use protox_generate::draft::PooledFile;
 pub use protox_generate::generate;
 pub use protox_lex::error::ParseErrorKind;
 use protox_lex::error::SyntaxFailure;
@@ -51,7 +53,7 @@ pub fn source_fits(len: usize) -> bool
 
 // Reads the source, and makes what can be made of its items. Answers the syntax tree without its
 // items; or the faults that the parser finds, or that memory ran out.
-#[tactic(auto, using(crate::proofs::Truths::none_unread))]
+#[tactic(auto, using(crate::proofs::Truths::no_memory))]
 fn read(
     alloc: Global,
     name: &str,
@@ -62,7 +64,7 @@ fn read(
     requires none { (syntax : syntax_type.Syntax) → IsSoFar source.now syntax [] made.old }
     ensures found { IfOk result (λ head. (file : file_type.File) × IsRead source.now file head made.new) }
     ensures only { (f : tree.File Place) → IsAccepted source.now f → MatchResult result (λ head. head ≡ record (ast_of.file (length source.now) f) { items = [] }) IsOutOfMemory }
-    ensures unread { IfErr result (IsUnread name.now source.now) }
+    ensures failure { IfErr result (HasFailureLaws name.now source.now) }
 {
     match read_source(alloc, source, made) {
         Ok(head) => Ok(head),
@@ -73,6 +75,7 @@ fn read(
 
 // The descriptor of the file with this head and the items read; or the faults that the generator's
 // checks find, or that memory ran out.
+#[tactic(auto, using(crate::proofs::Truths::no_memory))]
 fn translated(
     alloc: Global,
     head: ast::File,
@@ -83,14 +86,37 @@ fn translated(
     requires { (file : file_type.File) × IsRead source.now file head made }
     ensures found { (file : file_type.File) → IsRead source.now file head made.entry → IfOk result (λ d. IsFaultless file × (d ≡ file_descriptor name.now source.now file)) }
     ensures only { (file : file_type.File) → IsRead source.now file head made.entry → IsFaultless file → MatchResult result (λ d. d ≡ file_descriptor name.now source.now file) IsOutOfMemory }
-    ensures laws { IfOk result (HasLaws source.now) }
-    ensures refused { IfErr result (IsRefusalOf name.now source.now) }
-    ensures wrong { (file : file_type.File) → IsRead source.now file head made.entry → IfErr result (AreWrongOf file) }
+    ensures laws { IfOk result (HasFileLaws source.now) }
+    ensures failure { IfErr result (HasFailureLaws name.now source.now) }
     ensures checked { (file : file_type.File) → IsRead source.now file head made.entry → IfErr result (AreListedOf file) }
 {
     match made.finish(alloc, name, &head) {
         Ok(descriptor) => Ok(descriptor),
         Err(SyntaxFailure::Faults(found)) => Err(refused(alloc, name, source, found)),
+        Err(SyntaxFailure::OutOfMemory) => Err(ParseFailure::OutOfMemory),
+    }
+}
+
+// What `translated` answers, with the locations in a pool.
+#[tactic(auto, using(crate::proofs::Truths::no_memory))]
+fn translated_pooled(
+    alloc: Global,
+    head: ast::File,
+    made: Translation<'_>,
+    name: &str,
+    source: &str,
+) -> Result<PooledFile, ParseFailure>
+    requires { (file : file_type.File) × IsRead source.now file head made }
+    ensures apart { IfOk result (λ p. p.file.source_code_info ≡ None) }
+    ensures found { (file : file_type.File) → IsRead source.now file head made.entry → IfOk result (λ p. IsFaultless file × (with_locations p ≡ file_descriptor name.now source.now file)) }
+    ensures only { (file : file_type.File) → IsRead source.now file head made.entry → IsFaultless file → MatchResult result (λ p. with_locations p ≡ file_descriptor name.now source.now file) IsOutOfMemory }
+    ensures laws { IfOk result (λ p. HasFileLaws source.now (with_locations p)) }
+    ensures failure { IfErr result (HasFailureLaws name.now source.now) }
+    ensures checked { (file : file_type.File) → IsRead source.now file head made.entry → IfErr result (AreListedOf file) }
+{
+    match made.finish_pooled(alloc, name, &head) {
+        Ok(pooled) => Ok(pooled),
+        Err(SyntaxFailure::Faults(wrong)) => Err(refused(alloc, name, source, wrong)),
         Err(SyntaxFailure::OutOfMemory) => Err(ParseFailure::OutOfMemory),
     }
 }
@@ -150,6 +176,37 @@ pub fn parse(alloc: Global, name: &str, source: &str) -> Result<FileDescriptorPr
     let mut made = Translation::new(alloc, source);
     match read(alloc, name, source, &mut made) {
         Ok(head) => translated(alloc, head, made, name, source),
+        Err(failure) => Err(failure),
+    }
+}
+
+/// Parses a file as `parse` does, and keeps its locations in a pool: the numbers of all their paths
+/// and spans stand in one list, so they take less memory. `PooledFile` has the descriptor without
+/// `source_code_info`, and the pool of the locations that it would have.
+///
+/// # Errors
+/// As for `parse`.
+pub fn parse_pooled(alloc: Global, name: &str, source: &str) -> Result<PooledFile, ParseFailure>
+    // The locations are in the pool alone.
+    ensures apart { IfOk result (λ p. p.file.source_code_info ≡ None) }
+    // The answer, with its locations, is the translation of the source, as that of `parse`.
+    ensures found { IfOk result (λ p. IsTranslation name.now source.now (with_locations p)) }
+    // Every source that is a file gets its translation, unless memory runs out.
+    ensures only { IsFile source.now → MatchResult result (λ p. IsTranslation name.now source.now (with_locations p)) IsOutOfMemory }
+    // The laws that `parse` names hold of the answer with its locations.
+    ensures laws { IfOk result (λ p. HasFileLaws source.now (with_locations p)) }
+    // Those that it names of a failure hold of a failure.
+    ensures failure { IfErr result (HasFailureLaws name.now source.now) }
+    // If the source is accepted with a tree, the faults are exactly those of its syntax tree, in
+    // order.
+    ensures checked { (f : tree.File Place) → IsAccepted source.now f → IfErr result (AreListedOf (ast_of.file (length source.now) f)) }
+{
+    if !source_fits(source.len()) {
+        return Err(too_large(alloc, name));
+    }
+    let mut made = Translation::pooled(alloc, source);
+    match read(alloc, name, source, &mut made) {
+        Ok(head) => translated_pooled(alloc, head, made, name, source),
         Err(failure) => Err(failure),
     }
 }

@@ -1,6 +1,6 @@
 //! What is made of the items of a source, while it is read.
 
-ghost use Rattle.std.specs.Prelude.{◌≡◌, ◌++◌, ◌∷◌, [], ℕ, List, IfErr, IfOk, OnOk};
+ghost use Rattle.std.specs.Prelude.{◌≡◌, ◌++◌, ◌∷◌, [], ℕ, List, None, IfErr, IfOk, OnOk};
 ghost use Rattle.std.specs.List.{FoldsTo};
 ghost use Rattle.protox_ast.specs.Accepted.{Fits};
 ghost use Rattle.protox_ast.specs.declared.ast.File as file_type;
@@ -9,6 +9,7 @@ ghost use Rattle.protox_ast.specs.declared.ast.Syntax as syntax_type;
 ghost use Rattle.protox_checks.specs.Checks.{AreListed, AreListedOfItem};
 ghost use Rattle.protox_checks.specs.Faults.{AreWrong, IsFaultless};
 ghost use Rattle.protox_generate.specs.File.{AreListedAll, file_descriptor};
+ghost use Rattle.protox_generate.specs.Pooled.{with_locations};
 ghost use Rattle.protox_generate.specs.inner.Taken.{IsTaken};
 ghost use Rattle.protox_parse.specs.inner.Made.{AddsListed, AreInHand, IsRead, IsSoFar, TakesNext};
 
@@ -16,7 +17,7 @@ use protox_ast::ast::{File, FileItem, Syntax};
 use protox_checks::checks::{check_file, check_item};
 use protox_descriptor::descriptor::FileDescriptorProto;
 use protox_descriptor::values::Items;
-use protox_generate::draft::FileDraft;
+use protox_generate::draft::{FileDraft, PooledFile};
 use protox_generate::repeats::repeats_much;
 use protox_lex::error::{ParseErrorKind, SyntaxFailure};
 use protox_syntax::taking::TakesItems;
@@ -118,19 +119,18 @@ fn take_kept(
     Ok(())
 }
 
-// The descriptor of a file whose items are taken or kept.
-fn described(
+// The draft of a file whose items are taken or kept.
+fn all_taken<'a>(
     alloc: Global,
-    name: &str,
     head: &File,
-    draft: FileDraft<'_>,
+    draft: FileDraft<'a>,
     kept: Items<FileItem>,
-) -> Result<FileDescriptorProto, AllocError>
-    ensures { IfOk result (λ d. (source : List ℕ) (items : List item_type.FileItem) → AreInHand source head.now.syntax items draft.entry kept → d ≡ file_descriptor name.now source (record head.now { items = items })) }
+) -> Result<FileDraft<'a>, AllocError>
+    ensures { IfOk result (λ whole. (source : List ℕ) (items : List item_type.FileItem) → AreInHand source head.now.syntax items draft.entry kept → IsTaken source head.now.syntax items whole) }
 {
     let mut whole = draft;
     take_kept(alloc, head, &mut whole, kept)?;
-    whole.finish(alloc, name, head)
+    Ok(whole)
 }
 
 impl<'a> Translation<'a> {
@@ -141,6 +141,19 @@ impl<'a> Translation<'a> {
     {
         Translation {
             draft: FileDraft::new(alloc, source),
+            faults: Vec::new(alloc),
+            kept: Items::new(alloc),
+            short: source.len() <= CHECKED_FIRST,
+        }
+    }
+
+    /// No item yet, as of `new`. The locations are kept in pools: it is for `finish_pooled`.
+    pub fn pooled(alloc: Global, source: &'a str) -> Translation<'a>
+        requires { Fits source.now }
+        ensures { (syntax : syntax_type.Syntax) → IsSoFar source.now syntax [] result }
+    {
+        Translation {
+            draft: FileDraft::pooled(alloc, source),
             faults: Vec::new(alloc),
             kept: Items::new(alloc),
             short: source.len() <= CHECKED_FIRST,
@@ -198,15 +211,10 @@ impl<'a> Translation<'a> {
         Ok(())
     }
 
-    /// The descriptor of the file of this name that has this head and the items taken; or the
-    /// faults of the items and then those of the head, if there are any; or memory ran out.
-    pub fn finish(
-        self,
-        alloc: Global,
-        name: &str,
-        head: &File,
-    ) -> Result<FileDescriptorProto, SyntaxFailure>
-        ensures found { IfOk result (λ d. (source : List ℕ) (file : file_type.File) → IsRead source file head.now self.entry → IsFaultless file × (d ≡ file_descriptor name.now source file)) }
+    // The draft with all items; or the faults of the items and then those of the head, if there are
+    // any; or memory ran out.
+    fn into_draft(self, alloc: Global, head: &File) -> Result<FileDraft<'a>, SyntaxFailure>
+        ensures taken { IfOk result (λ draft. (source : List ℕ) (file : file_type.File) → IsRead source file head.now self.entry → IsFaultless file × IsTaken source head.now.syntax file.items draft) }
         ensures wrong { IfErr result (λ e. (source : List ℕ) (file : file_type.File) → IsRead source file head.now self.entry → AreWrong file e) }
         ensures in_order { IfErr result (λ e. (source : List ℕ) (file : file_type.File) → IsRead source file head.now self.entry → AreListedAll file e) }
     {
@@ -221,6 +229,38 @@ impl<'a> Translation<'a> {
         if !all.is_empty() {
             return Err(SyntaxFailure::Faults(all));
         }
-        Ok(described(alloc, name, head, draft, kept)?)
+        Ok(all_taken(alloc, head, draft, kept)?)
+    }
+
+    /// The descriptor of the file of this name that has this head and the items taken; or the
+    /// faults of the items and then those of the head, if there are any; or memory ran out.
+    pub fn finish(
+        self,
+        alloc: Global,
+        name: &str,
+        head: &File,
+    ) -> Result<FileDescriptorProto, SyntaxFailure>
+        ensures found { IfOk result (λ d. (source : List ℕ) (file : file_type.File) → IsRead source file head.now self.entry → IsFaultless file × (d ≡ file_descriptor name.now source file)) }
+        ensures wrong { IfErr result (λ e. (source : List ℕ) (file : file_type.File) → IsRead source file head.now self.entry → AreWrong file e) }
+        ensures in_order { IfErr result (λ e. (source : List ℕ) (file : file_type.File) → IsRead source file head.now self.entry → AreListedAll file e) }
+    {
+        let draft = self.into_draft(alloc, head)?;
+        Ok(draft.finish(alloc, name, head)?)
+    }
+
+    /// What `finish` answers, with the locations in a pool.
+    pub fn finish_pooled(
+        self,
+        alloc: Global,
+        name: &str,
+        head: &File,
+    ) -> Result<PooledFile, SyntaxFailure>
+        ensures apart { IfOk result (λ made. made.file.source_code_info ≡ None) }
+        ensures found { IfOk result (λ made. (source : List ℕ) (file : file_type.File) → IsRead source file head.now self.entry → IsFaultless file × (with_locations made ≡ file_descriptor name.now source file)) }
+        ensures wrong { IfErr result (λ e. (source : List ℕ) (file : file_type.File) → IsRead source file head.now self.entry → AreWrong file e) }
+        ensures in_order { IfErr result (λ e. (source : List ℕ) (file : file_type.File) → IsRead source file head.now self.entry → AreListedAll file e) }
+    {
+        let draft = self.into_draft(alloc, head)?;
+        Ok(draft.finish_pooled(alloc, name, head)?)
     }
 }

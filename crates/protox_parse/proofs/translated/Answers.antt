@@ -6,6 +6,7 @@ use Rattle.protox_generate.proofs.Lemmas.{file-stands}
 use Rattle.protox_generate.specs.File.{AreListedAll}
 use Rattle.protox_parse.proofs.Answering.{laws}
 use Rattle.protox_parse.proofs.Translating.{has_listed}
+use Rattle.protox_parse.proofs.Truths.{unmade}
 use Rattle.protox_parse.proofs.translated.Goals as goal
 
 pub refused-requires : goal.refused-requires
@@ -24,8 +25,12 @@ returns-in-Ok-clause-found c = λ file read. c.in-Ok.ensures.found c.args.source
 pub returns-in-Err-Faults-clause-only : goal.returns-in-Err-Faults-clause-only
 returns-in-Err-Faults-clause-only c = λ file read none. c.refused.ensures.none file (subst (AreWrong file) c.in-Err-Faults.field-0-is (c.in-Err-Faults.ensures.wrong c.args.source.now file read)) none
 
-pub returns-in-Err-Faults-clause-wrong : goal.returns-in-Err-Faults-clause-wrong
-returns-in-Err-Faults-clause-wrong c = λ file read. c.refused.ensures.wrong file (subst (AreWrong file) c.in-Err-Faults.field-0-is (c.in-Err-Faults.ensures.wrong c.args.source.now file read))
+pub returns-in-Err-Faults-clause-failure : goal.returns-in-Err-Faults-clause-failure
+returns-in-Err-Faults-clause-failure c =
+    let file = c.requires.0 in
+    let read = c.requires.1 in
+    let wrong = subst (AreWrong file) c.in-Err-Faults.field-0-is (c.in-Err-Faults.ensures.wrong c.args.source.now file read) in
+    unmade c.args.source.now c.args.name.now file read.of_source c.refused.result c.refused.ensures.of_source (c.refused.ensures.wrong file wrong)
 
 pub returns-in-Err-Faults-clause-checked : goal.returns-in-Err-Faults-clause-checked
 returns-in-Err-Faults-clause-checked c = λ file read.

@@ -1,17 +1,7 @@
-use Rattle.std.proofs.Common.{nat_eq, ap, ◌∙◌}
-use Rattle.protox_parse.proofs.Making.{described_of, empty_none, empty_some, found_listed, found_wrong}
+use Rattle.protox_parse.proofs.Making.{of_file}
 use Rattle.protox_parse.proofs.translate.Translation.finish.Goals as goal
-
-pub returns-then-not-is_empty-clause-wrong : goal.returns-then-not-is_empty-clause-wrong
-returns-then-not-is_empty-clause-wrong c = λ source file read. (
-  empty_some c.add_faults_of_head.new.faults.items c.is_empty.result (c.is_empty.ensures ∙ ap (λ n. nat_eq n 0) c.add_faults_of_head.new.faults.ok.0) c.if-not-is_empty.true,
-  found_wrong source file c.args.head.now c.args.self read c.add_faults_of_head.new.faults.items c.in_ok-add_faults_of_head.ensures,
-)
-
-pub returns-then-not-is_empty-clause-in_order : goal.returns-then-not-is_empty-clause-in_order
-returns-then-not-is_empty-clause-in_order c = λ source file read. found_listed source file c.args.head.now c.args.self read c.add_faults_of_head.new.faults.items c.in_ok-add_faults_of_head.ensures
 
 pub returns-clause-found : goal.returns-clause-found
 returns-clause-found c = λ source file read.
-    let none = empty_none c.add_faults_of_head.new.faults.items c.is_empty.result (c.is_empty.ensures ∙ ap (λ n. nat_eq n 0) c.add_faults_of_head.new.faults.ok.0) c.if-not-is_empty.false in
-    described_of source file c.args.head.now c.args.self read c.add_faults_of_head.new.faults.items c.in_ok-add_faults_of_head.ensures c.args.name.now c.in_ok-described.field-0 none c.in_ok-described.ensures
+    let taken = c.in_ok-into_draft.ensures source file read in
+    (taken.0, of_file c.args.name.now source file c.args.head.now c.args.self _ read (c.in_ok-finish.ensures source file.items taken.1))

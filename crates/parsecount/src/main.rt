@@ -1,11 +1,12 @@
 //! `parsecount FILE [TURNS]` parses a file TURNS times and prints how many locations it has. It
 //! measures the parser alone, with the time to drop the descriptor; `protoscan` prints too.
+//! `parsecount FILE TURNS pool` does the same with the locations in a pool.
 //! `parsecount FILE TURNS table` only makes the file's token table and prints how many rows it has.
 //! After the first turn the program uses memory that was used before.
 #![tactic(auto)]
 
 use protox_parse::lex::TokenTable;
-use protox_parse::{ParseFailure, parse};
+use protox_parse::{ParseFailure, parse, parse_pooled};
 use std::alloc::{AllocError, Global};
 use std::io::{self, Write};
 use std::process::ExitCode;
@@ -20,6 +21,15 @@ fn locations(alloc: Global, name: &str, source: &str, turns: u32) -> Result<usiz
             Some(info) => info.location.len(),
             None => 0,
         };
+    }
+    Ok(count)
+}
+
+// How many locations the file has. It is parsed `turns` times, into a pool.
+fn pooled(alloc: Global, name: &str, source: &str, turns: u32) -> Result<usize, ParseFailure> {
+    let mut count = 0;
+    for _ in 0..turns {
+        count = parse_pooled(alloc, name, source)?.locations.len();
     }
     Ok(count)
 }
@@ -45,12 +55,13 @@ fn count(rt: &HostRuntime, words: &[String]) -> io::Result<u8> {
     let Ok(source) = str::from_utf8(&bytes) else {
         return Ok(2);
     };
-    let count = match words.get(2) {
-        Some(_) => rows(rt.alloc(), source, turns)?,
-        None => match locations(rt.alloc(), name.as_str(), source, turns) {
-            Ok(count) => count,
-            Err(_) => return Ok(1),
-        },
+    let found = match words.get(2) {
+        Some(word) if word == "pool" => pooled(rt.alloc(), name.as_str(), source, turns),
+        Some(_) => Ok(rows(rt.alloc(), source, turns)?),
+        None => locations(rt.alloc(), name.as_str(), source, turns),
+    };
+    let Ok(count) = found else {
+        return Ok(1);
     };
     writeln!(rt.stdout(), "{count}")?;
     Ok(0)

@@ -9,3 +9,4 @@ pub mod literal;
 pub mod printed;
 pub mod tag;
 pub mod values;
+pub mod written;

@@ -1,10 +1,9 @@
 //! A trait that gives the options of any kind of declaration.
-#![tactic(auto)]
 
 ghost use Rattle.std.specs.Prelude.{◌≡◌, List};
 ghost use Rattle.protox_descriptor.specs.declared.descriptor.options.UninterpretedOption.{UninterpretedOption};
 
-use protox_descriptor::descriptor::{
+use crate::descriptor::{
     EnumOptions, EnumValueOptions, ExtensionRangeOptions, FieldOptions, FileOptions,
     MessageOptions, MethodOptions, OneofOptions, ServiceOptions, UninterpretedOption,
 };

@@ -1,7 +1,7 @@
 //! Finds what is left to do: the comments that say TODO, with their places.
 
+use protox_comments::remarks::remarks;
 use protox_parse::faults::line_column;
-use protox_remarks::remarks;
 use std::alloc::Global;
 use std::io::{self, Write};
 

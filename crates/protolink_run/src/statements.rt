@@ -6,7 +6,7 @@ use protox_descriptor::descriptor::{
 };
 use protox_descriptor::tag::file::{ENUM_TYPE, EXTENSION, MESSAGE_TYPE, SERVICE};
 use protox_descriptor::tag::message;
-use protox_written::HasUninterpreted;
+use protox_descriptor::uninterpreted::HasUninterpreted;
 
 // The part with an index, if there is one.
 fn part_at<T>(parts: &[T], index: i32) -> Option<&T> {

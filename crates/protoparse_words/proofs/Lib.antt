@@ -1,1 +1,4 @@
-pub mod Paths
+pub mod Lists
+pub mod Under
+pub mod Folders
+pub mod FilePaths

@@ -2,7 +2,7 @@
 use Rattle.std.specs.Prelude.{ℕ, ◌≡◌, ◌≢◌, ◌<◌, List, [], All, length, map, slice_index, codes, string_bytes}
 use Rattle.std.specs.declared.alloc.Global.{Global}
 use Rattle.std.specs.declared.string.String.{String}
-use Rattle.protox_paths.specs.Names.{IsNameIn, texts}
+use Rattle.protoparse_words.specs.Names.{IsNameIn, texts}
 use Rattle.protoparse_words.specs.declared.Asked.{Asked}
 use Rattle.protoparse_words.specs.declared.Asked.TheVariants.{Help, Version, Work, Nothing, NoFolder, Outside, Unknown}
 use Rattle.protoparse_words.specs.declared.Task.{Task}

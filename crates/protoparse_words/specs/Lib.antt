@@ -1,3 +1,4 @@
+pub mod Names
 pub mod Asking
 pub mod Listing
 pub mod Naming

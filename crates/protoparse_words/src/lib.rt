@@ -2,16 +2,17 @@
 #![tactic(auto)]
 
 ghost use Rattle.std.specs.Prelude.{◌≡◌, ◌<◌, [], All, IfOk, IfSome, IfNone, length, map, string_bytes};
-ghost use Rattle.protox_paths.specs.Names.{IsOutside, texts};
+ghost use Rattle.protoparse_words.specs.Names.{IsOutside, texts};
 ghost use Rattle.protoparse_words.specs.declared.Asked.TheVariants.{Nothing};
 ghost use Rattle.protoparse_words.specs.Asking.{AreNamed, IsName, IsNamed, IsWorkOn};
 ghost use Rattle.protoparse_words.specs.Listing.{file_path};
 ghost use Rattle.protoparse_words.specs.Naming.{IsNaming};
 
 mod listed;
+pub mod paths;
 
+use crate::paths::name_in;
 use listed::{File, Listed, Said, listed_by};
-use protox_paths::name_in;
 use std::alloc::{AllocError, Global};
 
 /// What is done with a file that is accepted.

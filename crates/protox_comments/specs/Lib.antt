@@ -1,2 +1,3 @@
+pub mod Remarks
 pub mod CommentState
 pub mod inner

@@ -1,5 +1,6 @@
-//! Comments, and the declarations to which they belong.
+//! Comments: their places, and the declarations to which they belong.
 #![tactic(auto)]
 
 pub mod comments;
+pub mod remarks;
 pub mod sides;

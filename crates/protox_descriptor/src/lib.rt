@@ -8,4 +8,5 @@ pub mod laws;
 pub mod literal;
 pub mod printed;
 pub mod tag;
+pub mod uninterpreted;
 pub mod values;

@@ -13,9 +13,9 @@ use protox_descriptor::tag::message::EXTENSION_RANGE;
 use protox_descriptor::tag::message::extension_range::OPTIONS;
 use protox_descriptor::tag::{enum_, enum_value, field, message, method, oneof, service};
 use protox_descriptor::values::Numbers;
+use protox_descriptor::uninterpreted::HasUninterpreted;
 use protox_names::enclosing;
 use protox_walk::Part;
-use protox_written::HasUninterpreted;
 use std::alloc::{AllocError, Global};
 
 // The full name of the type of a part's options.

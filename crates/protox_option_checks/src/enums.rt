@@ -14,9 +14,9 @@ use protox_descriptor::descriptor::{
 };
 use protox_descriptor::tag::enum_::VALUE;
 use protox_descriptor::tag::enum_value::NUMBER;
+use protox_descriptor::uninterpreted::HasUninterpreted;
 use protox_numbers::{Clash, single, with_earlier};
 use protox_spans::{Span, first_met};
-use protox_written::HasUninterpreted;
 use std::alloc::{AllocError, Global};
 
 fn statements_of_enum(of: &EnumDescriptorProto) -> &[UninterpretedOption]

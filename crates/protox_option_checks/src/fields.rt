@@ -15,9 +15,9 @@ use protox_descriptor::descriptor::field_descriptor_proto::{FieldType, Label};
 use protox_descriptor::descriptor::{FieldDescriptorProto, UninterpretedOption};
 use protox_descriptor::tag::field::{EXTENDEE, JSON_NAME, TYPE, TYPE_NAME};
 use protox_descriptor::values::Text;
+use protox_descriptor::uninterpreted::HasUninterpreted;
 use protox_names::cases::json_name;
 use protox_symbols::Symbols;
-use protox_written::HasUninterpreted;
 use std::alloc::{AllocError, Global};
 
 fn statements_of_field(field: &FieldDescriptorProto) -> &[UninterpretedOption]

@@ -6,9 +6,9 @@ ghost use Rattle.protox_option_checks.specs.Marks as words;
 
 use crate::statements::{is_true, says};
 use protox_descriptor::descriptor::{DescriptorProto, FileDescriptorProto, UninterpretedOption};
+use protox_descriptor::uninterpreted::HasUninterpreted;
 use protox_settings::message_numbered;
 use protox_symbols::Symbols;
-use protox_written::HasUninterpreted;
 use std::alloc::{AllocError, Global};
 use std::marker::Model;
 

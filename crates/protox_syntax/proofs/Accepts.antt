@@ -12,7 +12,7 @@ use Rattle.protox_ast.specs.declared.ast.File.{File}
 use Rattle.protox_grammar.specs.Reads.{read}
 use Rattle.protox_grammar.proofs.Lemmas as main
 use Rattle.protox_grammar.proofs.Lemmas.{ok_is}
-use Rattle.protox_options.specs.inner.Options.{here}
+use Rattle.protox_declarations.specs.inner.Options.{here}
 use Rattle.protox_syntax.specs.inner.ParsedTable.{IsWhole, ParsesTable, RefusesTable}
 use Rattle.protox_syntax.specs.inner.Statements.{levels}
 use Rattle.protox_syntax.proofs.Modes.{no-faults}

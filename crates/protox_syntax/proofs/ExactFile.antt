@@ -17,9 +17,9 @@ use Rattle.protox_rows.specs.inner.Words.{always, and_then}
 use Rattle.protox_rows.proofs.Lemmas.{Exact, Fits, begun_with, choice-exact, file-fits}
 use Rattle.protox_rows.proofs.Lemmas.{fullident-exact, mapped-exact, mark-exact, option-exact}
 use Rattle.protox_rows.proofs.Lemmas.{or-none, reworded, seq-exact, strings-exact, word-exact}
-use Rattle.protox_options.proofs.Lemmas.{option-exact-of}
-use Rattle.protox_blocks.proofs.Lemmas.{enum-exact, semicolon-exact, service-exact}
-use Rattle.protox_bodies.proofs.Lemmas.{extend-exact, mbody-exact, message-exact}
+use Rattle.protox_declarations.proofs.Lemmas.{option-exact-of}
+use Rattle.protox_declarations.proofs.Lemmas.{enum-exact, semicolon-exact, service-exact}
+use Rattle.protox_declarations.proofs.Lemmas.{extend-exact, mbody-exact, message-exact}
 use Rattle.protox_syntax.specs.inner.Statements as rule
 use Rattle.protox_syntax.specs.inner.Whole.{whole}
 use Rattle.protox_syntax.specs.inner.Words as said

@@ -28,7 +28,7 @@ use Rattle.protox_grammar.specs.Told.{Notes, is_invalid}
 use Rattle.protox_grammar.specs.declared.note.Noted.{Noted}
 use Rattle.protox_grammar.specs.declared.note.Noted.TheVariants.{Fault, TextFormat}
 use Rattle.protox_grammar.specs.Token as token
-use Rattle.protox_options.specs.inner.Options.{here}
+use Rattle.protox_declarations.specs.inner.Options.{here}
 use Rattle.protox_syntax.specs.inner.ParsedTable.{AreMergedFaults, ParsesTable, RefusesTable, unknown_syntax, unexpected_row, refused_statement, all_read, total_of}
 use Rattle.protox_syntax.specs.inner.Recovery.{AreNotable, IsNotable, IsNotableNote}
 use Rattle.protox_syntax.specs.StandingFaults.{AreStanding}

@@ -27,7 +27,7 @@ use Rattle.protox_grammar.proofs.Lemmas.{begins-at, clean-all, clean-through, fi
 use Rattle.protox_grammar.proofs.Lemmas.{is_open_behind, mode-inside-all, placed-shapes, row-there}
 use Rattle.protox_grammar.proofs.Lemmas.{row-valid}
 use Rattle.protox_grammar.proofs.Lemmas as grammar
-use Rattle.protox_options.specs.inner.Options.{here}
+use Rattle.protox_declarations.specs.inner.Options.{here}
 use Rattle.protox_syntax.specs.inner.ParsedTable.{AreMergedFaults}
 use Rattle.protox_syntax.specs.inner.Statements.{levels}
 use Rattle.protox_syntax.specs.inner.Whole.{whole}

@@ -24,7 +24,7 @@ use Rattle.protox_grammar.proofs.Lemmas.{faultless-first, is_open_behind, mode-o
 use Rattle.protox_grammar.proofs.Lemmas.{mode_at, ok_is, past-taken, row-valid, taken-rows}
 use Rattle.protox_grammar.proofs.Lemmas.{told-append, told-in-order, until-front}
 use Rattle.protox_grammar.proofs.Lemmas as main
-use Rattle.protox_options.specs.inner.Options.{here}
+use Rattle.protox_declarations.specs.inner.Options.{here}
 use Rattle.protox_rows.specs.Expected.{words_of}
 use Rattle.protox_rows.specs.inner.Outcome.{Fails}
 use Rattle.protox_rows.specs.inner.Words.{SaysOf}

@@ -13,7 +13,7 @@ use Rattle.protox_grammar.specs.Class.{all, in_set}
 use Rattle.protox_grammar.specs.Reader.{Unexpected, fixed, gathered, head_in, star, star_at, ◌>>=◌}
 use Rattle.protox_grammar.specs.Told.{checked, is_invalid, then_notes}
 use Rattle.protox_grammar.proofs.Lemmas.{stated-turn}
-use Rattle.protox_blocks.specs.inner.Services.{service}
+use Rattle.protox_declarations.specs.inner.Services.{service}
 use Rattle.protox_syntax.specs.AllFaults.{refusal, row_at}
 use Rattle.protox_syntax.specs.inner.ParsedTable.{IsTableOf, total_of}
 use Rattle.protox_syntax.specs.inner.Statements.{add_statement, declared, item_, next_first, no_statements, notes_behind, statement, statements_at, syntax_if_any}

@@ -17,7 +17,7 @@ use Rattle.protox_grammar.specs.Steps.{Steps}
 use Rattle.protox_grammar.specs.Told.{Notes, first_behind, told}
 use Rattle.protox_grammar.proofs.Lemmas.{as_is, body-laws, map_err, shows-eats}
 use Rattle.protox_grammar.proofs.Lemmas as messages
-use Rattle.protox_options.specs.inner.Options.{here}
+use Rattle.protox_declarations.specs.inner.Options.{here}
 use Rattle.protox_rows.specs.inner.Outcome.{Fails}
 use Rattle.protox_rows.specs.declared.refused.Refused.{Refused}
 use Rattle.protox_rows.specs.declared.refused.Refused.TheVariants.{OutOfMemory, At, TooDeep}

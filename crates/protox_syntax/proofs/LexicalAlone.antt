@@ -20,7 +20,7 @@ use Rattle.protox_grammar.specs.Reader.{Unexpected, Deep}
 use Rattle.protox_grammar.specs.Reads.{read}
 use Rattle.protox_grammar.specs.Told.{Notes, IsFaultless}
 use Rattle.protox_grammar.proofs.Lemmas as grammar
-use Rattle.protox_options.specs.inner.Options.{here}
+use Rattle.protox_declarations.specs.inner.Options.{here}
 use Rattle.protox_rows.specs.inner.Outcome.{Fails}
 use Rattle.protox_rows.specs.declared.refused.Refused.{Refused}
 use Rattle.protox_rows.specs.declared.refused.Refused.TheVariants as refused

@@ -33,7 +33,7 @@ use Rattle.protox_grammar.proofs.Lemmas.{clean-modes, faultless-first, faultless
 use Rattle.protox_grammar.proofs.Lemmas.{mode_at, none-deep, noted-wrong, noted_alike, shallow-ends}
 use Rattle.protox_grammar.proofs.Lemmas.{taken, told-mode, until-note}
 use Rattle.protox_grammar.proofs.Lemmas as grammar
-use Rattle.protox_options.specs.inner.Options.{here}
+use Rattle.protox_declarations.specs.inner.Options.{here}
 use Rattle.protox_syntax.specs.inner.Statements.{levels}
 use Rattle.protox_syntax.specs.inner.Merge.{merged_faults}
 use Rattle.protox_syntax.specs.inner.Whole.{all_notes}

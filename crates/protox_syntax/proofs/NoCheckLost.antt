@@ -26,7 +26,7 @@ use Rattle.protox_grammar.specs.declared.note.Noted.TheVariants.{Fault, TextForm
 use Rattle.protox_grammar.proofs.Lemmas.{Holds, any-holds, holds-left, holds-one, holds-right}
 use Rattle.protox_grammar.proofs.Lemmas.{noted_alike, placed-worded, same-told, told-append}
 use Rattle.protox_grammar.proofs.Lemmas.{until-front, wrong_alike}
-use Rattle.protox_options.specs.inner.Options.{here}
+use Rattle.protox_declarations.specs.inner.Options.{here}
 use Rattle.protox_syntax.specs.inner.ParsedTable.{AreMergedFaults, ParsesTable, RefusesTable, unknown_syntax, unexpected_row, refused_statement, all_read}
 use Rattle.protox_syntax.specs.LostChecks.{IsCheckedBefore, NoCheckIsLost, NoneIsLost}
 use Rattle.protox_syntax.specs.inner.Statements.{syntax_if_any}

@@ -28,7 +28,7 @@ use Rattle.protox_grammar.proofs.Lemmas.{none-noted-of, noted-append, optional-l
 use Rattle.protox_grammar.proofs.Lemmas.{stated-turn, stops-none, stops-then, told-append, told-fine}
 use Rattle.protox_grammar.proofs.Lemmas.{told-in-order}
 use Rattle.protox_grammar.proofs.Lemmas as grammar
-use Rattle.protox_options.specs.inner.Options.{here}
+use Rattle.protox_declarations.specs.inner.Options.{here}
 use Rattle.protox_rows.proofs.Lemmas.{more, more-words}
 use Rattle.protox_rows.specs.inner.Words as words
 use Rattle.protox_syntax.proofs.AllFound.{leads-start}

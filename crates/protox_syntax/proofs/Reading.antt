@@ -22,7 +22,7 @@ use Rattle.protox_grammar.proofs.Lemmas.{both-lie, err-ok, faultless-last, file-
 use Rattle.protox_grammar.proofs.Lemmas.{map_err, notes, notes-append, ok_is, seq-shows}
 use Rattle.protox_grammar.proofs.Lemmas.{shallow-front, then-lie, then-seen, told-append}
 use Rattle.protox_grammar.proofs.Lemmas as grammar
-use Rattle.protox_options.specs.inner.Options.{here}
+use Rattle.protox_declarations.specs.inner.Options.{here}
 use Rattle.protox_syntax.specs.inner.ParsedTable.{built_file}
 use Rattle.protox_syntax.specs.inner.Statements.{levels, statement, statement_rule, statements-shows, syntax_if_any, notes_behind}
 use Rattle.protox_syntax.specs.inner.Whole.{Whole, whole, all_notes, file_seen}

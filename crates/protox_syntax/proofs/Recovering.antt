@@ -20,7 +20,7 @@ use Rattle.protox_grammar.specs.Reader.{head_in}
 use Rattle.protox_grammar.specs.Steps.{ANode, APackage, AKeyword, ADeepBody, ADeeperBody, AnOpenBrace, ACloseBrace, Token, Note, Steps}
 use Rattle.protox_grammar.specs.Told.{Notes, at_once, behind, is_invalid, node_notes, noted, run_note, past, told, unless_so, place_of}
 use Rattle.protox_grammar.proofs.Lemmas.{AllLie, bind_ok, both-lie, ok_is}
-use Rattle.protox_options.specs.inner.Options.{here}
+use Rattle.protox_declarations.specs.inner.Options.{here}
 use Rattle.protox_rows.specs.declared.refused.Refused.{Refused}
 use Rattle.protox_rows.specs.declared.refused.Refused.TheVariants.{OutOfMemory, At, TooDeep}
 use Rattle.protox_syntax.specs.inner.Recovery.{AreLast, AreLater, AreNotable, FirstLies, AreRefusalNotes, LiesToo, Recovers, at_most, behind_block, from_statement, last_rows, next_rows, statement_words}

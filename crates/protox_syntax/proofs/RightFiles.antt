@@ -13,7 +13,7 @@ use Rattle.protox_grammar.specs.Noted.{noted_nodes, steps}
 use Rattle.protox_grammar.specs.Steps.{Steps, steps_of_many}
 use Rattle.protox_grammar.specs.Told.{first_behind, keyword_behind, place_of}
 use Rattle.protox_grammar.proofs.Lemmas.{first-append, noted-append}
-use Rattle.protox_options.specs.inner.Options.{here}
+use Rattle.protox_declarations.specs.inner.Options.{here}
 use Rattle.protox_syntax.specs.NextStatement.{IsNextSyntax, IsRight, syntax_steps}
 use Rattle.protox_syntax.specs.inner.SoFar.{IsRightSoFar, begun}
 use Rattle.protox_syntax.specs.inner.Statements.{levels, next_first, statement_rule, statement_seen}

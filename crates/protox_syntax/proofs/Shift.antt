@@ -21,7 +21,7 @@ use Rattle.protox_grammar.specs.declared.note.Noted.{Noted}
 use Rattle.protox_grammar.specs.declared.note.Noted.TheVariants.{Fault, TextFormat}
 use Rattle.protox_grammar.proofs.Lemmas.{AreAbove, Halts, body-laws, map_err, mode_of}
 use Rattle.protox_grammar.proofs.Lemmas as messages
-use Rattle.protox_options.specs.inner.Options.{here}
+use Rattle.protox_declarations.specs.inner.Options.{here}
 use Rattle.protox_rows.specs.inner.Outcome.{Fails}
 use Rattle.protox_rows.specs.declared.refused.Refused.{Refused}
 use Rattle.protox_rows.specs.declared.refused.Refused.TheVariants.{OutOfMemory, At, TooDeep}

@@ -25,7 +25,7 @@ use Rattle.protox_grammar.proofs.Lemmas.{FirstCheck, Holds, fault_note, first-ch
 use Rattle.protox_grammar.proofs.Lemmas.{noted-front, noted_alike, optional-laws, syntax-tells}
 use Rattle.protox_grammar.proofs.Lemmas.{until-front, wrong_alike}
 use Rattle.protox_grammar.proofs.Lemmas as parts
-use Rattle.protox_options.specs.inner.Options.{here}
+use Rattle.protox_declarations.specs.inner.Options.{here}
 use Rattle.protox_syntax.specs.LostChecks.{EndsReading}
 use Rattle.protox_syntax.specs.inner.Statements.{statement_rule, syntax_if_any}
 use Rattle.protox_syntax.proofs.Modes.{faults-none}

@@ -23,7 +23,7 @@ use Rattle.protox_grammar.specs.Reader.{Refusal, Unexpected, Deep, ◌>>=◌}
 use Rattle.protox_grammar.specs.Reads.{read}
 use Rattle.protox_grammar.proofs.Lemmas as grammar
 use Rattle.protox_grammar.proofs.Lemmas.{holds-one, shapes-append, shapes-length, take-front}
-use Rattle.protox_options.specs.inner.Options.{here}
+use Rattle.protox_declarations.specs.inner.Options.{here}
 use Rattle.protox_rows.proofs.Lemmas.{Fits, Took}
 use Rattle.protox_syntax.specs.ExpectedWords.{AreTrueBehind, ExpectsTruly, HasTrueWords}
 use Rattle.protox_syntax.specs.inner.ParsedTable.{AreMergedFaults, ParsesTable, RefusesTable}

@@ -11,7 +11,7 @@ use Rattle.protox_grammar.specs.Reader.{Consumes, Refusal, head_in}
 use Rattle.protox_grammar.specs.Told.{Notes, checked}
 use Rattle.protox_grammar.proofs.Lemmas.{body-laws, or_first, shows-eats, stated-done, stated-turn}
 use Rattle.protox_grammar.proofs.Lemmas as messages
-use Rattle.protox_options.specs.inner.Options.{here}
+use Rattle.protox_declarations.specs.inner.Options.{here}
 use Rattle.protox_rows.specs.inner.Notes.{AddsTo}
 use Rattle.protox_rows.specs.inner.Outcome.{Fails}
 use Rattle.protox_rows.specs.declared.refused.Refused.{Refused}

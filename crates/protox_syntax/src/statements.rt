@@ -14,13 +14,13 @@ ghost use Rattle.protox_syntax.specs.inner.Statements as rule;
 use crate::checks::{check_package, check_path, check_syntax};
 use crate::statement_types::Statement;
 use protox_ast::ast::{Comments, FileItem, FullIdent, Import, ImportKind, Package, Syntax};
-use protox_blocks::enums::enum_;
-use protox_blocks::services::service;
-use protox_bodies::bodies::{extend, message};
+use protox_declarations::bodies::{extend, message};
+use protox_declarations::enums::enum_;
+use protox_declarations::options::option;
+use protox_declarations::services::service;
 use protox_descriptor::values::Text;
 use protox_grammar::note::Note;
 use protox_lex::error::Span;
-use protox_options::options::option;
 use protox_rows::checks::check_text;
 use protox_rows::class::{
     ENUM, EXTEND, IMPORT, MESSAGE, OPTION, PACKAGE, PUBLIC, SEMICOLON, SYNTAX, WEAK, sees, sees_any,

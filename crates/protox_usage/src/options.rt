@@ -7,8 +7,8 @@ ghost use Rattle.protox_usage.specs.Options.{options_of_file, options_of_ranges}
 ghost use Rattle.protox_walk.specs.Parts.{Message};
 
 use protox_descriptor::descriptor::{DescriptorProto, FileDescriptorProto, UninterpretedOption};
+use protox_descriptor::uninterpreted::HasUninterpreted;
 use protox_walk::{Part, Visit, walk};
-use protox_written::HasUninterpreted;
 use std::alloc::{AllocError, Global};
 
 // Whether an option was come upon.

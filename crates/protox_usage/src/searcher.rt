@@ -13,10 +13,10 @@ use crate::search::Sight;
 use protox_descriptor::descriptor::{
     DescriptorProto, FieldDescriptorProto, MethodDescriptorProto, UninterpretedOption,
 };
+use protox_descriptor::uninterpreted::HasUninterpreted;
 use protox_marks::Marks;
 use protox_scopes::Wanted;
 use protox_walk::{Part, Visit};
-use protox_written::HasUninterpreted;
 use std::alloc::AllocError;
 
 /// What searches came upon.

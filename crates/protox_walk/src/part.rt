@@ -10,7 +10,7 @@ use protox_descriptor::descriptor::{
     MethodDescriptorProto, OneofDescriptorProto, ServiceDescriptorProto, UninterpretedOption,
 };
 use protox_descriptor::values::Text;
-use protox_written::HasUninterpreted;
+use protox_descriptor::uninterpreted::HasUninterpreted;
 
 /// The descriptor of a declaration, by its kind.
 #[derive(Clone, Copy)]

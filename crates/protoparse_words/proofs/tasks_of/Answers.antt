@@ -1,11 +1,11 @@
 use Rattle.std.proofs.Common.{[], false, map, refl, ap, ◌∙◌}
 use Rattle.std.proofs.lemmas.List.Elements.{All-push, All-same}
-use Rattle.protox_paths.specs.Names.{texts}
+use Rattle.protoparse_words.specs.Names.{texts}
 use Rattle.protoparse_words.specs.Asking.{IsNamedTask, path_of}
 use Rattle.protoparse_words.specs.Listing.{file_path}
 use Rattle.protoparse_words.specs.declared.Mode.TheVariants.{Check}
 use Rattle.protoparse_words.specs.declared.listed.File.{File}
-use Rattle.protoparse_words.proofs.Paths.{one_more}
+use Rattle.protoparse_words.proofs.FilePaths.{one_more}
 use Rattle.protoparse_words.proofs.tasks_of.Goals as goal
 
 -- the file that a read past the end of a list would give

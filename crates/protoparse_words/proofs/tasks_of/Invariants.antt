@@ -1,6 +1,6 @@
 use Rattle.std.proofs.Common.{◌≡◌, take, map}
 use Rattle.std.specs.Prelude.{All}
-use Rattle.protox_paths.specs.Names.{texts}
+use Rattle.protoparse_words.specs.Names.{texts}
 use Rattle.protoparse_words.specs.Asking.{IsNamedTask, path_of}
 use Rattle.protoparse_words.specs.Listing.{file_path}
 use Rattle.protoparse_words.proofs.tasks_of.Given as goal

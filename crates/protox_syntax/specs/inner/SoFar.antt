@@ -9,7 +9,7 @@ use Rattle.protox_ast.specs.Tree as tree
 use Rattle.protox_grammar.specs.Bodies as bodies
 use Rattle.protox_grammar.specs.Noted.{noted_nodes, steps}
 use Rattle.protox_grammar.specs.Told.{first_behind, place_of}
-use Rattle.protox_options.specs.inner.Options.{here}
+use Rattle.protox_declarations.specs.inner.Options.{here}
 use Rattle.protox_syntax.specs.inner.Statements.{levels}
 
 -- A syntax statement, or none, and no other statement yet.

@@ -33,10 +33,10 @@ use Rattle.protox_grammar.proofs.Lemmas.{sign, star-shows, stated, stated_choice
 use Rattle.protox_grammar.proofs.Lemmas.{stated_renamed, syntax-lie, the, two}
 use Rattle.protox_rows.specs.inner.Names.{fullident}
 use Rattle.protox_rows.specs.inner.Strings.{checked_strings}
-use Rattle.protox_options.specs.inner.Options.{here, option}
-use Rattle.protox_blocks.specs.inner.Enums.{enum_}
-use Rattle.protox_blocks.specs.inner.Services.{service}
-use Rattle.protox_bodies.specs.inner.Bodies as messages
+use Rattle.protox_declarations.specs.inner.Options.{here, option}
+use Rattle.protox_declarations.specs.inner.Enums.{enum_}
+use Rattle.protox_declarations.specs.inner.Services.{service}
+use Rattle.protox_declarations.specs.inner.Bodies as messages
 use Rattle.protox_syntax.specs.declared.statement_types.Statement as statement_type
 use Rattle.protox_syntax.specs.declared.statement_types.Statement.TheVariants as statement_of
 

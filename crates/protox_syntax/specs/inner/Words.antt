@@ -12,9 +12,9 @@ use Rattle.protox_rows.specs.declared.expected.Expected.TheVariants as expected
 use Rattle.protox_rows.specs.inner.Names as names
 use Rattle.protox_rows.specs.inner.Words.{Words, always, and_then, choose, times}
 use Rattle.protox_rows.specs.inner.Words as rows
-use Rattle.protox_options.specs.inner.Words as options
-use Rattle.protox_blocks.specs.inner.Words as blocks
-use Rattle.protox_bodies.specs.inner.Words as bodies
+use Rattle.protox_declarations.specs.inner.OptionWords as options
+use Rattle.protox_declarations.specs.inner.BlockWords as blocks
+use Rattle.protox_declarations.specs.inner.BodyWords as bodies
 use Rattle.protox_syntax.specs.inner.Statements as rule
 
 -- "syntax" "=" string+ ";"

@@ -2,7 +2,7 @@ use Rattle.std.proofs.Common.{◌≡◌, ◌≢◌, All, map, slice_index, strin
 use Rattle.protoparse_words.specs.Asking.{IsName}
 use Rattle.protoparse_words.specs.Listing.{file_path}
 use Rattle.protoparse_words.specs.declared.listed.Word.TheVariants.{File as FileWord}
-use Rattle.protoparse_words.proofs.Paths.{one_more}
+use Rattle.protoparse_words.proofs.FilePaths.{one_more}
 use Rattle.protoparse_words.proofs.listed.listed_by.Goals as goal
 use Rattle.protoparse_words.proofs.listed.listed_by.Goals.{in-Holds, in-Folder+in_ok-push-in-Folder, in-File+in_ok-push-in-File}
 

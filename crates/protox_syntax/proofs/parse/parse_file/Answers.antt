@@ -1,5 +1,5 @@
 use Rattle.protox_grammar.proofs.Lemmas as main
-use Rattle.protox_options.specs.inner.Options.{here}
+use Rattle.protox_declarations.specs.inner.Options.{here}
 use Rattle.protox_syntax.proofs.Aggregates.{aggregates-lex-back}
 use Rattle.protox_syntax.proofs.Answering.{listed-file, listed-only}
 use Rattle.protox_syntax.proofs.parse.parse_file.Goals as goal

@@ -1,5 +1,0 @@
-pub mod Turns
-pub mod ExactRanges
-pub mod ExactEnums
-pub mod ExactServices
-pub mod Lemmas

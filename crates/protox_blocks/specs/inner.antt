@@ -1,4 +1,0 @@
-pub mod Ranges
-pub mod Enums
-pub mod Services
-pub mod Words

@@ -1,5 +1,0 @@
-pub mod Turns
-pub mod Labels
-pub mod ExactFields
-pub mod ExactBodies
-pub mod Lemmas

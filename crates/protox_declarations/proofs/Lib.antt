@@ -1,0 +1,13 @@
+pub mod OptionTurns
+pub mod ExactAggregates
+pub mod ExactOptions
+pub mod Aggregates
+pub mod BlockTurns
+pub mod ExactRanges
+pub mod ExactEnums
+pub mod ExactServices
+pub mod BodyTurns
+pub mod Labels
+pub mod ExactFields
+pub mod ExactBodies
+pub mod Lemmas

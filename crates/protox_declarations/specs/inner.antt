@@ -1,0 +1,9 @@
+pub mod Options
+pub mod OptionWords
+pub mod Ranges
+pub mod Enums
+pub mod Services
+pub mod BlockWords
+pub mod Fields
+pub mod Bodies
+pub mod BodyWords

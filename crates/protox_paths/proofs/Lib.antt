@@ -1,3 +1,0 @@
-pub mod Lists
-pub mod Under
-pub mod Folders

@@ -1,7 +1,0 @@
-use Rattle.std.proofs.Common.{◌≡◌, string_bytes, take}
-use Rattle.std.specs.List.{join_with_byte}
-use Rattle.protox_paths.specs.Names.{texts}
-use Rattle.protox_paths.proofs.joined.Given as goal
-
-abbrev pub invariant-loop-i : goal.invariant-loop-i
-invariant-loop-i l = string_bytes l.name ≡ join_with_byte 47 (take l.i (texts l.parts))

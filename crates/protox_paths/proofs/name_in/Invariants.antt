@@ -1,7 +1,0 @@
-use Rattle.std.proofs.Common.{take}
-use Rattle.std.specs.Prelude.{All}
-use Rattle.protox_paths.specs.Names.{IsOutside, texts}
-use Rattle.protox_paths.proofs.name_in.Given as goal
-
-abbrev pub invariant-loop-folder : goal.invariant-loop-folder
-invariant-loop-folder l = All (IsOutside l.path) (take l.folder-index (texts l.folders))

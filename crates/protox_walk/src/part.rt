@@ -9,8 +9,8 @@ use protox_descriptor::descriptor::{
     DescriptorProto, EnumDescriptorProto, EnumValueDescriptorProto, FieldDescriptorProto,
     MethodDescriptorProto, OneofDescriptorProto, ServiceDescriptorProto, UninterpretedOption,
 };
-use protox_descriptor::values::Text;
 use protox_descriptor::uninterpreted::HasUninterpreted;
+use protox_descriptor::values::Text;
 
 /// The descriptor of a declaration, by its kind.
 #[derive(Clone, Copy)]

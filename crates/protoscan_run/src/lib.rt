@@ -3,12 +3,11 @@
 #![tactic(auto)]
 
 ghost use Rattle.std.specs.Prelude.{◌≡◌, ◌<◌, ◌≤◌, length, None, IfOk, IfSome, IsSome};
-ghost use Rattle.protox_generate.specs.File.{AreSorted};
 ghost use Rattle.protox_parse.specs.Files.{IsFile};
 
-use protox_parse::descriptor::FileDescriptorProto;
 use protox_parse::descriptor::source_code_info::Location;
-use protox_parse::{ParseFailure, locate, parse};
+use protox_parse::{ParseFailure, parse_pooled};
+use protox_pool::LocationPool;
 use protox_shown::shown::Shown;
 use std::alloc::{AllocError, Global};
 use std::io::{self, Write};
@@ -157,35 +156,51 @@ pub fn push_location(
     text: &mut Vec<u8>,
     location: &Location,
 ) -> Result<(), AllocError> {
-    last.push_path(text, location.path.as_slice())?;
-    if let [line, columns @ ..] = location.span.as_slice() {
+    push_place(
+        last,
+        text,
+        location.path.as_slice(),
+        location.span.as_slice(),
+    )
+}
+
+// Adds the line of a location with this path and span.
+fn push_place(
+    last: &mut LastPrinted,
+    text: &mut Vec<u8>,
+    path: &[i32],
+    span: &[i32],
+) -> Result<(), AllocError> {
+    last.push_path(text, path)?;
+    if let [line, columns @ ..] = span {
         last.push_line(text, *line)?;
         push_numbers(text, columns, b',', b'\n')?;
     }
     Ok(())
 }
 
-// The locations of a file; only those with the path if one is given.
-fn chosen<'a>(file: &'a FileDescriptorProto, path: Option<&[i32]>) -> &'a [Location]
-    requires { AreSorted file.now }
-{
-    let Some(info) = &file.source_code_info else {
-        return &[];
-    };
-    let locations = info.location.as_slice();
+// Whether the locations with this path are to be written. Without a path, all are.
+fn is_chosen(path: Option<&[i32]>, of_location: &[i32]) -> bool {
     match path {
-        None => locations,
-        Some(path) => &locations[locate(info, path)],
+        None => true,
+        Some(path) => path == of_location,
     }
 }
 
 // Many lines are collected before they are written: one write a line would take longer than the
 // parse.
-fn write_locations<W: Write>(alloc: Global, out: &mut W, locations: &[Location]) -> io::Result<()> {
+fn write_locations<W: Write>(
+    alloc: Global,
+    out: &mut W,
+    locations: &LocationPool,
+    path: Option<&[i32]>,
+) -> io::Result<()> {
     let mut last = LastPrinted::new(alloc);
     let mut lines = Vec::new(alloc);
-    for location in locations {
-        push_location(&mut last, &mut lines, location)?;
+    for location in locations.iter() {
+        if is_chosen(path, location.path) {
+            push_place(&mut last, &mut lines, location.path, location.span)?;
+        }
         if AT_ONCE <= lines.len() {
             out.write_all(lines.as_slice())?;
             lines.clear();
@@ -208,9 +223,9 @@ fn scan<W: Write, E: Write>(
     ensures printed { IfOk result (λ status. status ≡ 0 → IsFile source.now) }
     ensures refused { IfOk result (λ status. status ≡ 1 → IsFile source.now → ⊥) }
 {
-    match parse(alloc, name, source) {
+    match parse_pooled(alloc, name, source) {
         Ok(file) => {
-            write_locations(alloc, out, chosen(&file, path))?;
+            write_locations(alloc, out, &file.locations, path)?;
             Ok(PRINTED)
         }
         Err(ParseFailure::Refused(error)) => {

@@ -3,7 +3,7 @@ pub mod Apart
 pub mod Exactness
 pub mod Levels
 pub mod OneKind
-pub mod Pooled
+pub mod PooledLocations
 pub mod Readings
 pub mod Varint
 pub mod Lemmas

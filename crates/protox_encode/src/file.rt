@@ -8,7 +8,7 @@ ghost use Rattle.protox_encode.specs.Wire.{message};
 use crate::backward::Backward;
 use crate::fault::EncodeError;
 use crate::floats::HasFloats;
-use crate::messages::FileWithPool;
+use crate::pooled::FileWithPool;
 use crate::wire::{Message, prepend_files, prepend_nested};
 use protox_descriptor::descriptor::FileDescriptorProto;
 use protox_pool::LocationPool;
@@ -80,7 +80,7 @@ pub fn encode_entry(alloc: Global, file: &FileDescriptorProto) -> Result<Vec<u8>
 ///
 /// # Errors
 /// As for `encode`.
-#[tactic(auto, using(crate::proofs::Pooled::pooled_floats))]
+#[tactic(auto, using(crate::proofs::PooledLocations::pooled_floats))]
 pub fn encode_pooled(
     alloc: Global,
     file: &FileDescriptorProto,
@@ -105,7 +105,7 @@ pub fn encode_pooled(
 ///
 /// # Errors
 /// As for `encode`.
-#[tactic(auto, unfolding(crate::specs::Messages::file_set), using(crate::proofs::Pooled::pooled_floats))]
+#[tactic(auto, unfolding(crate::specs::Messages::file_set), using(crate::proofs::PooledLocations::pooled_floats))]
 pub fn encode_pooled_entry(
     alloc: Global,
     file: &FileDescriptorProto,

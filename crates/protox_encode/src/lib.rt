@@ -9,9 +9,8 @@ pub mod laws;
 mod locations;
 mod messages;
 mod options;
+mod pooled;
 pub mod wire;
 
 pub use fault::EncodeError;
-pub use file::{
-    encode, encode_entry, encode_over, encode_pooled, encode_pooled_entry, encode_set,
-};
+pub use file::{encode, encode_entry, encode_over, encode_pooled, encode_pooled_entry, encode_set};

@@ -5,10 +5,9 @@ ghost use Rattle.protox_encode.specs.Wire.{message};
 ghost use Rattle.protox_encode.specs.Messages as words;
 
 use crate::backward::Backward;
-use crate::wire::{Message, prepend_each, prepend_nested, prepend_packed, prepend_text, prepend_texts};
+use crate::wire::{Message, prepend_each, prepend_packed, prepend_text, prepend_texts};
 use protox_descriptor::descriptor::SourceCodeInfo;
 use protox_descriptor::descriptor::source_code_info::Location;
-use protox_pool::{LocationPool, PooledLocation};
 use std::alloc::{AllocError, Global};
 
 impl Message for Location {
@@ -30,33 +29,5 @@ impl Message for SourceCodeInfo {
     #[tactic(auto, unfolding(crate::specs::Messages::source_code_info))]
     fn prepend_to(&self, alloc: Global, out: &mut Backward) -> Result<(), AllocError> {
         prepend_each(alloc, out, 1, &self.location)
-    }
-}
-
-impl Message for PooledLocation<'_> {
-    ghost parts = { words.location };
-
-    #[tactic(auto, unfolding(crate::specs::Messages::location), using(crate::proofs::Pooled::path_of, crate::proofs::Pooled::span_of))]
-    fn prepend_to(&self, alloc: Global, out: &mut Backward) -> Result<(), AllocError> {
-        prepend_texts(alloc, out, 6, self.leading_detached_comments())?;
-        prepend_text(alloc, out, 4, self.trailing_comments())?;
-        prepend_text(alloc, out, 3, self.leading_comments())?;
-        prepend_packed(alloc, out, 2, self.span)?;
-        prepend_packed(alloc, out, 1, self.path)
-    }
-}
-
-impl Message for LocationPool {
-    ghost parts = { λ locations. words.source_code_info (record { location = locations }) };
-
-    #[tactic(auto, unfolding(crate::specs::Messages::source_code_info))]
-    fn prepend_to(&self, alloc: Global, out: &mut Backward) -> Result<(), AllocError> {
-        let mut i = self.len();
-        while i > 0 {
-            i -= 1;
-            let location = self.get(i);
-            prepend_nested(alloc, out, 1, location.as_ref())?;
-        }
-        Ok(())
     }
 }

@@ -3,7 +3,7 @@
 ghost use Rattle.std.specs.Prelude.{◌≡◌, ◌++◌, Option, OnOk};
 ghost use Rattle.std.specs.Option.{option_copied};
 ghost use Rattle.protox_descriptor.specs.declared.descriptor.SourceCodeInfo.{SourceCodeInfo};
-ghost use Rattle.protox_encode.specs.Pooled.{IsSpelledAs, with_pool};
+ghost use Rattle.protox_encode.specs.Pooled.{IsSpelledAs};
 ghost use Rattle.protox_encode.specs.Wire.{message, part};
 ghost use Rattle.protox_encode.specs.Payloads.{text, each};
 ghost use Rattle.protox_encode.specs.Messages as words;
@@ -20,7 +20,6 @@ use protox_descriptor::descriptor::{
     DescriptorProto, EnumDescriptorProto, EnumValueDescriptorProto, FieldDescriptorProto,
     FileDescriptorProto, MethodDescriptorProto, OneofDescriptorProto, ServiceDescriptorProto,
 };
-use protox_pool::LocationPool;
 use std::alloc::{AllocError, Global};
 
 // Puts the parts that few fields have in front.
@@ -232,7 +231,7 @@ fn prepend_file_definitions<L: Message>(
 
 // Puts the fields of a file in front, with the locations of `info`.
 #[tactic(auto, unfolding(crate::specs::Messages::file_descriptor))]
-fn prepend_file<L: Message>(
+pub(crate) fn prepend_file<L: Message>(
     alloc: Global,
     out: &mut Backward,
     f: &FileDescriptorProto,
@@ -251,20 +250,5 @@ impl Message for FileDescriptorProto {
 
     fn prepend_to(&self, alloc: Global, out: &mut Backward) -> Result<(), AllocError> {
         prepend_file(alloc, out, self, self.source_code_info.as_ref())
-    }
-}
-
-/// A file, and its locations in a pool.
-#[derive(Drop)]
-pub(crate) struct FileWithPool<'a> {
-    pub(crate) file: &'a FileDescriptorProto,
-    pub(crate) locations: &'a LocationPool,
-}
-
-impl Message for FileWithPool<'_> {
-    ghost parts = { λ f. words.file_descriptor (with_pool f.file.now f.locations.now) };
-
-    fn prepend_to(&self, alloc: Global, out: &mut Backward) -> Result<(), AllocError> {
-        prepend_file(alloc, out, self.file, Some(self.locations))
     }
 }

@@ -2,8 +2,8 @@ use Rattle.std.proofs.Common.{◌-◌, ◌++◌, slice_get, arith, ap, ◌∙◌
 use Rattle.protox_encode.specs.Messages.{location}
 use Rattle.protox_encode.specs.Payloads.{nested}
 use Rattle.protox_encode.specs.Wire.{part}
-use Rattle.protox_encode.proofs.Pooled.{next_in_front}
-use Rattle.protox_encode.proofs.locations.LocationPoolMessage.prepend_to.Goals as goal
+use Rattle.protox_encode.proofs.PooledLocations.{next_in_front}
+use Rattle.protox_encode.proofs.pooled.LocationPoolMessage.prepend_to.Goals as goal
 
 pub loop-i-preserved : goal.loop-i-preserved
 loop-i-preserved c = record {

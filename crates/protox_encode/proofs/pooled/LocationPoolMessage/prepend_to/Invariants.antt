@@ -2,7 +2,7 @@ use Rattle.std.proofs.Common.{◌≡◌, ◌≤◌, ◌++◌, length, drop}
 use Rattle.protox_encode.specs.Messages.{location}
 use Rattle.protox_encode.specs.Payloads.{each}
 use Rattle.protox_encode.specs.Wire.{part}
-use Rattle.protox_encode.proofs.locations.LocationPoolMessage.prepend_to.Given as goal
+use Rattle.protox_encode.proofs.pooled.LocationPoolMessage.prepend_to.Given as goal
 
 abbrev pub invariant-loop-i : goal.invariant-loop-i
 invariant-loop-i l = record {

@@ -1,16 +1,17 @@
 #!/usr/bin/env python3
 """Measures the parser beside protobuf's on made files and on small real ones, and prints tables.
 
-usage: beside.py PARSECOUNT PROTOBUF [read|whole|notes|small ..]
+usage: beside.py [--pool] PARSECOUNT PROTOBUF [read|whole|notes|small ..]
 
-PARSECOUNT is what `rt run` leaves in crates/parsecount/out, and PROTOBUF is built from protobuf.cc.
-`read`, `whole` and `notes` are files of make_proto.py. `small` are the files that come with protobuf
-(Debian: libprotobuf-dev), of 2 to 38 KB, each parsed often.
+PARSECOUNT is what `rt run` leaves in crates/parsecount/out, and PROTOBUF is built from
+protobuf.cc. `read`, `whole` and `notes` are files of make_proto.py. `small` are the files that come
+with protobuf (Debian: libprotobuf-dev), of 2 to 38 KB, each parsed often. With --pool the parser is
+`parse_pooled`.
 
-A parse is one in process, with the drop of its result: the difference between several turns and one, over
-their number. Instructions are counted by valgrind, on 1 MB of a made file, and are the same each
-time. Times are of processor time, on 10 MB of a made file: the shortest of 7 runs in turns. Memory is
-the largest of one turn.
+A parse is one in process, with the drop of its result: the difference between several turns and
+one, over their number. Instructions are counted by valgrind, on 1 MB of a made file, and are the
+same each time. Times are of processor time, on 10 MB of a made file: the shortest of 7 runs in
+turns. Memory is the largest of one turn.
 """
 import glob
 import os
@@ -58,8 +59,10 @@ def size_of(files):
 
 
 def instructions_a_byte(folder, words, files, turns):
-    """Instructions of one parse, a byte of these files."""
-    counts = [[instructions(folder, [*words, name, str(n)]) for n in (1, turns)] for name in files]
+    """Instructions of one parse, a byte of these files. WORDS stand before and behind a file's."""
+    before, behind = words
+    counts = [[instructions(folder, [*before, name, str(n), *behind]) for n in (1, turns)]
+              for name in files]
     return sum(last - first for first, last in counts) / (turns - 1) / size_of(files)
 
 
@@ -67,8 +70,8 @@ def shortest(parsers, files, turns):
     """The shortest milliseconds in which each parser parses these files, in turns."""
     times = {name: [] for name in parsers}
     for _ in range(ROUNDS):
-        for name, words in parsers.items():
-            took = [seconds([*words, file, str(n)]) for file in files for n in (1, turns)]
+        for name, (before, behind) in parsers.items():
+            took = [seconds([*before, file, str(n), *behind]) for file in files for n in (1, turns)]
             times[name].append(sum(took[1::2]) - sum(took[::2]))
     return {name: min(found) * 1000 / (turns - 1) for name, found in times.items()}
 
@@ -91,13 +94,15 @@ def measure(folder, parsers, kind):
     row(kind, f'milliseconds for {size_of(timed) / 1e6:.1f} MB', list(times.values()),
         2 if kind == 'small' else 0)
     if kind != 'small':
-        row(kind, 'largest memory, MB', [megabytes_used([*words, timed[0], '1'])
-                                         for words in parsers.values()], 0)
+        row(kind, 'largest memory, MB', [megabytes_used([*before, timed[0], '1', *behind])
+                                         for before, behind in parsers.values()], 0)
 
 
 def main():
-    parsecount, protobuf, *kinds = sys.argv[1:]
-    parsers = {'here': [parsecount], 'protobuf': [protobuf, 'parse']}
+    words = sys.argv[1:]
+    behind = ['pool'] if '--pool' in words else []
+    parsecount, protobuf, *kinds = [word for word in words if word != '--pool']
+    parsers = {'here': ([parsecount], behind), 'protobuf': ([protobuf, 'parse'], [])}
     print('| files | a parse | here | protobuf | protobuf over here |\n|---|---|---|---|---|')
     with tempfile.TemporaryDirectory() as folder:
         for kind in kinds or ['read', 'notes', 'whole', 'small']:

@@ -18,9 +18,8 @@ use Rattle.protox_rows.proofs.Lemmas.{Exact, Took, begun_with, choice-exact, fro
 use Rattle.protox_rows.proofs.Lemmas.{ident-exact, int-exact, label-exact, mapped-exact, mark-exact}
 use Rattle.protox_rows.proofs.Lemmas.{option-exact, or-none, seq-exact, typename-exact, word-exact}
 use Rattle.protox_declarations.specs.inner.Options as options_rule
-use Rattle.protox_declarations.proofs.Lemmas.{list-exact-of, option-exact-of}
-use Rattle.protox_declarations.proofs.Lemmas.{elements-exact, enum-exact, open_brace-exact}
-use Rattle.protox_declarations.proofs.Lemmas.{semicolon-exact}
+use Rattle.protox_declarations.proofs.ExactEnums.{elements-exact, enum-exact, open_brace-exact, semicolon-exact}
+use Rattle.protox_declarations.proofs.ExactOptions.{list-exact-of, option-exact-of}
 use Rattle.protox_declarations.specs.inner.Bodies as rule
 use Rattle.protox_declarations.specs.inner.Fields.{field_of}
 use Rattle.protox_declarations.specs.inner.BodyWords as said

@@ -18,7 +18,7 @@ use Rattle.protox_rows.proofs.Lemmas.{ident-exact, int-exact, mapped-exact, mark
 use Rattle.protox_rows.proofs.Lemmas.{option-exact, or-none, seq-exact, wide-exact, word-exact}
 use Rattle.protox_declarations.specs.inner.Options as options_rule
 use Rattle.protox_declarations.specs.inner.OptionWords as options
-use Rattle.protox_declarations.proofs.Lemmas.{list-exact-of, option-exact-of}
+use Rattle.protox_declarations.proofs.ExactOptions.{list-exact-of, option-exact-of}
 use Rattle.protox_declarations.specs.inner.Enums as rule
 use Rattle.protox_declarations.specs.inner.BlockWords as said
 use Rattle.protox_declarations.proofs.ExactRanges.{reserved-exact}

@@ -14,8 +14,9 @@ use Rattle.protox_rows.specs.declared.expected.Expected.TheVariants as expected
 use Rattle.protox_rows.specs.inner.Words.{always}
 use Rattle.protox_rows.proofs.Lemmas.{Exact, choice-exact, field_type-exact, ident-exact}
 use Rattle.protox_rows.proofs.Lemmas.{mapped-exact, mark-exact, seq-exact, type_more, word-exact}
-use Rattle.protox_declarations.proofs.Lemmas.{option-exact-of}
-use Rattle.protox_declarations.proofs.Lemmas.{extensions-exact, numbered-exact, reserved-exact}
+use Rattle.protox_declarations.proofs.ExactEnums.{numbered-exact}
+use Rattle.protox_declarations.proofs.ExactOptions.{option-exact-of}
+use Rattle.protox_declarations.proofs.ExactRanges.{extensions-exact, reserved-exact}
 use Rattle.protox_declarations.specs.inner.Bodies as bodies
 use Rattle.protox_declarations.specs.inner.Fields as rule
 use Rattle.protox_declarations.specs.inner.BodyWords as said

@@ -27,7 +27,7 @@ use Rattle.protox_rows.proofs.Lemmas.{reread, seq-exact, strings-exact, tail-exa
 use Rattle.protox_rows.proofs.Lemmas.{under, word-exact}
 use Rattle.protox_declarations.specs.inner.Options as options_rule
 use Rattle.protox_declarations.specs.inner.OptionWords as options
-use Rattle.protox_declarations.proofs.Lemmas.{list-exact-of}
+use Rattle.protox_declarations.proofs.ExactOptions.{list-exact-of}
 use Rattle.protox_declarations.specs.inner.Ranges as rule
 use Rattle.protox_declarations.specs.inner.BlockWords as said
 

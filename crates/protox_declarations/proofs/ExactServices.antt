@@ -12,7 +12,7 @@ use Rattle.protox_rows.specs.declared.expected.Expected.{Expected}
 use Rattle.protox_rows.specs.declared.expected.Expected.TheVariants as expected
 use Rattle.protox_rows.proofs.Lemmas.{Exact, begun_with, choice-exact, ident-exact, mapped-exact}
 use Rattle.protox_rows.proofs.Lemmas.{mark-exact, or-none, seq-exact, typename-exact, word-exact}
-use Rattle.protox_declarations.proofs.Lemmas.{option-exact-of}
+use Rattle.protox_declarations.proofs.ExactOptions.{option-exact-of}
 use Rattle.protox_declarations.specs.inner.Services as rule
 use Rattle.protox_declarations.specs.inner.BlockWords as said
 use Rattle.protox_declarations.proofs.ExactEnums.{elements-exact, open_brace-exact, semicolon-exact}

@@ -56,7 +56,7 @@ fn count(rt: &HostRuntime, words: &[String]) -> io::Result<u8> {
         return Ok(2);
     };
     let found = match words.get(2) {
-        Some(word) if word == "pool" => pooled(rt.alloc(), name.as_str(), source, turns),
+        Some(word) if word.as_str() == "pool" => pooled(rt.alloc(), name.as_str(), source, turns),
         Some(_) => Ok(rows(rt.alloc(), source, turns)?),
         None => locations(rt.alloc(), name.as_str(), source, turns),
     };

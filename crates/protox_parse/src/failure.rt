@@ -180,7 +180,7 @@ fn refusal(
 }
 
 /// The refusal of a source that is too large.
-#[tactic(auto, using(crate::proofs::Truths::no_memory))]
+#[tactic(auto, using(crate::proofs::Truths::no_memory, crate::proofs::Truths::too_large))]
 pub(crate) fn too_large(alloc: Global, name: &str) -> ParseFailure
     ensures { (source : List ℕ) → (Fits source → ⊥) → HasFailureLaws name.now source result }
 {

@@ -3,8 +3,6 @@
 #![tactic(auto)]
 
 ghost use Rattle.std.specs.Prelude.{◌≡◌, ◌≤◌, ℕ, List, All, IfOk, length};
-ghost use Rattle.protox_parse.specs.Failures.{IsOutOfMemory, IsRefusalOf};
-ghost use Rattle.protox_parse.specs.Files.{IsFile};
 ghost use Rattle.protoparse_run.specs.Outcomes.{IsAccepted, IsFileNamed, IsRightOf, IsRightAbout};
 ghost use Rattle.protoparse_words.specs.Asking.{IsName};
 
@@ -20,11 +18,11 @@ use progress::Progress;
 use protoparse_words::{Asked, Mode, Task, Work, asked_by};
 use protox_outline::write_outline;
 use protox_parse::descriptor::FileDescriptorProto;
-use protox_parse::{ParseError, ParseFailure, PooledFile, parse, parse_pooled};
+use protox_parse::{ParseError, ParseFailure, parse};
 use protox_report::paint::Paint;
 use protox_report::report::Source;
 use protox_text::descriptors::write_file;
-use set::{add_pooled_to_set, add_to_set};
+use set::add_to_set;
 use std::alloc::Global;
 use std::io::{self, Write};
 use tally::{Outcome, Tally};
@@ -99,34 +97,26 @@ fn write_faults<W: Write>(
     Ok(())
 }
 
-// Prints what is asked for of a file that is accepted.
-fn write_answer<W: Write>(
+// Gives what is asked for of a file that is accepted: whether it is given.
+fn write_answer<W: Write, E: Write>(
     alloc: Global,
     out: &mut W,
-    task: &Task<'_>,
-    file: &FileDescriptorProto,
-) -> io::Result<()> {
-    match task.how.mode {
-        Mode::Outline => write_outline(alloc, out, shown_path(task.path), file),
-        Mode::Text => write_file(alloc, out, file, task.how.source_info),
-        Mode::Check | Mode::Set => Ok(()),
-    }
-}
-
-// Adds a file that is accepted to the set, if that is asked for: whether all is well.
-fn add_answer<E: Write>(
-    alloc: Global,
     err: &mut E,
     set: &mut Vec<u8>,
     task: &Task<'_>,
-    file: &PooledFile,
-) -> bool {
+    mut file: FileDescriptorProto,
+) -> io::Result<bool> {
+    let path = shown_path(task.path);
     match task.how.mode {
-        Mode::Set if task.how.source_info => {
-            add_pooled_to_set(alloc, err, set, task.path, &file.file, &file.locations)
+        Mode::Check => Ok(true),
+        Mode::Outline => write_outline(alloc, out, path, &file).map(|_| true),
+        Mode::Text => write_file(alloc, out, &file, task.how.source_info).map(|_| true),
+        Mode::Set => {
+            if !task.how.source_info {
+                file.source_code_info = None;
+            }
+            Ok(add_to_set(alloc, err, set, task.path, &file))
         }
-        Mode::Set => add_to_set(alloc, err, set, task.path, &file.file),
-        Mode::Check | Mode::Outline | Mode::Text => true,
     }
 }
 
@@ -152,76 +142,8 @@ fn write_refusal<W: Write, E: Write>(
     }
 }
 
-// Says why a file is not accepted.
-#[tactic(auto, using(crate::proofs::Sizes::size_of_source))]
-fn unparsed<W: Write, E: Write>(
-    alloc: Global,
-    out: &mut W,
-    err: &mut E,
-    task: &Task<'_>,
-    failure: ParseFailure,
-) -> io::Result<Outcome>
-    requires { (name : List ℕ) × ((source : List ℕ) × IsRefusalOf name source failure) }
-    ensures { (source : List ℕ) → (IsFile source → IsOutOfMemory failure) → IfOk result (IsRightOf source) }
-{
-    match failure {
-        ParseFailure::Refused(error) => {
-            write_refusal(alloc, out, err, task, &error)?;
-            Ok(Outcome::Refused(error.errors().len()))
-        }
-        ParseFailure::OutOfMemory => Ok(complain(alloc, err, task.path, "out of memory")),
-    }
-}
-
-// Prints what is asked for of a file's text, with its locations in a list.
-fn handle_listed<W: Write, E: Write>(
-    alloc: Global,
-    out: &mut W,
-    err: &mut E,
-    task: &Task<'_>,
-    progress: Progress,
-    source: &str,
-) -> io::Result<Outcome>
-    ensures { IfOk result (IsRightOf source.now) }
-{
-    let parsed = parse(alloc, task.name.as_str(), source);
-    progress.clear(err);
-    match parsed {
-        Ok(file) => {
-            write_answer(alloc, out, task, &file)?;
-            Ok(Outcome::Accepted)
-        }
-        Err(failure) => unparsed(alloc, out, err, task, failure),
-    }
-}
-
-// Checks a file's text, and adds it to the set if that is asked for, with its locations in a pool.
-fn handle_pooled<W: Write, E: Write>(
-    alloc: Global,
-    out: &mut W,
-    err: &mut E,
-    set: &mut Vec<u8>,
-    task: &Task<'_>,
-    progress: Progress,
-    source: &str,
-) -> io::Result<Outcome>
-    ensures { IfOk result (IsRightOf source.now) }
-{
-    let parsed = parse_pooled(alloc, task.name.as_str(), source);
-    progress.clear(err);
-    match parsed {
-        Ok(file) => {
-            if add_answer(alloc, err, set, task, &file) {
-                Ok(Outcome::Accepted)
-            } else {
-                Ok(Outcome::Failed)
-            }
-        }
-        Err(failure) => unparsed(alloc, out, err, task, failure),
-    }
-}
-
 // Does with the text of a file what is asked for.
+#[tactic(auto, using(crate::proofs::Sizes::size_of_source))]
 fn handle<W: Write, E: Write>(
     alloc: Global,
     out: &mut W,
@@ -233,9 +155,24 @@ fn handle<W: Write, E: Write>(
 ) -> io::Result<Outcome>
     ensures { IfOk result (IsRightOf source.now) }
 {
-    match task.how.mode {
-        Mode::Check | Mode::Set => handle_pooled(alloc, out, err, set, task, progress, source),
-        Mode::Outline | Mode::Text => handle_listed(alloc, out, err, task, progress, source),
+    match parse(alloc, task.name.as_str(), source) {
+        Ok(file) => {
+            progress.clear(err);
+            if write_answer(alloc, out, err, set, task, file)? {
+                Ok(Outcome::Accepted)
+            } else {
+                Ok(Outcome::Failed)
+            }
+        }
+        Err(ParseFailure::Refused(error)) => {
+            progress.clear(err);
+            write_refusal(alloc, out, err, task, &error)?;
+            Ok(Outcome::Refused(error.errors().len()))
+        }
+        Err(ParseFailure::OutOfMemory) => {
+            progress.clear(err);
+            Ok(complain(alloc, err, task.path, "out of memory"))
+        }
     }
 }
 

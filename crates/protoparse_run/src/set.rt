@@ -1,15 +1,13 @@
 //! The set of descriptors that is written.
 
-ghost use Rattle.std.specs.Prelude.{◌≡◌, [], ◌∷◌, ◌++◌, ℕ, List, IfOk, if◌then◌else◌};
+ghost use Rattle.std.specs.Prelude.{◌≡◌, [], ◌∷◌, ◌++◌, if◌then◌else◌};
 ghost use Rattle.protox_encode.specs.Messages.{file_set};
-ghost use Rattle.protox_encode.specs.Pooled.{with_pool};
 ghost use Rattle.protox_encode.specs.Wire.{message};
 
 use crate::complaints::complain;
 use crate::floats::HasDoubles;
-use protox_encode::{EncodeError, encode_entry, encode_pooled_entry};
+use protox_encode::{EncodeError, encode_entry};
 use protox_parse::descriptor::FileDescriptorProto;
-use protox_pool::LocationPool;
 use std::alloc::Global;
 use std::io::Write;
 
@@ -42,33 +40,6 @@ fn complain_of_bytes<E: Write>(
     }
 }
 
-// Appends the bytes of a set with one file. If it has none, it says why, leaves the set as it is, and
-// returns false.
-fn add_bytes<E: Write>(
-    alloc: Global,
-    err: &mut E,
-    set: &mut Vec<u8>,
-    path: &str,
-    file: &FileDescriptorProto,
-    encoded: Result<Vec<u8>, EncodeError>,
-) -> bool
-    ensures { (bytes : List ℕ) → IfOk encoded (λ made. made.items ≡ bytes) → set.new.items ≡ (if result then set.old.items ++ bytes else set.old.items) }
-{
-    match encoded {
-        Ok(bytes) => {
-            let added = set.extend_from_slice(bytes.as_slice()).is_ok();
-            if !added {
-                complain(alloc, err, path, "out of memory");
-            }
-            added
-        }
-        Err(error) => {
-            complain_of_bytes(alloc, err, path, file, error);
-            false
-        }
-    }
-}
-
 /// Appends the bytes of a set with this file alone, and returns true. (Sets one after the other are
 /// one set of all their files.) If the file has no bytes, it writes why to `err`, leaves the set as it
 /// is, and returns false: memory ran out, the bytes would be 2 GiB or more, or a double of an option
@@ -82,20 +53,17 @@ pub fn add_to_set<E: Write>(
 ) -> bool
     ensures { set.new.items ≡ (if result then set.old.items ++ message (file_set (file.now ∷ [])) else set.old.items) }
 {
-    add_bytes(alloc, err, set, path, file, encode_entry(alloc, file))
-}
-
-/// As `add_to_set`, of a file with the locations of a pool in place of its own.
-pub fn add_pooled_to_set<E: Write>(
-    alloc: Global,
-    err: &mut E,
-    set: &mut Vec<u8>,
-    path: &str,
-    file: &FileDescriptorProto,
-    locations: &LocationPool,
-) -> bool
-    ensures { set.new.items ≡ (if result then set.old.items ++ message (file_set (with_pool file.now locations.now ∷ [])) else set.old.items) }
-{
-    let encoded = encode_pooled_entry(alloc, file, locations);
-    add_bytes(alloc, err, set, path, file, encoded)
+    match encode_entry(alloc, file) {
+        Ok(bytes) => {
+            let added = set.extend_from_slice(bytes.as_slice()).is_ok();
+            if !added {
+                complain(alloc, err, path, "out of memory");
+            }
+            added
+        }
+        Err(error) => {
+            complain_of_bytes(alloc, err, path, file, error);
+            false
+        }
+    }
 }

@@ -6,13 +6,13 @@ ghost use Rattle.protox_bytes.specs.Failures.{IfNotParsed, IsParsed, IsWithout};
 ghost use Rattle.protox_descriptor.specs.declared.descriptor.FileDescriptorProto as descriptor;
 ghost use Rattle.protox_encode.specs.Messages as encoded;
 ghost use Rattle.protox_encode.specs.Wire.{message};
-ghost use Rattle.protox_generate.specs.Pooled.{with_locations};
 ghost use Rattle.protox_parse.specs.Failures.{IsRefusalOf};
 ghost use Rattle.protox_parse.specs.Files.{IsTranslation};
 ghost use Rattle.protox_parse.specs.FirstFault.{BeginsWithFirst};
 
-use protox_encode::{EncodeError, encode_pooled};
-use protox_parse::{ParseFailure, PooledFile, parse_pooled};
+use protox_descriptor::descriptor::FileDescriptorProto;
+use protox_encode::{EncodeError, encode};
+use protox_parse::{ParseFailure, parse};
 use std::alloc::Global;
 
 /// Why there are no bytes: the source was not parsed, or its descriptor was not encoded.
@@ -22,14 +22,14 @@ pub enum BytesFailure {
     NotEncoded(EncodeError),
 }
 
-// The bytes of a descriptor with its locations. It fails as `parse_to_bytes` does.
-fn encoded_file(alloc: Global, file: &PooledFile) -> Result<Vec<u8>, BytesFailure>
-    ensures exact { IfOk result (λ bytes. bytes.items ≡ message (encoded.file_descriptor (with_locations file.now))) }
+// The bytes of a descriptor. It fails as `parse_to_bytes` does.
+fn encoded_file(alloc: Global, file: &FileDescriptorProto) -> Result<Vec<u8>, BytesFailure>
+    ensures exact { IfOk result (λ bytes. bytes.items ≡ message (encoded.file_descriptor file.now)) }
     ensures fits { IfOk result (λ bytes. length bytes.items < 2 ^ 31) }
-    ensures whole { MatchResult result (λ bytes. bytes.items ≡ message (encoded.file_descriptor (with_locations file.now))) (IsWithout (with_locations file.now)) }
+    ensures whole { MatchResult result (λ bytes. bytes.items ≡ message (encoded.file_descriptor file.now)) (IsWithout file.now) }
     ensures parsed { IsParsed result }
 {
-    match encode_pooled(alloc, &file.file, &file.locations) {
+    match encode(alloc, file) {
         Ok(bytes) => Ok(bytes),
         Err(error) => Err(BytesFailure::NotEncoded(error)),
     }
@@ -55,7 +55,7 @@ pub fn parse_to_bytes(alloc: Global, name: &str, source: &str) -> Result<Vec<u8>
     // The first fault is true of the source, and no fault comes before it.
     ensures first { IfNotParsed result (BeginsWithFirst source.now) }
 {
-    match parse_pooled(alloc, name, source) {
+    match parse(alloc, name, source) {
         Ok(file) => encoded_file(alloc, &file),
         Err(failure) => Err(BytesFailure::NotParsed(failure)),
     }
